@@ -1,0 +1,58 @@
+-- The ways through intern, new and resolve.
+-- Assumes nothing.
+use Prim.Native.Nat.{ℕ, _*_, _-_, _<_, _≤_}
+use mathlib.Core.Path.{_≡_}
+use mathlib.Core.Bool.{Bool, true, false}
+use mathlib.Core.List.{List, [], _++_}
+use lib.ListN.{length, take, replicate}
+use borrow.Author.Tests.{eq-eqb, ne-eqb, lt-ltb, le-ltb}
+use Rattle.link.specs.declared.Lent.{Lent}
+use Rattle.link.specs.declared.Refusal.{Refusal}
+use Rattle.link.specs.declared.Interned.{Interned}
+use Rattle.link.specs.Bounds.{nameRows}
+use Rattle.link.specs.Judge.{judgeOf, changeOf}
+use Rattle.link.specs.Said.{accepted}
+use Rattle.interner.specs.declared.Outcome.{Outcome}
+use Rattle.interner.specs.Names.{Store, storeOf, nameAt, findOf, fitsOf, keepOf}
+use Rattle.interner.specs.Calls.{Left, left, outcome, refusedOf, lent, issueOf, internOf, noRows, clearHeads, newOf, Resolved, resolved, resolveOf}
+
+module _ (s : Store) (x : List ℕ) (t : Left) (n : Lent) (h : Refusal) where
+  pub intern-refused : (o : Outcome) → n ≡ lent s → h ≡ changeOf (s .link) n → (h .number ≡ 0 → ⊥) → o ≡ refusedOf (s .link) (h .number) (h .place)
+      → t ≡ outcome (s .bytes) (s .names) o → t ≡ internOf s x
+  unfolding internOf
+  intern-refused o a b z p q = simp (q, p, ← a, ← b, ne-eqb _ _ z)
+
+  module _ (k : ℕ) (f : Bool) where
+    pub intern-full : (o : Outcome) → n ≡ lent s → h ≡ changeOf (s .link) n → h .number ≡ 0 → k ≡ findOf (s .bytes) (s .names) (s .link .names) x
+        → f ≡ fitsOf s (record { 0 = k }) (length x) → f ≡ false → o ≡ refusedOf (s .link) 2 0 → t ≡ outcome (s .bytes) (s .names) o → t ≡ internOf s x
+    unfolding internOf issueOf
+    intern-full o a b z d e g p q = simp (q, p, ← a, ← b, eq-eqb _ _ z, ← d, ← e, g)
+
+    pub intern-issued : (u : Store) → n ≡ lent s → h ≡ changeOf (s .link) n → h .number ≡ 0 → k ≡ findOf (s .bytes) (s .names) (s .link .names) x
+        → f ≡ fitsOf s (record { 0 = k }) (length x) → f ≡ true → u ≡ keepOf s (record { 0 = k }) x → t ≡ left u (accepted k) → t ≡ internOf s x
+    unfolding internOf issueOf
+    intern-issued u a b z d e g p q = simp (q, p, ← a, ← b, eq-eqb _ _ z, ← d, ← e, g)
+
+module _ (bytes names : List ℕ) (t : Left) (k : ℕ) where
+  pub new-none : (o : Outcome) → k ≡ nameRows (length names) → k ≡ 0 → o ≡ refusedOf noRows 2 0 → t ≡ outcome bytes names o → t ≡ newOf bytes names
+  unfolding newOf
+  new-none o e z p q = simp (q, p, ← e, eq-eqb _ _ z)
+
+  pub new-made : (m : List ℕ) (u : Store) → k ≡ nameRows (length names) → (k ≡ 0 → ⊥) → m ≡ take (k * 8) names ++ replicate (length names - k * 8) 0
+      → u ≡ keepOf (storeOf bytes m noRows) (record { 0 = 0 }) [] → t ≡ left u (accepted 0) → t ≡ newOf bytes names
+  unfolding newOf clearHeads
+  new-made m u e z d p q = simp (q, p, d, ← e, ne-eqb _ _ z)
+
+module _ (s : Store) (id : Interned) (t : Resolved) (n : Lent) (h : Refusal) where
+  pub resolve-refused : n ≡ lent s → h ≡ judgeOf (s .link) n → (h .number ≡ 0 → ⊥) → t ≡ resolved [] (h .number) (h .place) → t ≡ resolveOf s id
+  unfolding resolveOf
+  resolve-refused a b z q = simp (q, ← a, ← b, ne-eqb _ _ z)
+
+  pub resolve-name : (x : List ℕ) → n ≡ lent s → h ≡ judgeOf (s .link) n → h .number ≡ 0 → id .0 < s .link .names
+      → x ≡ nameAt (s .bytes) (s .names) (id .0) → t ≡ resolved x 0 0 → t ≡ resolveOf s id
+  unfolding resolveOf
+  resolve-name x a b z d e q = simp (q, e, ← a, ← b, eq-eqb _ _ z, lt-ltb _ _ d)
+
+  pub resolve-none : n ≡ lent s → h ≡ judgeOf (s .link) n → h .number ≡ 0 → s .link .names ≤ id .0 → t ≡ resolved [] 23 0 → t ≡ resolveOf s id
+  unfolding resolveOf
+  resolve-none a b z d q = simp (q, ← a, ← b, eq-eqb _ _ z, le-ltb _ _ d)

@@ -1,0 +1,1 @@
+// Theorems on names, in specs/: no functions.

@@ -1,0 +1,4 @@
+pub mod Bounds
+pub mod Judge
+pub mod Said
+pub mod Ways

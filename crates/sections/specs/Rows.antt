@@ -1,0 +1,74 @@
+-- Section rows: "rows in lent slices". A row is reserved for each program and uninitialized section, then built, and maybe dropped.
+-- Assumes nothing.
+use Prim.Native.Nat.{ℕ, _+_, _*_}
+use mathlib.Core.Bool.{Bool, true, false, cond}
+use mathlib.Core.List.{List, [], _∷_}
+use lib.Dec.{eqb, ltb, leb}
+use lib.ListN.{getD, set, length}
+use Rattle.cells.specs.Rows.{putRow}
+use Rattle.link.specs.declared.Link.{Link}
+use Rattle.link.specs.declared.SectionId.{SectionId}
+use Rattle.link.specs.Bounds.{sectionRows}
+use Rattle.sections.specs.declared.Section.{Section}
+
+-- the lent cells and the counts
+pub record Sections : Type 0 where
+  pub rows : List ℕ
+  pub link : Link
+
+abbrev pub sectionsOf : List ℕ → Link → Sections
+sectionsOf rows l = record { rows = rows; link = l }
+
+abbrev pub field : List ℕ → ℕ → ℕ → ℕ
+field rows i f = getD rows (i * 8 + f) 0
+
+-- 0 free, 1 reserved, 2 built, 3 dropped
+abbrev pub stateAt : List ℕ → ℕ → ℕ
+stateAt rows i = field rows i 0
+
+abbrev pub nameIdAt : List ℕ → ℕ → ℕ
+nameIdAt rows i = field rows i 1
+
+abbrev pub retainAt : List ℕ → ℕ → ℕ
+retainAt rows i = field rows i 3
+
+abbrev pub readAt : List ℕ → ℕ → ℕ
+readAt rows i = field rows i 4
+
+-- where its relocations' symbols lie in the lists
+abbrev pub firstAt : List ℕ → ℕ → ℕ
+firstAt rows i = field rows i 5
+
+abbrev pub countAt : List ℕ → ℕ → ℕ
+countAt rows i = field rows i 6
+
+-- "section rows [..] to 65,535; always also the lent length"
+unfoldable pub roomOf : Link → List ℕ → Bool
+roomOf l rows = cond (ltb (l .sections) (sectionRows (length rows))) true false
+
+abbrev pub moreSections : Link → Link
+moreSections l =
+    record {
+      names = l .names;
+      bytes = l .bytes;
+      symbols = l .symbols;
+      sections = l .sections + 1;
+      inputs = l .inputs;
+      lists = l .lists;
+      broken = l .broken;
+    }
+
+unfoldable pub reserveOf : Sections → Sections
+reserveOf s =
+    cond (roomOf (s .link) (s .rows))
+    (sectionsOf (putRow (s .rows) (s .link .sections) (1 ∷ 0 ∷ 0 ∷ 0 ∷ 0 ∷ 0 ∷ 0 ∷ 0 ∷ [])) (moreSections (s .link))) s
+
+unfoldable pub builtOf : List ℕ → SectionId → Section → List ℕ
+builtOf rows id s =
+    putRow rows (id .0) (2 ∷ s .name .0 ∷ s .kind ∷ s .retain ∷ s .read ∷ s .first ∷ s .count ∷ 0 ∷ [])
+
+abbrev pub droppedOf : List ℕ → SectionId → List ℕ
+droppedOf rows id = set rows (id .0 * 8 + 0) 3
+
+unfoldable pub isBuilt : List ℕ → ℕ → ℕ → Bool
+isBuilt rows count i = cond (leb count i) false (cond (eqb (stateAt rows i) 2) true false)

@@ -1,0 +1,71 @@
+-- The ways through the functions.
+-- Assumes nothing.
+use Prim.Native.Nat.{ℕ, _+_, _*_, _/_, _<_, _≤_}
+use native.Mathlib.Omega.{arith}
+use mathlib.Core.Path.{_≡_, refl, sym, _∙_}
+use mathlib.Core.Bool.{Bool, true, false}
+use mathlib.Core.List.{List, [], _∷_}
+use lib.ListN.{getD, length}
+use lib.Dec.{ltb}
+use borrow.Author.Tests.{eq-eqb, ne-eqb, lt-ltb, le-ltb, lt-leb, le-leb, ltb-true, ltb-false}
+use mir.Syntax.{w64}
+use mir.Val.{Fits}
+use Rattle.cells.specs.Rows.{putRow}
+use Rattle.cells.specs.Split.{by-test}
+use Rattle.link.specs.declared.Link.{Link}
+use Rattle.link.specs.declared.SectionId.{SectionId}
+use Rattle.link.specs.Bounds.{lesser, sectionRows}
+use Rattle.sections.specs.declared.Section.{Section}
+use Rattle.sections.specs.Rows.{Sections, sectionsOf, stateAt, roomOf, moreSections, reserveOf, builtOf, isBuilt}
+
+module _ (l : Link) (rows : List ℕ) (t : Bool) (n : ℕ) where
+  pub room-yes : n ≡ sectionRows (length rows) → l .sections < n → t ≡ true → t ≡ roomOf l rows
+  unfolding roomOf
+  room-yes e h q = simp (q, ← e, lt-ltb _ _ h)
+
+  pub room-no : n ≡ sectionRows (length rows) → n ≤ l .sections → t ≡ false → t ≡ roomOf l rows
+  unfolding roomOf
+  room-no e h q = simp (q, ← e, le-ltb _ _ h)
+
+module _ (s t : Sections) (b : Bool) where
+  pub reserve-full : b ≡ roomOf (s .link) (s .rows) → b ≡ false → t ≡ s → t ≡ reserveOf s
+  unfolding reserveOf
+  reserve-full e f q = simp (q, ← e, f)
+
+  pub reserve-free : (rows : List ℕ) → b ≡ roomOf (s .link) (s .rows) → b ≡ true → rows ≡ putRow (s .rows) (s .link .sections) (1 ∷ 0 ∷ 0 ∷ 0 ∷ 0 ∷ 0 ∷ 0 ∷ 0 ∷ [])
+      → t ≡ sectionsOf rows (moreSections (s .link)) → t ≡ reserveOf s
+  unfolding reserveOf
+  reserve-free rows e f g q = simp (q, ← e, f, g)
+
+apart : false ≡ true → ⊥
+apart e = let z : _≡_ {A = ℕ} 0 1 = cc in omega arith
+
+lesser-left : (a b : ℕ) → lesser a b ≤ a
+unfolding lesser
+lesser-left a b = by-test (ltb a b) (λ t. rw t (omega arith)) (λ t. rw t (ltb-false a b t))
+
+-- there is a number for one row more
+pub reserve-fits : (rows : List ℕ) (l : Link) (b : Bool) → b ≡ roomOf l rows → b ≡ true → Fits w64 (l .sections + 1)
+unfolding roomOf
+reserve-fits rows l b e f =
+    by-test (ltb (l .sections) (sectionRows (length rows)))
+    (λ t. omega (arith, ltb-true (l .sections) (sectionRows (length rows)) t, lesser-left 65535 (length rows / 9)))
+    (λ t. absurd (apart (sym (e ∙ rw t) ∙ f)))
+
+pub build-done : (rows t : List ℕ) (id : SectionId) (s : Section)
+    → t ≡ putRow rows (id .0) (2 ∷ s .name .0 ∷ s .kind ∷ s .retain ∷ s .read ∷ s .first ∷ s .count ∷ 0 ∷ []) → t ≡ builtOf rows id s
+unfolding builtOf
+build-done rows t id s q = q
+
+module _ (rows : List ℕ) (count i : ℕ) (t : Bool) where
+  pub built-past : count ≤ i → t ≡ false → t ≡ isBuilt rows count i
+  unfolding isBuilt
+  built-past h q = simp (q, le-leb _ _ h)
+
+  pub built-yes : (v : ℕ) → i < count → v ≡ stateAt rows i → v ≡ 2 → t ≡ true → t ≡ isBuilt rows count i
+  unfolding isBuilt
+  built-yes v h e f q = simp (q, lt-leb _ _ h, ← e, eq-eqb _ _ f)
+
+  pub built-no : (v : ℕ) → i < count → v ≡ stateAt rows i → (v ≡ 2 → ⊥) → t ≡ false → t ≡ isBuilt rows count i
+  unfolding isBuilt
+  built-no v h e f q = simp (q, lt-leb _ _ h, ← e, ne-eqb _ _ f)

@@ -1,0 +1,64 @@
+-- What a decision writes: the row, the name's global symbol, the section's symbol.
+-- Assumes nothing.
+use Prim.Native.Nat.{ℕ, _+_, _*_}
+use mathlib.Core.Bool.{cond}
+use mathlib.Core.List.{List}
+use lib.Dec.{eqb, ltb}
+use lib.ListN.{set, length}
+use Rattle.link.specs.declared.Link.{Link}
+use Rattle.symbol.specs.declared.Row.{Row}
+use Rattle.symbol.specs.Codes.{successor}
+use Rattle.symbol.specs.Row.{setRow}
+use Rattle.symbol_rows.specs.declared.Decision.{Decision}
+use Rattle.symbol_rows.specs.declared.Decision.the-variants.{Refuse, Nothing, Keep, Append, Replace}
+use Rattle.symbol_rows.specs.Decide.{sectionCells}
+
+-- the lent cells that an add may write, and the counts
+pub record Table : Type 0 where
+  pub names : List ℕ
+  pub symbols : List ℕ
+  pub sections : List ℕ
+  pub link : Link
+
+abbrev pub tableOf : List ℕ → List ℕ → List ℕ → Link → Table
+tableOf n s x l = record { names = n; symbols = s; sections = x; link = l }
+
+abbrev pub moreSymbols : Link → ℕ → Link
+moreSymbols l n =
+    record {
+      names = l .names;
+      bytes = l .bytes;
+      symbols = n;
+      sections = l .sections;
+      inputs = l .inputs;
+      lists = l .lists;
+      broken = l .broken;
+    }
+
+unfoldable pub noteName : List ℕ → Row → ℕ → List ℕ
+noteName names r id = cond (eqb (r .visibility) 0) names (set names (r .name .0 * 8 + 3) id)
+
+-- the symbol of section s, 0 for none, behind all section rows
+unfoldable pub setSectionSymbol : List ℕ → ℕ → ℕ → List ℕ
+setSectionSymbol sections s symbol =
+    cond (ltb s (sectionCells (length sections))) (set sections (sectionCells (length sections) * 8 + s) symbol) sections
+
+-- "A local `Section` row becomes its section's symbol, the last one winning"
+unfoldable pub noteSection : List ℕ → Row → ℕ → List ℕ
+noteSection sections r id =
+    cond (eqb (r .visibility) 0) (cond (eqb (r .value .kind) 2) (setSectionSymbol sections (r .value .a) id) sections) sections
+
+unfoldable pub appendOf : Table → Row → Table
+appendOf t r =
+    tableOf (noteName (t .names) r (t .link .symbols)) (setRow (t .symbols) (record { 0 = t .link .symbols }) r)
+    (noteSection (t .sections) r (t .link .symbols)) (moreSymbols (t .link) (successor (t .link .symbols)))
+
+abbrev pub applied : Table → Row → Decision → Table
+applied t r (Refuse n) = t
+applied t r Nothing = t
+applied t r (Keep id) = t
+applied t r Append = appendOf t r
+applied t r (Replace id) = tableOf (t .names) (setRow (t .symbols) id r) (t .sections) (t .link)
+
+unfoldable pub applyOf : Table → Row → Decision → Table
+applyOf t r d = applied t r d

@@ -1,0 +1,94 @@
+-- The decision on a row under a name of which it is told who holds it. Document 01, "Symbols": "Add checks in this order".
+-- Assumes nothing.
+use Prim.Native.Nat.{ℕ, _/_}
+use mathlib.Core.Bool.{Bool, true, false, cond}
+use mathlib.Core.List.{List}
+use lib.Dec.{eqb, ltb, leb}
+use lib.ListN.{length}
+use Rattle.link.specs.declared.Link.{Link}
+use Rattle.link.specs.declared.SymbolId.{SymbolId}
+use Rattle.link.specs.Bounds.{symbolRows}
+use Rattle.symbol.specs.declared.Row.{Row}
+use Rattle.symbol.specs.Row.{field, visibilityCodeAt}
+use Rattle.symbol_rows.specs.declared.Holder.{Holder}
+use Rattle.symbol_rows.specs.declared.Holder.the-variants.{Unissued, Nobody, Removed, Known}
+use Rattle.symbol_rows.specs.declared.Decision.{Decision}
+use Rattle.symbol_rows.specs.declared.Decision.the-variants.{Refuse, Nothing, Keep, Append, Replace}
+
+unfoldable pub weakOf : ℕ → Bool
+weakOf v = cond (eqb v 3) true (cond (eqb v 4) true false)
+
+-- "A definition is any value but `Undefined`": undefined 0, a weak definition 2, a strong one 4
+unfoldable pub rankOf : ℕ → ℕ → ℕ
+rankOf visibility value = cond (eqb value 7) 0 (cond (weakOf visibility) 2 4)
+
+-- type 4 in add: 15; above: 16
+unfoldable pub typeRefusal : ℕ → ℕ
+typeRefusal k = cond (ltb k 4) 0 (cond (eqb k 4) 15 16)
+
+-- the symbols of as many sections lie behind the section rows
+abbrev pub sectionCells : ℕ → ℕ
+sectionCells n = n / 9
+
+-- a free row; a local section symbol also needs the cell of its section
+unfoldable pub sectionRoom : List ℕ → Row → Bool
+sectionRoom sections r =
+    cond (eqb (r .visibility) 0)
+    (cond (eqb (r .value .kind) 2) (cond (leb (sectionCells (length sections)) (r .value .a)) false true) true) true
+
+unfoldable pub roomOf : Link → List ℕ → List ℕ → Row → Bool
+roomOf l symbols sections r = cond (leb (symbolRows (length symbols)) (l .symbols)) false (sectionRoom sections r)
+
+-- "a local or a new name: type (15, 16), then a free row (2)", after the value (13, 14)
+unfoldable pub newOf : Link → List ℕ → List ℕ → Row → Decision
+newOf l symbols sections r =
+    cond (leb 13 (r .value .kind)) (Refuse (r .value .kind))
+    (cond (eqb (typeRefusal (r .kind)) 0) (cond (roomOf l symbols sections r) Append (Refuse 2)) (Refuse (typeRefusal (r .kind))))
+
+-- "type is checked and the row replaced under its old id"
+unfoldable pub replaceOf : Row → SymbolId → Decision
+replaceOf r id = cond (eqb (typeRefusal (r .kind)) 0) (Replace id) (Refuse (typeRefusal (r .kind)))
+
+-- a row yields to a greater rank; two strong definitions are 17; else the row stays
+unfoldable pub rankedOf : ℕ → ℕ → Row → SymbolId → Decision
+rankedOf old new r id = cond (ltb old new) (replaceOf r id) (cond (eqb new 4) (Refuse 17) (Keep id))
+
+-- a known name, after the value (13, 14)
+unfoldable pub knownOf : List ℕ → Row → SymbolId → Decision
+knownOf symbols r id =
+    cond (leb 13 (r .value .kind)) (Refuse (r .value .kind))
+    (rankedOf (rankOf (visibilityCodeAt symbols (id .0)) (field symbols (id .0) 5)) (rankOf (r .visibility) (r .value .kind)) r id)
+
+-- "a name id never issued, or a global or weak name whose row was removed, gives 21"
+abbrev pub namedOf : Link → List ℕ → List ℕ → Row → Holder → Decision
+namedOf l symbols sections r Unissued = Refuse 21
+namedOf l symbols sections r Nobody = newOf l symbols sections r
+namedOf l symbols sections r Removed = Refuse 21
+namedOf l symbols sections r (Known id) = knownOf symbols r id
+
+abbrev pub localOf : Link → List ℕ → List ℕ → Row → Holder → Decision
+localOf l symbols sections r Unissued = Refuse 21
+localOf l symbols sections r Nobody = newOf l symbols sections r
+localOf l symbols sections r Removed = newOf l symbols sections r
+localOf l symbols sections r (Known id) = newOf l symbols sections r
+
+-- 10, 11, 12; 21; then a local, a new or a known name
+unfoldable pub decideOf : Link → List ℕ → List ℕ → Row → Holder → Decision
+decideOf l symbols sections r h =
+    cond (leb 5 (r .visibility)) (Refuse (r .visibility))
+    (cond (eqb (r .visibility) 0) (localOf l symbols sections r h) (namedOf l symbols sections r h))
+
+-- document 01's number for each case, and the id that is answered in a table of count rows
+abbrev pub refusalOf : Decision → ℕ
+refusalOf (Refuse n) = n
+refusalOf Nothing = 0
+refusalOf (Keep id) = 0
+refusalOf Append = 0
+refusalOf (Replace id) = 0
+
+abbrev pub idOf : Decision → ℕ → SymbolId
+idOf (Refuse n) count = record { 0 = 0 }
+idOf Nothing count = record { 0 = 0 }
+idOf (Keep id) count = id
+idOf Append count = record { 0 = count }
+idOf (Replace id) count = id

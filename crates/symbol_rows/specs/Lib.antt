@@ -1,0 +1,5 @@
+pub mod Holder
+pub mod Decide
+pub mod Apply
+pub mod DecideWays
+pub mod ApplyWays

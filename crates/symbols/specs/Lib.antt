@@ -1,0 +1,6 @@
+pub mod Calls
+pub mod New
+pub mod Add
+pub mod Lookup
+pub mod Remove
+pub mod Ways

@@ -1,0 +1,63 @@
+-- `get`, `get_global`, `section_symbol_id`.
+-- Assumes nothing.
+use Prim.Native.Nat.{ℕ, _+_, _*_}
+use mathlib.Core.Bool.{cond}
+use mathlib.Core.List.{List}
+use lib.Dec.{eqb, leb}
+use lib.ListN.{getD, length}
+use Rattle.link.specs.declared.Link.{Link}
+use Rattle.link.specs.declared.Interned.{Interned}
+use Rattle.link.specs.declared.SymbolId.{SymbolId}
+use Rattle.link.specs.declared.SectionId.{SectionId}
+use Rattle.link.specs.declared.Refusal.{Refusal}
+use Rattle.link.specs.Judge.{refused, judgeOf}
+use Rattle.symbol.specs.Row.{stateAt, symbolAt}
+use Rattle.symbol_rows.specs.declared.Holder.{Holder}
+use Rattle.symbol_rows.specs.declared.Holder.the-variants.{Unissued, Nobody, Removed, Known}
+use Rattle.symbol_rows.specs.Holder.{holderOf}
+use Rattle.symbol_rows.specs.Decide.{sectionCells}
+use Rattle.symbols.specs.declared.Found.{Found}
+use Rattle.symbols.specs.declared.Found.the-variants as Fd
+use Rattle.symbols.specs.declared.SectionSymbol.{SectionSymbol}
+use Rattle.symbols.specs.declared.SectionSymbol.the-variants as Sym
+use Rattle.symbols.specs.Calls.{lentOf, notLent}
+
+-- document 01's number and place of a lookup's answer
+abbrev pub refusalOf : Found → Refusal
+refusalOf (Fd.Row symbol) = refused 0 0
+refusalOf (Fd.Refused r) = r
+
+abbrev pub notFound : ℕ → ℕ → Found
+notFound number place = Fd.Refused (refused number place)
+
+-- "absent or removed id" (21), at the symbol's id
+unfoldable pub foundAt : List ℕ → SymbolId → Found
+foundAt symbols id = cond (eqb (stateAt symbols (id .0)) 2) (notFound 21 (id .0)) (Fd.Row (symbolAt symbols id))
+
+unfoldable pub getOf : Link → List ℕ → SymbolId → Found
+getOf l symbols id =
+    cond (eqb (judgeOf l (lentOf notLent (length symbols) notLent) .number) 0)
+    (cond (leb (l .symbols) (id .0)) (notFound 21 (id .0)) (foundAt symbols id))
+    (Fd.Refused (judgeOf l (lentOf notLent (length symbols) notLent)))
+
+-- unknown global name (23); its row removed (21), at the name's id
+abbrev pub heldOf : List ℕ → Interned → Holder → Found
+heldOf symbols name Unissued = notFound 23 0
+heldOf symbols name Nobody = notFound 23 0
+heldOf symbols name Removed = notFound 21 (name .0)
+heldOf symbols name (Known id) = Fd.Row (symbolAt symbols id)
+
+unfoldable pub getGlobalOf : Link → List ℕ → List ℕ → Interned → Found
+getGlobalOf l names symbols name =
+    cond (eqb (judgeOf l (lentOf (length names) (length symbols) notLent) .number) 0)
+    (heldOf symbols name (holderOf names symbols (l .names) name))
+    (Fd.Refused (judgeOf l (lentOf (length names) (length symbols) notLent)))
+
+-- "A section without a symbol answers "none""
+abbrev pub sectionSymbolAt : List ℕ → ℕ → ℕ
+sectionSymbolAt sections s = getD sections (sectionCells (length sections) * 8 + s) 0
+
+unfoldable pub sectionSymbolOf : List ℕ → SectionId → SectionSymbol
+sectionSymbolOf sections s =
+    cond (leb (sectionCells (length sections)) (s .0)) Sym.None
+    (cond (eqb (sectionSymbolAt sections (s .0)) 0) Sym.None (Sym.Symbol (record { 0 = sectionSymbolAt sections (s .0) })))

@@ -1,0 +1,50 @@
+-- `remove`: "`remove` of any `Section` row drops that entry, and never forgets a global name; of a removed id it is accepted and changes nothing".
+-- Assumes nothing.
+use Prim.Native.Nat.{ℕ, _+_, _*_}
+use mathlib.Core.Bool.{cond}
+use mathlib.Core.List.{List}
+use lib.Dec.{eqb, leb}
+use lib.ListN.{set, length}
+use Rattle.link.specs.declared.Link.{Link}
+use Rattle.link.specs.declared.SymbolId.{SymbolId}
+use Rattle.link.specs.Judge.{refused, changeOf}
+use Rattle.symbol.specs.Row.{field, stateAt}
+use Rattle.symbol_rows.specs.Apply.{setSectionSymbol}
+use Rattle.symbols.specs.declared.Outcome.{Outcome}
+use Rattle.link.specs.Said.{Said, accepted, refusing}
+use Rattle.symbols.specs.Calls.{said, lentOf, notLent}
+
+-- the lent cells that a removal may write
+pub record Rows : Type 0 where
+  pub symbols : List ℕ
+  pub sections : List ℕ
+
+abbrev pub rowsOf : List ℕ → List ℕ → Rows
+rowsOf symbols sections = record { symbols = symbols; sections = sections }
+
+pub record RemoveLeft : Type 0 where
+  pub rows : Rows
+  pub link : Link
+  pub said : Said
+
+abbrev pub removeLeft : Rows → Link → Said → RemoveLeft
+removeLeft x l s = record { rows = x; link = l; said = s }
+
+abbrev pub removeOutcome : List ℕ → List ℕ → Outcome → RemoveLeft
+removeOutcome symbols sections r = removeLeft (rowsOf symbols sections) (r .table .link) (said (r .answer))
+
+unfoldable pub dropSection : List ℕ → ℕ → ℕ → List ℕ
+dropSection sections kind s = cond (eqb kind 2) (setSectionSymbol sections s 0) sections
+
+-- the state alone changes, so the name stays taken
+unfoldable pub removeRowOf : Rows → SymbolId → Rows
+removeRowOf x id =
+    cond (eqb (stateAt (x .symbols) (id .0)) 2) x
+    (rowsOf (set (x .symbols) (id .0 * 8 + 0) 2) (dropSection (x .sections) (field (x .symbols) (id .0) 5) (field (x .symbols) (id .0) 6)))
+
+-- 22, 1; an id at or past the count: 21
+unfoldable pub removeOf : Link → Rows → SymbolId → RemoveLeft
+removeOf l x id =
+    cond (eqb (changeOf l (lentOf notLent (length (x .symbols)) (length (x .sections))) .number) 0)
+    (cond (leb (l .symbols) (id .0)) (removeLeft x l (refusing (refused 21 (id .0)))) (removeLeft (removeRowOf x id) l (accepted (id .0))))
+    (removeLeft x l (refusing (changeOf l (lentOf notLent (length (x .symbols)) (length (x .sections))))))
