@@ -11,7 +11,7 @@ use lib.Dec.{eqb, ltb, leb}
 use lib.ListN.{length, take, drop, getD, drop-of-length-le, length-drop}
 use lib.Seq.{drop-cons, take-all, take-nil, paste}
 use borrow.Author.Tests.{eq-eqb, ne-eqb, eqb-true, lt-ltb, le-ltb, le-leb, lt-leb}
-use Rattle.byte_slices.specs.Bytes.{same, part, copied}
+use Rattle.byte_slices.specs.Bytes.{same, copied}
 
 -- the two cases of a test
 module _ {A : Type 0} (P : A → Type 0) where
@@ -43,24 +43,6 @@ same-on a b i p q e = rw (drop-cons a i 0 p, drop-cons b i 0 q) (simp (eq-eqb _ 
 pub same-end : (a b : List ℕ) (i : ℕ) → length a ≤ i → length b ≤ i → same (drop i a) (drop i b) ≡ true
 unfolding same
 same-end a b i p q = simp (drop-of-length-le a p, drop-of-length-le b q)
-
--- ---- part
-
--- what `&t[o..]` is
-abbrev pub tail : List ℕ → ℕ → List ℕ
-tail t o = take (length t - o) (drop o t)
-
-pub tail-is : (t : List ℕ) (o : ℕ) → tail t o ≡ drop o t
-tail-is t o = take-all (length t - o) (drop o t) (omega (arith, length-drop o t))
-
-pub part-past : (t : List ℕ) (o n : ℕ) → length t ≤ o → [] ≡ part t o n
-part-past t o n h = simp (drop-of-length-le t h, take-nil {A = ℕ} n)
-
-pub part-in : (t : List ℕ) (o n : ℕ) → take n (tail t o) ≡ part t o n
-part-in t o n = simp (tail-is)
-
-pub part-all : (t : List ℕ) (o n : ℕ) → length (tail t o) < n → tail t o ≡ part t o n
-part-all t o n h = let k : length (drop o t) ≤ n = omega (arith, ap length (tail-is t o)) in tail-is t o ∙ sym (take-all n (drop o t) k)
 
 -- ---- copied
 

@@ -2,7 +2,7 @@
 ghost use mathlib.Core.Path.{_≡_};
 ghost use mathlib.Core.List.{[], _∷_, _++_};
 ghost use Prim.Native.Nat.{_+_, _-_, _*_};
-ghost use lib.ListN.{getD, set, length, replicate, take};
+ghost use lib.ListN.{getD, set, length, replicate, take, drop};
 ghost use Rattle.cells.specs.Rows.{putRow, frontOf, backOf};
 
 pub fn get(cells: &[u64], i: usize) -> u64
@@ -86,5 +86,20 @@ pub fn clear_from(cells: &mut [u64], from: usize)
     while i < cells.len() {
         cells[i] = 0;
         i += 1;
+    }
+}
+
+// The len cells from start on; fewer or none where they are not there.
+pub fn part_of(cells: &[u64], start: usize, len: usize) -> &[u64]
+    ensures { λ r. ⌜ now r ≡ take len (drop start (now (cells .entry))) ⌝ }
+{
+    if cells.len() <= start {
+        return &cells[..0];
+    }
+    let tail = &cells[start..];
+    if len <= tail.len() {
+        &tail[..len]
+    } else {
+        tail
     }
 }

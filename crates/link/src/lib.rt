@@ -160,11 +160,7 @@ pub fn broken(l: Link) -> Link
 pub fn going(l: Link) -> Stage
     ensures { λ r. ⌜ r ≡ goingOf l ⌝ }
 {
-    Stage {
-        link: l,
-        number: 0,
-        place: 0,
-    }
+    stopped(l, 0, 0)
 }
 
 pub fn stopped(l: Link, number: u64, place: u64) -> Stage

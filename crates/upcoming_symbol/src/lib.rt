@@ -180,10 +180,10 @@ pub fn judge(binding: u64, visibility: u64) -> u64
     if 4 <= visibility {
         return 10;
     }
-    if 16 <= binding {
-        return JUDGED[(60 + visibility) as usize];
+    if binding < 16 {
+        return JUDGED[(binding * 4 + visibility) as usize];
     }
-    JUDGED[(binding * 4 + visibility) as usize]
+    JUDGED[(60 + visibility) as usize]
 }
 
 // ---- value (13, 14)

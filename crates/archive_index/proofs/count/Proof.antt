@@ -1,0 +1,11 @@
+use borrow.Author.Needs.{needs}
+use Rattle.archive_index.specs.Ways.{count-is}
+use Rattle.archive_index.proofs.count.Statement.{statement}
+use Rattle.archive_index.proofs.count.Tie as tie
+
+pub count-spec : {M : Type 1} → statement M
+count-spec =
+    tie.close
+    (tie.spec
+    (λ c κs. search needs)
+    (λ c. search count-is))

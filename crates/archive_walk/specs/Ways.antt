@@ -1,0 +1,313 @@
+-- The ways through the functions.
+-- Assumes nothing.
+use Prim.Native.Nat.{ℕ, zero, suc, _+_, _*_, _-_, _/_, _<_, _≤_}
+use native.Mathlib.Omega.{arith}
+use native.Mathlib.Nat.{sub-eq-zero-of-le}
+use mathlib.Core.Path.{_≡_, refl, sym, ap, subst, _∙_}
+use mathlib.Core.Bool.{Bool, true, false, cond}
+use mathlib.Core.List.{List}
+use lib.Dec.{eqb, ltb}
+use lib.ListN.{set, length}
+use mir.Syntax.{w64}
+use mir.Val.{Fits}
+use borrow.Author.Tests.{eq-eqb, ne-eqb, lt-ltb, le-ltb, ltb-false}
+use Rattle.link.specs.declared.Link.{Link}
+use Rattle.link.specs.declared.Refusal.{Refusal}
+use Rattle.link.specs.declared.SymbolId.{SymbolId}
+use Rattle.link.specs.Judge.{judgeOf}
+use Rattle.byte_slices.specs.Bytes.{same}
+use Rattle.byte_slices.specs.Ways.{pick, apart}
+use Rattle.interner.specs.Names.{findOf}
+use Rattle.symbol.specs.Row.{field}
+use Rattle.symbol_rows.specs.declared.Holder.{Holder}
+use Rattle.symbol_rows.specs.declared.Holder.the-variants.{Unissued, Nobody, Removed, Known}
+use Rattle.symbol_rows.specs.Holder.{holderOf}
+use Rattle.archive_index.specs.declared.Opened.{Opened}
+use Rattle.archive_index.specs.Index.{offsetOf}
+use Rattle.archive_index.specs.Rows.{requiredAt, memberAt, passAt, queueAt, storedName}
+use Rattle.archive_index.specs.Open.{left, openOf}
+use Rattle.archive_index.specs.Ways.{one-more}
+use Rattle.archive_walk.specs.declared.Walk.{Walk}
+use Rattle.archive_walk.specs.declared.Started.{Started}
+use Rattle.archive_walk.specs.declared.Begun.the-variants.{Ready}
+use Rattle.archive_walk.specs.declared.Begun.the-variants as Begins
+use Rattle.archive_walk.specs.declared.Offer.the-variants.{Member, Done, Refused}
+use Rattle.archive_walk.specs.declared.Moved.{Moved}
+use Rattle.archive_walk.specs.Look.{Table, lentOf, judgeTable, nameHolder, wasRemoved, isUndefined, removedName, undefinedName}
+use Rattle.archive_walk.specs.Walk.{Start, startLeft, freshWalk, noWalk, begunOf, startOf, Step, stepMoved, refusedMove, handedOut, ended, offerOf, Queue, queueOf, marked, enqueue, tieOf, tieAll, removedOf, passed, offeredFrom, makeOf, searchOf, passOf, walkFits, goOf, nextOf, bearsOf, requiredFrom, requiredOf}
+
+-- ---- the start
+
+module _ (n : ℕ) (o : Opened) (t : Started) where
+  pub begin-ready : o .refusal .number ≡ 0 → t ≡ record { walk = freshWalk (o .entries) n; begun = Ready (o .entries) } → t ≡ begunOf n o
+  unfolding begunOf
+  begin-ready e q = q ∙ sym (rw (eq-eqb _ _ e))
+
+  pub begin-refused : (o .refusal .number ≡ 0 → ⊥) → t ≡ record { walk = noWalk; begun = Begins.Refused (o .refusal) } → t ≡ begunOf n o
+  unfolding begunOf
+  begin-refused e q = q ∙ sym (rw (ne-eqb _ _ e))
+
+module _ (s l : List ℕ) where
+  pub start-is : (m : List ℕ) (o : Opened) (t : Started) → left m o ≡ openOf s l → t ≡ begunOf (length s) o → startLeft m t ≡ startOf s l
+  unfolding startOf
+  start-is m o t e q = rw (q, ← e)
+
+-- ---- the table
+
+pub judged-is : (t : Table) (r : Refusal) → r ≡ judgeOf (t .link) (lentOf (length (t .bytes)) (length (t .names)) (length (t .symbols))) → r ≡ judgeTable t
+unfolding judgeTable
+judged-is t r q = q
+
+module _ (t : Table) (x : List ℕ) where
+  pub holder-is : (h : Holder) (i : ℕ) → i ≡ findOf (t .bytes) (t .names) (t .link .names) x
+      → h ≡ holderOf (t .names) (t .symbols) (t .link .names) (record { 0 = i }) → h ≡ nameHolder t x
+  unfolding nameHolder
+  holder-is h i e q = q ∙ rw e
+
+  module _ (h : Holder) (y : Bool) where
+    pub removed-unissued : h ≡ nameHolder t x → h ≡ Unissued → y ≡ false → y ≡ removedName t x
+    unfolding removedName
+    removed-unissued e f q = q ∙ sym (rw (← e, f))
+
+    pub removed-nobody : h ≡ nameHolder t x → h ≡ Nobody → y ≡ false → y ≡ removedName t x
+    unfolding removedName
+    removed-nobody e f q = q ∙ sym (rw (← e, f))
+
+    pub removed-removed : h ≡ nameHolder t x → h ≡ Removed → y ≡ true → y ≡ removedName t x
+    unfolding removedName
+    removed-removed e f q = q ∙ sym (rw (← e, f))
+
+    pub removed-known : (id : SymbolId) → h ≡ nameHolder t x → h ≡ Known id → y ≡ false → y ≡ removedName t x
+    unfolding removedName
+    removed-known id e f q = q ∙ sym (rw (← e, f))
+
+    pub undefined-unissued : h ≡ nameHolder t x → h ≡ Unissued → y ≡ false → y ≡ undefinedName t x
+    unfolding undefinedName
+    undefined-unissued e f q = q ∙ sym (rw (← e, f))
+
+    pub undefined-nobody : h ≡ nameHolder t x → h ≡ Nobody → y ≡ false → y ≡ undefinedName t x
+    unfolding undefinedName
+    undefined-nobody e f q = q ∙ sym (rw (← e, f))
+
+    pub undefined-removed : h ≡ nameHolder t x → h ≡ Removed → y ≡ false → y ≡ undefinedName t x
+    unfolding undefinedName
+    undefined-removed e f q = q ∙ sym (rw (← e, f))
+
+    pub undefined-known : (id : SymbolId) (v : ℕ) → h ≡ nameHolder t x → h ≡ Known id → v ≡ field (t .symbols) (id .0) 5 → y ≡ eqb v 7 → y ≡ undefinedName t x
+    unfolding undefinedName
+    undefined-known id v e f g q = q ∙ sym (rw (← e, f, ← g))
+
+-- ---- a pass
+
+module _ (s l : List ℕ) (t : Table) (c k w : ℕ) where
+  module _ (x : List ℕ) (b : Bool) where
+    pub search-hit : k < c → x ≡ storedName s l k → b ≡ removedName t x → b ≡ true → w ≡ removedOf s l t (c - k) k → k ≡ w
+    unfolding removedOf
+    search-hit h e f g q = sym (q ∙ rw (one-more c k h) (simp (← e, ← f, g)))
+
+    pub search-on : k < c → x ≡ storedName s l k → b ≡ removedName t x → b ≡ false → w ≡ removedOf s l t (c - k) k → w ≡ removedOf s l t (c - (k + 1)) (k + 1)
+    unfolding removedOf
+    search-on h e f g q = q ∙ rw (one-more c k h) (simp (← e, ← f, g))
+
+  pub search-end : c ≤ k → w ≡ removedOf s l t (c - k) k → k ≡ w
+  unfolding removedOf
+  search-end h q = sym (q ∙ rw (sub-eq-zero-of-le h))
+
+pub mark-is : (l m u t : List ℕ) (n p k r : ℕ) → m ≡ set l (k * 8 + 0) 1 → u ≡ set m (r * 8 + 6) p → t ≡ set u (n * 8 + 7) k → t ≡ marked p k r l n
+unfolding marked
+mark-is l m u t n p k r f g q = q ∙ rw (g, f)
+
+module _ (l : List ℕ) (n p k r : ℕ) (t : Queue) (by : ℕ) where
+  pub queue-new : (m : List ℕ) → by ≡ passAt l r → by ≡ 0 → m ≡ marked p k r l n → t ≡ queueOf m (n + 1) → t ≡ enqueue p k r (queueOf l n)
+  unfolding enqueue
+  queue-new m e z f q = q ∙ rw f (sym (rw (← e, eq-eqb _ _ z)))
+
+  pub queue-mate : (m : List ℕ) → by ≡ passAt l r → (by ≡ 0 → ⊥) → by ≡ p → m ≡ set l (k * 8 + 0) 1 → t ≡ queueOf m n → t ≡ enqueue p k r (queueOf l n)
+  unfolding enqueue
+  queue-mate m e z f g q = q ∙ rw g (sym (rw (← e, ne-eqb _ _ z, eq-eqb _ _ f)))
+
+  pub queue-old : by ≡ passAt l r → (by ≡ 0 → ⊥) → (by ≡ p → ⊥) → t ≡ queueOf l n → t ≡ enqueue p k r (queueOf l n)
+  unfolding enqueue
+  queue-old e z f q = q ∙ sym (rw (← e, ne-eqb _ _ z, ne-eqb _ _ f))
+
+module _ (s : List ℕ) (t : Table) (p k : ℕ) (l : List ℕ) (n : ℕ) (u : Queue) (x : List ℕ) (b : Bool) where
+  pub tie-undefined : (r : ℕ) → x ≡ storedName s l k → b ≡ undefinedName t x → b ≡ true → r ≡ memberAt l k → u ≡ enqueue p k r (queueOf l n)
+      → u ≡ tieOf s t p k (queueOf l n)
+  unfolding tieOf
+  tie-undefined r e f g h q = q ∙ sym (rw (← e, ← f, g, ← h))
+
+  pub tie-not : x ≡ storedName s l k → b ≡ undefinedName t x → b ≡ false → u ≡ queueOf l n → u ≡ tieOf s t p k (queueOf l n)
+  unfolding tieOf
+  tie-not e f g q = q ∙ sym (rw (← e, ← f, g))
+
+module _ (s : List ℕ) (t : Table) (p c k : ℕ) (q u w : Queue) where
+  pub all-on : k < c → u ≡ tieOf s t p k q → w ≡ tieAll s t p (c - k) k q → w ≡ tieAll s t p (c - (k + 1)) (k + 1) u
+  unfolding tieAll
+  all-on h e f = f ∙ rw (one-more c k h) (rw e refl)
+
+  pub all-end : c ≤ k → w ≡ tieAll s t p (c - k) k q → q ≡ w
+  unfolding tieAll
+  all-end h f = sym (f ∙ rw (sub-eq-zero-of-le h))
+
+-- an entry queues at most one member
+enqueue-most : (p k r : ℕ) (q : Queue) → enqueue p k r q .queued ≤ q .queued + 1
+unfolding enqueue
+enqueue-most p k r q =
+    pick (λ (u : Queue). u .queued ≤ q .queued + 1) (eqb (passAt (q .cells) r) 0) _ _ (λ e. omega arith)
+    (λ e. pick (λ (u : Queue). u .queued ≤ q .queued + 1) (eqb (passAt (q .cells) r) p) _ _ (λ f. omega arith) (λ f. omega arith))
+
+tie-most : (s : List ℕ) (t : Table) (p k : ℕ) (q : Queue) → tieOf s t p k q .queued ≤ q .queued + 1
+unfolding tieOf
+tie-most s t p k q =
+    pick (λ (u : Queue). u .queued ≤ q .queued + 1) (undefinedName t (storedName s (q .cells) k)) _ _
+    (λ e. enqueue-most p k (memberAt (q .cells) k) q) (λ e. omega arith)
+
+pub count-on : (s : List ℕ) (t : Table) (p k : ℕ) (l m : List ℕ) (a n j : ℕ) → queueOf m j ≡ tieOf s t p k (queueOf l n) → n ≤ a + k → j ≤ a + (k + 1)
+count-on s t p k l m a n j e h =
+    let f : j ≡ tieOf s t p k (queueOf l n) .queued = ap (λ (q : Queue). q .queued) e in
+    rw f (omega (arith, tie-most s t p k (queueOf l n)))
+
+-- ---- a call
+
+module _ (s l : List ℕ) (w : Walk) (t : Moved) where
+  pub offer-member : (e o : ℕ) → w .offered < w .queued → e ≡ queueAt l (w .offered) → o ≡ offsetOf s e
+      → t ≡ record { walk = handedOut w; offer = Member o e (w .passes) } → stepMoved l t ≡ offerOf s l w
+  unfolding offerOf
+  offer-member e o h f g q = rw (q, g, f) (sym (rw (lt-ltb _ _ h)))
+
+  pub offer-done : w .queued ≤ w .offered → t ≡ record { walk = ended w; offer = Done (w .passes) } → stepMoved l t ≡ offerOf s l w
+  unfolding offerOf
+  offer-done h q = rw q (sym (rw (le-ltb _ _ h)))
+
+  module _ (b : Table) where
+    pub make-is : (m : List ℕ) (n p : ℕ) (u : Walk) → p ≡ w .passes + 1 → queueOf m n ≡ tieAll s b p (w .entries) 0 (queueOf l (w .queued))
+        → u ≡ passed w n → stepMoved m t ≡ offerOf s m u → stepMoved m t ≡ makeOf s l w b
+    unfolding makeOf
+    make-is m n p u e f g q = q ∙ rw g (sym (rw (← e, ← f)))
+
+    module _ (j : Refusal) where
+      pub pass-judged : j ≡ judgeTable b → (j .number ≡ 0 → ⊥) → t ≡ refusedMove w (j .number) (j .place) → stepMoved l t ≡ passOf s l w b
+      unfolding passOf
+      pass-judged e h q = rw q (sym (rw (← e, ne-eqb _ _ h)))
+
+      module _ (x : ℕ) where
+        pub pass-removed : j ≡ judgeTable b → j .number ≡ 0 → x ≡ removedOf s l b (w .entries) 0 → x < w .entries → t ≡ refusedMove w 21 x
+            → stepMoved l t ≡ passOf s l w b
+        unfolding passOf searchOf
+        pass-removed e h f g q = rw q (sym (rw (← e, eq-eqb _ _ h, ← f, lt-ltb _ _ g)))
+
+        pub pass-made : (m : List ℕ) → j ≡ judgeTable b → j .number ≡ 0 → x ≡ removedOf s l b (w .entries) 0 → w .entries ≤ x → stepMoved m t ≡ makeOf s l w b
+            → stepMoved m t ≡ passOf s l w b
+        unfolding passOf searchOf
+        pass-made m e h f g q = q ∙ sym (rw (← e, eq-eqb _ _ h, ← f, le-ltb _ _ g))
+
+    pub next-done : w .done ≡ true → t ≡ record { walk = w; offer = Done (w .passes) } → stepMoved l t ≡ nextOf s l w b
+    unfolding nextOf
+    next-done e q = rw q (sym (rw e))
+
+    module _ (f : Bool) where
+      pub next-odd : w .done ≡ false → f ≡ walkFits s l w → f ≡ false → t ≡ refusedMove w 1 0 → stepMoved l t ≡ nextOf s l w b
+      unfolding nextOf
+      next-odd e g h q = rw q (sym (rw (← g, h, e)))
+
+      pub next-queued : w .done ≡ false → f ≡ walkFits s l w → f ≡ true → w .offered < w .queued → stepMoved l t ≡ offerOf s l w → stepMoved l t ≡ nextOf s l w b
+      unfolding nextOf goOf
+      next-queued e g h i q = q ∙ sym (rw (← g, h, lt-ltb _ _ i, e))
+
+      pub next-pass : (m : List ℕ) → w .done ≡ false → f ≡ walkFits s l w → f ≡ true → w .queued ≤ w .offered → stepMoved m t ≡ passOf s l w b
+          → stepMoved m t ≡ nextOf s l w b
+      unfolding nextOf goOf
+      next-pass m e g h i q = q ∙ sym (rw (← g, h, le-ltb _ _ i, e))
+
+module _ (s l : List ℕ) (w : Walk) (t : Bool) where
+  pub fits-index : length s < w .length → t ≡ false → t ≡ walkFits s l w
+  unfolding walkFits
+  fits-index a q = q ∙ sym (rw (lt-ltb _ _ a))
+
+  pub fits-rows : w .length ≤ length s → length l / 8 < w .entries → t ≡ false → t ≡ walkFits s l w
+  unfolding walkFits
+  fits-rows a b q = q ∙ sym (rw (le-ltb _ _ a, lt-ltb _ _ b))
+
+  pub fits-queued : w .length ≤ length s → w .entries ≤ length l / 8 → w .entries < w .queued → t ≡ false → t ≡ walkFits s l w
+  unfolding walkFits
+  fits-queued a b c q = q ∙ sym (rw (le-ltb _ _ a, le-ltb _ _ b, lt-ltb _ _ c))
+
+  pub fits-offered : w .length ≤ length s → w .entries ≤ length l / 8 → w .queued ≤ w .entries → w .queued < w .offered → t ≡ false → t ≡ walkFits s l w
+  unfolding walkFits
+  fits-offered a b c d q = q ∙ sym (rw (le-ltb _ _ a, le-ltb _ _ b, le-ltb _ _ c, lt-ltb _ _ d))
+
+  pub fits-passes : w .length ≤ length s → w .entries ≤ length l / 8 → w .queued ≤ w .entries → w .offered ≤ w .queued → w .queued < w .passes → t ≡ false
+      → t ≡ walkFits s l w
+  unfolding walkFits
+  fits-passes a b c d e q = q ∙ sym (rw (le-ltb _ _ a, le-ltb _ _ b, le-ltb _ _ c, le-ltb _ _ d, lt-ltb _ _ e))
+
+  pub fits-all : w .length ≤ length s → w .entries ≤ length l / 8 → w .queued ≤ w .entries → w .offered ≤ w .queued → w .passes ≤ w .queued → t ≡ true
+      → t ≡ walkFits s l w
+  unfolding walkFits
+  fits-all a b c d e q = q ∙ sym (rw (le-ltb _ _ a, le-ltb _ _ b, le-ltb _ _ c, le-ltb _ _ d, le-ltb _ _ e))
+
+-- what the test gives
+pub record Room (s l : List ℕ) (w : Walk) : Type 0 where
+  pub whole : w .length ≤ length s
+  pub rows : w .entries ≤ length l / 8
+  pub members : w .queued ≤ w .entries
+  pub going : w .offered ≤ w .queued
+  pub passed : w .passes ≤ w .queued
+
+pub fits-room : (s l : List ℕ) (w : Walk) → walkFits s l w ≡ true → Room s l w
+unfolding walkFits
+fits-room s l w e = go (ltb (length s) (w .length)) (ltb (length l / 8) (w .entries)) (ltb (w .entries) (w .queued)) (ltb (w .queued) (w .offered))
+    (ltb (w .queued) (w .passes)) refl refl refl refl refl e
+  where
+    go : (a b c d f : Bool) → ltb (length s) (w .length) ≡ a → ltb (length l / 8) (w .entries) ≡ b → ltb (w .entries) (w .queued) ≡ c
+        → ltb (w .queued) (w .offered) ≡ d → ltb (w .queued) (w .passes) ≡ f
+        → cond a false (cond b false (cond c false (cond d false (cond f false true)))) ≡ true → Room s l w
+    go true b c d f ea eb ec ed ef h = absurd (apart h)
+    go false true c d f ea eb ec ed ef h = absurd (apart h)
+    go false false true d f ea eb ec ed ef h = absurd (apart h)
+    go false false false true f ea eb ec ed ef h = absurd (apart h)
+    go false false false false true ea eb ec ed ef h = absurd (apart h)
+    go false false false false false ea eb ec ed ef h =
+        record { whole = ltb-false _ _ ea; rows = ltb-false _ _ eb; members = ltb-false _ _ ec; going = ltb-false _ _ ed; passed = ltb-false _ _ ef }
+
+module _ (s l : List ℕ) (w : Walk) (f : Bool) where
+  pub sum-fits : f ≡ walkFits s l w → f ≡ true → Fits w64 (length l) → w .queued + w .entries < 0xffffffffffffffff
+  sum-fits e g h = let r = fits-room s l w (sym e ∙ g) in omega (arith, r .rows, r .members)
+
+  pub passes-fit : f ≡ walkFits s l w → f ≡ true → Fits w64 (length l) → w .passes < 0xffffffffffffffff
+  passes-fit e g h = let r = fits-room s l w (sym e ∙ g) in omega (arith, r .rows, r .members, r .passed)
+
+-- ---- required names
+
+module _ (s l : List ℕ) (r : ℕ) (x : List ℕ) (k : ℕ) (y : Bool) (a : ℕ) where
+  pub bears-free : a ≡ requiredAt l k → (a ≡ 1 → ⊥) → y ≡ false → y ≡ bearsOf s l r x k
+  unfolding bearsOf
+  bears-free e h q = q ∙ sym (rw (← e, ne-eqb _ _ h))
+
+  module _ (b : ℕ) where
+    pub bears-other : a ≡ requiredAt l k → a ≡ 1 → b ≡ memberAt l k → (b ≡ r → ⊥) → y ≡ false → y ≡ bearsOf s l r x k
+    unfolding bearsOf
+    bears-other e h f g q = q ∙ sym (rw (← e, eq-eqb _ _ h, ← f, ne-eqb _ _ g))
+
+    pub bears-name : (z : List ℕ) → a ≡ requiredAt l k → a ≡ 1 → b ≡ memberAt l k → b ≡ r → z ≡ storedName s l k → y ≡ same z x → y ≡ bearsOf s l r x k
+    unfolding bearsOf
+    bears-name z e h f g i q = q ∙ sym (rw (← e, eq-eqb _ _ h, ← f, eq-eqb _ _ g, ← i))
+
+module _ (s l : List ℕ) (c e r : ℕ) (x : List ℕ) where
+  pub required-start : r ≡ memberAt l e → requiredOf s l c e x ≡ requiredFrom s l r x c 0
+  unfolding requiredOf
+  required-start h = rw h
+
+module _ (s l : List ℕ) (r : ℕ) (x : List ℕ) (c k : ℕ) (w b : Bool) where
+  pub required-hit : k < c → b ≡ bearsOf s l r x k → b ≡ true → w ≡ requiredFrom s l r x (c - k) k → true ≡ w
+  unfolding requiredFrom
+  required-hit h e f q = sym (q ∙ rw (one-more c k h) (simp (← e, f)))
+
+  pub required-on : k < c → b ≡ bearsOf s l r x k → b ≡ false → w ≡ requiredFrom s l r x (c - k) k → w ≡ requiredFrom s l r x (c - (k + 1)) (k + 1)
+  unfolding requiredFrom
+  required-on h e f q = q ∙ rw (one-more c k h) (simp (← e, f))
+
+module _ (s l : List ℕ) (r : ℕ) (x : List ℕ) (c k : ℕ) (w : Bool) where
+  pub required-end : c ≤ k → w ≡ requiredFrom s l r x (c - k) k → false ≡ w
+  unfolding requiredFrom
+  required-end h q = sym (q ∙ rw (sub-eq-zero-of-le h))

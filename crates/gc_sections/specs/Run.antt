@@ -1,0 +1,103 @@
+-- Collection: 22, 1, 2; what is reached; 21 at the lowest section that is reached but not built; else the sweep.
+-- Assumes nothing.
+use Prim.Native.Nat.{ℕ, _/_}
+use mathlib.Core.Bool.{cond}
+use mathlib.Core.List.{List}
+use lib.Dec.{eqb, ltb}
+use lib.ListN.{length}
+use Rattle.link.specs.declared.Link.{Link}
+use Rattle.link.specs.declared.Lent.{Lent}
+use Rattle.link.specs.declared.Refusal.{Refusal}
+use Rattle.link.specs.Judge.{refused, none, changeOf}
+use Rattle.symbols.specs.Calls.{notLent}
+use Rattle.symbols.specs.Remove.{rowsOf}
+use Rattle.gc_sections.specs.declared.Unbuilt.{Unbuilt}
+use Rattle.gc_sections.specs.declared.Unbuilt.the-variants.{None, Lowest}
+use Rattle.gc_sections.specs.declared.EntryPoint.{EntryPoint}
+use Rattle.gc_sections.specs.declared.Answer.{Answer}
+use Rattle.gc_sections.specs.declared.Answer.the-variants.{Dropped, Refused}
+use Rattle.gc_sections.specs.declared.Outcome.{Outcome}
+use Rattle.gc_sections.specs.Reach.{Walk, walkOf, walked}
+use Rattle.gc_sections.specs.Sweep.{Swept, Purged, sweepSections, purgeSymbols}
+
+-- document 01's number and place of each case
+abbrev pub numberOf : Answer → ℕ
+numberOf (Dropped sections symbols) = 0
+numberOf (Refused r) = r .number
+
+abbrev pub placeOf : Answer → ℕ
+placeOf (Dropped sections symbols) = 0
+placeOf (Refused r) = r .place
+
+-- every lent cell that a collection may write, the counts and the answer
+pub record Left : Type 0 where
+  pub symbols : List ℕ
+  pub sections : List ℕ
+  pub work : List ℕ
+  pub link : Link
+  pub answer : Answer
+
+abbrev pub left : List ℕ → List ℕ → List ℕ → Link → Answer → Left
+left symbols sections work l a = record { symbols = symbols; sections = sections; work = work; link = l; answer = a }
+
+abbrev pub outcome : List ℕ → List ℕ → List ℕ → Outcome → Left
+outcome symbols sections work r = left symbols sections work (r .link) (r .answer)
+
+-- what is only read: the names and their bytes, the lists, the marks
+pub record Lists : Type 0 where
+  pub bytes : List ℕ
+  pub names : List ℕ
+  pub lists : List ℕ
+  pub marks : List ℕ
+
+abbrev pub listsOf : List ℕ → List ℕ → List ℕ → List ℕ → Lists
+listsOf bytes names lists marks = record { bytes = bytes; names = names; lists = lists; marks = marks }
+
+-- ---- the head
+
+abbrev pub lentOf : ℕ → ℕ → ℕ → ℕ → ℕ → Lent
+lentOf bytes names symbols sections lists =
+    record { names = names; bytes = bytes; symbols = symbols; sections = sections; inputs = notLent; lists = lists }
+
+-- "mark list cut short" (1), at the first symbol without one; then two work cells for each section (2)
+unfoldable pub judgeCells : Link → ℕ → ℕ → Refusal
+judgeCells l marks work =
+    cond (ltb marks (l .symbols)) (refused 1 marks) (cond (ltb (work / 2) (l .sections)) (refused 2 0) none)
+
+unfoldable pub judgeOf : Link → Lent → ℕ → ℕ → Refusal
+judgeOf l lent marks work =
+    cond (eqb (changeOf l lent .number) 0) (judgeCells l marks work) (changeOf l lent)
+
+-- ---- the end
+
+abbrev pub purged : Link → Swept → Purged → Left
+purged l s p = left (p .rows .symbols) (p .rows .sections) (s .work) l (Dropped (s .count) (p .count))
+
+unfoldable pub purgeOf : Link → List ℕ → Swept → Left
+purgeOf l symbols s = purged l s (purgeSymbols l (s .work) (rowsOf symbols (s .sections)))
+
+unfoldable pub sweepOf : Link → List ℕ → List ℕ → List ℕ → Left
+sweepOf l symbols sections work = purgeOf l symbols (sweepSections (l .sections) sections work)
+
+-- "Of sections reached but not built, the lowest gives 21"
+abbrev pub finishOf : Link → List ℕ → List ℕ → List ℕ → Unbuilt → Left
+finishOf l symbols sections work None = sweepOf l symbols sections work
+finishOf l symbols sections work (Lowest id) = left symbols sections work l (Refused (refused 21 (id .0)))
+
+unfoldable pub finished : Link → List ℕ → List ℕ → Walk → Left
+finished l symbols sections s = finishOf l symbols sections (s .work) (s .visitor .unbuilt)
+
+-- ---- the call
+
+unfoldable pub collectOf : Link → Lists → List ℕ → List ℕ → EntryPoint → List ℕ → Left
+collectOf l x symbols sections entry work =
+    finished l symbols sections (walked l (x .bytes) (x .names) symbols sections (x .lists) (x .marks) entry work)
+
+abbrev pub judged : Link → Lists → List ℕ → List ℕ → List ℕ → Refusal
+judged l x symbols sections work =
+    judgeOf l (lentOf (length (x .bytes)) (length (x .names)) (length symbols) (length sections) (length (x .lists))) (length (x .marks)) (length work)
+
+unfoldable pub runOf : Link → Lists → List ℕ → List ℕ → EntryPoint → List ℕ → Left
+runOf l x symbols sections entry work =
+    cond (eqb (judged l x symbols sections work .number) 0) (collectOf l x symbols sections entry work)
+    (left symbols sections work l (Refused (judged l x symbols sections work)))

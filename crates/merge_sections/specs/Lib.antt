@@ -1,0 +1,3 @@
+pub mod Reserve
+pub mod Notes
+pub mod Ways

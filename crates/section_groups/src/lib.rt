@@ -1,0 +1,296 @@
+// COMDAT groups of an object: which sections define a group, which are removed with a repeated one, and what that makes of symbols.
+// Marks lie in the work rows of merge_sections, loaded signatures in the names' rows. The object's symbols are the loaded table's entries.
+ghost use mathlib.Core.Path.{_≡_};
+ghost use Rattle.strings.specs.Lookup.{looked};
+ghost use Rattle.section_groups.specs.Group.{objectOf, stateOf, stepOf, shapeOf, signatureOf, repeatedOf, markRefusal, planOf, markGroupOf, markRemovedOf, admitOf, namedOf, groupOf, groupSectionOf, groupsOf};
+ghost use Rattle.section_groups.specs.Filter.{sectionAfter, symbolOk, filterOf};
+use link::Interned;
+use link::Link;
+use link::Stage;
+
+// What a group with a signature does: number 0 or its refusal, the id that the signature has or gets, and whether it was met before.
+pub struct Plan {
+    pub number: u64,
+    pub signature: Interned,
+    pub repeated: bool,
+}
+
+// Not COMDAT 4, not one section 5, the signature's symbol not in the loaded table, of section t, 6.
+fn shape(headers: &[u64], entries: &[u64], t: usize, n: usize) -> u64
+    ensures { λ r. ⌜ r ≡ shapeOf (now (headers .entry)) (now (entries .entry)) t n ⌝ }
+{
+    if cells::row_get(headers, n, 2) / 8 % 2 == 0 {
+        return 4;
+    }
+    if cells::row_get(headers, n, 6) != 1 {
+        return 5;
+    }
+    if cells::row_get(headers, n, 3) != t as u64 {
+        return 6;
+    }
+    if (entries.len() / 8) as u64 <= cells::row_get(headers, n, 4) {
+        return 6;
+    }
+    0
+}
+
+// The name of the signature's symbol, in the string section that the table links to.
+fn signature<'a>(
+    headers: &[u64],
+    entries: &[u64],
+    file: &'a [u8],
+    t: usize,
+    n: usize,
+    found: &mut bool,
+) -> &'a [u8]
+    ensures { λ r. ⌜ looked (now r) (now (found .exit)) ≡ signatureOf (now (headers .entry)) (now (entries .entry)) (now (file .entry)) t n ⌝ }
+{
+    let symbol = cells::row_get(headers, n, 4) as usize;
+    let strings = cells::row_get(headers, t, 3) as usize;
+    let offset = cells::row_get(entries, symbol, 0) as usize;
+    elf_object::name_in(headers, file, strings, offset, found)
+}
+
+// Was the signature met before, in this or an earlier object?
+fn is_repeated(names: &[u64], count: usize, id: usize) -> bool
+    ensures { λ r. ⌜ r ≡ repeatedOf (now (names .entry)) count id ⌝ }
+{
+    if count <= id {
+        return false;
+    }
+    if cells::row_get(names, id, 4) == 1 {
+        return true;
+    }
+    false
+}
+
+// Is there a mark for a section to be removed? Else 2.
+fn mark_refusal(repeated: bool, marks: usize, listed: u64) -> u64
+    ensures { λ r. ⌜ r ≡ markRefusal repeated marks listed ⌝ }
+{
+    if repeated {
+        if marks as u64 <= listed {
+            return 2;
+        }
+    }
+    0
+}
+
+// Room for the name (2), and for the mark (2).
+fn plan_group(l: Link, bytes: &[u8], names: &[u64], marks: usize, x: &[u8], listed: u64) -> Plan
+    ensures { λ r. ⌜ r ≡ planOf l (now (bytes .entry)) (now (names .entry)) marks (now (x .entry)) listed ⌝ }
+{
+    let id = interner::find(bytes, names, l.names, x);
+    let repeated = is_repeated(names, l.names, id);
+    if interner::fits(l, bytes, names, Interned(id), x.len()) {
+        return Plan {
+            number: mark_refusal(repeated, marks, listed),
+            signature: Interned(id),
+            repeated: repeated,
+        };
+    }
+    Plan {
+        number: 2,
+        signature: Interned(id),
+        repeated: repeated,
+    }
+}
+
+// The section defines a group; one that is removed stays so.
+fn mark_group(work: &mut [u64], n: usize)
+    ensures { λ _. ⌜ now (work .exit) ≡ markGroupOf (now (work .entry)) n ⌝ }
+{
+    if cells::row_get(work, n, 1) != 2 {
+        cells::row_put(work, n, 1, 1);
+    }
+}
+
+fn mark_removed(work: &mut [u64], repeated: bool, listed: usize)
+    ensures { λ _. ⌜ now (work .exit) ≡ markRemovedOf (now (work .entry)) repeated listed ⌝ }
+{
+    if repeated {
+        cells::row_put(work, listed, 1, 2);
+    }
+}
+
+// Issues the signature, notes that it is loaded, and marks the sections.
+fn admit(
+    l: Link,
+    bytes: &mut [u8],
+    names: &mut [u64],
+    work: &mut [u64],
+    x: &[u8],
+    p: Plan,
+    n: usize,
+    listed: usize,
+) -> Link
+    ensures { λ r. ⌜ stateOf (now (bytes .exit)) (now (names .exit)) (now (work .exit)) r ≡ admitOf (stateOf (now (bytes .entry)) (now (names .entry)) (now (work .entry)) l) (now (x .entry)) p n listed ⌝ }
+{
+    let id = p.signature;
+    let kept = interner::keep(l, bytes, names, id, x);
+    cells::row_put(names, id.0, 4, 1);
+    mark_group(work, n);
+    mark_removed(work, p.repeated, listed);
+    kept
+}
+
+fn named_group(
+    l: Link,
+    bytes: &mut [u8],
+    names: &mut [u64],
+    work: &mut [u64],
+    x: &[u8],
+    n: usize,
+    listed: u64,
+) -> Stage
+    ensures { λ r. ⌜ stepOf (now (bytes .exit)) (now (names .exit)) (now (work .exit)) r ≡ namedOf (stateOf (now (bytes .entry)) (now (names .entry)) (now (work .entry)) l) (now (x .entry)) n listed ⌝ }
+{
+    let p = plan_group(l, bytes, names, work.len() / 8, x, listed);
+    if p.number != 0 {
+        return link::stopped(l, p.number, n as u64);
+    }
+    link::going(admit(l, bytes, names, work, x, p, n, listed as usize))
+}
+
+// One group, of section n: 4, 5, 6, 7, 2; else it is marked.
+pub fn add_group(
+    l: Link,
+    bytes: &mut [u8],
+    names: &mut [u64],
+    work: &mut [u64],
+    headers: &[u64],
+    entries: &[u64],
+    contents: &[u64],
+    file: &[u8],
+    t: usize,
+    n: usize,
+) -> Stage
+    ensures { λ r. ⌜ stepOf (now (bytes .exit)) (now (names .exit)) (now (work .exit)) r ≡ groupOf (objectOf (now (headers .entry)) (now (entries .entry)) (now (contents .entry)) (now (file .entry)) t) (stateOf (now (bytes .entry)) (now (names .entry)) (now (work .entry)) l) n ⌝ }
+{
+    let number = shape(headers, entries, t, n);
+    if number != 0 {
+        return link::stopped(l, number, n as u64);
+    }
+    let mut found = false;
+    let x = signature(headers, entries, file, t, n, &mut found);
+    if found {
+        let listed = cells::get(contents, cells::row_get(headers, n, 5) as usize);
+        return named_group(l, bytes, names, work, x, n, listed);
+    }
+    link::stopped(l, 7, n as u64)
+}
+
+fn group_section(
+    s: Stage,
+    bytes: &mut [u8],
+    names: &mut [u64],
+    work: &mut [u64],
+    headers: &[u64],
+    entries: &[u64],
+    contents: &[u64],
+    file: &[u8],
+    t: usize,
+    n: usize,
+) -> Stage
+    ensures { λ r. ⌜ stepOf (now (bytes .exit)) (now (names .exit)) (now (work .exit)) r ≡ groupSectionOf (objectOf (now (headers .entry)) (now (entries .entry)) (now (contents .entry)) (now (file .entry)) t) (stepOf (now (bytes .entry)) (now (names .entry)) (now (work .entry)) s) n ⌝ }
+{
+    if elf_object::is_loaded(headers, n, 7) {
+        let l = s.link;
+        return add_group(
+            l,
+            bytes,
+            names,
+            work,
+            headers,
+            entries,
+            contents,
+            file,
+            t,
+            n,
+        );
+    }
+    s
+}
+
+// All groups, ascending, up to the first refusal.
+pub fn add_groups(
+    s: Stage,
+    bytes: &mut [u8],
+    names: &mut [u64],
+    work: &mut [u64],
+    headers: &[u64],
+    entries: &[u64],
+    contents: &[u64],
+    file: &[u8],
+    t: usize,
+) -> Stage
+    ensures { λ r. ⌜ stepOf (now (bytes .exit)) (now (names .exit)) (now (work .exit)) r ≡ groupsOf (objectOf (now (headers .entry)) (now (entries .entry)) (now (contents .entry)) (now (file .entry)) t) (stepOf (now (bytes .entry)) (now (names .entry)) (now (work .entry)) s) ⌝ }
+{
+    let rows = headers.len() / 8;
+    let mut u = s;
+    let mut n = 0;
+    while n < rows {
+        u = group_section(
+            u,
+            bytes,
+            names,
+            work,
+            headers,
+            entries,
+            contents,
+            file,
+            t,
+            n,
+        );
+        let number = u.number;
+        if number != 0 {
+            return u;
+        }
+        n += 1;
+    }
+    u
+}
+
+// ---- the filter
+
+// The section of a symbol after the filter: undefined where it is removed.
+pub fn section_after(work: &[u64], section: u64) -> u64
+    ensures { λ r. ⌜ r ≡ sectionAfter (now (work .entry)) section ⌝ }
+{
+    if section < 0xff00 {
+        if cells::row_get(work, section as usize, 1) == 2 {
+            return 0;
+        }
+    }
+    section
+}
+
+// A local symbol must not lie in a removed section.
+fn symbol_ok(work: &[u64], entries: &[u64], i: usize) -> bool
+    ensures { λ r. ⌜ r ≡ symbolOk (now (work .entry)) (now (entries .entry)) i ⌝ }
+{
+    if cells::row_get(entries, i, 1) != 0 {
+        return true;
+    }
+    let section = cells::row_get(entries, i, 4);
+    if section_after(work, section) == section {
+        return true;
+    }
+    false
+}
+
+// The first local symbol in a removed section; as many as there are where none is.
+pub fn filter_symbol_table(work: &[u64], entries: &[u64]) -> usize
+    ensures { λ r. ⌜ r ≡ filterOf (now (work .entry)) (now (entries .entry)) ⌝ }
+{
+    let rows = entries.len() / 8;
+    let mut i = 0;
+    while i < rows {
+        if symbol_ok(work, entries, i) {
+            i += 1;
+        } else {
+            return i;
+        }
+    }
+    i
+}

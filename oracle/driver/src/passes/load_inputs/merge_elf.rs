@@ -1,0 +1,2 @@
+//! The unchanged file of cuddld.
+include!(concat!(env!("CUDDLD_FILES"), "/passes/load_inputs/merge_elf.rs"));
