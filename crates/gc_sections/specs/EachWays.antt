@@ -1,8 +1,8 @@
 -- A loop's start, a turn of it, and its end.
 -- Assumes nothing.
-use Prim.Native.Nat.{ℕ, zero, suc, _+_, _-_, _<_, _≤_}
+use Prim.Native.Nat.{ℕ, suc, _+_, _-_, _<_, _≤_}
 use native.Mathlib.Omega.{arith}
-use mathlib.Core.Path.{_≡_, refl, sym, ap, _∙_}
+use mathlib.Core.Path.{_≡_, sym, ap, _∙_}
 use Rattle.gc_sections.specs.Each.{each}
 
 module _ {S : Type 0} (f : ℕ → S → S) (n : ℕ) where

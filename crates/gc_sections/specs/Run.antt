@@ -8,8 +8,8 @@ use lib.ListN.{length}
 use Rattle.link.specs.declared.Link.{Link}
 use Rattle.link.specs.declared.Lent.{Lent}
 use Rattle.link.specs.declared.Refusal.{Refusal}
+use Rattle.link.specs.Bounds.{notLent}
 use Rattle.link.specs.Judge.{refused, none, changeOf}
-use Rattle.symbols.specs.Calls.{notLent}
 use Rattle.symbols.specs.Remove.{rowsOf}
 use Rattle.gc_sections.specs.declared.Unbuilt.{Unbuilt}
 use Rattle.gc_sections.specs.declared.Unbuilt.the-variants.{None, Lowest}
@@ -17,7 +17,7 @@ use Rattle.gc_sections.specs.declared.EntryPoint.{EntryPoint}
 use Rattle.gc_sections.specs.declared.Answer.{Answer}
 use Rattle.gc_sections.specs.declared.Answer.the-variants.{Dropped, Refused}
 use Rattle.gc_sections.specs.declared.Outcome.{Outcome}
-use Rattle.gc_sections.specs.Reach.{Walk, walkOf, walked}
+use Rattle.gc_sections.specs.Reach.{Walk, walked}
 use Rattle.gc_sections.specs.Sweep.{Swept, Purged, sweepSections, purgeSymbols}
 
 -- document 01's number and place of each case

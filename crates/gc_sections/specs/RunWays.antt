@@ -1,8 +1,8 @@
 -- The ways through the functions of Sweep and Run.
 -- Assumes nothing.
-use Prim.Native.Nat.{ℕ, _+_, _*_, _/_, _-_, _<_, _≤_}
+use Prim.Native.Nat.{ℕ, _+_, _/_, _-_, _<_, _≤_}
 use native.Mathlib.Omega.{arith}
-use mathlib.Core.Path.{_≡_, refl, sym, ap, _∙_}
+use mathlib.Core.Path.{_≡_, refl}
 use mathlib.Core.Bool.{Bool, true, false, cond}
 use mathlib.Core.List.{List}
 use lib.Dec.{eqb, ltb}
@@ -15,7 +15,8 @@ use Rattle.link.specs.declared.Refusal.{Refusal}
 use Rattle.link.specs.declared.SectionId.{SectionId}
 use Rattle.link.specs.Bounds.{lesser, sectionRows, symbolRows}
 use Rattle.link.specs.Judge as Link
-use Rattle.link.specs.Judge.{refused, none, changeOf}
+use Rattle.link.specs.Judge.{refused, changeOf}
+use Rattle.link.specs.Passed.{passed-sections, passed-symbols}
 use Rattle.symbols.specs.Remove.{Rows, rowsOf, removeRowOf}
 use Rattle.sections.specs.Rows.{droppedOf, isBuilt}
 use Rattle.gc_sections.specs.declared.Lead.{Lead}
@@ -155,14 +156,11 @@ lesser-left a b = by-test (ltb a b) (λ t. rw t (omega arith)) (λ t. rw t (ltb-
 
 module _ (l : Link) (n : Lent) (marks work : ℕ) (head : Refusal) (e : head ≡ judgeOf l n marks work) (z : head .number ≡ 0) where
   pub counts-lent : (l .sections ≤ sectionRows (n .sections)) × (l .symbols ≤ symbolRows (n .symbols))
-  unfolding changeOf Link.judgeOf
+  unfolding changeOf
   counts-lent =
       let a = judge-change l n marks work (rw (← e) z) in
-      let over = cond (ltb (symbolRows (n .symbols)) (l .symbols)) (refused 1 (symbolRows (n .symbols))) (Link.judgeRestOf l n) in
       let b = never (l .broken) (refused 22 0) (Link.judgeOf l n) (λ q. omega arith) a in
-      let c = never (ltb (sectionRows (n .sections)) (l .sections)) (refused 1 (sectionRows (n .sections))) over (λ q. omega arith) (b .1) in
-      let d = never (ltb (symbolRows (n .symbols)) (l .symbols)) (refused 1 (symbolRows (n .symbols))) (Link.judgeRestOf l n) (λ q. omega arith) (c .1) in
-      (ltb-false _ _ (c .0), ltb-false _ _ (d .0))
+      (passed-sections l n (b .1), passed-symbols l n (b .1))
 
   pub few-sections : l .sections ≤ 65535
   few-sections = omega (arith, counts-lent .0, lesser-left 65535 (n .sections / 9))

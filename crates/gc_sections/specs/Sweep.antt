@@ -6,7 +6,7 @@ use mathlib.Core.List.{List}
 use lib.Dec.{eqb, ltb}
 use lib.ListN.{getD, set}
 use Rattle.link.specs.declared.Link.{Link}
-use Rattle.symbols.specs.Remove.{Rows, rowsOf, removeRowOf}
+use Rattle.symbols.specs.Remove.{Rows, removeRowOf}
 use Rattle.sections.specs.Rows.{droppedOf, isBuilt}
 use Rattle.gc_sections.specs.declared.Lead.{Lead}
 use Rattle.gc_sections.specs.declared.Lead.the-variants.{Nowhere, Section}

@@ -1,13 +1,12 @@
 // Section collection: what no relocation reaches from the roots is dropped, and its symbols are removed.
 ghost use mathlib.Core.Path.{_≡_};
 ghost use Prim.Native.Nat.{_+_, _≤_};
-ghost use lib.ListN.{length};
 ghost use Rattle.symbols.specs.Remove.{rowsOf};
 ghost use Rattle.gc_sections.specs.Each.{each};
-ghost use Rattle.gc_sections.specs.Roots.{valueLead, leadOf, readable, rooted, isRoot, nameIs, ehFrame};
-ghost use Rattle.gc_sections.specs.Reach.{walkOf, saveOf, lowerOf, reachOf, addOf, rootSymbol, rootSection, entryOf, endOf, relocation, relocations, follow, visit, clearCell, startOf, rootsOf, processOf, walked};
+ghost use Rattle.gc_sections.specs.Roots.{valueLead, leadOf, readable, rooted, isRoot, nameIs};
+ghost use Rattle.gc_sections.specs.Reach.{walkOf, saveOf, lowerOf, reachOf, addOf, rootSymbol, rootSection, entryOf, endOf, relocation, relocations, visit, clearCell, startOf, rootsOf, processOf, walked};
 ghost use Rattle.gc_sections.specs.Sweep.{sweptOf, dropUnreached, droppedNow, purgedOf, purgeSymbol, sweepSections, purgeSymbols};
-ghost use Rattle.gc_sections.specs.Run.{outcome, listsOf, lentOf, judgeCells, judgeOf, purgeOf, sweepOf, finishOf, finished, collectOf, runOf};
+ghost use Rattle.gc_sections.specs.Run.{outcome, listsOf, lentOf, judgeCells, judgeOf, sweepOf, finishOf, runOf};
 use link::Lent;
 use link::Link;
 use link::Refusal;
@@ -640,7 +639,13 @@ pub fn run(
 ) -> Outcome
     ensures { λ r. ⌜ outcome (now (symbols .exit)) (now (sections .exit)) (now (work .exit)) r ≡ runOf l (listsOf (now (bytes .entry)) (now (names .entry)) (now (lists .entry)) (now (marks .entry))) (now (symbols .entry)) (now (sections .entry)) entry (now (work .entry)) ⌝ }
 {
-    let lent = lent_of(bytes.len(), names.len(), symbols.len(), sections.len(), lists.len());
+    let lent = lent_of(
+        bytes.len(),
+        names.len(),
+        symbols.len(),
+        sections.len(),
+        lists.len(),
+    );
     let head = judge(l, lent, marks.len(), work.len());
     if head.number != 0 {
         return Outcome {
@@ -648,7 +653,17 @@ pub fn run(
             answer: Answer::Refused { refusal: head },
         };
     }
-    let v = walk(l, bytes, names, symbols, sections, lists, marks, entry, work);
+    let v = walk(
+        l,
+        bytes,
+        names,
+        symbols,
+        sections,
+        lists,
+        marks,
+        entry,
+        work,
+    );
     let unbuilt = v.unbuilt;
     finish(l, symbols, sections, work, unbuilt)
 }

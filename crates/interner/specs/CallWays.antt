@@ -6,6 +6,7 @@ use mathlib.Core.Bool.{Bool, true, false}
 use mathlib.Core.List.{List, [], _++_}
 use lib.ListN.{length, take, replicate}
 use borrow.Author.Tests.{eq-eqb, ne-eqb, lt-ltb, le-ltb}
+use Rattle.link.specs.declared.Link.{Link}
 use Rattle.link.specs.declared.Lent.{Lent}
 use Rattle.link.specs.declared.Refusal.{Refusal}
 use Rattle.link.specs.declared.Interned.{Interned}
@@ -14,7 +15,7 @@ use Rattle.link.specs.Judge.{judgeOf, changeOf}
 use Rattle.link.specs.Said.{accepted}
 use Rattle.interner.specs.declared.Outcome.{Outcome}
 use Rattle.interner.specs.Names.{Store, storeOf, nameAt, findOf, fitsOf, keepOf}
-use Rattle.interner.specs.Calls.{Left, left, outcome, refusedOf, lent, issueOf, internOf, noRows, clearHeads, newOf, Resolved, resolved, resolveOf}
+use Rattle.interner.specs.Calls.{Left, left, outcome, refusedOf, lent, issueOf, internOf, noNames, clearHeads, newOf, Resolved, resolved, resolveOf}
 
 module _ (s : Store) (x : List ℕ) (t : Left) (n : Lent) (h : Refusal) where
   pub intern-refused : (o : Outcome) → n ≡ lent s → h ≡ changeOf (s .link) n → (h .number ≡ 0 → ⊥) → o ≡ refusedOf (s .link) (h .number) (h .place)
@@ -34,14 +35,14 @@ module _ (s : Store) (x : List ℕ) (t : Left) (n : Lent) (h : Refusal) where
     intern-issued u a b z d e g p q = simp (q, p, ← a, ← b, eq-eqb _ _ z, ← d, ← e, g)
 
 module _ (bytes names : List ℕ) (t : Left) (k : ℕ) where
-  pub new-none : (o : Outcome) → k ≡ nameRows (length names) → k ≡ 0 → o ≡ refusedOf noRows 2 0 → t ≡ outcome bytes names o → t ≡ newOf bytes names
+  pub new-none : (l : Link) (o : Outcome) → k ≡ nameRows (length names) → k ≡ 0 → l ≡ noNames 0 → o ≡ refusedOf l 2 0 → t ≡ outcome bytes names o → t ≡ newOf bytes names
   unfolding newOf
-  new-none o e z p q = simp (q, p, ← e, eq-eqb _ _ z)
+  new-none l o e z f p q = simp (q, p, f, ← e, eq-eqb _ _ z)
 
-  pub new-made : (m : List ℕ) (u : Store) → k ≡ nameRows (length names) → (k ≡ 0 → ⊥) → m ≡ take (k * 8) names ++ replicate (length names - k * 8) 0
-      → u ≡ keepOf (storeOf bytes m noRows) (record { 0 = 0 }) [] → t ≡ left u (accepted 0) → t ≡ newOf bytes names
+  pub new-made : (m : List ℕ) (l : Link) (u : Store) → k ≡ nameRows (length names) → (k ≡ 0 → ⊥) → m ≡ take (k * 8) names ++ replicate (length names - k * 8) 0
+      → l ≡ noNames k → u ≡ keepOf (storeOf bytes m l) (record { 0 = 0 }) [] → t ≡ left u (accepted 0) → t ≡ newOf bytes names
   unfolding newOf clearHeads
-  new-made m u e z d p q = simp (q, p, d, ← e, ne-eqb _ _ z)
+  new-made m l u e z d f p q = simp (q, p, f, d, ← e, ne-eqb _ _ z)
 
 module _ (s : Store) (id : Interned) (t : Resolved) (n : Lent) (h : Refusal) where
   pub resolve-refused : n ≡ lent s → h ≡ judgeOf (s .link) n → (h .number ≡ 0 → ⊥) → t ≡ resolved [] (h .number) (h .place) → t ≡ resolveOf s id

@@ -7,7 +7,7 @@ ghost use Prim.Native.Nat.{_<_};
 ghost use lib.ListN.{length};
 ghost use Rattle.interner.specs.Hash.{hashFrom, headCell};
 ghost use Rattle.interner.specs.Names.{storeOf, nameAt, seekOf, findOf, roomOf, fitsOf, linked, keepOf};
-ghost use Rattle.interner.specs.Calls.{outcome, lentOf, refusedOf, internOf, newOf, resolved, resolveOf};
+ghost use Rattle.interner.specs.Calls.{outcome, lentOf, refusedOf, internOf, noNames, newOf, resolved, resolveOf};
 use link::Interned;
 use link::Lent;
 use link::Link;
@@ -145,6 +145,8 @@ pub fn keep(l: Link, bytes: &mut [u8], names: &mut [u64], id: Interned, x: &[u8]
             sections: l.sections,
             inputs: l.inputs,
             lists: l.lists,
+            chains: l.chains,
+            slots: l.slots,
             broken: l.broken,
         };
     }
@@ -199,25 +201,32 @@ pub fn intern(l: Link, bytes: &mut [u8], names: &mut [u64], x: &[u8]) -> Outcome
     refused(l, 2, 0)
 }
 
-// A link without rows but the empty name, whose id is 0. Whatever the cells held before doesn't matter.
-pub fn new(bytes: &mut [u8], names: &mut [u64]) -> Outcome
-    ensures { λ r. ⌜ outcome (now (bytes .exit)) (now (names .exit)) r ≡ newOf (now (bytes .entry)) (now (names .entry)) ⌝ }
+fn no_names(chains: usize) -> Link
+    ensures { λ r. ⌜ r ≡ noNames chains ⌝ }
 {
-    let l = Link {
+    Link {
         names: 0,
         bytes: 0,
         symbols: 0,
         sections: 0,
         inputs: 0,
         lists: 0,
+        chains: chains,
+        slots: 0,
         broken: false,
-    };
+    }
+}
+
+// A link without rows but the empty name, whose id is 0. Whatever the cells held before doesn't matter.
+pub fn new(bytes: &mut [u8], names: &mut [u64]) -> Outcome
+    ensures { λ r. ⌜ outcome (now (bytes .exit)) (now (names .exit)) r ≡ newOf (now (bytes .entry)) (now (names .entry)) ⌝ }
+{
     let rows = link::name_rows(names.len());
     if rows == 0 {
-        return refused(l, 2, 0);
+        return refused(no_names(0), 2, 0);
     }
     cells::clear_from(names, rows * 8);
-    let kept = keep(l, bytes, names, Interned(0), b"");
+    let kept = keep(no_names(rows), bytes, names, Interned(0), b"");
     Outcome {
         link: kept,
         answer: Answer::Name { id: Interned(0) },

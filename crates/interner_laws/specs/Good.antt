@@ -83,6 +83,8 @@ rest l =
       sections = l .sections;
       inputs = l .inputs;
       lists = l .lists;
+      chains = l .chains;
+      slots = l .slots;
       broken = l .broken;
     }
 

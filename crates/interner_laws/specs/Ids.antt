@@ -25,10 +25,11 @@ module _ (s : Store) (g : Good s) (x : List ℕ) (ok : Accepted (internOf s x)) 
   on-issued =
       issued-stays count name (first .store) on (id first) x (after-stays vs (first .store) (intern-good s x g)) (intern-issued s x g ok)
 
-  pub resolves-on : Within (s .link) → resolveOf on (record { 0 = id first }) ≡ resolved x 0 0
+  pub resolves-on : Within s → resolveOf on (record { 0 = id first }) ≡ resolved x 0 0
   resolves-on w =
       let same = after-untouched vs (first .store) .others ∙ intern-untouched s x .others in
-      resolves on on-good (within-rest (on .link) (s .link) same w) (id first) x on-issued
+      let long = after-untouched vs (first .store) .rows-same ∙ intern-untouched s x .rows-same in
+      resolves on on-good (within-rest on s same long w) (id first) x on-issued
 
   module _ (y : List ℕ) (ok′ : Accepted (internOf on y)) where
     abbrev later : Left

@@ -17,7 +17,7 @@ use Rattle.link.specs.Bounds.{nameRows, nameBytes}
 use Rattle.link.specs.Judge.{refused, changeOf}
 use Rattle.link.specs.Said.{accepted, refusing, numberIn, valueIn}
 use Rattle.interner.specs.Names.{Store, storeOf, roomOf, fitsOf, keepOf, added}
-use Rattle.interner.specs.Calls.{Left, left, lent, issueOf, internOf, noRows, clearHeads, newOf}
+use Rattle.interner.specs.Calls.{Left, left, lent, issueOf, internOf, noRows, noNames, clearHeads, newOf}
 use Rattle.interner_laws.specs.Histories.{history, always, kept, stays-none, stays-both}
 use Rattle.interner_laws.specs.Good.{Chained, Good, Issued, Stays, Untouched, rest, count, rowsIn, name, head, find}
 use Rattle.interner_laws.specs.Find.{found, find-low, find-known}
@@ -167,9 +167,9 @@ module _ (bytes names : List ℕ) where
   rows = nameRows (length names)
 
   abbrev blank : Store
-  blank = storeOf bytes (clearHeads names) noRows
+  blank = storeOf bytes (clearHeads names) (noNames rows)
 
-  cleared-long : length (clearHeads names) ≡ length names
+  pub cleared-long : length (clearHeads names) ≡ length names
   unfolding clearHeads
   cleared-long =
       length-append (take (rows * 8) names) (replicate (length names - rows * 8) 0)
@@ -245,8 +245,11 @@ module _ (bytes names : List ℕ) where
     pub new-good : Good (newOf bytes names .store)
     new-good = rw (new-is new-rows) (opened-good new-rows)
 
-    pub new-rest : rest (newOf bytes names .store .link) ≡ noRows
+    pub new-rest : rest (newOf bytes names .store .link) ≡ noNames rows
     new-rest = rw (new-is new-rows)
+
+    pub new-long : length (newOf bytes names .store .names) ≡ length names
+    new-long = rw (new-is new-rows) (more-untouched blank (opened new-rows) [] (opened-more new-rows) .rows-same ∙ cleared-long)
 
   pub new-refused : (Accepted (newOf bytes names) → ⊥) → newOf bytes names .store ≡ storeOf bytes names noRows
   unfolding newOf

@@ -39,7 +39,7 @@ module _ (bytes names : List ℕ) (opened : Accepted (newOf bytes names)) (us : 
   pub unbroken : table .link .broken ≡ false
   unbroken = Judged.table-whole bytes names opened us
 
-  pub within : Within (table .link)
+  pub within : Within table
   within = Judged.table-within bytes names opened us
 
   module _ (x y : List ℕ) (vs : List (List ℕ)) where

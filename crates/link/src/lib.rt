@@ -1,7 +1,7 @@
 // A link by value: how much of each lent list is in use, and whether it is broken. The rows themselves are lent to each call.
 ghost use mathlib.Core.Path.{_≡_};
 ghost use Rattle.link.specs.Bounds.{lesser, nameRows, nameBytes, symbolRows, sectionRows, inputRows};
-ghost use Rattle.link.specs.Judge.{refused, judgeOf, judgeRestOf, changeOf, brokenOf, goingOf, stoppedOf};
+ghost use Rattle.link.specs.Judge.{refused, otherLength, judgeSections, judgeNames, judgeLists, judgeOf, changeOf, brokenOf, goingOf, stoppedOf};
 
 // Ids never stand for one another.
 pub struct Interned(pub usize);
@@ -10,6 +10,8 @@ pub struct SymbolId(pub usize);
 
 pub struct SectionId(pub usize);
 
+// Chains and slots are what a new table was lent: name rows, each with the head of a hash chain, and cells for sections' symbols. Where those
+// cells lie follows from the slices' lengths, so the lengths stay what they were.
 pub struct Link {
     pub names: usize,
     pub bytes: usize,
@@ -17,6 +19,8 @@ pub struct Link {
     pub sections: usize,
     pub inputs: usize,
     pub lists: usize,
+    pub chains: usize,
+    pub slots: usize,
     pub broken: bool,
 }
 
@@ -95,41 +99,80 @@ fn refuse(number: u64, place: usize) -> Refusal
     }
 }
 
-fn judge_rest(l: Link, lent: Lent) -> Refusal
-    ensures { λ r. ⌜ r ≡ judgeRestOf l lent ⌝ }
+// Is a slice lent, and not with the rows that a new table was lent?
+fn other_length(len: usize, rows: usize, fixed: usize) -> bool
+    ensures { λ r. ⌜ r ≡ otherLength len rows fixed ⌝ }
 {
-    let names = name_rows(lent.names);
-    if names < l.names {
-        return refuse(1, names);
+    if len == NOT_LENT {
+        return false;
     }
-    let bytes = name_byte_room(lent.bytes);
-    if bytes < l.bytes {
-        return refuse(1, bytes);
+    if rows == fixed {
+        return false;
     }
-    let inputs = input_rows(lent.inputs);
-    if inputs < l.inputs {
-        return refuse(1, inputs);
+    true
+}
+
+fn judge_sections(l: Link, len: usize) -> Refusal
+    ensures { λ r. ⌜ r ≡ judgeSections l len ⌝ }
+{
+    let slots = len / 9;
+    if other_length(len, slots, l.slots) {
+        return refuse(1, lesser_of(slots, l.slots));
     }
-    let lists = lent.lists;
+    let rows = section_rows(len);
+    if rows < l.sections {
+        return refuse(1, rows);
+    }
+    refuse(0, 0)
+}
+
+fn judge_names(l: Link, len: usize, bytes: usize) -> Refusal
+    ensures { λ r. ⌜ r ≡ judgeNames l len bytes ⌝ }
+{
+    let rows = name_rows(len);
+    if other_length(len, rows, l.chains) {
+        return refuse(1, lesser_of(rows, l.chains));
+    }
+    if l.chains < l.names {
+        return refuse(1, l.chains);
+    }
+    let most = name_byte_room(bytes);
+    if most < l.bytes {
+        return refuse(1, most);
+    }
+    refuse(0, 0)
+}
+
+fn judge_lists(l: Link, inputs: usize, lists: usize) -> Refusal
+    ensures { λ r. ⌜ r ≡ judgeLists l inputs lists ⌝ }
+{
+    let rows = input_rows(inputs);
+    if rows < l.inputs {
+        return refuse(1, rows);
+    }
     if lists < l.lists {
         return refuse(1, lists);
     }
     refuse(0, 0)
 }
 
-// A count above what is lent, or above the bound, is a list over its bound: 1 at the first row past it; sections, symbols, then the rest.
+// A count above what is lent, or above the bound, is a list over its bound: 1 at the first row past it. Sections, symbols, then the rest.
 pub fn judge(l: Link, lent: Lent) -> Refusal
     ensures { λ r. ⌜ r ≡ judgeOf l lent ⌝ }
 {
-    let sections = section_rows(lent.sections);
-    if sections < l.sections {
-        return refuse(1, sections);
+    let sections = judge_sections(l, lent.sections);
+    if sections.number != 0 {
+        return sections;
     }
     let symbols = symbol_rows(lent.symbols);
     if symbols < l.symbols {
         return refuse(1, symbols);
     }
-    judge_rest(l, lent)
+    let names = judge_names(l, lent.names, lent.bytes);
+    if names.number != 0 {
+        return names;
+    }
+    judge_lists(l, lent.inputs, lent.lists)
 }
 
 // For a changing call: 22 on a broken link comes first.
@@ -153,6 +196,8 @@ pub fn broken(l: Link) -> Link
         sections: l.sections,
         inputs: l.inputs,
         lists: l.lists,
+        chains: l.chains,
+        slots: l.slots,
         broken: true,
     }
 }

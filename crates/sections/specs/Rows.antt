@@ -55,6 +55,8 @@ moreSections l =
       sections = l .sections + 1;
       inputs = l .inputs;
       lists = l .lists;
+      chains = l .chains;
+      slots = l .slots;
       broken = l .broken;
     }
 

@@ -40,6 +40,8 @@ pub fn reserve(l: Link, sections: &mut [u64]) -> Link
             sections: id + 1,
             inputs: l.inputs,
             lists: l.lists,
+            chains: l.chains,
+            slots: l.slots,
             broken: l.broken,
         };
     }

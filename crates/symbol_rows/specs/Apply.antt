@@ -32,6 +32,8 @@ moreSymbols l n =
       sections = l .sections;
       inputs = l .inputs;
       lists = l .lists;
+      chains = l .chains;
+      slots = l .slots;
       broken = l .broken;
     }
 

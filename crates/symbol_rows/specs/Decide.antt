@@ -1,13 +1,13 @@
 -- The decision on a row under a name of which it is told who holds it. Document 01, "Symbols": "Add checks in this order".
 -- Assumes nothing.
-use Prim.Native.Nat.{ℕ, _/_}
+use Prim.Native.Nat.{ℕ}
 use mathlib.Core.Bool.{Bool, true, false, cond}
 use mathlib.Core.List.{List}
 use lib.Dec.{eqb, ltb, leb}
 use lib.ListN.{length}
 use Rattle.link.specs.declared.Link.{Link}
 use Rattle.link.specs.declared.SymbolId.{SymbolId}
-use Rattle.link.specs.Bounds.{symbolRows}
+use Rattle.link.specs.Bounds.{symbolRows, sectionSlots}
 use Rattle.symbol.specs.declared.Row.{Row}
 use Rattle.symbol.specs.Row.{field, visibilityCodeAt}
 use Rattle.symbol_rows.specs.declared.Holder.{Holder}
@@ -28,7 +28,7 @@ typeRefusal k = cond (ltb k 4) 0 (cond (eqb k 4) 15 16)
 
 -- the symbols of as many sections lie behind the section rows
 abbrev pub sectionCells : ℕ → ℕ
-sectionCells n = n / 9
+sectionCells n = sectionSlots n
 
 -- a free row; a local section symbol also needs the cell of its section
 unfoldable pub sectionRoom : List ℕ → Row → Bool

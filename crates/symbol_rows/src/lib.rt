@@ -269,6 +269,8 @@ fn append(l: Link, names: &mut [u64], symbols: &mut [u64], sections: &mut [u64],
         sections: l.sections,
         inputs: l.inputs,
         lists: l.lists,
+        chains: l.chains,
+        slots: l.slots,
         broken: l.broken,
     }
 }

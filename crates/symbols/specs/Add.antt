@@ -26,9 +26,10 @@ use Rattle.symbol_rows.specs.Apply.{Table, applyOf}
 use Rattle.link.specs.Said.{accepted, refusing}
 use Rattle.symbols.specs.Calls.{Left, left, lentOf}
 
--- 22, then 1: the link's counts, then the symbol's own fields
+-- 22, then 1: the link's counts, then the symbol's own fields; "else 0, as for a direct add but 21"
 unfoldable pub judgeAddOf : Link → Lent → UpcomingSymbol → Refusal
-judgeAddOf l n u = cond (eqb (changeOf l n .number) 0) (cond (inRange u) (changeOf l n) (refused 1 0)) (changeOf l n)
+judgeAddOf l n u =
+    cond (eqb (changeOf l n .number) 0) (cond (inRange u) (changeOf l n) (refused 1 0)) (refused (changeOf l n .number) 0)
 
 abbrev pub fileOf : UpcomingSymbol → SttFile
 fileOf Null = File.None

@@ -6,6 +6,7 @@ use mathlib.Core.List.{List}
 use Rattle.link.specs.declared.Link.{Link}
 use Rattle.link.specs.declared.Lent.{Lent}
 use Rattle.link.specs.Judge.{refused}
+use Rattle.link.specs.Bounds.{notLent}
 use Rattle.link.specs.Said.{Said, accepted, refusing}
 use Rattle.symbol_rows.specs.Apply.{Table, tableOf}
 use Rattle.symbols.specs.declared.Answer.{Answer}
@@ -31,12 +32,9 @@ outcome names symbols sections r = left (tableOf names symbols sections (r .tabl
 abbrev pub refusedOf : Link → ℕ → ℕ → Outcome
 refusedOf l number place = record { table = record { link = l }; answer = Refused (refused number place) }
 
-abbrev pub notLent : ℕ
-notLent = 0xffffffffffffffff
-
 abbrev pub lentOf : ℕ → ℕ → ℕ → Lent
 lentOf names symbols sections =
     record { names = names; bytes = notLent; symbols = symbols; sections = sections; inputs = notLent; lists = notLent }
 
 abbrev pub noRows : Link
-noRows = record { names = 0; bytes = 0; symbols = 0; sections = 0; inputs = 0; lists = 0; broken = false }
+noRows = record { names = 0; bytes = 0; symbols = 0; sections = 0; inputs = 0; lists = 0; chains = 0; slots = 0; broken = false }

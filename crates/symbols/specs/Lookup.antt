@@ -3,7 +3,7 @@
 use Prim.Native.Nat.{ℕ, _+_, _*_}
 use mathlib.Core.Bool.{cond}
 use mathlib.Core.List.{List}
-use lib.Dec.{eqb, leb}
+use lib.Dec.{eqb, ltb, leb}
 use lib.ListN.{getD, length}
 use Rattle.link.specs.declared.Link.{Link}
 use Rattle.link.specs.declared.Interned.{Interned}
@@ -20,7 +20,8 @@ use Rattle.symbols.specs.declared.Found.{Found}
 use Rattle.symbols.specs.declared.Found.the-variants as Fd
 use Rattle.symbols.specs.declared.SectionSymbol.{SectionSymbol}
 use Rattle.symbols.specs.declared.SectionSymbol.the-variants as Sym
-use Rattle.symbols.specs.Calls.{lentOf, notLent}
+use Rattle.link.specs.Bounds.{notLent}
+use Rattle.symbols.specs.Calls.{lentOf}
 
 -- document 01's number and place of a lookup's answer
 abbrev pub refusalOf : Found → Refusal
@@ -54,10 +55,12 @@ getGlobalOf l names symbols name =
     (Fd.Refused (judgeOf l (lentOf (length names) (length symbols) notLent)))
 
 -- "A section without a symbol answers "none""
-abbrev pub sectionSymbolAt : List ℕ → ℕ → ℕ
-sectionSymbolAt sections s = getD sections (sectionCells (length sections) * 8 + s) 0
+abbrev pub sectionSymbolAt : ℕ → List ℕ → ℕ → ℕ
+sectionSymbolAt slots sections s = getD sections (slots * 8 + s) 0
 
-unfoldable pub sectionSymbolOf : List ℕ → SectionId → SectionSymbol
-sectionSymbolOf sections s =
-    cond (leb (sectionCells (length sections)) (s .0)) Sym.None
-    (cond (eqb (sectionSymbolAt sections (s .0)) 0) Sym.None (Sym.Symbol (record { 0 = sectionSymbolAt sections (s .0) })))
+unfoldable pub sectionSymbolOf : Link → List ℕ → SectionId → SectionSymbol
+sectionSymbolOf l sections s =
+    cond (ltb (sectionCells (length sections)) (l .slots)) Sym.None
+    (cond (leb (l .slots) (s .0)) Sym.None
+    (cond (eqb (sectionSymbolAt (l .slots) sections (s .0)) 0) Sym.None
+    (Sym.Symbol (record { 0 = sectionSymbolAt (l .slots) sections (s .0) }))))

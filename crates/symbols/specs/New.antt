@@ -5,6 +5,7 @@ use mathlib.Core.Bool.{cond}
 use mathlib.Core.List.{List, _++_}
 use lib.Dec.{eqb}
 use lib.ListN.{length, take, replicate}
+use Rattle.link.specs.declared.Link.{Link}
 use Rattle.link.specs.Bounds.{symbolRows}
 use Rattle.link.specs.Judge.{refused}
 use Rattle.interner.specs.Names.{Store}
@@ -13,7 +14,7 @@ use Rattle.symbol.specs.declared.Row.{Row}
 use Rattle.symbol.specs.Codes.{wordsAre}
 use Rattle.symbol.specs.Row.{setRow}
 use Rattle.symbol_rows.specs.Decide.{sectionCells}
-use Rattle.symbol_rows.specs.Apply.{Table, tableOf, moreSymbols}
+use Rattle.symbol_rows.specs.Apply.{Table, tableOf}
 use Rattle.symbols.specs.declared.Outcome.{Outcome}
 use Rattle.link.specs.Said.{Said, accepted, refusing}
 use Rattle.symbols.specs.Calls.{said, noRows}
@@ -33,6 +34,21 @@ newLeft bytes t s = record { bytes = bytes; table = t; said = s }
 abbrev pub newOutcome : List ℕ → List ℕ → List ℕ → List ℕ → Outcome → NewLeft
 newOutcome bytes names symbols sections r = newLeft bytes (tableOf names symbols sections (r .table .link)) (said (r .answer))
 
+-- one symbol, and cells for that many sections' symbols
+abbrev pub oneSymbol : Link → ℕ → Link
+oneSymbol l slots =
+    record {
+      names = l .names;
+      bytes = l .bytes;
+      symbols = 1;
+      sections = l .sections;
+      inputs = l .inputs;
+      lists = l .lists;
+      chains = l .chains;
+      slots = slots;
+      broken = l .broken;
+    }
+
 -- no section has a symbol
 unfoldable pub clearSymbols : List ℕ → List ℕ
 clearSymbols sections =
@@ -43,7 +59,7 @@ unfoldable pub nullOf : List ℕ → List ℕ → Store → NewLeft
 nullOf symbols sections s =
     cond (eqb (s .link .names) 0) (newLeft (s .bytes) (tableOf (s .names) symbols sections (s .link)) (refusing (refused 2 0)))
     (newLeft (s .bytes)
-    (tableOf (s .names) (setRow symbols (record { 0 = 0 }) nullRow) (clearSymbols sections) (moreSymbols (s .link) 1)) (accepted 0))
+    (tableOf (s .names) (setRow symbols (record { 0 = 0 }) nullRow) (clearSymbols sections) (oneSymbol (s .link) (sectionCells (length sections)))) (accepted 0))
 
 -- no symbol row, or no row for the empty name: 2, and nothing is written
 unfoldable pub newOf : List ℕ → List ℕ → List ℕ → List ℕ → NewLeft

@@ -12,7 +12,8 @@ use Rattle.symbol.specs.Row.{field, stateAt}
 use Rattle.symbol_rows.specs.Apply.{setSectionSymbol}
 use Rattle.symbols.specs.declared.Outcome.{Outcome}
 use Rattle.link.specs.Said.{Said, accepted, refusing}
-use Rattle.symbols.specs.Calls.{said, lentOf, notLent}
+use Rattle.link.specs.Bounds.{notLent}
+use Rattle.symbols.specs.Calls.{said, lentOf}
 
 -- the lent cells that a removal may write
 pub record Rows : Type 0 where

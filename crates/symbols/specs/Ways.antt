@@ -6,14 +6,14 @@ use mathlib.Core.Bool.{Bool, true, false}
 use mathlib.Core.List.{List, _++_}
 use lib.Dec.{eqb}
 use lib.ListN.{getD, set, length, take, replicate}
-use borrow.Author.Tests.{eq-eqb, ne-eqb, lt-leb, le-leb}
+use borrow.Author.Tests.{eq-eqb, ne-eqb, lt-leb, le-leb, lt-ltb, le-ltb}
 use Rattle.link.specs.declared.Link.{Link}
 use Rattle.link.specs.declared.Lent.{Lent}
 use Rattle.link.specs.declared.Interned.{Interned}
 use Rattle.link.specs.declared.SymbolId.{SymbolId}
 use Rattle.link.specs.declared.SectionId.{SectionId}
 use Rattle.link.specs.declared.Refusal.{Refusal}
-use Rattle.link.specs.Bounds.{symbolRows}
+use Rattle.link.specs.Bounds.{notLent, symbolRows}
 use Rattle.link.specs.Judge.{refused, judgeOf, changeOf}
 use Rattle.interner.specs.Names.{Store}
 use Rattle.interner.specs.Calls as Names
@@ -30,15 +30,15 @@ use Rattle.symbol_rows.specs.declared.Holder.the-variants.{Unissued, Known}
 use Rattle.symbol_rows.specs.declared.Decision.{Decision}
 use Rattle.symbol_rows.specs.Holder.{holderOf}
 use Rattle.symbol_rows.specs.Decide.{sectionCells, decideOf, refusalOf, idOf}
-use Rattle.symbol_rows.specs.Apply.{Table, tableOf, moreSymbols, setSectionSymbol, applyOf}
+use Rattle.symbol_rows.specs.Apply.{Table, tableOf, setSectionSymbol, applyOf}
 use Rattle.symbols.specs.declared.Outcome.{Outcome}
 use Rattle.symbols.specs.declared.Found.{Found}
 use Rattle.symbols.specs.declared.Found.the-variants as Fd
 use Rattle.symbols.specs.declared.SectionSymbol.{SectionSymbol}
 use Rattle.symbols.specs.declared.SectionSymbol.the-variants as Sym
 use Rattle.link.specs.Said.{accepted}
-use Rattle.symbols.specs.Calls.{Left, left, outcome, refusedOf, lentOf, notLent, noRows}
-use Rattle.symbols.specs.New.{NewLeft, newLeft, newOutcome, nullRow, clearSymbols, nullOf, newOf}
+use Rattle.symbols.specs.Calls.{Left, left, outcome, refusedOf, lentOf, noRows}
+use Rattle.symbols.specs.New.{NewLeft, newLeft, newOutcome, nullRow, clearSymbols, nullOf, newOf, oneSymbol}
 use Rattle.symbols.specs.Add.{judgeAddOf, fileOf, fileIssued, issuedOf, directHolderOf, unissuedFile, placeOf, decidedOf, committedOf, emptyAt, addRowOf, lent, addOf}
 use Rattle.symbols.specs.Lookup.{notFound, foundAt, getOf, heldOf, getGlobalOf, sectionSymbolOf}
 use Rattle.symbols.specs.Remove.{Rows, rowsOf, RemoveLeft, removeLeft, removeOutcome, dropSection, removeRowOf, removeOf}
@@ -67,16 +67,16 @@ module _ (symbols sections : List ℕ) (s : Store) (t : NewLeft) where
   unfolding nullOf
   null-no-name o z f q = simp (q, f, eq-eqb _ _ z)
 
-  pub null-done : (symbols′ sections′ : List ℕ) (r : Row) (l : Link) → (s .link .names ≡ 0 → ⊥) → sections′ ≡ clearSymbols sections → r ≡ nullRow
-      → symbols′ ≡ setRow symbols (record { 0 = 0 }) r → l ≡ moreSymbols (s .link) 1
+  pub null-done : (symbols′ sections′ : List ℕ) (r : Row) (slots : ℕ) (l : Link) → (s .link .names ≡ 0 → ⊥) → slots ≡ sectionCells (length sections) → sections′ ≡ clearSymbols sections → r ≡ nullRow
+      → symbols′ ≡ setRow symbols (record { 0 = 0 }) r → l ≡ oneSymbol (s .link) slots
       → t ≡ newLeft (s .bytes) (tableOf (s .names) symbols′ sections′ l) (accepted 0) → t ≡ nullOf symbols sections s
   unfolding nullOf
-  null-done symbols′ sections′ r l n a b c d q = simp (q, d, c, b, a, ne-eqb _ _ n)
+  null-done symbols′ sections′ r slots l n e a b c d q = simp (q, d, c, b, a, e, ne-eqb _ _ n)
 
 -- add
 
 module _ (l : Link) (n m : Lent) (u : UpcomingSymbol) (head t : Refusal) where
-  pub judge-head : m ≡ n → head ≡ changeOf l m → (head .number ≡ 0 → ⊥) → t ≡ head → t ≡ judgeAddOf l n u
+  pub judge-head : m ≡ n → head ≡ changeOf l m → (head .number ≡ 0 → ⊥) → t ≡ refused (head .number) 0 → t ≡ judgeAddOf l n u
   unfolding judgeAddOf
   judge-head a e h q = simp (q, ← a, ← e, ne-eqb _ _ h)
 
@@ -220,21 +220,25 @@ module _ (l : Link) (n : Lent) (head : Refusal) (t : Found) where
     unfolding getGlobalOf
     global-held h a e z f q = simp (q, f, ← a, ← e, eq-eqb _ _ z)
 
-module _ (sections : List ℕ) (s : SectionId) (rows : ℕ) (t : SectionSymbol) where
-  pub section-beyond : rows ≡ sectionCells (length sections) → rows ≤ s .0 → t ≡ Sym.None → t ≡ sectionSymbolOf sections s
+module _ (l : Link) (sections : List ℕ) (s : SectionId) (rows : ℕ) (t : SectionSymbol) where
+  pub section-short : rows ≡ sectionCells (length sections) → rows < l .slots → t ≡ Sym.None → t ≡ sectionSymbolOf l sections s
   unfolding sectionSymbolOf
-  section-beyond e h q = simp (q, ← e, le-leb _ _ h)
+  section-short e h q = simp (q, ← e, lt-ltb _ _ h)
+
+  pub section-beyond : rows ≡ sectionCells (length sections) → l .slots ≤ rows → l .slots ≤ s .0 → t ≡ Sym.None → t ≡ sectionSymbolOf l sections s
+  unfolding sectionSymbolOf
+  section-beyond e g h q = simp (q, ← e, le-ltb _ _ g, le-leb _ _ h)
 
   module _ (id : ℕ) where
-    pub section-none : rows ≡ sectionCells (length sections) → s .0 < rows → id ≡ getD sections (rows * 8 + s .0) 0 → id ≡ 0 → t ≡ Sym.None
-        → t ≡ sectionSymbolOf sections s
+    pub section-none : rows ≡ sectionCells (length sections) → l .slots ≤ rows → s .0 < l .slots → id ≡ getD sections (l .slots * 8 + s .0) 0 → id ≡ 0 → t ≡ Sym.None
+        → t ≡ sectionSymbolOf l sections s
     unfolding sectionSymbolOf
-    section-none e h f z q = simp (q, ← e, lt-leb _ _ h, ← f, eq-eqb _ _ z)
+    section-none e g h f z q = simp (q, ← e, le-ltb _ _ g, lt-leb _ _ h, ← f, eq-eqb _ _ z)
 
-    pub section-symbol : rows ≡ sectionCells (length sections) → s .0 < rows → id ≡ getD sections (rows * 8 + s .0) 0 → (id ≡ 0 → ⊥)
-        → t ≡ Sym.Symbol (record { 0 = id }) → t ≡ sectionSymbolOf sections s
+    pub section-symbol : rows ≡ sectionCells (length sections) → l .slots ≤ rows → s .0 < l .slots → id ≡ getD sections (l .slots * 8 + s .0) 0 → (id ≡ 0 → ⊥)
+        → t ≡ Sym.Symbol (record { 0 = id }) → t ≡ sectionSymbolOf l sections s
     unfolding sectionSymbolOf
-    section-symbol e h f z q = simp (q, ← e, lt-leb _ _ h, ← f, ne-eqb _ _ z)
+    section-symbol e g h f z q = simp (q, ← e, le-ltb _ _ g, lt-leb _ _ h, ← f, ne-eqb _ _ z)
 
 -- remove
 

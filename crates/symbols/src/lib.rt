@@ -4,9 +4,9 @@ ghost use mathlib.Core.List.{List};
 ghost use Prim.Native.Nat.{ℕ};
 ghost use Rattle.interner.specs.Names.{storeOf};
 ghost use Rattle.upcoming_symbol.specs.Upcoming.{nameOf, rowOf};
-ghost use Rattle.symbol_rows.specs.Apply.{tableOf, moreSymbols};
+ghost use Rattle.symbol_rows.specs.Apply.{tableOf};
 ghost use Rattle.symbols.specs.Calls.{outcome, refusedOf, lentOf, noRows};
-ghost use Rattle.symbols.specs.New.{newOutcome, newOf, nullOf, nullRow, clearSymbols};
+ghost use Rattle.symbols.specs.New.{newOutcome, newOf, nullOf, nullRow, oneSymbol, clearSymbols};
 ghost use Rattle.symbols.specs.Add.{judgeAddOf, fileOf, fileIssued, issuedOf, unissuedFile, placeOf, directHolderOf, decidedOf, committedOf, emptyAt, addRowOf, addOf};
 ghost use Rattle.symbols.specs.Lookup.{notFound, foundAt, getOf, heldOf, getGlobalOf, sectionSymbolOf};
 ghost use Rattle.symbols.specs.Remove.{rowsOf, dropSection, removeRowOf, removeOf, removeOutcome};
@@ -111,12 +111,15 @@ fn no_rows() -> Link
         sections: 0,
         inputs: 0,
         lists: 0,
+        chains: 0,
+        slots: 0,
         broken: false,
     }
 }
 
-fn one_symbol(l: Link) -> Link
-    ensures { λ r. ⌜ r ≡ moreSymbols l 1 ⌝ }
+// One symbol, and cells for that many sections' symbols.
+fn one_symbol(l: Link, slots: usize) -> Link
+    ensures { λ r. ⌜ r ≡ oneSymbol l slots ⌝ }
 {
     Link {
         names: l.names,
@@ -125,6 +128,8 @@ fn one_symbol(l: Link) -> Link
         sections: l.sections,
         inputs: l.inputs,
         lists: l.lists,
+        chains: l.chains,
+        slots: slots,
         broken: l.broken,
     }
 }
@@ -136,13 +141,16 @@ fn null_table(l: Link, symbols: &mut [u64], sections: &mut [u64]) -> Outcome
     if l.names == 0 {
         return refused(l, 2, 0);
     }
+    let slots = symbol_rows::section_cells(sections.len());
     clear_section_symbols(sections);
-    symbol::set_row(symbols, SymbolId(0), null_row());
+    symbol::set_row(symbols, Symbols::NULL_SYMBOL_ID, null_row());
     Outcome {
         table: Symbols {
-            link: one_symbol(l),
+            link: one_symbol(l, slots),
         },
-        answer: Answer::Symbol { id: SymbolId(0) },
+        answer: Answer::Symbol {
+            id: Symbols::NULL_SYMBOL_ID,
+        },
     }
 }
 
@@ -160,7 +168,10 @@ fn judge_add(
 {
     let head = link::judge_change(l, lent_rows(names, symbols, sections));
     if head.number != 0 {
-        return head;
+        return Refusal {
+            number: head.number,
+            place: 0,
+        };
     }
     if upcoming_symbol::in_range(upcoming) {
         return head;
@@ -445,14 +456,18 @@ impl Symbols {
     }
 
     // Any section may be asked, whether it is built or not.
-    pub fn section_symbol_id(sections: &[u64], section: SectionId) -> SectionSymbol
-        ensures { λ r. ⌜ r ≡ sectionSymbolOf (now (sections .entry)) section ⌝ }
+    pub fn section_symbol_id(self, sections: &[u64], section: SectionId) -> SectionSymbol
+        ensures { λ r. ⌜ r ≡ sectionSymbolOf (self .link) (now (sections .entry)) section ⌝ }
     {
-        let rows = symbol_rows::section_cells(sections.len());
-        if rows <= section.0 {
+        let l = self.link;
+        let slots = l.slots;
+        if symbol_rows::section_cells(sections.len()) < slots {
             return SectionSymbol::None;
         }
-        let id = cells::get(sections, rows * 8 + section.0);
+        if slots <= section.0 {
+            return SectionSymbol::None;
+        }
+        let id = cells::get(sections, slots * 8 + section.0);
         if id == 0 {
             return SectionSymbol::None;
         }

@@ -1,4 +1,3 @@
-use borrow.Author.Needs.{needs}
 use Rattle.gc_sections.specs.RunWays.{cells-marks, cells-work, cells-enough}
 use Rattle.gc_sections.proofs.judge_cells.Statement.{statement}
 use Rattle.gc_sections.proofs.judge_cells.Tie as tie

@@ -9,8 +9,10 @@ new-spec =
     (tie.spec
     (λ c κs. search needs)
     (λ c κs. search needs)
+    (λ c κs. search needs)
     (λ c. search new-none)
     (λ c. search needs)
+    (λ c κs. search needs)
     (λ c κs. search needs)
     (λ c. search needs)
     (λ c κs. search needs)

@@ -1,5 +1,5 @@
 use borrow.Author.Needs.{needs}
-use Rattle.link.specs.Ways.{over-sections, over-symbols, over-rest}
+use Rattle.link.specs.Ways.{over-sections, over-symbols, over-names, over-rest}
 use Rattle.link.proofs.judge.Statement.{statement}
 use Rattle.link.proofs.judge.Tie as tie
 
@@ -8,10 +8,11 @@ judge-spec =
     tie.close
     (tie.spec
     (λ c κs. search needs)
-    (λ c κs. search needs)
     (λ c. search over-sections)
     (λ c κs. search needs)
     (λ c κs. search needs)
     (λ c. search over-symbols)
+    (λ c κs. search needs)
+    (λ c. search over-names)
     (λ c κs. search needs)
     (λ c. search over-rest))

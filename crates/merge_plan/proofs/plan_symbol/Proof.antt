@@ -1,0 +1,15 @@
+use borrow.Author.Needs.{needs}
+use Rattle.merge_plan.specs.Ways.{planned-done}
+use Rattle.merge_plan.proofs.plan_symbol.Statement.{statement}
+use Rattle.merge_plan.proofs.plan_symbol.Tie as tie
+
+pub plan-symbol-spec : {M : Type 1} → statement M
+plan-symbol-spec =
+    tie.close
+    (tie.spec
+    (λ c κs. search needs)
+    (λ c κs. search needs)
+    (λ c κs. search needs)
+    (λ c κs. search needs)
+    (λ c κs. search needs)
+    (λ c. search planned-done))

@@ -1,0 +1,193 @@
+// The symbol stage of a merge: each symbol's name, the decision, and then what it writes.
+ghost use mathlib.Core.Path.{_≡_};
+ghost use Rattle.symbol_rows.specs.Apply.{tableOf};
+ghost use Rattle.merge_plan.specs.Plan.{inputOf};
+ghost use Rattle.merge_symbols.specs.Stage.{stateOf, objectOf, stageOf, cellOf, acceptedOf, acceptRow, commitOf, namedOf, symbolOf, symbolsOf};
+use link::Link;
+use merge_plan::Planned;
+use symbol_rows::Decision;
+
+// The link, and the file name's id and 1, between two symbols; number 0 as long as nothing is refused.
+pub struct SymbolStage {
+    pub link: Link,
+    pub file: u64,
+    pub number: u64,
+    pub place: u64,
+}
+
+fn stage_of(l: Link, file: u64, number: u64, place: u64) -> SymbolStage
+    ensures { λ r. ⌜ r ≡ stageOf l file number place ⌝ }
+{
+    SymbolStage {
+        link: l,
+        file: file,
+        number: number,
+        place: place,
+    }
+}
+
+// The symbol's id and 1, in a table of that many rows; 0 for none.
+fn cell_of(d: Decision, count: usize) -> u64
+    ensures { λ r. ⌜ r ≡ cellOf d count ⌝ }
+{
+    match d {
+        Decision::Refuse { number: _ } => 0,
+        Decision::Nothing => 0,
+        Decision::Keep { id } => symbol::next(id.0) as u64,
+        Decision::Append => symbol::next(count) as u64,
+        Decision::Replace { id } => symbol::next(id.0) as u64,
+    }
+}
+
+// An accepted symbol: its row, and its id in its cell.
+fn accept(
+    l: Link,
+    names: &mut [u64],
+    symbols: &mut [u64],
+    sections: &mut [u64],
+    ids: &mut [u64],
+    p: Planned,
+    i: usize,
+    file: u64,
+) -> SymbolStage
+    ensures { λ r. ⌜ acceptedOf (now (names .exit)) (now (symbols .exit)) (now (sections .exit)) (now (ids .exit)) r ≡ acceptRow (tableOf (now (names .entry)) (now (symbols .entry)) (now (sections .entry)) l) (now (ids .entry)) p i file ⌝ }
+{
+    let row = p.row;
+    let d = p.decision;
+    let done = symbol_rows::apply(l, names, symbols, sections, row, d);
+    cells::put(ids, i, cell_of(d, l.symbols));
+    stage_of(done, merge_plan::file_after(file, p.kind, p.id), 0, 0)
+}
+
+// Writes what was decided: nothing on 2; else the name is issued; then, unless refused, the row, and the symbol's id into its cell.
+fn commit(
+    s: SymbolStage,
+    bytes: &mut [u8],
+    names: &mut [u64],
+    symbols: &mut [u64],
+    sections: &mut [u64],
+    ids: &mut [u64],
+    x: &[u8],
+    p: Planned,
+    i: usize,
+) -> SymbolStage
+    ensures { λ r. ⌜ stateOf (now (bytes .exit)) (now (names .exit)) (now (symbols .exit)) (now (sections .exit)) (now (ids .exit)) r
+        ≡ commitOf (stateOf (now (bytes .entry)) (now (names .entry)) (now (symbols .entry)) (now (sections .entry)) (now (ids .entry)) s) (now (x .entry)) p i ⌝ }
+{
+    let l = s.link;
+    let id = p.id;
+    let d = p.decision;
+    let number = symbol_rows::refusal_of(d);
+    if number == 2 {
+        return stage_of(l, s.file, 2, i as u64);
+    }
+    let kept = interner::keep(l, bytes, names, id, x);
+    if number != 0 {
+        return stage_of(kept, s.file, number, merge_plan::place_of(number, id, i));
+    }
+    accept(kept, names, symbols, sections, ids, p, i, s.file)
+}
+
+// A symbol whose name is found: judged on the link as it stands, then written.
+fn merge_named(
+    s: SymbolStage,
+    bytes: &mut [u8],
+    names: &mut [u64],
+    symbols: &mut [u64],
+    sections: &mut [u64],
+    ids: &mut [u64],
+    entries: &[u64],
+    work: &[u64],
+    x: &[u8],
+    i: usize,
+) -> SymbolStage
+    ensures { λ r. ⌜ stateOf (now (bytes .exit)) (now (names .exit)) (now (symbols .exit)) (now (sections .exit)) (now (ids .exit)) r
+        ≡ namedOf (inputOf (now (entries .entry)) (now (work .entry))) (stateOf (now (bytes .entry)) (now (names .entry)) (now (symbols .entry)) (now (sections .entry)) (now (ids .entry)) s) (now (x .entry)) i ⌝ }
+{
+    let l = s.link;
+    let p = merge_plan::plan_symbol(
+        l,
+        bytes,
+        names,
+        symbols,
+        sections,
+        entries,
+        work,
+        x,
+        i,
+        s.file,
+    );
+    commit(s, bytes, names, symbols, sections, ids, x, p, i)
+}
+
+// One symbol: its name missing is 9.
+fn merge_symbol(
+    s: SymbolStage,
+    bytes: &mut [u8],
+    names: &mut [u64],
+    symbols: &mut [u64],
+    sections: &mut [u64],
+    ids: &mut [u64],
+    headers: &[u64],
+    entries: &[u64],
+    file: &[u8],
+    work: &[u64],
+    strings: usize,
+    i: usize,
+) -> SymbolStage
+    ensures { λ r. ⌜ stateOf (now (bytes .exit)) (now (names .exit)) (now (symbols .exit)) (now (sections .exit)) (now (ids .exit)) r
+        ≡ symbolOf (objectOf (now (headers .entry)) (now (entries .entry)) (now (file .entry)) (now (work .entry)) strings) (stateOf (now (bytes .entry)) (now (names .entry)) (now (symbols .entry)) (now (sections .entry)) (now (ids .entry)) s) i ⌝ }
+{
+    let offset = cells::row_get(entries, i, 0) as usize;
+    let mut found = false;
+    let x = elf_object::name_in(headers, file, strings, offset, &mut found);
+    if found {
+        return merge_named(s, bytes, names, symbols, sections, ids, entries, work, x, i);
+    }
+    let l = s.link;
+    stage_of(l, s.file, 9, i as u64)
+}
+
+// All symbols of the loaded table, whose names lie in string section `strings`, ascending, up to the first refusal.
+pub fn merge_symbols(
+    s: SymbolStage,
+    bytes: &mut [u8],
+    names: &mut [u64],
+    symbols: &mut [u64],
+    sections: &mut [u64],
+    ids: &mut [u64],
+    headers: &[u64],
+    entries: &[u64],
+    file: &[u8],
+    work: &[u64],
+    strings: usize,
+) -> SymbolStage
+    ensures { λ r. ⌜ stateOf (now (bytes .exit)) (now (names .exit)) (now (symbols .exit)) (now (sections .exit)) (now (ids .exit)) r
+        ≡ symbolsOf (objectOf (now (headers .entry)) (now (entries .entry)) (now (file .entry)) (now (work .entry)) strings) (stateOf (now (bytes .entry)) (now (names .entry)) (now (symbols .entry)) (now (sections .entry)) (now (ids .entry)) s) ⌝ }
+{
+    let rows = entries.len() / 8;
+    let mut u = s;
+    let mut i = 0;
+    while i < rows {
+        u = merge_symbol(
+            u,
+            bytes,
+            names,
+            symbols,
+            sections,
+            ids,
+            headers,
+            entries,
+            file,
+            work,
+            strings,
+            i,
+        );
+        let number = u.number;
+        if number != 0 {
+            return u;
+        }
+        i += 1;
+    }
+    u
+}

@@ -1,0 +1,313 @@
+// For programs that replay the oracle's lists: answers as the lists write them, and how they compare with what a list expects.
+ghost use mathlib.Core.Path.{_≡_};
+ghost use Rattle.replay_text.specs.Answer.{lineLength, firstLine, meets};
+use link::Interned;
+use link::Refusal;
+use symbol::SttFile;
+use symbol::Symbol;
+use symbol::SymbolType;
+use symbol::SymbolValue;
+use symbol::SymbolVisibility;
+
+// Counts, the line that was read last, and the answers of the last operation that weren't compared yet: text from `from` to `to`.
+pub struct Tally {
+    pub line: u64,
+    pub links: u64,
+    pub operations: u64,
+    pub answers: u64,
+    pub differences: u64,
+    pub from: usize,
+    pub to: usize,
+}
+
+// ---- comparing
+
+fn line_length(text: &[u8]) -> usize
+    ensures { λ r. ⌜ r ≡ lineLength (now (text .entry)) ⌝ }
+{
+    let mut i = 0;
+    while i < text.len() {
+        if text[i] == 10 {
+            return i;
+        }
+        i += 1;
+    }
+    i
+}
+
+// The text before the first line end, or all of it.
+pub fn first_line(text: &[u8]) -> &[u8]
+    ensures { λ r. ⌜ now r ≡ firstLine (now (text .entry)) ⌝ }
+    ensures place { λ r. ⌜ r .ptr .0 ≡ text .entry .ptr .0 ⌝ }
+{
+    byte_slices::part_of(text, 0, line_length(text))
+}
+
+// Is the answer what is expected? Where that ends in `?`, what stands there isn't compared.
+pub fn same_answer(expected: &[u8], got: &[u8]) -> bool
+    ensures { λ r. ⌜ r ≡ meets (now (expected .entry)) (now (got .entry)) ⌝ }
+{
+    let n = expected.len();
+    if n == 0 {
+        return byte_slices::same_bytes(expected, got);
+    }
+    let last = n - 1;
+    if expected[last] == 63 {
+        let a = byte_slices::part_of(expected, 0, last);
+        let b = byte_slices::part_of(got, 0, last);
+        return byte_slices::same_bytes(a, b);
+    }
+    byte_slices::same_bytes(expected, got)
+}
+
+// ---- the tally
+
+fn more(n: u64) -> u64 {
+    std::num::wrapping_add_u64(n, 1)
+}
+
+pub fn start() -> Tally {
+    Tally {
+        line: 0,
+        links: 0,
+        operations: 0,
+        answers: 0,
+        differences: 0,
+        from: 0,
+        to: 0,
+    }
+}
+
+pub fn on_line(t: Tally) -> Tally {
+    Tally {
+        line: more(t.line),
+        links: t.links,
+        operations: t.operations,
+        answers: t.answers,
+        differences: t.differences,
+        from: t.from,
+        to: t.to,
+    }
+}
+
+pub fn on_link(t: Tally) -> Tally {
+    Tally {
+        line: t.line,
+        links: more(t.links),
+        operations: t.operations,
+        answers: t.answers,
+        differences: t.differences,
+        from: t.from,
+        to: t.to,
+    }
+}
+
+// After an operation whose answers are the first `to` bytes of the text.
+pub fn answered(t: Tally, to: usize) -> Tally {
+    Tally {
+        line: t.line,
+        links: t.links,
+        operations: more(t.operations),
+        answers: t.answers,
+        differences: t.differences,
+        from: 0,
+        to: to,
+    }
+}
+
+// The first ten are shown.
+fn show(t: Tally, expected: &[u8], got: &[u8]) {
+    if t.differences < 10 {
+        io::write_all(1, b"line ");
+        io::print_decimal(1, t.line);
+        io::write_all(1, b": expected ");
+        io::write_all(1, expected);
+        io::write_all(1, b", got ");
+        io::write_all(1, got);
+        io::write_all(1, b"\n");
+    }
+}
+
+pub fn differs(t: Tally, expected: &[u8], got: &[u8]) -> Tally {
+    show(t, expected, got);
+    Tally {
+        line: t.line,
+        links: t.links,
+        operations: t.operations,
+        answers: t.answers,
+        differences: more(t.differences),
+        from: t.from,
+        to: t.to,
+    }
+}
+
+fn pending<'a>(text: &'a [u8], from: usize, to: usize) -> &'a [u8] {
+    if to < from {
+        return byte_slices::part_of(text, 0, 0);
+    }
+    byte_slices::part_of(text, from, to - from)
+}
+
+fn past(from: usize, len: usize, to: usize) -> usize {
+    if to < from {
+        return to;
+    }
+    if len < to - from {
+        return from + len + 1;
+    }
+    to
+}
+
+fn compared(t: Tally, len: usize) -> Tally {
+    Tally {
+        line: t.line,
+        links: t.links,
+        operations: t.operations,
+        answers: more(t.answers),
+        differences: t.differences,
+        from: past(t.from, len, t.to),
+        to: t.to,
+    }
+}
+
+// An expected answer against the next one of the text.
+pub fn compare(t: Tally, text: &[u8], expected: &[u8]) -> Tally {
+    let got = first_line(pending(text, t.from, t.to));
+    let next = compared(t, got.len());
+    if same_answer(expected, got) {
+        return next;
+    }
+    differs(next, expected, got)
+}
+
+// Before the next operation: an answer that the list doesn't have is a difference.
+pub fn settle(t: Tally, text: &[u8]) -> Tally {
+    if t.from < t.to {
+        return differs(t, b"no answer", first_line(pending(text, t.from, t.to)));
+    }
+    t
+}
+
+pub fn print(t: Tally) {
+    io::write_all(1, b"links ");
+    io::print_decimal(1, t.links);
+    io::write_all(1, b" operations ");
+    io::print_decimal(1, t.operations);
+    io::write_all(1, b" answers ");
+    io::print_decimal(1, t.answers);
+    io::write_all(1, b" differences ");
+    io::print_decimal(1, t.differences);
+    io::write_all(1, b"\n");
+}
+
+// ---- answers
+
+pub fn put_numbered(buf: &mut [u8], n: usize, word: &[u8], v: u64) -> usize {
+    let k = text_lines::put(buf, n, word);
+    text_lines::put_decimal(buf, k, v)
+}
+
+pub fn put_refusal(buf: &mut [u8], n: usize, r: Refusal) -> usize {
+    let k = put_numbered(buf, n, b"refused ", r.number);
+    put_numbered(buf, k, b" ", r.place)
+}
+
+pub fn put_name(buf: &mut [u8], n: usize, bytes: &[u8], names: &[u64], id: Interned) -> usize {
+    let name = interner::name_of(bytes, names, id.0);
+    if name.len() == 0 {
+        return text_lines::put(buf, n, b"-");
+    }
+    text_lines::put(buf, n, name)
+}
+
+fn put_offset(buf: &mut [u8], n: usize, offset: i64) -> usize {
+    let word = symbol::word_of(offset);
+    if offset < 0 {
+        return put_numbered(buf, n, b" - ", std::num::wrapping_sub_u64(0, word));
+    }
+    put_numbered(buf, n, b" + ", word)
+}
+
+fn put_value(buf: &mut [u8], n: usize, v: SymbolValue) -> usize {
+    match v {
+        SymbolValue::Null => text_lines::put(buf, n, b" null"),
+        SymbolValue::Absolute { value } => put_numbered(buf, n, b" abs ", value),
+        SymbolValue::Section { section } => put_numbered(buf, n, b" sec ", section.0 as u64),
+        SymbolValue::SectionRelative { section, offset } => {
+            let k = put_numbered(buf, n, b" rel ", section.0 as u64);
+            put_offset(buf, k, offset)
+        }
+        SymbolValue::SectionVirtualAddress { section, address } => {
+            let k = put_numbered(buf, n, b" addr ", section.0 as u64);
+            put_numbered(buf, k, b" ", address)
+        }
+        SymbolValue::SectionNotLoaded => text_lines::put(buf, n, b" notloaded"),
+        SymbolValue::ExternallyDefined => text_lines::put(buf, n, b" external"),
+        SymbolValue::Undefined { zero } => {
+            if zero {
+                return text_lines::put(buf, n, b" undef 1");
+            }
+            text_lines::put(buf, n, b" undef 0")
+        }
+    }
+}
+
+fn put_flagged(buf: &mut [u8], n: usize, word: &[u8], flag: bool) -> usize {
+    let k = text_lines::put(buf, n, word);
+    if flag {
+        return text_lines::put(buf, k, b"1");
+    }
+    text_lines::put(buf, k, b"0")
+}
+
+// Class and hidden.
+fn put_visibility(buf: &mut [u8], n: usize, v: SymbolVisibility) -> usize {
+    match v {
+        SymbolVisibility::Local => text_lines::put(buf, n, b" local 0"),
+        SymbolVisibility::Global { weak, hidden } => {
+            if weak {
+                return put_flagged(buf, n, b" weak ", hidden);
+            }
+            put_flagged(buf, n, b" global ", hidden)
+        }
+    }
+}
+
+fn put_type(buf: &mut [u8], n: usize, t: SymbolType) -> usize {
+    match t {
+        SymbolType::NoType => text_lines::put(buf, n, b" 0"),
+        SymbolType::Object => text_lines::put(buf, n, b" 1"),
+        SymbolType::Function => text_lines::put(buf, n, b" 2"),
+        SymbolType::Section => text_lines::put(buf, n, b" 3"),
+    }
+}
+
+fn put_file(buf: &mut [u8], n: usize, bytes: &[u8], names: &[u64], f: SttFile) -> usize {
+    match f {
+        SttFile::None => text_lines::put(buf, n, b" 0 -"),
+        SttFile::Name { id } => {
+            let k = text_lines::put(buf, n, b" 1 ");
+            put_name(buf, k, bytes, names, id)
+        }
+    }
+}
+
+fn put_kind(buf: &mut [u8], n: usize, s: Symbol) -> usize {
+    let visibility = s.visibility;
+    let k = put_visibility(buf, n, visibility);
+    let kind = s.kind;
+    put_type(buf, k, kind)
+}
+
+// `symbol ID NAME CLASS HIDDEN TYPE OPTNAME VALUE`
+pub fn put_symbol(buf: &mut [u8], n: usize, bytes: &[u8], names: &[u64], s: Symbol) -> usize {
+    let id = s.id;
+    let k = put_numbered(buf, n, b"symbol ", id.0 as u64);
+    let spaced = text_lines::put(buf, k, b" ");
+    let named = put_name(buf, spaced, bytes, names, s.name);
+    let kinded = put_kind(buf, named, s);
+    let file = s.file;
+    let filed = put_file(buf, kinded, bytes, names, file);
+    let value = s.value;
+    put_value(buf, filed, value)
+}

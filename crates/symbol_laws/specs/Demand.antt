@@ -1,0 +1,72 @@
+-- Who holds each name, read off what holds after every history.
+-- Assumes nothing.
+use Prim.Native.Nat.{ℕ, _≤_, _<_}
+use native.Mathlib.Omega.{arith}
+use mathlib.Core.Path.{_≡_, sym, ap, _∙_, subst}
+use mathlib.Core.List.{List, [], _∷_}
+use lib.Dec.{leb}
+use borrow.Author.Tests.{leb-true, leb-false, lt-leb, ne-eqb}
+use Rattle.cells.specs.Split.{by-test}
+use Rattle.symbol.specs.declared.Row.{Row}
+use Rattle.symbol.specs.Row.{stateAt}
+use Rattle.symbol_rows.specs.declared.Holder.the-variants.{Nobody, Known}
+use Rattle.symbol_rows.specs.Holder.{globalAt, heldBy, holderOf}
+use Rattle.symbol_laws.specs.Rank.{best, FirstOfGreatestRank, best-first, firstOf, best-terms}
+use Rattle.symbol_laws.specs.Rows.{rowAt}
+use Rattle.symbol_laws.specs.History.{State, Entry, only, rows}
+use Rattle.symbol_laws.specs.Held.{Holds, Held, Inv}
+
+-- the row of a name whose accepted adds are x and then xs
+pub record Resolved (s : State) (n : ℕ) (x : Entry) (xs : List Entry) : Type 0 where
+  pub issued : n < s .link .names
+  -- "the id of its first accepted add"
+  pub id : globalAt (s .names) n ≡ x .id
+  pub real : 1 ≤ x .id
+  pub counted : x .id < s .link .symbols
+  pub present : stateAt (s .symbols) (x .id) ≡ 1
+  pub bears : rowAt (s .symbols) (x .id) .name .0 ≡ n
+  -- the first accepted add of the greatest rank
+  pub content : FirstOfGreatestRank (rows (x ∷ xs)) (rowAt (s .symbols) (x .id))
+  -- "the content of its first accepted strong definition, else weak definition, else add"
+  pub terms : rowAt (s .symbols) (x .id) ≡ firstOf (x .row) (rows xs)
+
+module _ (s : State) (past : List Entry) (inv : Inv s past) (n : ℕ) where
+  low : (x : Entry) (xs : List Entry) → only n past ≡ x ∷ xs → n < s .link .names
+  low x xs e =
+      by-test (leb (s .link .names) n) (λ h. absurd (none (sym (inv .unissued n (leb-true _ _ h)) ∙ e))) (λ h. leb-false _ _ h)
+    where
+      none : [] ≡ x ∷ xs → ⊥
+      none q = let z : _≡_ {A = ℕ} 0 1 = cc in omega arith
+
+  pub resolved : (x : Entry) (xs : List Entry) → only n past ≡ x ∷ xs → Resolved s n x xs
+  resolved x xs e =
+      let i : n < s .link .names = low x xs e in
+      let h : Holds s n (x .id) (best (x .row) (rows xs)) = subst (Held s n) e (inv .held-by n i) in
+      record {
+        issued = i;
+        id = h .found;
+        real = h .above;
+        counted = h .below;
+        present = h .there;
+        bears = ap (λ (r : Row). r .name .0) (h .content) ∙ h .named;
+        content = subst (FirstOfGreatestRank (rows (x ∷ xs))) (sym (h .content)) (best-first (x .row) (rows xs));
+        terms = h .content ∙ best-terms (x .row) (rows xs);
+      }
+
+  holder-held : (id : ℕ) → n < s .link .names → globalAt (s .names) n ≡ id → 1 ≤ id → stateAt (s .symbols) id ≡ 1
+      → holderOf (s .names) (s .symbols) (s .link .names) (record { 0 = n }) ≡ Known (record { 0 = id })
+  unfolding holderOf heldBy
+  holder-held id i e z p = rw (lt-leb (s .link .names) n i, e, ne-eqb id 0 (λ q. omega arith), p)
+
+  pub holder-known : (x : Entry) (xs : List Entry) → only n past ≡ x ∷ xs
+      → holderOf (s .names) (s .symbols) (s .link .names) (record { 0 = n }) ≡ Known (record { 0 = x .id })
+  holder-known x xs e = let h = resolved x xs e in holder-held (x .id) (h .issued) (h .id) (h .real) (h .present)
+
+  -- no accepted global add: nobody holds the name, issued or not
+  pub no-row : only n past ≡ [] → n < s .link .names → globalAt (s .names) n ≡ 0
+  no-row e i = subst (Held s n) e (inv .held-by n i)
+
+  pub holder-none : only n past ≡ [] → holderOf (s .names) (s .symbols) (s .link .names) (record { 0 = n }) ≡ Nobody
+  unfolding holderOf heldBy
+  holder-none e =
+      by-test (leb (s .link .names) n) (λ h. rw h) (λ h. rw (h, no-row e (leb-false _ _ h)))

@@ -1,0 +1,42 @@
+-- "Known places where gABI differs": those of the symbol table, each with its smallest input.
+-- Assumes nothing.
+use Prim.Native.Nat.{ℕ}
+use mathlib.Core.Path.{_≡_, refl}
+use mathlib.Core.Bool.{true, false}
+use mathlib.Core.List.{[], _∷_}
+use Rattle.gabi.specs.SymbolTable.{stvHidden, isGlobal, isWeak, isReference, isDefinition}
+use Rattle.gabi.specs.Resolution as Gabi
+use Rattle.gabi.specs.Resolution.{unresolved, isGlobalDefinition, isWeakDefinition, isGlobalReference, has, resolve}
+use Rattle.gabi.specs.Visibility.{rank, combine, combined}
+use Rattle.symbol.specs.declared.Row.{Row}
+use Rattle.symbol.specs.declared.SymbolVisibility.the-variants.{Global}
+use Rattle.symbol.specs.declared.SymbolValue.the-variants.{Undefined}
+use Rattle.symbol.specs.Codes.{visibilityAt, valueAt}
+use Rattle.symbol_rows.specs.Decide.{weakOf}
+use Rattle.upcoming_symbol.specs.declared.ElfSymbol.{ElfSymbol}
+use Rattle.upcoming_symbol.specs.Judge.{shownOf, hiddenOf, judgeOf}
+use Rattle.upcoming_symbol.specs.Upcoming.{inSection, convertedOf, undefinedOf, valueOf, elfRowOf}
+use Rattle.symbol_laws.specs.Rank.{firstOf}
+use Rattle.symbol_laws.specs.Gabi.{symOf}
+
+-- binding, visibility, section; of no type, at value 0
+abbrev pub elf : ℕ → ℕ → ℕ → ElfSymbol
+elf b v s = record { binding = b; visibility = v; kind = 0; section = s; value = 0 }
+
+-- the row that it becomes under name 1, where section 1 has id 1
+abbrev pub row : ElfSymbol → Row
+row e = elfRowOf 3 e (record { 0 = 1 }) false 0
+
+-- "a strong reference after a weak one leaves the row weak": unresolved by the gABI, zero in the table
+pub weak-reference-stays :
+    (resolve (symOf (elf 2 0 0) ∷ symOf (elf 1 0 0) ∷ []) ≡ unresolved)
+    × (valueAt (firstOf (row (elf 2 0 0)) (row (elf 1 0 0) ∷ []) .value) ≡ Undefined true)
+unfolding resolve has Gabi.count isGlobalDefinition isWeakDefinition isGlobalReference isGlobal isWeak isReference isDefinition valueAt weakOf shownOf hiddenOf judgeOf inSection convertedOf undefinedOf valueOf elfRowOf
+weak-reference-stays = (refl, refl)
+
+-- "hidden isn't passed on to another holder": a hidden weak definition, then a strong one that isn't
+pub hidden-not-passed-on :
+    (combined (symOf (elf 2 2 1) ∷ symOf (elf 1 0 1) ∷ []) ≡ stvHidden)
+    × (visibilityAt (firstOf (row (elf 2 2 1)) (row (elf 1 0 1) ∷ []) .visibility) ≡ Global false false)
+unfolding combined combine rank visibilityAt weakOf shownOf hiddenOf judgeOf inSection convertedOf undefinedOf valueOf elfRowOf
+hidden-not-passed-on = (refl, refl)

@@ -1,0 +1,147 @@
+-- A second strong definition: refusal 17 exactly where the gABI sees a duplicate.
+-- Assumes nothing.
+use Prim.Native.Nat.{ℕ, _+_, _≤_, _<_}
+use native.Mathlib.Omega.{arith}
+use mathlib.Core.Path.{_≡_, sym, ap, _∙_, subst}
+use mathlib.Core.Bool.{true, false}
+use mathlib.Core.List.{List, [], _∷_, _++_}
+use mathlib.Core.Logic.{_≢_}
+use lib.Dec.{eqb, ltb, leb}
+use borrow.Author.Tests.{eqb-true, ne-eqb, ltb-true, ltb-false, lt-ltb, lt-leb}
+use Rattle.link.specs.Said.{numberIn}
+use Rattle.cells.specs.Split.{by-test}
+use Rattle.gabi.specs.SymbolTable.{Sym}
+use Rattle.gabi.specs.Resolution as Gabi
+use Rattle.gabi.specs.Resolution.{defined, duplicate, unresolved, zeroValue, isGlobalDefinition, isWeakDefinition, isGlobalReference, has, resolve}
+use Rattle.symbol.specs.declared.Row.{Row}
+use Rattle.symbol.specs.declared.SttFile.the-variants as File
+use Rattle.symbol_rows.specs.declared.Holder.the-variants.{Known}
+use Rattle.symbol_rows.specs.declared.Decision.{Decision}
+use Rattle.symbol_rows.specs.Decide.{typeRefusal, replaceOf, rankedOf, knownOf, decideOf, refusalOf}
+use Rattle.symbols.specs.Add.{issuedOf, directHolderOf, decidedOf, committedOf, addRowOf}
+use Rattle.symbol_laws.specs.Rank.{ranked, best-terms, best-counts, strongDefinition, firstOf, count, count-append, strong-rank, rank-most, rank-strong}
+use Rattle.symbol_laws.specs.View.{decided}
+use Rattle.symbol_laws.specs.History.{State, table, Entry, only, rows, putOf}
+use Rattle.symbol_laws.specs.Held.{Inv}
+use Rattle.symbol_laws.specs.Demand.{Resolved, resolved, holder-known}
+use Rattle.symbol_laws.specs.Gabi.{Means, AllMean, counts, first-passes}
+use Rattle.symbol_laws.specs.Agreement.{strong-match}
+
+-- the number answered is the decision's
+pub put-number : (s : State) (r : Row) → numberIn (putOf s r .said) ≡ refusalOf (decided (table s) r)
+unfolding addRowOf committedOf
+put-number s r =
+    by-test (eqb (refusalOf (decided (table s) r)) 21) (λ a. rw a (sym (eqb-true _ _ a)))
+    (λ a. by-test (eqb (refusalOf (decided (table s) r)) 0) (λ b. rw (a, b) (sym (eqb-true _ _ b))) (λ b. rw (a, b)))
+
+type-small : (k : ℕ) → typeRefusal k ≤ 16
+unfolding typeRefusal
+type-small k = by-test (ltb k 4) (λ a. rw a (omega arith)) (λ a. by-test (eqb k 4) (λ b. rw (a, b) (omega arith)) (λ b. rw (a, b) (omega arith)))
+
+-- a global add of a row that passes, under a name that has a row
+module _ (s : State) (past : List Entry) (inv : Inv s past) (r : Row) (x : Entry) (xs : List Entry) (e : only (r .name .0) past ≡ x ∷ xs)
+    (global : r .visibility ≢ 0) (passes : leb 5 (r .visibility) ≡ false) (valued : leb 13 (r .value .kind) ≡ false) where
+  abbrev old : Row
+  old = firstOf (x .row) (rows xs)
+
+  abbrev number : ℕ
+  number = numberIn (putOf s r .said)
+
+  found : Resolved s (r .name .0) x xs
+  found = resolved s past inv (r .name .0) x xs e
+
+  holder : directHolderOf (s .link) (s .names) (s .symbols) (r .name) File.None ≡ Known (record { 0 = x .id })
+  unfolding directHolderOf issuedOf
+  holder = rw (lt-leb (s .link .names) (r .name .0) (found .issued)) (holder-known s past inv (r .name .0) x xs e)
+
+  known : decided (table s) r ≡ rankedOf (ranked old) (ranked r) r (record { 0 = x .id })
+  unfolding decidedOf decideOf knownOf
+  known =
+      rw (passes, ne-eqb (r .visibility) 0 global, holder, valued)
+      (ap (λ (c : Row). rankedOf (ranked c) (ranked r) r (record { 0 = x .id })) (found .terms))
+
+  answered : number ≡ refusalOf (rankedOf (ranked old) (ranked r) r (record { 0 = x .id }))
+  answered = put-number s r ∙ ap (λ (d : Decision). refusalOf d) known
+
+  pub second-strong : strongDefinition r ≡ true → strongDefinition old ≡ true → number ≡ 17
+  unfolding rankedOf
+  second-strong a b = answered ∙ rw (strong-rank old b, strong-rank r a)
+
+  -- 17 has no other cause: type is judged after it, and only where the row yields
+  pub seventeen : number ≡ 17 → (strongDefinition r ≡ true) × (strongDefinition old ≡ true)
+  unfolding rankedOf replaceOf
+  seventeen q =
+      let w : refusalOf (rankedOf (ranked old) (ranked r) r (record { 0 = x .id })) ≡ 17 = sym answered ∙ q in
+      by-test (ltb (ranked old) (ranked r))
+      (λ y.
+      by-test (eqb (typeRefusal (r .kind)) 0) (λ k. let z : _≡_ {A = ℕ} 0 17 = rw (y, k) at w in absurd (omega arith))
+      (λ k. let z : typeRefusal (r .kind) ≡ 17 = rw (y, k) at w in absurd (omega (arith, z, type-small (r .kind)))))
+      (λ y.
+      by-test (eqb (ranked r) 4)
+      (λ k.
+      let a : ranked r ≡ 4 = eqb-true _ _ k in
+      (rank-strong r a, rank-strong old (omega (arith, a, ltb-false (ranked old) (ranked r) y, rank-most old))))
+      (λ k. let z : _≡_ {A = ℕ} 0 17 = rw (y, k) at w in absurd (omega arith)))
+
+  -- ---- the same in the gABI's terms
+
+  module _ (first : Sym) (rest : List Sym) (mean : AllMean (x .row ∷ rows xs) (first ∷ rest)) (g : Sym) (own : Means r g) where
+    abbrev more : List Sym
+    more = (first ∷ rest) ++ (g ∷ [])
+
+    abbrev strongs : ℕ
+    strongs = count strongDefinition (x .row ∷ rows xs)
+
+    append-mean : (rs : List Row) (ss : List Sym) → AllMean rs ss → AllMean (rs ++ (r ∷ [])) (ss ++ (g ∷ []))
+    append-mean [] [] m = (own, tt)
+    append-mean [] (z ∷ ss) m = absurd m
+    append-mean (z ∷ rs) [] m = absurd m
+    append-mean (z ∷ rs) (y ∷ ss) m = (m .0, append-mean rs ss (m .1))
+
+    counted : Gabi.count isGlobalDefinition more ≡ strongs + count strongDefinition (r ∷ [])
+    counted =
+        counts strongDefinition isGlobalDefinition ((x .row ∷ rows xs) ++ (r ∷ [])) more
+        (strong-match ((x .row ∷ rows xs) ++ (r ∷ [])) more (append-mean (x .row ∷ rows xs) (first ∷ rest) mean))
+        ∙ count-append strongDefinition (x .row ∷ rows xs) (r ∷ [])
+
+    at-most : strongs ≤ 1
+    at-most = subst (λ (l : List Entry). count strongDefinition (rows l) ≤ 1) e (inv .once (r .name .0))
+
+    several : resolve more ≡ duplicate → 1 < Gabi.count isGlobalDefinition more
+    unfolding resolve
+    several d =
+        by-test (ltb 1 (Gabi.count isGlobalDefinition more)) (λ a. ltb-true _ _ a)
+        (λ a.
+        by-test (has isGlobalDefinition more) (λ b. absurd (at-place (rw (a, b) at d)))
+        (λ b.
+        by-test (has isWeakDefinition more) (λ c. absurd (at-place (rw (a, b, c) at d)))
+        (λ c.
+        by-test (has isGlobalReference more) (λ f. absurd (reference (rw (a, b, c, f) at d))) (λ f. absurd (zero-value (rw (a, b, c, f) at d))))))
+      where
+        at-place : {k : ℕ} → defined k ≡ duplicate → ⊥
+        at-place q = let z : _≡_ {A = ℕ} 0 1 = cc in omega arith
+
+        reference : unresolved ≡ duplicate → ⊥
+        reference q = let z : _≡_ {A = ℕ} 0 1 = cc in omega arith
+
+        zero-value : zeroValue ≡ duplicate → ⊥
+        zero-value q = let z : _≡_ {A = ℕ} 0 1 = cc in omega arith
+
+    pub duplicate-refused : resolve more ≡ duplicate → number ≡ 17
+    duplicate-refused d =
+        let two : 1 < strongs + count strongDefinition (r ∷ []) = subst (λ (k : ℕ). 1 < k) counted (several d) in
+        by-test (strongDefinition r)
+        (λ a.
+        let one : count strongDefinition (r ∷ []) ≡ 1 = rw a in
+        second-strong a (first-passes strongDefinition isGlobalDefinition (x .row ∷ rows xs) _ (omega (arith, two, one))))
+        (λ a. let none : count strongDefinition (r ∷ []) ≡ 0 = rw a in absurd (omega (arith, two, none, at-most)))
+
+    pub refused-duplicate : number ≡ 17 → resolve more ≡ duplicate
+    unfolding resolve
+    refused-duplicate q =
+        let (a, b) = seventeen q in
+        let one : count strongDefinition (r ∷ []) ≡ 1 = rw a in
+        rw (lt-ltb 1 (Gabi.count isGlobalDefinition more) (omega (arith, counted, one, some b)))
+      where
+        some : strongDefinition old ≡ true → 1 ≤ strongs
+        some b = best-counts (x .row) (rows xs) (ap strongDefinition (best-terms (x .row) (rows xs)) ∙ b)

@@ -1,0 +1,109 @@
+-- The statements of the terms of acceptance about the symbol table. Their proofs stand in the other files.
+-- Assumes nothing.
+use Prim.Native.Nat.{ℕ, _+_, _<_}
+use mathlib.Core.Path.{_≡_}
+use mathlib.Core.Bool.{false}
+use mathlib.Core.List.{List, [], _∷_, _++_}
+use mathlib.Core.Logic.{_≢_}
+use lib.Dec.{leb}
+use Rattle.link.specs.Said.{numberIn, valueIn}
+use Rattle.gabi.specs.SymbolTable.{Sym}
+use Rattle.gabi.specs.Resolution.{duplicate, resolve}
+use Rattle.symbol.specs.RowLaws.{symbolOf}
+use Rattle.symbol.specs.declared.Row.{Row}
+use Rattle.symbol.specs.Row.{field}
+use Rattle.symbol_rows.specs.Holder.{globalAt}
+use Rattle.symbol_rows.specs.Apply.{Table}
+use Rattle.symbols.specs.declared.Found.the-variants as Fd
+use Rattle.symbols.specs.New.{newOf}
+use Rattle.symbols.specs.Lookup.{notFound, getGlobalOf}
+use Rattle.upcoming_symbol.specs.declared.UpcomingSymbol.{UpcomingSymbol}
+use Rattle.symbols.specs.Add.{addOf}
+use Rattle.symbol_laws.specs.Rank.{firstOf}
+use Rattle.symbol_laws.specs.Rows.{rowAt}
+use Rattle.symbol_laws.specs.History.{State, opened, Entry, only, rows, Part, putOf, runParts, logParts, Call, callNext, callNumber, runCalls, logCalls, RemovesNothing}
+use Rattle.symbol_laws.specs.Held.{Inv}
+use Rattle.symbol_laws.specs.Start.{new-inv}
+use Rattle.symbol_laws.specs.Calls.{parts-keep, calls-keep}
+use Rattle.symbol_laws.specs.Demand as Demand
+use Rattle.symbol_laws.specs.Within as Within
+use Rattle.symbol_laws.specs.Refused as Refused
+use Rattle.symbol_laws.specs.Writes as Writes
+use Rattle.symbol_laws.specs.Gabi.{Means, AllMean}
+use Rattle.symbol_laws.specs.Agreement as Agreement
+use Rattle.symbol_laws.specs.Duplicate as Duplicate
+
+-- "Let a link be a new table"
+module _ (bytes names symbols sections : List ℕ) (new : numberIn (newOf bytes names symbols sections .said) ≡ 0) where
+  abbrev pub start : State
+  start = opened (newOf bytes names symbols sections)
+
+  -- for names issued and rows added one by one, as every call does
+  pub rows-3a : (ps : List Part) (n : ℕ) (x : Entry) (xs : List Entry) → only n (logParts ps start) ≡ x ∷ xs → Demand.Resolved (runParts ps start) n x xs
+  rows-3a ps n x xs e = Demand.resolved _ _ (parts-keep ps start [] (new-inv bytes names symbols sections new)) n x xs e
+
+  -- "and any sequence of calls that removes nothing"
+  module _ (ks : List Call) (quiet : RemovesNothing ks start) where
+    abbrev pub end : State
+    end = runCalls ks start
+
+    -- a name's accepted adds, "local adds set aside"
+    abbrev pub adds : ℕ → List Entry
+    adds n = only n (logCalls ks start)
+
+    kept : Inv end (logCalls ks start)
+    kept = calls-keep ks start [] quiet (new-inv bytes names symbols sections new)
+
+    within : Within.Within (end .link) (end .names)
+    within = Within.calls-within ks start quiet (Within.new-within bytes names symbols sections new)
+
+    -- "each global name has the id of its first accepted add and the content of its first accepted strong definition, else weak
+    -- definition, else add"
+    pub demand-3a : (n : ℕ) (x : Entry) (xs : List Entry) → adds n ≡ x ∷ xs → Demand.Resolved end n x xs
+    demand-3a n x xs e = Demand.resolved end _ kept n x xs e
+
+    -- what a lookup by the name then answers
+    pub lookup-row : (n : ℕ) (x : Entry) (xs : List Entry) → adds n ≡ x ∷ xs
+        → getGlobalOf (end .link) (end .names) (end .symbols) (record { 0 = n }) ≡ Fd.Row (symbolOf (record { 0 = x .id }) (firstOf (x .row) (rows xs)))
+    lookup-row = Within.lookup-row end _ kept within
+
+    -- a name without accepted global add has no row, issued or not
+    pub no-row : (n : ℕ) → adds n ≡ [] → n < end .link .names → globalAt (end .names) n ≡ 0
+    no-row n e i = Demand.no-row end _ kept n e i
+
+    pub lookup-none : (n : ℕ) → adds n ≡ [] → getGlobalOf (end .link) (end .names) (end .symbols) (record { 0 = n }) ≡ notFound 23 0
+    lookup-none = Within.lookup-none end _ kept within
+
+    -- "Rows past the count are never written": by one more call, accepted or refused, a removal too
+    pub past-the-count : (k : Call) → Writes.Untouched end (callNext k end)
+    past-the-count k = Writes.call-past end _ kept k
+
+    -- an id once given to a name stays its own
+    pub ids-stay : (ls : List Call) → RemovesNothing ls end → (n : ℕ) → n < end .link .names → globalAt (end .names) n ≢ 0
+        → Writes.Bears (runCalls ls end) n (globalAt (end .names) n)
+    ids-stay ls q n i z = Writes.stays end (runCalls ls end) _ _ kept (calls-keep ls end _ q kept) n i z
+
+    -- ---- demand 2: agreement with the gABI
+
+    -- of symbols accepted under a name the gABI resolves to the one that the row has; undefined where it has none
+    pub gabi-agrees : (n : ℕ) (x : Entry) (xs : List Entry) → adds n ≡ x ∷ xs → (s : Sym) (ss : List Sym) → AllMean (rows (x ∷ xs)) (s ∷ ss)
+        → Agreement.Agrees (x .row) (rows xs) s (rowAt (end .symbols) (x .id)) (resolve (s ∷ ss))
+    gabi-agrees n x xs e s ss m = Agreement.accepted end _ kept n x xs e s ss m
+
+    -- a further add is refused with 17 exactly where the gABI sees a duplicate
+    module _ (r : Row) (x : Entry) (xs : List Entry) (e : adds (r .name .0) ≡ x ∷ xs) (global : r .visibility ≢ 0) (passes : leb 5 (r .visibility) ≡ false)
+        (valued : leb 13 (r .value .kind) ≡ false) (s : Sym) (ss : List Sym) (m : AllMean (rows (x ∷ xs)) (s ∷ ss)) (g : Sym) (own : Means r g) where
+      pub duplicate-refused : resolve ((s ∷ ss) ++ (g ∷ [])) ≡ duplicate → numberIn (putOf end r .said) ≡ 17
+      duplicate-refused = Duplicate.duplicate-refused end _ kept r x xs e global passes valued s ss m g own
+
+      pub refused-duplicate : numberIn (putOf end r .said) ≡ 17 → resolve ((s ∷ ss) ++ (g ∷ [])) ≡ duplicate
+      refused-duplicate = Duplicate.refused-duplicate end _ kept r x xs e global passes valued s ss m g own
+
+-- "leaves behind what that table says": every refusal of these calls leaves all
+pub refusals-leave-all : (k : Call) (s : State) → callNumber k s ≢ 0 → callNext k s ≡ s
+refusals-leave-all = Refused.call-refused
+
+-- an add writes no symbol row but the one whose id it answers
+pub one-row : (t : Table) (conversion : List ℕ) (u : UpcomingSymbol) (j f : ℕ) → f < 8 → j ≢ valueIn (addOf t conversion u .said)
+    → field (addOf t conversion u .table .symbols) j f ≡ field (t .symbols) j f
+one-row = Writes.add-one-row

@@ -1,0 +1,198 @@
+-- Counts within their bounds: after direct calls a lookup is never refused with 1.
+-- Assumes nothing.
+use Prim.Native.Nat.{ℕ, _+_, _-_, _*_, _/_, _≤_}
+use native.Mathlib.Omega.{arith}
+use mathlib.Core.Path.{_≡_, refl, ap, _∙_}
+use mathlib.Core.Bool.{true, false, false≢true}
+use mathlib.Core.List.{List, [], _∷_}
+use lib.Dec.{eqb, ltb, leb}
+use lib.ListN.{length, length-set}
+use borrow.Author.Tests.{ltb-false, eqb-false}
+use Rattle.cells.specs.Split.{by-test}
+use Rattle.link.specs.declared.Link.{Link}
+use Rattle.link.specs.declared.Interned.{Interned}
+use Rattle.link.specs.Bounds.{notLent, lesser, nameRows, nameBytes, symbolRows, sectionSlots}
+use Rattle.link.specs.Judge.{none, judgeOf, judgeSections, judgeNames, judgeLists}
+use Rattle.link.specs.Ways as Link
+use Rattle.interner.specs.Names.{Store, storeOf, roomOf, keepOf}
+use Rattle.interner.specs.Calls as Names
+use Rattle.symbol.specs.RowLaws.{symbolOf}
+use Rattle.symbol.specs.declared.Row.{Row}
+use Rattle.symbol.specs.declared.SttFile.the-variants as File
+use Rattle.symbol_rows.specs.declared.Decision.{Decision}
+use Rattle.symbol_rows.specs.declared.Decision.the-variants.{Refuse, Nothing, Keep, Append, Replace}
+use Rattle.symbol_rows.specs.declared.Holder.{Holder}
+use Rattle.symbol_rows.specs.declared.Holder.the-variants.{Nobody, Known}
+use Rattle.symbol_rows.specs.Holder.{holderOf}
+use Rattle.symbol_rows.specs.Decide.{refusalOf}
+use Rattle.symbol_rows.specs.Apply.{Table, appendOf, applyOf, noteName}
+use Rattle.link.specs.Said.{numberIn}
+use Rattle.interner.specs.Hash.{headCell}
+use Rattle.interner_laws.specs.Written.{linked-long}
+use Rattle.interner_laws.specs.Interns.{cleared-long}
+use Rattle.interner_laws.specs.Judged.{same-length}
+use mathlib.Core.Logic.{_≢_}
+use Rattle.symbols.specs.declared.Found.the-variants as Fd
+use Rattle.symbols.specs.Calls.{lentOf}
+use Rattle.symbols.specs.Add.{decidedOf, committedOf, addRowOf}
+use Rattle.symbols.specs.New.{nullOf, newOf}
+use Rattle.symbols.specs.Lookup.{heldOf, notFound, getGlobalOf}
+use Rattle.symbol_laws.specs.Rank.{firstOf}
+use Rattle.symbol_laws.specs.Rows.{means}
+use Rattle.symbol_laws.specs.View.{lesser-first}
+use Rattle.symbol_laws.specs.History.{State, table, store, opened, Entry, only, rows, Part, issue, put, idOf, partNext, runParts, Call, runCalls, RemovesNothing}
+use Rattle.symbol_laws.specs.Held.{Inv}
+use Rattle.symbol_laws.specs.Calls.{historyParts, history-run}
+use Rattle.symbol_laws.specs.Demand.{resolved, holder-known, holder-none}
+
+-- the counts that these calls aren't lent anything for, and the rows that the names were lent
+pub record Within (l : Link) (names : List ℕ) : Type 0 where
+  pub bytes-in : l .bytes ≤ 1048576
+  pub sections-in : l .sections ≤ 65535
+  pub inputs-in : l .inputs ≤ 4095
+  pub lists-in : l .lists ≤ notLent
+  pub chains-are : nameRows (length names) ≡ l .chains
+
+-- ---- kept by every part
+
+noted-long : (names : List ℕ) (r : Row) (id : ℕ) → length (noteName names r id) ≡ length names
+unfolding noteName
+noted-long names r id = by-test (eqb (r .visibility) 0) (λ a. rw a) (λ a. rw a (length-set names (r .name .0 * 8 + 3) id))
+
+applied-within : (t : Table) (r : Row) (d : Decision) → Within (t .link) (t .names) → Within (applyOf t r d .link) (applyOf t r d .names)
+unfolding applyOf appendOf
+applied-within t r (Refuse n) w = w
+applied-within t r Nothing w = w
+applied-within t r (Keep id) w = w
+applied-within t r Append w =
+    record {
+      bytes-in = w .bytes-in;
+      sections-in = w .sections-in;
+      inputs-in = w .inputs-in;
+      lists-in = w .lists-in;
+      chains-are = ap nameRows (noted-long (t .names) r (t .link .symbols)) ∙ w .chains-are;
+    }
+applied-within t r (Replace id) w = w
+
+put-within : (t : Table) (r : Row) → Within (t .link) (t .names) → Within (addRowOf t r File.None .table .link) (addRowOf t r File.None .table .names)
+unfolding addRowOf committedOf
+put-within t r w =
+    let d : Decision = decidedOf t r File.None in
+    by-test (eqb (refusalOf d) 21) (λ a. rw a w) (λ a. by-test (eqb (refusalOf d) 0) (λ b. rw (a, b) (applied-within t r d w)) (λ b. rw (a, b) w))
+
+room-bytes : (s : Store) (n : ℕ) → roomOf s n ≡ true → s .link .bytes + n ≤ 1048576
+unfolding roomOf
+room-bytes s n e =
+    by-test (leb (nameRows (length (s .names))) (s .link .names)) (λ a. absurd (false≢true (rw a at e)))
+    (λ a.
+    by-test (ltb (nameBytes (length (s .bytes))) (s .link .bytes)) (λ b. absurd (false≢true (rw (a, b) at e)))
+    (λ b.
+    by-test (ltb (nameBytes (length (s .bytes)) - s .link .bytes) n) (λ c. absurd (false≢true (rw (a, b, c) at e)))
+    (λ c.
+    let h : s .link .bytes ≤ lesser 1048576 (length (s .bytes)) = ltb-false _ _ b in
+    let k : n ≤ lesser 1048576 (length (s .bytes)) - s .link .bytes = ltb-false _ _ c in
+    let m : lesser 1048576 (length (s .bytes)) ≤ 1048576 = lesser-first _ _ in
+    omega arith)))
+
+keep-within : (s : Store) (id : Interned) (x : List ℕ) → Within (s .link) (s .names) → Within (keepOf s id x .link) (keepOf s id x .names)
+unfolding keepOf
+keep-within s id x w =
+    by-test (ltb (id .0) (s .link .names)) (λ a. rw a w)
+    (λ a.
+    by-test (roomOf s (length x))
+    (λ b.
+    rw (a, b)
+    (record {
+      bytes-in = room-bytes s (length x) b;
+      sections-in = w .sections-in;
+      inputs-in = w .inputs-in;
+      lists-in = w .lists-in;
+      chains-are =
+          ap nameRows (linked-long (s .names) (s .link .names) (s .link .bytes) (length x) (headCell (length (s .names)) x)) ∙ w .chains-are;
+    }))
+    (λ b. rw (a, b) w))
+
+pub parts-within : (ps : List Part) (s : State) → Within (s .link) (s .names) → Within (runParts ps s .link) (runParts ps s .names)
+parts-within [] s w = w
+parts-within (issue x ∷ ps) s w = parts-within ps (partNext (issue x) s) (keep-within (store s) (idOf s x) x w)
+parts-within (put r from ∷ ps) s w = parts-within ps (partNext (put r from) s) (put-within (table s) r w)
+
+pub calls-within : (ks : List Call) (s : State) → RemovesNothing ks s → Within (s .link) (s .names) → Within (runCalls ks s .link) (runCalls ks s .names)
+calls-within ks s q w = rw (history-run ks s q) (parts-within (historyParts ks s) s w)
+
+-- ---- a new table
+
+blank-within : (bytes names : List ℕ) → Within (Names.noNames (nameRows (length names))) (Names.clearHeads names)
+blank-within bytes names =
+    record {
+      bytes-in = omega arith;
+      sections-in = omega arith;
+      inputs-in = omega arith;
+      lists-in = omega arith;
+      chains-are = ap nameRows (cleared-long bytes names);
+    }
+
+names-within : (bytes names : List ℕ) → Names.newOf bytes names .store .link .names ≢ 0 → Within (Names.newOf bytes names .store .link) (Names.newOf bytes names .store .names)
+unfolding Names.newOf
+names-within bytes names z =
+    by-test (eqb (nameRows (length names)) 0) (λ b. absurd (z (rw b)))
+    (λ b.
+    rw b
+    (keep-within (storeOf bytes (Names.clearHeads names) (Names.noNames (nameRows (length names)))) (record { 0 = 0 }) [] (blank-within bytes names)))
+
+null-within : (symbols sections : List ℕ) (s : Store) → (s .link .names ≢ 0 → Within (s .link) (s .names)) → numberIn (nullOf symbols sections s .said) ≡ 0
+    → Within (nullOf symbols sections s .table .link) (nullOf symbols sections s .table .names)
+unfolding nullOf
+null-within symbols sections s f e =
+    by-test (eqb (s .link .names) 0) (λ a. let q : _≡_ {A = ℕ} 2 0 = rw a at e in absurd (omega arith))
+    (λ a.
+    let w : Within (s .link) (s .names) = f (eqb-false _ _ a) in
+    rw a
+    (record { bytes-in = w .bytes-in; sections-in = w .sections-in; inputs-in = w .inputs-in; lists-in = w .lists-in; chains-are = w .chains-are }))
+
+pub new-within : (bytes names symbols sections : List ℕ) → numberIn (newOf bytes names symbols sections .said) ≡ 0
+    → Within (opened (newOf bytes names symbols sections) .link) (opened (newOf bytes names symbols sections) .names)
+unfolding newOf
+new-within bytes names symbols sections e =
+    by-test (eqb (symbolRows (length symbols)) 0) (λ a. let q : _≡_ {A = ℕ} 2 0 = rw a at e in absurd (omega arith))
+    (λ a. rw a (null-within symbols sections (Names.newOf bytes names .store) (names-within bytes names) (rw a at e)))
+
+-- ---- lookups
+
+lesser-most : (a b n : ℕ) → n ≤ a → n ≤ b → n ≤ lesser a b
+unfolding lesser
+lesser-most a b n h k = by-test (ltb a b) (λ t. rw t h) (λ t. rw t k)
+
+module _ (s : State) (past : List Entry) (inv : Inv s past) (w : Within (s .link) (s .names)) where
+  sections-judged : none ≡ judgeSections (s .link) notLent
+  sections-judged =
+      Link.sections-fine (s .link) notLent none false _ (Link.length-unlent notLent (sectionSlots notLent) (s .link .slots) false refl refl) refl
+      refl (lesser-most 65535 (notLent / 9) (s .link .sections) (w .sections-in) (omega (arith, w .sections-in))) refl
+
+  names-judged : none ≡ judgeNames (s .link) (length (s .names)) notLent
+  names-judged =
+      Link.names-fine (s .link) (length (s .names)) notLent none (nameRows (length (s .names))) false _ refl
+      (same-length (length (s .names)) (nameRows (length (s .names))) (s .link .chains) (w .chains-are)) refl (omega (arith, inv .names-room, w .chains-are))
+      refl (lesser-most 1048576 notLent (s .link .bytes) (w .bytes-in) (omega (arith, w .bytes-in))) refl
+
+  lists-judged : none ≡ judgeLists (s .link) notLent notLent
+  lists-judged =
+      Link.lists-fine (s .link) notLent notLent none _ refl (lesser-most 4095 (notLent / 8) (s .link .inputs) (w .inputs-in) (omega (arith, w .inputs-in))) (w .lists-in) refl
+
+  judged : none ≡ judgeOf (s .link) (lentOf (length (s .names)) (length (s .symbols)) notLent)
+  judged =
+      Link.over-rest (s .link) (lentOf (length (s .names)) (length (s .symbols)) notLent) none none _ none sections-judged refl
+      refl (lesser-most 65535 (length (s .symbols) / 8) (s .link .symbols) (inv .few) (omega (arith, inv .room))) names-judged refl lists-judged
+
+  looked : (n : ℕ) (h : Holder) → holderOf (s .names) (s .symbols) (s .link .names) (record { 0 = n }) ≡ h → getGlobalOf (s .link) (s .names) (s .symbols) (record { 0 = n }) ≡ heldOf (s .symbols) (record { 0 = n }) h
+  unfolding getGlobalOf
+  looked n h e = simp (← judged, e)
+
+  pub lookup-row : (n : ℕ) (x : Entry) (xs : List Entry) → only n past ≡ x ∷ xs
+      → getGlobalOf (s .link) (s .names) (s .symbols) (record { 0 = n }) ≡ Fd.Row (symbolOf (record { 0 = x .id }) (firstOf (x .row) (rows xs)))
+  lookup-row n x xs e =
+      looked n (Known (record { 0 = x .id })) (holder-known s past inv n x xs e)
+      ∙ ap Fd.Row (means (s .symbols) (record { 0 = x .id }) ∙ ap (symbolOf (record { 0 = x .id })) (resolved s past inv n x xs e .terms))
+
+  pub lookup-none : (n : ℕ) → only n past ≡ [] → getGlobalOf (s .link) (s .names) (s .symbols) (record { 0 = n }) ≡ notFound 23 0
+  lookup-none n e = looked n Nobody (holder-none s past inv n e)

@@ -1,0 +1,236 @@
+-- What the calls write: no symbol row but the one that an add answers, and nothing past the counts.
+-- Assumes nothing.
+use Prim.Native.Nat.{ℕ, _+_, _*_, _/_, _%_, _≤_, _<_}
+use native.Mathlib.Omega.{arith}
+use native.Mathlib.Nat.{mod-lt, div-add-mod'}
+use mathlib.Core.Path.{_≡_, refl, sym, ap, _∙_, subst}
+use mathlib.Core.List.{List, [], _∷_, _++_}
+use mathlib.Core.Logic.{_≢_}
+use lib.Dec.{eqb, ltb, leb}
+use lib.ListN.{getD, length}
+use lib.Seq.{getD-set-other}
+use borrow.Author.Tests.{eqb-true, eqb-false, leb-false, lt-ltb}
+use Rattle.link.specs.Said.{numberIn, valueIn}
+use Rattle.cells.specs.Split.{by-test}
+use Rattle.link.specs.declared.SymbolId.{SymbolId}
+use Rattle.link.specs.declared.Interned.{Interned}
+use Rattle.link.specs.Bounds.{notLent, nameRows}
+use Rattle.link.specs.Judge.{changeOf}
+use Rattle.interner.specs.Names.{Store, roomOf, added, keepOf}
+use Rattle.symbol.specs.RowLaws.{field-other}
+use Rattle.symbol.specs.declared.Row.{Row}
+use Rattle.symbol.specs.declared.SttFile.{SttFile}
+use Rattle.symbol.specs.declared.SttFile.the-variants as File
+use Rattle.symbol.specs.Codes.{successor}
+use Rattle.symbol.specs.Row.{field, stateAt, setRow}
+use Rattle.symbol_rows.specs.declared.Decision.{Decision}
+use Rattle.symbol_rows.specs.declared.Decision.the-variants.{Refuse}
+use Rattle.symbol_rows.specs.Holder.{globalAt}
+use Rattle.symbol_rows.specs.Decide.{sectionCells}
+use Rattle.symbol_rows.specs.Apply.{Table, noteName, setSectionSymbol, noteSection, appendOf, applyOf}
+use Rattle.symbols.specs.Calls.{Left, lentOf}
+use Rattle.upcoming_symbol.specs.declared.UpcomingSymbol.{UpcomingSymbol}
+use Rattle.upcoming_symbol.specs.Upcoming.{nameOf, rowOf}
+use Rattle.symbols.specs.Add.{emptyAt, fileOf, lent, judgeAddOf, committedOf, addRowOf, addOf}
+use Rattle.symbols.specs.Remove.{rowsOf, dropSection, removeRowOf, removeOf}
+use Rattle.symbol_laws.specs.View.{Named, Free, View, refused, kept, replaced, appended, local, view, decided}
+use Rattle.symbol_laws.specs.Refused.{commit-refused, row-refused, row-accepted, add-accepted, intern-accepted, call-refused}
+use Rattle.symbol_laws.specs.History.{State, table, store, withTable, withStore, withRows, Entry, only, rows, putOf, idOf, Call, add, intern, remove, upcoming, callNext, callNumber}
+use Rattle.symbol_laws.specs.Held.{Holds, Held, Inv}
+use Rattle.symbol_laws.specs.Issue.{linked-old, room-free}
+use Rattle.symbol_laws.specs.Rank.{best}
+use Rattle.symbol_laws.specs.Demand.{resolved}
+
+-- ---- one row
+
+module _ (t : Table) (r : Row) where
+  abbrev OneRow : Left → Type 0
+  OneRow o = (j f : ℕ) → f < 8 → j ≢ valueIn (o .said) → field (o .table .symbols) j f ≡ field (t .symbols) j f
+
+  decides : (d : Decision) → decided t r ≡ d → OneRow (committedOf t r File.None d) → OneRow (addRowOf t r File.None)
+  unfolding addRowOf
+  decides d e g = subst (λ (d : Decision). OneRow (committedOf t r File.None d)) (sym e) g
+
+  viewed : View t r → OneRow (addRowOf t r File.None)
+  unfolding committedOf applyOf appendOf
+  viewed (refused n e z) =
+      decides (Refuse n) e (λ j f h u. ap (λ (t : Table). field (t .symbols) j f) (commit-refused t r File.None n z .0))
+  viewed (kept e k z o w) = decides _ e (λ j f h u. refl)
+  viewed (replaced e k z o) = decides _ e (λ j f h u. field-other (t .symbols) _ r j f h u)
+  viewed (appended e f k z) = decides _ e (λ j f h u. field-other (t .symbols) _ r j f h u)
+  viewed (local e f v) = decides _ e (λ j f h u. field-other (t .symbols) _ r j f h u)
+
+  -- an add writes no symbol row but the one whose id it answers
+  pub one-row : (file : SttFile) → OneRow (addRowOf t r file)
+  one-row file =
+      by-test (eqb (numberIn (addRowOf t r file .said)) 0)
+      (λ a. subst OneRow (sym (row-accepted t r file (eqb-true _ _ a))) (viewed (view t r)))
+      (λ a j f h u. ap (λ (t : Table). field (t .symbols) j f) (row-refused t r file (eqb-false _ _ a)))
+
+pub add-one-row : (t : Table) (conversion : List ℕ) (u : UpcomingSymbol) (j f : ℕ) → f < 8 → j ≢ valueIn (addOf t conversion u .said)
+    → field (addOf t conversion u .table .symbols) j f ≡ field (t .symbols) j f
+unfolding addOf
+add-one-row t conversion u j f h n =
+    by-test (eqb (judgeAddOf (t .link) (lent t) u .number) 0)
+    (λ a. rw a (one-row t (rowOf conversion u (emptyAt (t .names) (nameOf u))) (fileOf u) j f h (rw a at n))) (λ a. rw a)
+
+-- ---- past the counts
+
+-- from s to t: symbol rows and name rows past t's counts stand as they stood, and so do all section rows
+pub record Untouched (s t : State) : Type 0 where
+  pub symbols : (q : ℕ) → t .link .symbols * 8 ≤ q → getD (t .symbols) q 0 ≡ getD (s .symbols) q 0
+  pub names : (q : ℕ) → t .link .names * 8 ≤ q → q < nameRows (length (s .names)) * 8 → getD (t .names) q 0 ≡ getD (s .names) q 0
+  pub sections : (q : ℕ) → q < sectionCells (length (s .sections)) * 8 → getD (t .sections) q 0 ≡ getD (s .sections) q 0
+
+pub untouched : (s : State) → Untouched s s
+untouched s = record { symbols = λ q h. refl; names = λ q h k. refl; sections = λ q h. refl }
+
+-- a cell, by its row
+cell-at : (l m : List ℕ) (q : ℕ) → ((f : ℕ) → f < 8 → field m (q / 8) f ≡ field l (q / 8) f) → getD m q 0 ≡ getD l q 0
+cell-at l m q f =
+    subst (λ (k : ℕ). getD m k 0 ≡ getD l k 0) (div-add-mod' q 8) (f (q % 8) (mod-lt q (omega arith)))
+
+stored-past : (l : List ℕ) (id : SymbolId) (r : Row) (count q : ℕ) → id .0 < count → count * 8 ≤ q → getD (setRow l id r) q 0 ≡ getD l q 0
+stored-past l id r count q h k = cell-at l (setRow l id r) q (λ f g. field-other l id r (q / 8) f g (λ e. omega arith))
+
+-- a section's symbol lies behind the rows
+symbol-behind : (l : List ℕ) (s id q : ℕ) → q < sectionCells (length l) * 8 → getD (setSectionSymbol l s id) q 0 ≡ getD l q 0
+unfolding setSectionSymbol
+symbol-behind l s id q h =
+    by-test (ltb s (sectionCells (length l))) (λ t. rw t (getD-set-other l _ q id 0 (λ e. omega arith))) (λ t. rw t)
+
+section-behind : (l : List ℕ) (r : Row) (id q : ℕ) → q < sectionCells (length l) * 8 → getD (noteSection l r id) q 0 ≡ getD l q 0
+unfolding noteSection
+section-behind l r id q h =
+    by-test (eqb (r .visibility) 0)
+    (λ v. by-test (eqb (r .value .kind) 2) (λ k. rw (v, k) (symbol-behind l (r .value .a) id q h)) (λ k. rw (v, k))) (λ v. rw v)
+
+note-low : (l : List ℕ) (r : Row) (id count q : ℕ) → (r .visibility ≢ 0 → r .name .0 < count) → count * 8 ≤ q → getD (noteName l r id) q 0 ≡ getD l q 0
+unfolding noteName
+note-low l r id count q i h =
+    by-test (eqb (r .visibility) 0) (λ v. rw v)
+    (λ v. let k : r .name .0 < count = i (eqb-false _ _ v) in rw v (getD-set-other l (r .name .0 * 8 + 3) q id 0 (λ e. omega arith)))
+
+module _ (s : State) (past : List Entry) (inv : Inv s past) where
+  module _ (r : Row) where
+    held-low : Named (table s) r → globalAt (s .names) (r .name .0) ≢ 0 → globalAt (s .names) (r .name .0) < s .link .symbols
+    held-low k z = by-list (only (r .name .0) past) (inv .held-by (r .name .0) (k .issued))
+      where
+        by-list : (l : List Entry) → Held s (r .name .0) l → globalAt (s .names) (r .name .0) < s .link .symbols
+        by-list [] h = absurd (z h)
+        by-list (x ∷ xs) h = omega (arith, h .found, h .below)
+
+    appended-past : Free (table s) r → (r .visibility ≢ 0 → r .name .0 < s .link .names) → Untouched s (withTable s (appendOf (table s) r))
+    unfolding appendOf successor
+    appended-past f i =
+        let more : successor (s .link .symbols) ≡ s .link .symbols + 1 = rw (lt-ltb (s .link .symbols) 0xffffffffffffffff (omega (arith, f .few))) in
+        record {
+          symbols = λ q h. stored-past (s .symbols) (record { 0 = s .link .symbols }) r (s .link .symbols + 1) q (omega arith) (omega (arith, more, h));
+          names = λ q h k. note-low (s .names) r (s .link .symbols) (s .link .names) q i h;
+          sections = λ q h. section-behind (s .sections) r (s .link .symbols) q h;
+        }
+
+    Past : Left → Type 0
+    Past o = Untouched s (withTable s (o .table))
+
+    past-decides : (d : Decision) → decided (table s) r ≡ d → Past (committedOf (table s) r File.None d) → Past (putOf s r)
+    unfolding addRowOf
+    past-decides d e g = subst (λ (d : Decision). Past (committedOf (table s) r File.None d)) (sym e) g
+
+    past-viewed : View (table s) r → Past (putOf s r)
+    unfolding Past committedOf applyOf
+    past-viewed (refused n e z) =
+        past-decides (Refuse n) e
+        (subst (λ (t : Table). Untouched s (withTable s t)) (sym (commit-refused (table s) r File.None n z .0)) (untouched s))
+    past-viewed (kept e k z o w) = past-decides _ e (untouched s)
+    past-viewed (replaced e k z o) =
+        past-decides _ e
+        (record {
+          symbols = λ q h. stored-past (s .symbols) _ r (s .link .symbols) q (held-low k z) h;
+          names = λ q h k. refl;
+          sections = λ q h. refl;
+        })
+    past-viewed (appended e f k z) = past-decides _ e (appended-past f (λ v. k .issued))
+    past-viewed (local e f v) = past-decides _ e (appended-past f (λ z. absurd (z v)))
+
+    pub put-past : Untouched s (withTable s (putOf s r .table))
+    unfolding Past
+    put-past = past-viewed (view (table s) r)
+
+  pub issue-past : (x : List ℕ) (id : Interned) → Untouched s (withStore s (keepOf (store s) id x))
+  unfolding keepOf
+  issue-past x id =
+      by-test (ltb (id .0) (s .link .names)) (λ a. rw a (untouched s))
+      (λ a.
+      by-test (roomOf (store s) (length x)) (λ b. rw (a, b) (added-past (room-free (store s) (length x) b))) (λ b. rw (a, b) (untouched s)))
+    where
+      added-past : s .link .names < nameRows (length (s .names)) → Untouched s (withStore s (added (store s) x))
+      added-past free =
+          record {
+            symbols = λ q h. refl;
+            names = λ q h k.
+                cell-at (s .names) (added (store s) x .names) q
+                (λ f g. linked-old (s .names) (s .link .names) (s .link .bytes) (length x) x free (q / 8) f (omega arith) g (λ e. omega arith));
+            sections = λ q h. refl;
+          }
+
+drop-behind : (l : List ℕ) (kind s q : ℕ) → q < sectionCells (length l) * 8 → getD (dropSection l kind s) q 0 ≡ getD l q 0
+unfolding dropSection
+drop-behind l kind s q h = by-test (eqb kind 2) (λ k. rw k (symbol-behind l s 0 q h)) (λ k. rw k)
+
+-- of a row below the count; whatever the rows hold
+removed-past : (s : State) (id : SymbolId) → id .0 < s .link .symbols → Untouched s (withRows s (removeRowOf (rowsOf (s .symbols) (s .sections)) id) (s .link))
+unfolding removeRowOf
+removed-past s id i =
+    by-test (eqb (stateAt (s .symbols) (id .0)) 2) (λ a. rw a (untouched s))
+    (λ a.
+    rw a
+    (record {
+      symbols = λ q h. getD-set-other (s .symbols) (id .0 * 8 + 0) q 2 0 (λ e. omega arith);
+      names = λ q h k. refl;
+      sections = λ q h. drop-behind (s .sections) _ _ q h;
+    }))
+
+remove-past : (s : State) (id : SymbolId) → Untouched s (callNext (remove id) s)
+unfolding removeOf
+remove-past s id =
+    by-test (eqb (changeOf (s .link) (lentOf notLent (length (s .symbols)) (length (s .sections))) .number) 0)
+    (λ a.
+    by-test (leb (s .link .symbols) (id .0)) (λ b. rw (a, b) (untouched s)) (λ b. rw (a, b) (removed-past s id (leb-false _ _ b))))
+    (λ a. rw a (untouched s))
+
+-- after any call, accepted or refused
+pub call-past : (s : State) (past : List Entry) → Inv s past → (k : Call) → Untouched s (callNext k s)
+call-past s past inv (add conversion u) =
+    by-test (eqb (callNumber (add conversion u) s) 0)
+    (λ a. subst (λ (o : Left). Untouched s (withTable s (o .table))) (sym (add-accepted (table s) conversion u (eqb-true _ _ a))) (put-past s past inv (upcoming s conversion u)))
+    (λ a. subst (Untouched s) (sym (call-refused (add conversion u) s (eqb-false _ _ a))) (untouched s))
+call-past s past inv (intern x) =
+    by-test (eqb (callNumber (intern x) s) 0)
+    (λ a. subst (λ (t : Store). Untouched s (withStore s t)) (sym (intern-accepted (store s) x (eqb-true _ _ a))) (issue-past s past inv x (idOf s x)))
+    (λ a. subst (Untouched s) (sym (call-refused (intern x) s (eqb-false _ _ a))) (untouched s))
+call-past s past inv (remove id) = remove-past s id
+
+-- ---- ids never move
+
+only-append : (n : ℕ) (a b : List Entry) → only n (a ++ b) ≡ only n a ++ only n b
+only-append n [] b = refl
+only-append n (x ∷ a) b = by-test (eqb (x .name) n) (λ t. rw t (ap (_∷_ x) (only-append n a b))) (λ t. rw t (only-append n a b))
+
+-- the row that bears the name
+pub record Bears (s : State) (n id : ℕ) : Type 0 where
+  pub found : globalAt (s .names) n ≡ id
+  pub present : stateAt (s .symbols) id ≡ 1
+  pub name : field (s .symbols) id 1 ≡ n
+
+module _ (s t : State) (past more : List Entry) (before : Inv s past) (after : Inv t (past ++ more)) (n : ℕ) (issued : n < s .link .names) where
+  bears : (l : List Entry) → only n past ≡ l → globalAt (s .names) n ≢ 0 → Bears t n (globalAt (s .names) n)
+  bears [] e z = absurd (z (subst (Held s n) e (before .held-by n issued)))
+  bears (x ∷ xs) e z =
+      let h : Holds s n (x .id) (best (x .row) (rows xs)) = subst (Held s n) e (before .held-by n issued) in
+      let q : only n (past ++ more) ≡ x ∷ (xs ++ only n more) = only-append n past more ∙ ap (λ (l : List Entry). l ++ only n more) e in
+      let k = resolved t (past ++ more) after n x (xs ++ only n more) q in
+      rw (h .found) (record { found = k .id; present = k .present; name = k .bears })
+
+  pub stays : globalAt (s .names) n ≢ 0 → Bears t n (globalAt (s .names) n)
+  stays z = bears (only n past) refl z

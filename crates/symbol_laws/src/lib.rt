@@ -1,0 +1,1 @@
+// Theorems about the symbol table's definitions: specs/Terms.antt has the statements.

@@ -1,0 +1,28 @@
+use borrow.Author.Needs.{needs}
+use Prim.Native.Nat.{_-_, _≤_}
+use mathlib.Core.Path.{_≡_}
+use lib.ListN.{length}
+use Rattle.text_lines.proofs.move_down.Statement.{statement}
+use Rattle.text_lines.proofs.move_down.Tie as tie
+
+abbrev Inv-loop : tie.InvT-loop
+Inv-loop buf₀ start end from₀ to₀ buf from to = (to ≤ from) × (length buf ≡ length buf₀)
+
+abbrev μ-loop : tie.MeasureT-loop
+μ-loop buf₀ start end from₀ to₀ buf from to = end - from
+
+pub move-down-spec : {M : Type 1} → statement M
+move-down-spec =
+    tie.close
+    (tie.spec
+    Inv-loop
+    μ-loop
+    (λ c. search needs)
+    (λ c κs. search needs)
+    (λ c κs. search needs)
+    (λ c. search needs)
+    (λ c. search needs)
+    (λ c. search needs)
+    (λ c. search needs)
+    (λ c. search needs)
+    (λ c. search needs))

@@ -1,0 +1,36 @@
+use borrow.Author.Needs.{needs}
+use mathlib.Core.Path.{_≡_}
+use lib.ListN.{length}
+use Rattle.text_lines.proofs.skip_line.Statement.{statement}
+use Rattle.text_lines.proofs.skip_line.Tie as tie
+
+abbrev Inv-loop : tie.InvT-loop
+Inv-loop buf₀ lines₀ turns₀ buf lines turns = length buf ≡ length buf₀
+
+abbrev μ-loop : tie.MeasureT-loop
+μ-loop buf₀ lines₀ turns₀ buf lines turns = turns
+
+pub skip-line-spec : {M : Type 1} → statement M
+skip-line-spec =
+    tie.close
+    (tie.spec
+    Inv-loop
+    μ-loop
+    (λ c κs. search needs)
+    (λ c. search needs)
+    (λ c κs. search needs)
+    (λ c. search needs)
+    (λ c. search needs)
+    (λ c κs. search needs)
+    (λ c. search needs)
+    (λ c. search needs)
+    (λ c κs. search needs)
+    (λ c. search needs)
+    (λ c. search needs)
+    (λ c κs. search needs)
+    (λ c κs. search needs)
+    (λ c. search needs)
+    (λ c. search needs)
+    (λ c. search needs)
+    (λ c. search needs)
+    (λ c. search needs))

@@ -1,0 +1,3 @@
+pub mod Within
+pub mod Text
+pub mod Ways

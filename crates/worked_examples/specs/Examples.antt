@@ -1,0 +1,172 @@
+-- Document 01, "Marked for proof", with the add sheet and the example of "Bounds": rows of one list, and one theorem over it.
+-- Assumes nothing.
+use Prim.Native.Nat.{ℕ, zero, suc, _+_, _*_, _-_, _^_}
+use mathlib.Core.Path.{_≡_, refl}
+use mathlib.Core.Bool.{true, false}
+use mathlib.Core.List.{List, [], _∷_}
+use lib.IntN.{ℤ, pos, negsuc}
+use lib.ListN.{length, replicate}
+use Rattle.link.specs.Said.{Said, accepted, refusing}
+use Rattle.cells.specs.Rows.{putRow}
+use Rattle.byte_slices.specs.Bytes.{same, copied}
+use Rattle.link.specs.Bounds.{lesser}
+use Rattle.link.specs.Judge as Judge
+use Rattle.interner.specs.Hash.{hashFrom, headCell}
+use Rattle.interner.specs.Names as Names
+use Rattle.interner.specs.Calls as Interns
+use Rattle.symbol.specs.declared.Symbol.{Symbol}
+use Rattle.symbol.specs.declared.SymbolType.{SymbolType}
+use Rattle.symbol.specs.declared.SymbolType.the-variants as Ty
+use Rattle.symbol.specs.declared.SymbolVisibility.{SymbolVisibility}
+use Rattle.symbol.specs.declared.SymbolVisibility.the-variants.{Local, Global}
+use Rattle.symbol.specs.declared.SymbolValue.{SymbolValue}
+use Rattle.symbol.specs.declared.SymbolValue.the-variants as Val
+use Rattle.symbol.specs.declared.SttFile.the-variants as File
+use Rattle.symbol.specs.Offset.{offsetOf, wordOf}
+use Rattle.symbol.specs.Codes.{typeAt, successor, fileAt, visibilityAt, valueAt}
+use Rattle.symbol.specs.Row.{symbolAt, setRow}
+use Rattle.upcoming_symbol.specs.declared.UpcomingSymbol.{UpcomingSymbol}
+use Rattle.upcoming_symbol.specs.declared.UpcomingSymbol.the-variants.{Elf}
+use Rattle.upcoming_symbol.specs.Judge as Fields
+use Rattle.upcoming_symbol.specs.Upcoming.{inSection, convertedOf, undefinedOf, valueOf, elfRowOf}
+use Rattle.symbol_rows.specs.Holder.{heldBy, holderOf}
+use Rattle.symbol_rows.specs.Decide as Decide
+use Rattle.symbol_rows.specs.Apply.{noteName, setSectionSymbol, noteSection, appendOf, applyOf}
+use Rattle.symbols.specs.declared.Found.{Found}
+use Rattle.symbols.specs.declared.Found.the-variants as Fd
+use Rattle.symbols.specs.Calls.{Left}
+use Rattle.symbols.specs.New.{clearSymbols, nullOf, newOf}
+use Rattle.symbols.specs.Add.{judgeAddOf, issuedOf, directHolderOf, placeOf, decidedOf, committedOf, addRowOf, addOf}
+use Rattle.symbols.specs.Lookup.{foundAt, getOf}
+use Rattle.symbol_laws.specs.History.{State, withTable, opened, callNext, intern, addTo}
+
+-- ---- the table that the examples start from
+
+-- so many symbol rows lent; the names mute and clear have ids 1 and 2
+abbrev pub mute : List ℕ
+mute = 109 ∷ 117 ∷ 116 ∷ 101 ∷ []
+
+abbrev pub clear : List ℕ
+clear = 99 ∷ 108 ∷ 101 ∷ 97 ∷ 114 ∷ []
+
+unfoldable pub start : ℕ → State
+start n =
+    callNext (intern clear)
+    (callNext (intern mute)
+    (opened (newOf (replicate {A = ℕ} 16 0) (replicate {A = ℕ} 27 0) (replicate {A = ℕ} (n * 8) 0) (replicate {A = ℕ} 90 0))))
+
+-- ---- a line of a sheet
+
+pub record Line : Type 0 where
+  pub name : ℕ
+  pub binding : ℕ
+  pub visibility : ℕ
+  pub type : ℕ
+  pub section : ℕ
+  pub value : ℕ
+
+abbrev pub line : ℕ → ℕ → ℕ → ℕ → ℕ → ℕ → Line
+line n b v k s x = record { name = n; binding = b; visibility = v; type = k; section = s; value = x }
+
+-- "Sections 1 to 9 have ids 1 to 9"; section 10 isn't loaded
+abbrev pub sections : List ℕ
+sections = 0 ∷ 3 ∷ 4 ∷ 5 ∷ 6 ∷ 7 ∷ 8 ∷ 9 ∷ 10 ∷ 11 ∷ 1 ∷ []
+
+abbrev pub symbolOf : Line → UpcomingSymbol
+symbolOf l =
+    Elf (record { binding = l .binding; visibility = l .visibility; kind = l .type; section = l .section; value = l .value })
+    (record { 0 = l .name }) File.None
+
+abbrev pub added : Line → State → Left
+added l s = addTo s sections (symbolOf l)
+
+-- what each line answers, and the table at the end, row by row
+abbrev pub answers : List Line → State → List Said
+answers [] s = []
+answers (l ∷ ls) s = added l s .said ∷ answers ls (withTable s (added l s .table))
+
+abbrev pub after : List Line → State → State
+after [] s = s
+after (l ∷ ls) s = after ls (withTable s (added l s .table))
+
+abbrev pub rowsFrom : ℕ → ℕ → State → List Found
+rowsFrom i zero s = []
+rowsFrom i (suc n) s = getOf (s .link) (s .symbols) (record { 0 = i }) ∷ rowsFrom (i + 1) n s
+
+abbrev pub found : List Symbol → List Found
+found [] = []
+found (x ∷ xs) = Fd.Row x ∷ found xs
+
+-- ---- the list
+
+pub data Case : Type 0 where
+  -- symbol rows lent, the sheet, its answers, and the whole table then
+  adds : ℕ → List Line → List Said → List Symbol → Case
+  -- a value in a section, and its offset
+  offset : ℕ → ℤ → Case
+
+abbrev pub Right : Case → Type 0
+Right (adds n ls said table) =
+    (answers ls (start n) ≡ said) × (after ls (start n) .link .symbols ≡ length table) × (rowsFrom 0 (length table) (after ls (start n)) ≡ found table)
+Right (offset v z) = offsetOf v ≡ z
+
+abbrev pub symbol : ℕ → ℕ → SymbolType → SymbolVisibility → SymbolValue → Symbol
+symbol i n k w v = record { id = record { 0 = i }; name = record { 0 = n }; kind = k; file = File.None; visibility = w; value = v }
+
+abbrev pub null : Symbol
+null = symbol 0 0 Ty.NoType Local Val.Null
+
+abbrev pub strong : SymbolVisibility
+strong = Global false false
+
+abbrev pub weak : SymbolVisibility
+weak = Global true false
+
+abbrev pub relative : ℕ → ℕ → SymbolValue
+relative s x = Val.SectionRelative (record { 0 = s }) (pos x)
+
+abbrev pub refused : ℕ → Said
+refused n = refusing (Judge.refused n 0)
+
+abbrev pub cases : List Case
+cases =
+    -- P1: the sheet's rows 1 and 2
+    adds 4 (line 1 2 0 2 1 16 ∷ line 1 1 0 2 2 0 ∷ []) (accepted 1 ∷ accepted 1 ∷ []) (null ∷ symbol 1 1 Ty.Function strong (relative 2 0) ∷ [])
+    -- P2: strong then weak, unchanged
+    ∷ adds 4 (line 1 1 0 2 2 0 ∷ line 1 2 0 2 1 16 ∷ []) (accepted 1 ∷ accepted 1 ∷ []) (null ∷ symbol 1 1 Ty.Function strong (relative 2 0) ∷ [])
+    -- P3: the offset of 2^63 is -2^63
+    ∷ offset (2 ^ 63) (negsuc (2 ^ 63 - 1))
+    -- P4: the offset of 2^63 - 1 is itself
+    ∷ offset (2 ^ 63 - 1) (pos (2 ^ 63 - 1))
+    -- P5: local internal
+    ∷ adds 4 (line 1 0 1 0 1 0 ∷ []) (refused 10 ∷ []) (null ∷ [])
+    -- P6: local hidden
+    ∷ adds 4 (line 1 0 2 0 1 0 ∷ []) (refused 11 ∷ []) (null ∷ [])
+    -- P7: weak then strong reference: weak
+    ∷ adds 4 (line 1 2 0 0 0 0 ∷ line 1 1 0 0 0 0 ∷ []) (accepted 1 ∷ accepted 1 ∷ []) (null ∷ symbol 1 1 Ty.NoType weak (Val.Undefined true) ∷ [])
+    -- P9: undefined of type 4 under a known name is accepted; new: 15
+    ∷ adds 4 (line 1 1 0 2 1 0 ∷ line 1 1 0 4 0 0 ∷ line 2 1 0 4 0 0 ∷ []) (accepted 1 ∷ accepted 1 ∷ refused 15 ∷ [])
+    (null ∷ symbol 1 1 Ty.Function strong (relative 1 0) ∷ [])
+    -- the add sheet
+    ∷ adds 4 (line 1 2 0 2 1 16 ∷ line 1 1 0 2 2 0 ∷ line 1 1 0 2 0 0 ∷ line 2 2 0 0 0 0 ∷ line 1 1 0 2 3 0 ∷ [])
+    (accepted 1 ∷ accepted 1 ∷ accepted 1 ∷ accepted 2 ∷ refused 17 ∷ [])
+    (null ∷ symbol 1 1 Ty.Function strong (relative 2 0) ∷ symbol 2 2 Ty.NoType weak (Val.Undefined true) ∷ [])
+    -- "hidden isn't passed on to another holder"
+    ∷ adds 4 (line 1 2 2 2 1 0 ∷ line 1 1 0 2 2 0 ∷ []) (accepted 1 ∷ accepted 1 ∷ []) (null ∷ symbol 1 1 Ty.Function strong (relative 2 0) ∷ [])
+    -- ruled out: "checking type before the duplicate"
+    ∷ adds 4 (line 1 1 0 2 1 0 ∷ line 1 1 0 4 2 0 ∷ []) (accepted 1 ∷ refused 17 ∷ []) (null ∷ symbol 1 1 Ty.Function strong (relative 1 0) ∷ [])
+    -- ruled out: "reading "not loaded" as undefined"
+    ∷ adds 4 (line 1 1 0 2 10 0 ∷ line 1 1 0 2 1 0 ∷ []) (accepted 1 ∷ refused 17 ∷ []) (null ∷ symbol 1 1 Ty.Function strong Val.SectionNotLoaded ∷ [])
+    -- "Two rows lent: null and one undefined name fit, a second name gets 2, a definition of the first name is accepted"
+    ∷ adds 2 (line 1 1 0 0 0 0 ∷ line 2 1 0 0 0 0 ∷ line 1 1 0 2 1 0 ∷ []) (accepted 1 ∷ refused 2 ∷ accepted 1 ∷ [])
+    (null ∷ symbol 1 1 Ty.Function strong (relative 1 0) ∷ [])
+    ∷ []
+
+abbrev pub All : (Case → Type 0) → List Case → Type 0
+All P [] = Unit {0}
+All P (x ∷ xs) = P x × All P xs
+
+pub promises : All Right cases
+unfolding start putRow same copied lesser Judge.otherLength Judge.judgeSections Judge.judgeNames Judge.judgeLists Judge.afterSymbols Judge.afterSections Judge.judgeOf Judge.changeOf hashFrom headCell Names.chase Names.seekOf Names.findOf Names.roomOf Names.fitsOf Names.linked Names.keepOf Interns.issueOf Interns.internOf Interns.clearHeads Interns.newOf offsetOf wordOf typeAt successor fileAt visibilityAt valueAt symbolAt setRow Fields.sectionInRange Fields.elfInRange Fields.shownOf Fields.hiddenOf Fields.judgeOf inSection convertedOf undefinedOf valueOf elfRowOf heldBy holderOf Decide.weakOf Decide.rankOf Decide.typeRefusal Decide.sectionRoom Decide.roomOf Decide.newOf Decide.replaceOf Decide.rankedOf Decide.knownOf Decide.decideOf noteName setSectionSymbol noteSection appendOf applyOf clearSymbols nullOf newOf judgeAddOf issuedOf directHolderOf placeOf decidedOf committedOf addRowOf addOf foundAt getOf
+promises =
+    ((refl, refl, refl), ((refl, refl, refl), (refl, (refl, ((refl, refl, refl), ((refl, refl, refl), ((refl, refl, refl), ((refl, refl, refl), ((refl, refl, refl), ((refl, refl, refl), ((refl, refl, refl), ((refl, refl, refl), ((refl, refl, refl), tt)))))))))))))
