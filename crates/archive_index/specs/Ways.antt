@@ -1,11 +1,11 @@
 -- The ways through the functions.
 -- Assumes nothing.
-use Prim.Native.Nat.{ℕ, zero, suc, _+_, _*_, _-_, _/_, _%_, _<_, _≤_}
+use Prim.Native.Nat.{ℕ, suc, _+_, _*_, _-_, _/_, _%_, _<_, _≤_}
 use native.Mathlib.Numerals.{add-one}
 use native.Mathlib.Omega.{arith}
 use native.Mathlib.Nat.{sub-eq-zero-of-le}
 use mathlib.Core.Path.{_≡_, refl, sym, ap, subst, _∙_}
-use mathlib.Core.Bool.{Bool, true, false, cond}
+use mathlib.Core.Bool.{Bool, true, false}
 use mathlib.Core.List.{List, [], _∷_}
 use lib.Dec.{eqb}
 use lib.ListN.{getD, set, length, List·getD-eq-default}
@@ -22,10 +22,6 @@ use Rattle.archive_index.specs.Open.{Left, left, openedAs, offsetsIn, op
 -- ---- numbers
 
 module _ (s : List ℕ) (t : ℕ) where
-  pub word-is : (i a b c d : ℕ) → a ≡ getD s i 0 → b ≡ getD s (i + 1) 0 → c ≡ getD s (i + 2) 0 → d ≡ getD s (i + 3) 0
-      → t ≡ a * 16777216 + b * 65536 + c * 256 + d → t ≡ wordAt s i
-  word-is i a b c d e f g h q = simp (q, e, f, g, h)
-
   pub count-is : t ≡ wordAt s 0 → t ≡ countOf s
   unfolding countOf
   count-is q = q

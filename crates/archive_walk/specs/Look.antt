@@ -8,6 +8,7 @@ use lib.ListN.{length}
 use Rattle.link.specs.declared.Link.{Link}
 use Rattle.link.specs.declared.Lent.{Lent}
 use Rattle.link.specs.declared.Refusal.{Refusal}
+use Rattle.link.specs.Bounds.{notLent}
 use Rattle.link.specs.Judge.{judgeOf}
 use Rattle.interner.specs.Names.{findOf}
 use Rattle.symbol.specs.Row.{field}
@@ -24,9 +25,6 @@ pub record Table : Type 0 where
 
 abbrev pub tableOf : Link → List ℕ → List ℕ → List ℕ → Table
 tableOf l b n y = record { link = l; bytes = b; names = n; symbols = y }
-
-abbrev pub notLent : ℕ
-notLent = 0xffffffffffffffff
 
 abbrev pub lentOf : ℕ → ℕ → ℕ → Lent
 lentOf bytes names symbols =

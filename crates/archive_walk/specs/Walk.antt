@@ -5,7 +5,6 @@ use mathlib.Core.Bool.{Bool, true, false, cond}
 use mathlib.Core.List.{List}
 use lib.Dec.{eqb, ltb}
 use lib.ListN.{set, length}
-use Rattle.link.specs.declared.Refusal.{Refusal}
 use Rattle.link.specs.Judge.{refused}
 use Rattle.byte_slices.specs.Bytes.{same}
 use Rattle.archive_index.specs.declared.Opened.{Opened}

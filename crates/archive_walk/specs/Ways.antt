@@ -1,9 +1,9 @@
 -- The ways through the functions.
 -- Assumes nothing.
-use Prim.Native.Nat.{ℕ, zero, suc, _+_, _*_, _-_, _/_, _<_, _≤_}
+use Prim.Native.Nat.{ℕ, _+_, _*_, _-_, _/_, _<_, _≤_}
 use native.Mathlib.Omega.{arith}
 use native.Mathlib.Nat.{sub-eq-zero-of-le}
-use mathlib.Core.Path.{_≡_, refl, sym, ap, subst, _∙_}
+use mathlib.Core.Path.{_≡_, refl, sym, ap, _∙_}
 use mathlib.Core.Bool.{Bool, true, false, cond}
 use mathlib.Core.List.{List}
 use lib.Dec.{eqb, ltb}
@@ -11,7 +11,6 @@ use lib.ListN.{set, length}
 use mir.Syntax.{w64}
 use mir.Val.{Fits}
 use borrow.Author.Tests.{eq-eqb, ne-eqb, lt-ltb, le-ltb, ltb-false}
-use Rattle.link.specs.declared.Link.{Link}
 use Rattle.link.specs.declared.Refusal.{Refusal}
 use Rattle.link.specs.declared.SymbolId.{SymbolId}
 use Rattle.link.specs.Judge.{judgeOf}
@@ -33,8 +32,8 @@ use Rattle.archive_walk.specs.declared.Begun.the-variants.{Ready}
 use Rattle.archive_walk.specs.declared.Begun.the-variants as Begins
 use Rattle.archive_walk.specs.declared.Offer.the-variants.{Member, Done, Refused}
 use Rattle.archive_walk.specs.declared.Moved.{Moved}
-use Rattle.archive_walk.specs.Look.{Table, lentOf, judgeTable, nameHolder, wasRemoved, isUndefined, removedName, undefinedName}
-use Rattle.archive_walk.specs.Walk.{Start, startLeft, freshWalk, noWalk, begunOf, startOf, Step, stepMoved, refusedMove, handedOut, ended, offerOf, Queue, queueOf, marked, enqueue, tieOf, tieAll, removedOf, passed, offeredFrom, makeOf, searchOf, passOf, walkFits, goOf, nextOf, bearsOf, requiredFrom, requiredOf}
+use Rattle.archive_walk.specs.Look.{Table, lentOf, judgeTable, nameHolder, removedName, undefinedName}
+use Rattle.archive_walk.specs.Walk.{startLeft, freshWalk, noWalk, begunOf, startOf, stepMoved, refusedMove, handedOut, ended, offerOf, Queue, queueOf, marked, enqueue, tieOf, tieAll, removedOf, passed, makeOf, searchOf, passOf, walkFits, goOf, nextOf, bearsOf, requiredFrom, requiredOf}
 
 -- ---- the start
 

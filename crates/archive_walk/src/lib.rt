@@ -1,9 +1,9 @@
 // The walk over an archive's members, by value: a call for the next member is lent the index, the entries' rows and the table as it stands then.
 // The queue lies in the rows; nothing of the link is written.
 ghost use mathlib.Core.Path.{_≡_};
-ghost use Prim.Native.Nat.{_+_, _<_, _≤_};
+ghost use Prim.Native.Nat.{_+_, _<_};
 ghost use lib.ListN.{length};
-ghost use Rattle.archive_walk.specs.Look.{tableOf, lentOf, judgeTable, nameHolder, removedName, undefinedName};
+ghost use Rattle.archive_walk.specs.Look.{tableOf, judgeTable, nameHolder, removedName, undefinedName};
 ghost use Rattle.archive_walk.specs.Walk.{startLeft, begunOf, startOf, stepMoved, refusedMove, offerOf, queueOf, marked, enqueue, tieOf, tieAll, removedOf, makeOf, passOf, walkFits, nextOf, bearsOf, requiredOf};
 use archive_index::Opened;
 use link::Interned;

@@ -1,6 +1,6 @@
 use borrow.Author.Needs.{needs}
 use native.Mathlib.Nat.{sub-zero}
-use Prim.Native.Nat.{_-_, _≤_}
+use Prim.Native.Nat.{_-_}
 use mathlib.Core.Path.{_≡_}
 use Rattle.archive_index.specs.Index.{cutOf}
 use Rattle.archive_index.specs.Ways.{cut-on, cut-here, cut-end}

@@ -1,4 +1,3 @@
-use borrow.Author.Needs.{needs}
 use Rattle.link.specs.Ways.{lesser-first, lesser-second}
 use Rattle.archive_index.proofs.lesser_of.Statement.{statement}
 use Rattle.archive_index.proofs.lesser_of.Tie as tie

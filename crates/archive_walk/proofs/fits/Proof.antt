@@ -1,4 +1,3 @@
-use borrow.Author.Needs.{needs}
 use Rattle.archive_walk.specs.Ways.{fits-index, fits-rows, fits-queued, fits-offered, fits-passes, fits-all}
 use Rattle.archive_walk.proofs.fits.Statement.{statement}
 use Rattle.archive_walk.proofs.fits.Tie as tie

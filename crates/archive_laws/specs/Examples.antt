@@ -1,0 +1,105 @@
+-- Document 01's worked examples of a walk, computed: P10, P11; then first-seen order, and a removed name.
+-- Assumes nothing.
+use Prim.Native.Nat.{ℕ}
+use mathlib.Core.Path.{_≡_, refl}
+use mathlib.Core.Bool.{Bool, true, false}
+use mathlib.Core.List.{List, [], _∷_}
+use lib.ListN.{replicate}
+use Rattle.gabi.specs.StringTable.{beforeZero, hasName, nameAt}
+use Rattle.cells.specs.Rows.{putRow}
+use Rattle.byte_slices.specs.Bytes.{same}
+use Rattle.link.specs.Bounds.{lesser}
+use Rattle.link.specs.Judge.{otherLength, judgeSections, judgeNames, judgeLists, afterSymbols, afterSections, judgeOf}
+use Rattle.interner.specs.Hash.{hashFrom, headCell}
+use Rattle.interner.specs.Names.{chase, seekOf, findOf}
+use Rattle.symbol_rows.specs.Holder.{heldBy, holderOf}
+use Rattle.archive_index.specs.Index.{countOf, offsetOf, afterOf, cutOf}
+use Rattle.archive_index.specs.Rows as Rows
+use Rattle.archive_index.specs.Open.{openRowsOf, openNamesOf, openEntriesOf, openOf}
+use Rattle.archive_walk.specs.Look.{Table, tableOf, judgeTable, nameHolder, removedName, undefinedName}
+use Rattle.archive_walk.specs.Walk.{begunOf, startOf, offerOf, marked, enqueue, tieOf, tieAll, removedOf, makeOf, searchOf, passOf, walkFits, goOf, nextOf}
+use Rattle.archive_laws.specs.Runs.{Run, stepRun, history, startRun}
+
+-- a table with the names b and c, whose rows 1 and 2 have this state and kind of value
+abbrev twoNames : ℕ → ℕ → ℕ → ℕ → Table
+twoNames bs bk cs ck =
+    tableOf (record { names = 2; bytes = 2; symbols = 3; sections = 0; inputs = 0; lists = 0; chains = 2; slots = 0; broken = false }) (98 ∷ 99 ∷ [])
+    (0 ∷ 1 ∷ 0 ∷ 1 ∷ 0 ∷ 0 ∷ 0 ∷ 0 ∷ 1 ∷ 1 ∷ 0 ∷ 2 ∷ 0 ∷ 0 ∷ 0 ∷ 0 ∷ 1 ∷ 2 ∷ [])
+    (1 ∷ 0 ∷ 0 ∷ 0 ∷ 0 ∷ 0 ∷ 0 ∷ 0 ∷ bs ∷ 0 ∷ 0 ∷ 0 ∷ 1 ∷ bk ∷ 0 ∷ 0 ∷ cs ∷ 1 ∷ 0 ∷ 0 ∷ 1 ∷ ck ∷ 0 ∷ 0 ∷ [])
+
+-- both undefined; b defined since; c removed
+abbrev undefinedTable : Table
+undefinedTable = twoNames 1 7 1 7
+
+abbrev definedTable : Table
+definedTable = twoNames 1 1 1 1
+
+abbrev removedTable : Table
+removedTable = twoNames 1 7 2 7
+
+-- b to A at 10 and to B at 20
+abbrev both : List ℕ
+both = 0 ∷ 0 ∷ 0 ∷ 2 ∷ 0 ∷ 0 ∷ 0 ∷ 10 ∷ 0 ∷ 0 ∷ 0 ∷ 20 ∷ 98 ∷ 0 ∷ 98 ∷ 0 ∷ []
+
+-- a to A, b to B, c to A
+abbrev three : List ℕ
+three = 0 ∷ 0 ∷ 0 ∷ 3 ∷ 0 ∷ 0 ∷ 0 ∷ 10 ∷ 0 ∷ 0 ∷ 0 ∷ 20 ∷ 0 ∷ 0 ∷ 0 ∷ 10 ∷ 97 ∷ 0 ∷ 98 ∷ 0 ∷ 99 ∷ 0 ∷ []
+
+-- c to A
+abbrev one : List ℕ
+one = 0 ∷ 0 ∷ 0 ∷ 1 ∷ 0 ∷ 0 ∷ 0 ∷ 10 ∷ 99 ∷ 0 ∷ []
+
+-- cells that held anything before
+abbrev cells : ℕ → List ℕ
+cells n = replicate {A = ℕ} n 7
+
+-- a walk: index, cells lent, the table at each call; the entries that were offered (last first), the passes, whether it is done
+pub record Example : Type 0 where
+  pub index : List ℕ
+  pub cells : List ℕ
+  pub tables : List Table
+  pub offers : List ℕ
+  pub passes : ℕ
+  pub done : Bool
+
+abbrev exampleOf : List ℕ → List Table → List ℕ → ℕ → Bool → Example
+exampleOf s ts o p d = record { index = s; cells = cells 24; tables = ts; offers = o; passes = p; done = d }
+
+-- P10: a name to A and B, undefined: both are offered, the second though the name is defined since
+abbrev pub p10 : Example
+p10 = exampleOf both (undefinedTable ∷ definedTable ∷ []) (1 ∷ 0 ∷ []) 1 false
+
+-- P11: one useless member: 2 passes
+abbrev pub p11 : Example
+p11 = exampleOf one (undefinedTable ∷ undefinedTable ∷ []) (0 ∷ []) 2 true
+
+-- first-seen order is that of the first tied entry: B before A
+abbrev pub firstTied : Example
+firstTied = exampleOf three (undefinedTable ∷ undefinedTable ∷ undefinedTable ∷ []) (2 ∷ 1 ∷ []) 2 true
+
+-- a removed name: no pass is counted, nothing is queued, though entry 1's name is undefined
+abbrev pub removedLater : Example
+removedLater = exampleOf three (removedTable ∷ []) [] 0 false
+
+-- nothing is undefined: the last pass is the first, and done stays done
+abbrev pub nothing : Example
+nothing = exampleOf three (definedTable ∷ undefinedTable ∷ []) [] 1 true
+
+abbrev pub ranExample : Example → Run
+ranExample e = history (e .index) (e .tables) (startRun (e .index) (e .cells))
+
+abbrev pub Right : Example → Type 0
+Right e = (ranExample e .offers ≡ e .offers) × (ranExample e .walk .passes ≡ e .passes) × (ranExample e .walk .done ≡ e .done)
+
+pub data All : List Example → Type 0 where
+  none : All []
+  also : {e : Example} {es : List Example} → Right e → All es → All (e ∷ es)
+
+pub examples : All (p10 ∷ p11 ∷ firstTied ∷ removedLater ∷ nothing ∷ [])
+unfolding beforeZero hasName nameAt putRow same lesser otherLength judgeSections judgeNames judgeLists afterSymbols afterSections judgeOf hashFrom headCell chase seekOf findOf heldBy holderOf countOf offsetOf afterOf cutOf Rows.chainOf Rows.chase Rows.representativeOf Rows.entered Rows.enterOf Rows.enterAll Rows.noHeads Rows.rowsOf openRowsOf openNamesOf openEntriesOf openOf judgeTable nameHolder removedName undefinedName begunOf startOf offerOf marked enqueue tieOf tieAll removedOf makeOf searchOf passOf walkFits goOf nextOf stepRun history startRun
+examples =
+    also {e = p10} (refl, refl, refl)
+    (also {e = p11} (refl, refl, refl)
+    (also {e = firstTied} (refl, refl, refl)
+    (also {e = removedLater} (refl, refl, refl)
+    (also {e = nothing} (refl, refl, refl) none))))

@@ -1,0 +1,177 @@
+-- The names that admission asks for: a pass marks as required just the names that it finds undefined and that tie a member which it queues.
+-- Assumes nothing.
+use Prim.Native.Nat.{ℕ, zero, suc, _+_, _*_, _<_, _≤_}
+use native.Mathlib.Nat.{not-suc-le-zero}
+use native.Mathlib.Decide.{ℕ-discrete}
+use native.Mathlib.Omega.{arith}
+use mathlib.Core.Path.{_≡_, refl, sym, ap, subst, _∙_}
+use mathlib.Core.Bool.{Bool, true, false, cond, not}
+use mathlib.Core.List.{List, _∷_}
+use lib.Dec.{eqb}
+use lib.ListN.{set, length}
+use lib.Seq.{getD-set-same, getD-set-other}
+use borrow.Author.Tests.{eq-eqb, ne-eqb}
+use Rattle.archive_index.specs.Index.{offsetOf, nameOf}
+use Rattle.archive_index.specs.Rows.{requiredAt, memberAt, passAt}
+use Rattle.archive_walk.specs.Look.{Table, undefinedName}
+use Rattle.archive_walk.specs.Walk.{Queue, queueOf, marked, enqueue, tieOf, tieAll}
+use Rattle.archive_laws.specs.Rounds.{among}
+use Rattle.archive_laws.specs.Counts.{clash, first-one, among-same, among-here, among-there, among-more}
+use Rattle.archive_laws.specs.Runs.{queueList}
+use Rattle.archive_laws.specs.Pass.{Sound, kept-field, m-member, m-pass-here, m-pass-other, marked-sound, marked-queue, noted-sound, noted-queue}
+
+-- a field 0 after an entry was queued
+module _ (p k r : ℕ) (l : List ℕ) (n : ℕ) where
+  mark-here : k * 8 + 0 < length l → requiredAt (marked p k r l n) k ≡ 1
+  unfolding marked
+  mark-here h =
+      getD-set-other (set (set l (k * 8 + 0) 1) (r * 8 + 6) p) (n * 8 + 7) (k * 8 + 0) k 0 (λ e. omega arith)
+      ∙ getD-set-other (set l (k * 8 + 0) 1) (r * 8 + 6) (k * 8 + 0) p 0 (λ e. omega arith)
+      ∙ getD-set-same l (k * 8 + 0) 1 0 h
+
+  mark-there : (j : ℕ) → (j ≡ k → ⊥) → requiredAt (marked p k r l n) j ≡ requiredAt l j
+  unfolding marked
+  mark-there j d =
+      getD-set-other (set (set l (k * 8 + 0) 1) (r * 8 + 6) p) (n * 8 + 7) (j * 8 + 0) k 0 (λ e. omega arith)
+      ∙ getD-set-other (set l (k * 8 + 0) 1) (r * 8 + 6) (j * 8 + 0) p 0 (λ e. omega arith)
+      ∙ getD-set-other l (k * 8 + 0) (j * 8 + 0) 1 0 (λ e. d (omega arith))
+
+module _ (s : List ℕ) (c : ℕ) (t : Table) (p : ℕ) (pos : p ≡ 0 → ⊥) (l₀ : List ℕ) (n₀ : ℕ) where
+  abbrev q₀ : List ℕ
+  q₀ = queueList l₀ n₀
+
+  abbrev tie : ℕ → Bool
+  tie k = undefinedName t (nameOf s c k)
+
+  -- entry j's mark after the pass: set where it ties a member that was not queued before
+  abbrev pub markOf : ℕ → ℕ
+  markOf j = cond (tie j) (cond (among s j q₀) (requiredAt l₀ j) 1) (requiredAt l₀ j)
+
+  -- in the middle of the pass, before entry k
+  record Mid (k : ℕ) (l : List ℕ) (n : ℕ) : Type 0 where
+    sound : Sound s c l n
+    old : (j : ℕ) → among s j q₀ ≡ true → among s j (queueList l n) ≡ true
+    by : (j : ℕ) → j < c → eqb (passAt l (memberAt l j)) p ≡ cond (among s j q₀) false (among s j (queueList l n))
+    done : (j : ℕ) → j < k → requiredAt l j ≡ markOf j
+    rest : (j : ℕ) → k ≤ j → requiredAt l j ≡ requiredAt l₀ j
+
+  module _ (k : ℕ) (l : List ℕ) (n : ℕ) (h : k < c) (m : Mid k l n) where
+    -- nothing is written
+    skipped : requiredAt l₀ k ≡ markOf k → Mid (k + 1) l n
+    skipped e = record {
+      sound = m .sound;
+      old = m .old;
+      by = m .by;
+      done = λ j g. at j g (ℕ-discrete j k);
+      rest = λ j g. m .rest j (omega arith);
+    }
+      where
+        at : (j : ℕ) → j < k + 1 → Dec (j ≡ k) → requiredAt l j ≡ markOf j
+        at j g (yes d) = rw d (m .rest k (omega arith) ∙ e)
+        at j g (no d) = m .done j (omega arith)
+
+    -- entry k's mark is set, the others are as they were
+    module _ (l′ : List ℕ) (n′ : ℕ) (one : markOf k ≡ 1) (here : requiredAt l′ k ≡ 1) (there : (j : ℕ) → (j ≡ k → ⊥) → requiredAt l′ j ≡ requiredAt l j)
+        (sound′ : Sound s c l′ n′) (old′ : (j : ℕ) → among s j q₀ ≡ true → among s j (queueList l′ n′) ≡ true)
+        (by′ : (j : ℕ) → j < c → eqb (passAt l′ (memberAt l′ j)) p ≡ cond (among s j q₀) false (among s j (queueList l′ n′))) where
+      set-one : Mid (k + 1) l′ n′
+      set-one = record {
+        sound = sound′;
+        old = old′;
+        by = by′;
+        done = λ j g. at j g (ℕ-discrete j k);
+        rest = λ j g. there j (λ d. omega arith) ∙ m .rest j (omega arith);
+      }
+        where
+          at : (j : ℕ) → j < k + 1 → Dec (j ≡ k) → requiredAt l′ j ≡ markOf j
+          at j g (yes d) = rw d (here ∙ sym one)
+          at j g (no d) = there j d ∙ m .done j (omega arith)
+
+    noted : markOf k ≡ 1 → Mid (k + 1) (set l (k * 8 + 0) 1) n
+    noted one =
+        set-one (set l (k * 8 + 0) 1) n one (getD-set-same l (k * 8 + 0) 1 0 (omega (arith, m .sound .rows .room)))
+        (λ j d. getD-set-other l (k * 8 + 0) (j * 8 + 0) 1 0 (λ e. d (omega arith))) (noted-sound s c l k n (m .sound)) (λ j e. rw (noted-queue s c l k n (m .sound)) (m .old j e))
+        (λ j g. rw (noted-queue s c l k n (m .sound), kept-field s c l (k * 8 + 0) 1 j 1 (λ e. omega arith), kept-field s c l (k * 8 + 0) 1 (memberAt l j) 6 (λ e. omega arith)) (m .by j g))
+
+    queued : markOf k ≡ 1 → among s k (queueList l n) ≡ false → Mid (k + 1) (marked p k (memberAt l k) l n) (n + 1)
+    queued one free =
+        set-one (marked p k (memberAt l k) l n) (n + 1) one here there (marked-sound s c p k l n (m .sound) h pos free) (λ j e. rw (marked-queue s c p k l n (m .sound) h pos free) (among-more s (queueList l n) k j (m .old j e)))
+        (λ j g. rw (marked-queue s c p k l n (m .sound) h pos free, m-member s c p k l n (m .sound) h pos free j) (at j g (ℕ-discrete (offsetOf s k) (offsetOf s j))))
+      where
+        here : requiredAt (marked p k (memberAt l k) l n) k ≡ 1
+        here = mark-here p k (memberAt l k) l n (omega (arith, m .sound .rows .room))
+
+        there : (j : ℕ) → (j ≡ k → ⊥) → requiredAt (marked p k (memberAt l k) l n) j ≡ requiredAt l j
+        there j d = mark-there p k (memberAt l k) l n j d
+
+        at : (j : ℕ) → j < c → Dec (offsetOf s k ≡ offsetOf s j)
+            → eqb (passAt (marked p k (memberAt l k) l n) (memberAt l j)) p ≡ cond (among s j q₀) false (among s j (k ∷ queueList l n))
+        at j g (yes e) =
+            let first-j = m .sound .rows .member j g in
+            let first-k = m .sound .rows .member k h in
+            let same-rep : memberAt l j ≡ memberAt l k = first-one s (memberAt l j) (memberAt l k) (first-j .first) (first-k .first) (first-j .same ∙ sym e ∙ sym (first-k .same)) in
+            let fresh : among s j q₀ ≡ false = not-old j (sym (among-same s (queueList l n) k j e) ∙ free) in
+            rw (same-rep, m-pass-here s c p k l n (m .sound) h pos free, fresh, among-here s (queueList l n) k j e, eq-eqb p p refl)
+          where
+            not-old : (j : ℕ) → among s j (queueList l n) ≡ false → among s j q₀ ≡ false
+            not-old j f = go (among s j q₀) refl
+              where
+                go : (b : Bool) → among s j q₀ ≡ b → among s j q₀ ≡ false
+                go false e = e
+                go true e = clash (among s j (queueList l n)) (m .old j e) f
+        at j g (no e) =
+            let first-j = m .sound .rows .member j g in
+            let first-k = m .sound .rows .member k h in
+            rw (m-pass-other s c p k l n (m .sound) h pos free (memberAt l j) (λ d. e (sym (first-k .same) ∙ sym (ap (offsetOf s) d) ∙ first-j .same)), among-there s (queueList l n) k j e) (m .by j g)
+
+    not-before : among s k (queueList l n) ≡ false → among s k q₀ ≡ false
+    not-before f = go (among s k q₀) refl
+      where
+        go : (b : Bool) → among s k q₀ ≡ b → among s k q₀ ≡ false
+        go false e = e
+        go true e = clash (among s k (queueList l n)) (m .old k e) f
+
+    mid-step : Mid (k + 1) (tieOf s t p k (queueOf l n) .cells) (tieOf s t p k (queueOf l n) .queued)
+    unfolding tieOf enqueue
+    mid-step =
+        rw (m .sound .rows .name k h)
+        (go (undefinedName t (nameOf s c k)) (eqb (passAt l (memberAt l k)) 0) (eqb (passAt l (memberAt l k)) p) (among s k q₀) (among s k (queueList l n)) refl refl refl
+        (m .sound .marks .mark k h) (m .by k h))
+      where
+        unit : tie k ≡ true → among s k q₀ ≡ false → markOf k ≡ 1
+        unit e f = rw (e, f)
+
+        go : (u a b x w : Bool) → tie k ≡ u → among s k q₀ ≡ x → among s k (queueList l n) ≡ w → a ≡ not w → b ≡ cond x false w
+            → Mid (k + 1)
+            ((cond {A = Queue} u (cond a (queueOf (marked p k (memberAt l k) l n) (n + 1)) (cond b (queueOf (set l (k * 8 + 0) 1) n) (queueOf l n))) (queueOf l n)) .cells)
+            ((cond {A = Queue} u (cond a (queueOf (marked p k (memberAt l k) l n) (n + 1)) (cond b (queueOf (set l (k * 8 + 0) 1) n) (queueOf l n))) (queueOf l n)) .queued)
+        go false a b x w eu ex ew ea eb = skipped (sym (rw eu))
+        go true true b x false eu ex ew ea eb = queued (unit eu (not-before ew)) ew
+        go true true b x true eu ex ew ea eb = clash true refl ea
+        go true false true false w eu ex ew ea eb = noted (unit eu ex)
+        go true false true true w eu ex ew ea eb = clash true refl eb
+        go true false false true w eu ex ew ea eb = skipped (sym (rw (eu, ex)))
+        go true false false false true eu ex ew ea eb = clash true refl (sym eb)
+        go true false false false false eu ex ew ea eb = clash true refl (sym ea)
+
+  mid-run : (i k : ℕ) (u : Queue) → k + i ≡ c → Mid k (u .cells) (u .queued) → Mid c (tieAll s t p i k u .cells) (tieAll s t p i k u .queued)
+  unfolding tieAll
+  mid-run zero k u e m = let f : k ≡ c = omega arith in subst (λ (x : ℕ). Mid x (u .cells) (u .queued)) f m
+  mid-run (suc i) k u e m = mid-run i (k + 1) (tieOf s t p k u) (omega arith) (mid-step k (u .cells) (u .queued) (omega arith) m)
+
+  -- the marks after a pass
+  pub required-pass : Sound s c l₀ n₀ → ((j : ℕ) → j < c → passAt l₀ (memberAt l₀ j) < p) → (j : ℕ) → j < c → requiredAt (tieAll s t p c 0 (queueOf l₀ n₀) .cells) j ≡ markOf j
+  required-pass y w j h = mid-run c 0 (queueOf l₀ n₀) (omega arith) begin .done j h
+    where
+      never : (b : Bool) → cond b false b ≡ false
+      never true = refl
+      never false = refl
+
+      begin : Mid 0 l₀ n₀
+      begin = record {
+        sound = y;
+        old = λ j e. e;
+        by = λ j g. ne-eqb (passAt l₀ (memberAt l₀ j)) p (λ e. omega (arith, w j g)) ∙ sym (never (among s j q₀));
+        done = λ j g. absurd (not-suc-le-zero g);
+        rest = λ j g. refl;
+      }

@@ -1,0 +1,50 @@
+-- What is promised of a whole walk: a start, then any number of calls for the next member, each over any table.
+-- Assumes nothing.
+use Prim.Native.Nat.{ℕ, _+_, _<_, _≤_}
+use mathlib.Core.Path.{_≡_}
+use mathlib.Core.Bool.{Bool, true, false, cond}
+use mathlib.Core.List.{List}
+use Rattle.archive_index.specs.Index.{nameOf}
+use Rattle.archive_index.specs.Rows.{requiredAt}
+use Rattle.archive_walk.specs.Look.{Table, undefinedName}
+use Rattle.archive_walk.specs.Walk.{walkFits, nextOf}
+use Rattle.archive_laws.specs.Rounds.{among, Once, members, pull, rounds, fresh}
+use Rattle.archive_laws.specs.RoundLaws.{Newly}
+use Rattle.archive_laws.specs.Runs.{queueList, viewsOf, Run, stepRun, seen}
+
+-- the index ties entry k to a name that is undefined in t
+abbrev pub tiedIn : List ℕ → ℕ → Table → ℕ → Bool
+tiedIn s c t k = undefinedName t (nameOf s c k)
+
+-- every member queued so far, by its entry, last first
+abbrev pub queueIn : Run → List ℕ
+queueIn r = queueList (r .cells) (r .walk .queued)
+
+-- a call over table t made a pass: all that was queued has been offered; what it queues are, in index order, the entries that tie a member not offered
+-- before to a name undefined at its start, one for each such member, its first
+pub record Pass (s : List ℕ) (c : ℕ) (t : Table) (r r′ : Run) : Type 0 where
+  pub drained : r .offers ≡ queueIn r
+  pub newly : Newly s (tiedIn s c t) (r .offers) c (queueIn r′)
+  pub all : (k : ℕ) → k < c → tiedIn s c t k ≡ true → among s k (queueIn r′) ≡ true
+  -- the names that admission will ask for: those of the tied entries of the members that this pass queues; earlier ones stay
+  pub required : (k : ℕ) → k < c → requiredAt (r′ .cells) k ≡ cond (tiedIn s c t k) (cond (among s k (r .offers)) (requiredAt (r .cells) k) 1) (requiredAt (r .cells) k)
+  pub pulled : queueIn r′ ≡ pull s (tiedIn s c t) c 0 (r .offers)
+
+pub record Walked (s : List ℕ) (c : ℕ) (ts : List Table) (r : Run) : Type 0 where
+  -- the calls are the definition's: passes, queue and "done" are those of its rounds
+  pub same-rounds : seen r ≡ rounds s c (viewsOf s c ts) fresh
+  -- no call is refused on account of the walk or its cells
+  pub fits : r .walk .done ≡ false → walkFits s (r .cells) (r .walk) ≡ true
+  -- at most m + 1 passes, at most m before the walk is done
+  pub bound : r .walk .passes ≤ members s c + 1
+  pub going : r .walk .done ≡ false → r .walk .passes ≤ members s c
+  -- members are offered in the order of the queue, none twice
+  pub in-order : r .offers ≡ queueList (r .cells) (r .walk .offered)
+  pub once : Once s (r .offers)
+  pub pass : (t : Table) → stepRun s t r .walk .passes ≡ r .walk .passes + 1 → Pass s c t r (stepRun s t r)
+  -- the last pass: no name undefined in its table is tied to a member that was not offered
+  pub last : (t : Table) → r .walk .done ≡ false → stepRun s t r .walk .done ≡ true → (k : ℕ) → k < c → tiedIn s c t k ≡ true → among s k (stepRun s t r .offers) ≡ true
+  -- done stays done
+  pub still : (t : Table) → r .walk .done ≡ true → stepRun s t r ≡ r
+  -- "a queued one is offered though its name is defined since": the table is not looked at
+  pub blind : (t t′ : Table) → r .walk .offered < r .walk .queued → nextOf s (r .cells) (r .walk) t ≡ nextOf s (r .cells) (r .walk) t′

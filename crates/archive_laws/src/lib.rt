@@ -1,0 +1,1 @@
+// Theorems on whole walks over an archive's members. No functions.
