@@ -1,6 +1,8 @@
 // For programs that replay the oracle's lists: answers as the lists write them, and how they compare with what a list expects.
 ghost use mathlib.Core.Path.{_≡_};
+ghost use Rattle.symbol.specs.Codes.{successor};
 ghost use Rattle.replay_text.specs.Answer.{lineLength, firstLine, meets};
+ghost use Rattle.replay_text.specs.Tally.{started, onLine, onLink, answeredBy, differing, pendingOf, pastOf, comparedOf, compareOf, settleOf};
 use link::Interned;
 use link::Refusal;
 use symbol::SttFile;
@@ -62,11 +64,15 @@ pub fn same_answer(expected: &[u8], got: &[u8]) -> bool
 
 // ---- the tally
 
-fn more(n: u64) -> u64 {
-    std::num::wrapping_add_u64(n, 1)
+fn more(n: u64) -> u64
+    ensures { λ r. ⌜ r ≡ successor n ⌝ }
+{
+    symbol::next(n as usize) as u64
 }
 
-pub fn start() -> Tally {
+pub fn start() -> Tally
+    ensures { λ r. ⌜ r ≡ started ⌝ }
+{
     Tally {
         line: 0,
         links: 0,
@@ -78,7 +84,9 @@ pub fn start() -> Tally {
     }
 }
 
-pub fn on_line(t: Tally) -> Tally {
+pub fn on_line(t: Tally) -> Tally
+    ensures { λ r. ⌜ r ≡ onLine t ⌝ }
+{
     Tally {
         line: more(t.line),
         links: t.links,
@@ -90,7 +98,9 @@ pub fn on_line(t: Tally) -> Tally {
     }
 }
 
-pub fn on_link(t: Tally) -> Tally {
+pub fn on_link(t: Tally) -> Tally
+    ensures { λ r. ⌜ r ≡ onLink t ⌝ }
+{
     Tally {
         line: t.line,
         links: more(t.links),
@@ -103,7 +113,9 @@ pub fn on_link(t: Tally) -> Tally {
 }
 
 // After an operation whose answers are the first `to` bytes of the text.
-pub fn answered(t: Tally, to: usize) -> Tally {
+pub fn answered(t: Tally, to: usize) -> Tally
+    ensures { λ r. ⌜ r ≡ answeredBy t to ⌝ }
+{
     Tally {
         line: t.line,
         links: t.links,
@@ -128,7 +140,9 @@ fn show(t: Tally, expected: &[u8], got: &[u8]) {
     }
 }
 
-pub fn differs(t: Tally, expected: &[u8], got: &[u8]) -> Tally {
+pub fn differs(t: Tally, expected: &[u8], got: &[u8]) -> Tally
+    ensures { λ r. ⌜ r ≡ differing t ⌝ }
+{
     show(t, expected, got);
     Tally {
         line: t.line,
@@ -141,14 +155,18 @@ pub fn differs(t: Tally, expected: &[u8], got: &[u8]) -> Tally {
     }
 }
 
-fn pending<'a>(text: &'a [u8], from: usize, to: usize) -> &'a [u8] {
+fn pending<'a>(text: &'a [u8], from: usize, to: usize) -> &'a [u8]
+    ensures { λ r. ⌜ now r ≡ pendingOf (now (text .entry)) from to ⌝ }
+{
     if to < from {
         return byte_slices::part_of(text, 0, 0);
     }
     byte_slices::part_of(text, from, to - from)
 }
 
-fn past(from: usize, len: usize, to: usize) -> usize {
+fn past(from: usize, len: usize, to: usize) -> usize
+    ensures { λ r. ⌜ r ≡ pastOf from len to ⌝ }
+{
     if to < from {
         return to;
     }
@@ -158,7 +176,9 @@ fn past(from: usize, len: usize, to: usize) -> usize {
     to
 }
 
-fn compared(t: Tally, len: usize) -> Tally {
+fn compared(t: Tally, len: usize) -> Tally
+    ensures { λ r. ⌜ r ≡ comparedOf t len ⌝ }
+{
     Tally {
         line: t.line,
         links: t.links,
@@ -171,7 +191,9 @@ fn compared(t: Tally, len: usize) -> Tally {
 }
 
 // An expected answer against the next one of the text.
-pub fn compare(t: Tally, text: &[u8], expected: &[u8]) -> Tally {
+pub fn compare(t: Tally, text: &[u8], expected: &[u8]) -> Tally
+    ensures { λ r. ⌜ r ≡ compareOf t (now (text .entry)) (now (expected .entry)) ⌝ }
+{
     let got = first_line(pending(text, t.from, t.to));
     let next = compared(t, got.len());
     if same_answer(expected, got) {
@@ -181,7 +203,9 @@ pub fn compare(t: Tally, text: &[u8], expected: &[u8]) -> Tally {
 }
 
 // Before the next operation: an answer that the list doesn't have is a difference.
-pub fn settle(t: Tally, text: &[u8]) -> Tally {
+pub fn settle(t: Tally, text: &[u8]) -> Tally
+    ensures { λ r. ⌜ r ≡ settleOf t ⌝ }
+{
     if t.from < t.to {
         return differs(t, b"no answer", first_line(pending(text, t.from, t.to)));
     }

@@ -1,3 +1,4 @@
 pub mod Within
+pub mod Unread
 pub mod Text
 pub mod Ways

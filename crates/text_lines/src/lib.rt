@@ -3,6 +3,7 @@ ghost use mathlib.Core.Path.{_≡_};
 ghost use Prim.Native.Nat.{_+_, _≤_};
 ghost use lib.ListN.{length};
 ghost use Rattle.text_lines.specs.Within.{Within};
+ghost use Rattle.text_lines.specs.Unread.{linesAt, unread, SameStart, Unsearched};
 ghost use Rattle.text_lines.specs.Text.{textOf, putOf, PutDecimal};
 
 // ---- lines
@@ -29,7 +30,9 @@ pub struct Step {
     pub taken: Taken,
 }
 
-fn lines_at(start: usize, seen: usize, end: usize, over: bool, failed: bool) -> Lines {
+fn lines_at(start: usize, seen: usize, end: usize, over: bool, failed: bool) -> Lines
+    ensures { λ r. ⌜ r ≡ linesAt start seen end over failed ⌝ }
+{
     Lines {
         start: start,
         seen: seen,
@@ -40,7 +43,9 @@ fn lines_at(start: usize, seen: usize, end: usize, over: bool, failed: bool) -> 
 }
 
 // Nothing is read yet.
-pub fn new() -> Lines {
+pub fn new() -> Lines
+    ensures { λ r. ⌜ r ≡ unread ⌝ }
+{
     lines_at(0, 0, 0, false, false)
 }
 
@@ -164,7 +169,9 @@ fn longer(end: usize, more: usize, len: usize) -> usize {
 }
 
 // One read behind the bytes that are there.
-fn read_more(buf: &mut [u8], l: Lines) -> Lines {
+fn read_more(buf: &mut [u8], l: Lines) -> Lines
+    ensures { λ r. ⌜ SameStart l r ⌝ }
+{
     let end = l.end;
     if buf.len() <= end {
         return lines_at(l.start, l.seen, end, true, l.failed);
@@ -212,12 +219,16 @@ pub fn next_line(buf: &mut [u8], l: Lines) -> Step
     }
 }
 
-fn emptied(l: Lines) -> Lines {
+fn emptied(l: Lines) -> Lines
+    ensures { λ r. ⌜ r ≡ linesAt 0 0 0 (l .over) (l .failed) ⌝ }
+{
     lines_at(0, 0, 0, l.over, l.failed)
 }
 
 // What follows a Long: the rest of that line is passed over.
-pub fn skip_line(buf: &mut [u8], l: Lines) -> Lines {
+pub fn skip_line(buf: &mut [u8], l: Lines) -> Lines
+    ensures { λ r. ⌜ Unsearched r ⌝ }
+{
     let mut lines = emptied(l);
     let mut turns: u64 = 0xffff_ffff_ffff_ffff;
     while 0 < turns {
