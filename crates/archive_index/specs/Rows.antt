@@ -1,6 +1,6 @@
 -- An entry's row of 8 lent cells: 1 where its name is required of its member; the member's representative, which is its first entry; the next
--- representative of the hash chain and the head of chain k (entry and 1, 0 for none); where its name starts and how long it is; for a representative
--- the pass that queued its member (0 for none); the k-th entry of the queue.
+-- representative of the hash chain and the head of chain k (entry and 1, 0 for none), free for another use once all entries are entered; where its name
+-- starts and how long it is; for a representative the pass that queued its member (0 for none); the k-th entry of the queue.
 -- Assumes nothing.
 use Prim.Native.Nat.{ℕ, zero, suc, _+_, _*_, _-_, _%_}
 use mathlib.Core.Bool.{cond}

@@ -57,7 +57,7 @@ pub fn offset(index: &[u8], k: usize) -> u64
 }
 
 // The place after the name at this one and its zero byte; 0 where it is cut short.
-fn after_name(index: &[u8], at: usize) -> usize
+pub fn after_name(index: &[u8], at: usize) -> usize
     ensures { λ r. ⌜ r ≡ afterOf (now (index .entry)) at ⌝ }
 {
     let mut found = false;
@@ -190,7 +190,8 @@ fn enter_all(index: &[u8], cells: &mut [u64], entries: usize, start: usize)
     }
 }
 
-fn clear_heads(cells: &mut [u64], entries: usize)
+// No chain has an entry.
+pub fn clear_heads(cells: &mut [u64], entries: usize)
     ensures { λ _. ⌜ now (cells .exit) ≡ noHeads entries (now (cells .entry)) ⌝ }
 {
     let mut k = 0;

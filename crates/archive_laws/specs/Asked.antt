@@ -1,21 +1,23 @@
 -- A name is required of a member just if an entry of that member bears it and is marked.
 -- Assumes nothing.
-use Prim.Native.Nat.{ℕ, zero, suc, _+_, _<_, _≤_}
+use Prim.Native.Nat.{ℕ, _<_}
 use native.Mathlib.Decide.{ℕ-discrete}
-use native.Mathlib.Omega.{arith}
 use mathlib.Core.Path.{_≡_, refl, sym, ap, _∙_}
 use mathlib.Core.Bool.{Bool, true, false, cond}
 use mathlib.Core.List.{List}
 use lib.Dec.{eqb}
-use borrow.Author.Tests.{eqb-true, eq-eqb}
+use borrow.Author.Tests.{eqb-true, eq-eqb, ne-eqb}
 use Rattle.byte_slices.specs.Bytes.{same}
 use Rattle.byte_slices.specs.Ways.{same-true, same-refl}
 use Rattle.archive_index.specs.Index.{offsetOf, nameOf}
 use Rattle.archive_index.specs.Rows.{requiredAt, memberAt, storedName}
-use Rattle.archive_walk.specs.Walk.{bearsOf, requiredFrom, requiredOf}
-use Rattle.archive_laws.specs.Rounds.{Same}
-use Rattle.archive_laws.specs.Counts.{clash, first-one}
+use Rattle.archive_walk.specs.Look.{Table, undefinedName}
+use Rattle.archive_walk.specs.Names.{bearsOf, requiredOf}
+use Rattle.archive_laws.specs.Rounds.{Same, anyBelow}
+use Rattle.archive_laws.specs.Counts.{clash, any-in, any-out, any-none, first-one}
+use Rattle.archive_laws.specs.Chains.{any-same, required-is}
 use Rattle.archive_laws.specs.Pass.{Rows}
+use Rattle.archive_laws.specs.Walked.{asks, inIndex}
 
 module _ (s : List ℕ) (c : ℕ) (l : List ℕ) (y : Rows s c l) (e : ℕ) (h : e < c) (x : List ℕ) where
   pub record Asked (j : ℕ) : Type 0 where
@@ -54,31 +56,69 @@ module _ (s : List ℕ) (c : ℕ) (l : List ℕ) (y : Rows s c l) (e : ℕ) (h :
       let word : storedName s l j ≡ x = y .name j (a .low) ∙ a .name in
       rw (eq-eqb (requiredAt l j) 1 (a .mark), eq-eqb (memberAt l j) r rep, word, same-refl x)
 
-  from-out : (n k : ℕ) → k + n ≡ c → requiredFrom s l r x n k ≡ true → (j : ℕ) × Asked j
-  unfolding requiredFrom
-  from-out zero k p z = clash false z refl
-  from-out (suc n) k p z = go (bearsOf s l r x k) refl z (λ w. from-out n (k + 1) (omega arith) w)
-    where
-      go : (b : Bool) → bearsOf s l r x k ≡ b → cond b true (requiredFrom s l r x n (k + 1)) ≡ true → (requiredFrom s l r x n (k + 1) ≡ true → (j : ℕ) × Asked j)
-          → (j : ℕ) × Asked j
-      go true f w i = (k, bears-out k (omega arith) f)
-      go false f w i = i w
-
-  from-in : (n k j : ℕ) → k ≤ j → j < k + n → Asked j → requiredFrom s l r x n k ≡ true
-  unfolding requiredFrom
-  from-in zero k j p q a = absurd (omega arith)
-  from-in (suc n) k j p q a = go (bearsOf s l r x k) refl (ℕ-discrete k j) (λ f g. from-in n (k + 1) j f g a)
-    where
-      go : (b : Bool) → bearsOf s l r x k ≡ b → Dec (k ≡ j) → (k + 1 ≤ j → j < k + 1 + n → requiredFrom s l r x n (k + 1) ≡ true)
-          → cond b true (requiredFrom s l r x n (k + 1)) ≡ true
-      go true f d i = refl
-      go false f (yes d) i = clash (bearsOf s l r x k) (rw d (bears-in j a)) f
-      go false f (no d) i = i (omega arith) (omega arith)
-
   pub asked-out : requiredOf s l c e x ≡ true → (j : ℕ) × Asked j
-  unfolding requiredOf
-  asked-out z = from-out c 0 (omega arith) z
+  asked-out z = go (any-out (bearsOf s l r x) c (sym (required-is s c l (y .linked) e h x) ∙ z))
+    where
+      go : ((j : ℕ) × (j < c) × (bearsOf s l r x j ≡ true)) → (j : ℕ) × Asked j
+      go (j, g, b) = (j, bears-out j g b)
 
   pub asked-in : (j : ℕ) → Asked j → requiredOf s l c e x ≡ true
-  unfolding requiredOf
-  asked-in j a = from-in c 0 j (omega arith) (omega (arith, a .low)) a
+  asked-in j a = required-is s c l (y .linked) e h x ∙ any-in (bearsOf s l r x) c j (a .low) (bears-in j a)
+
+  -- by the index's offsets and names
+  by-offset : (j : ℕ) → j < c → eqb (memberAt l j) r ≡ eqb (offsetOf s j) (offsetOf s e)
+  by-offset j g = go (ℕ-discrete (memberAt l j) r)
+    where
+      go : Dec (memberAt l j ≡ r) → eqb (memberAt l j) r ≡ eqb (offsetOf s j) (offsetOf s e)
+      go (yes d) =
+          rw (eq-eqb (memberAt l j) r d, eq-eqb (offsetOf s j) (offsetOf s e) (sym (y .member j g .same) ∙ ap (offsetOf s) d ∙ y .member e h .same))
+      go (no d) =
+          rw (ne-eqb (memberAt l j) r d, ne-eqb (offsetOf s j) (offsetOf s e) (λ z. d (first-one s (memberAt l j) r (y .member j g .first) (y .member e h .first) (y .member j g .same ∙ z ∙ sym (y .member e h .same)))))
+
+  bears-asks : (j : ℕ) → j < c → bearsOf s l r x j ≡ asks s c l e x j
+  unfolding bearsOf
+  bears-asks j g = rw (y .name j g, by-offset j g)
+
+  pub asked-is : requiredOf s l c e x ≡ anyBelow (asks s c l e x) c
+  asked-is = required-is s c l (y .linked) e h x ∙ any-same (bearsOf s l r x) (asks s c l e x) c bears-asks
+
+  -- right after a pass over t that queued the member, or found none of its names undefined
+  module _ (t : Table) (mark : (j : ℕ) → j < c → Same s j e → requiredAt l j ≡ cond (undefinedName t (nameOf s c j)) 1 0) where
+    abbrev ties : ℕ → Bool
+    ties j = cond (eqb (offsetOf s j) (offsetOf s e)) (same (nameOf s c j) x) false
+
+    never : (b : Bool) → cond b false false ≡ false
+    never true = refl
+    never false = refl
+
+    -- an entry of the member is marked where its name is undefined
+    asks-tied : (j : ℕ) → j < c → asks s c l e x j ≡ cond (undefinedName t (nameOf s c j)) (ties j) false
+    asks-tied j g = go (ℕ-discrete (offsetOf s j) (offsetOf s e))
+      where
+        one : (b : Bool) → eqb (cond b 1 0) 1 ≡ b
+        one true = refl
+        one false = refl
+
+        go : Dec (offsetOf s j ≡ offsetOf s e) → asks s c l e x j ≡ cond (undefinedName t (nameOf s c j)) (ties j) false
+        go (yes d) = rw (mark j g d, one (undefinedName t (nameOf s c j)))
+        go (no d) = rw (ne-eqb (offsetOf s j) (offsetOf s e) d, never (eqb (requiredAt l j) 1), never (undefinedName t (nameOf s c j)))
+
+    -- whose name is x
+    tied-name : (j : ℕ) → cond (undefinedName t (nameOf s c j)) (ties j) false ≡ cond (undefinedName t x) (ties j) false
+    tied-name j = go (same (nameOf s c j) x) refl
+      where
+        go : (b : Bool) → same (nameOf s c j) x ≡ b
+            → cond (undefinedName t (nameOf s c j)) (cond (eqb (offsetOf s j) (offsetOf s e)) b false) false
+            ≡ cond (undefinedName t x) (cond (eqb (offsetOf s j) (offsetOf s e)) b false) false
+        go true d = rw (same-true (nameOf s c j) x d)
+        go false d = rw (never (eqb (offsetOf s j) (offsetOf s e)), never (undefinedName t (nameOf s c j)), never (undefinedName t x))
+
+    outside : (b : Bool) → anyBelow (λ j. cond b (ties j) false) c ≡ cond b (anyBelow ties c) false
+    outside true = refl
+    outside false = any-none (λ j. false) c (λ j g. refl)
+
+    pub asked-then : requiredOf s l c e x ≡ cond (undefinedName t x) (inIndex s c e x) false
+    unfolding inIndex
+    asked-then =
+        asked-is ∙ any-same (asks s c l e x) (λ j. cond (undefinedName t x) (ties j) false) c (λ j g. asks-tied j g ∙ tied-name j)
+        ∙ outside (undefinedName t x)

@@ -18,6 +18,7 @@ use Rattle.archive_index.specs.Index.{offsetOf, afterOf, namesAt, placeOf, name
 use Rattle.archive_index.specs.Rows.{requiredAt, memberAt, nextAt, headAt, passAt, storedName, chainOf, chase, representativeOf, rowOf, entered, enterOf, enterAll, noHeads, rowsOf}
 use Rattle.archive_laws.specs.Rounds.{Same, isFirst}
 use Rattle.archive_laws.specs.Counts.{First, first-of, first-one}
+use Rattle.archive_laws.specs.Chains.{heads-length, heads-none}
 
 module _ (s : List ℕ) (c : ℕ) where
   -- entry h is the first of its member, which is in chain b
@@ -294,28 +295,14 @@ module _ (s : List ℕ) (c : ℕ) where
 
   -- ---- no heads at first
 
-  heads-length : (n : ℕ) (l : List ℕ) → length (noHeads n l) ≡ length l
-  unfolding noHeads
-  heads-length zero l = refl
-  heads-length (suc n) l = length-set (noHeads n l) (n * 8 + 3) 0 ∙ heads-length n l
-
-  heads-none : (n : ℕ) (l : List ℕ) → n * 8 ≤ length l → (b : ℕ) → b < n → headAt (noHeads n l) b ≡ 0
-  unfolding noHeads
-  heads-none zero l r b h = absurd (not-suc-le-zero h)
-  heads-none (suc n) l r b h = go (ℕ-discrete b n) (λ i. heads-none n l (omega arith) b i)
-    where
-      go : Dec (b ≡ n) → (b < n → headAt (noHeads n l) b ≡ 0) → getD (set (noHeads n l) (n * 8 + 3) 0) (b * 8 + 3) 0 ≡ 0
-      go (yes e) i = rw e (getD-set-same (noHeads n l) (n * 8 + 3) 0 0 (omega (arith, heads-length n l)))
-      go (no e) i = getD-set-other (noHeads n l) (n * 8 + 3) (b * 8 + 3) 0 0 (λ z. e (omega arith)) ∙ i (omega arith)
-
   no-entries : (l : List ℕ) → c * 8 ≤ length l → Entered 0 (noHeads c l)
   no-entries l r = record {
-    room = omega (arith, heads-length c l);
+    room = omega (arith, heads-length s c c l);
     name = λ j h. absurd (not-suc-le-zero h);
     member = λ j h. absurd (not-suc-le-zero h);
     unqueued = λ j h. absurd (not-suc-le-zero h);
     unmarked = λ j h. absurd (not-suc-le-zero h);
-    heads = λ b h. rw (heads-none c l r b h) (record { none = λ z j g o. not-suc-le-zero g; some = λ z. absurd (z refl); owner = λ z. absurd (z refl); between = λ z j g i o. z refl });
+    heads = λ b h. rw (heads-none s c c l r b h) (record { none = λ z j g o. not-suc-le-zero g; some = λ z. absurd (z refl); owner = λ z. absurd (z refl); between = λ z j g i o. z refl });
     links = λ j h i. absurd (not-suc-le-zero h);
   }
 

@@ -17,6 +17,7 @@ use Rattle.archive_index.specs.Index.{countOf, offsetOf, afterOf, cutOf}
 use Rattle.archive_index.specs.Rows as Rows
 use Rattle.archive_index.specs.Open.{openRowsOf, openNamesOf, openEntriesOf, openOf}
 use Rattle.archive_walk.specs.Look.{Table, tableOf, judgeTable, nameHolder, removedName, undefinedName}
+use Rattle.archive_walk.specs.Names.{nameChain, linkedOf, linkAll, chainNames}
 use Rattle.archive_walk.specs.Walk.{begunOf, startOf, offerOf, marked, enqueue, tieOf, tieAll, removedOf, makeOf, searchOf, passOf, walkFits, goOf, nextOf}
 use Rattle.archive_laws.specs.Runs.{Run, stepRun, history, startRun}
 
@@ -27,7 +28,7 @@ twoNames bs bk cs ck =
     (0 ∷ 1 ∷ 0 ∷ 1 ∷ 0 ∷ 0 ∷ 0 ∷ 0 ∷ 1 ∷ 1 ∷ 0 ∷ 2 ∷ 0 ∷ 0 ∷ 0 ∷ 0 ∷ 1 ∷ 2 ∷ [])
     (1 ∷ 0 ∷ 0 ∷ 0 ∷ 0 ∷ 0 ∷ 0 ∷ 0 ∷ bs ∷ 0 ∷ 0 ∷ 0 ∷ 1 ∷ bk ∷ 0 ∷ 0 ∷ cs ∷ 1 ∷ 0 ∷ 0 ∷ 1 ∷ ck ∷ 0 ∷ 0 ∷ [])
 
--- both undefined; b defined since; c removed
+-- both undefined; both defined since; c removed
 abbrev undefinedTable : Table
 undefinedTable = twoNames 1 7 1 7
 
@@ -91,15 +92,18 @@ ranExample e = history (e .index) (e .tables) (startRun (e .index) (e .cells))
 abbrev pub Right : Example → Type 0
 Right e = (ranExample e .offers ≡ e .offers) × (ranExample e .walk .passes ≡ e .passes) × (ranExample e .walk .done ≡ e .done)
 
-pub data All : List Example → Type 0 where
-  none : All []
-  also : {e : Example} {es : List Example} → Right e → All es → All (e ∷ es)
+abbrev pub All : List Example → Type 0
+All [] = Unit {0}
+All (e ∷ es) = Right e × All es
 
 pub examples : All (p10 ∷ p11 ∷ firstTied ∷ removedLater ∷ nothing ∷ [])
-unfolding beforeZero hasName nameAt putRow same lesser otherLength judgeSections judgeNames judgeLists afterSymbols afterSections judgeOf hashFrom headCell chase seekOf findOf heldBy holderOf countOf offsetOf afterOf cutOf Rows.chainOf Rows.chase Rows.representativeOf Rows.entered Rows.enterOf Rows.enterAll Rows.noHeads Rows.rowsOf openRowsOf openNamesOf openEntriesOf openOf judgeTable nameHolder removedName undefinedName begunOf startOf offerOf marked enqueue tieOf tieAll removedOf makeOf searchOf passOf walkFits goOf nextOf stepRun history startRun
+unfolding beforeZero hasName nameAt putRow same lesser otherLength judgeSections judgeNames judgeLists afterSymbols afterSections judgeOf hashFrom headCell chase seekOf findOf heldBy holderOf countOf offsetOf afterOf cutOf Rows.chainOf Rows.chase Rows.representativeOf Rows.entered Rows.enterOf Rows.enterAll Rows.noHeads Rows.rowsOf openRowsOf openNamesOf openEntriesOf openOf nameChain linkedOf linkAll chainNames judgeTable nameHolder removedName undefinedName begunOf startOf offerOf marked enqueue tieOf tieAll removedOf makeOf searchOf passOf walkFits goOf nextOf stepRun history startRun
 examples =
-    also {e = p10} (refl, refl, refl)
-    (also {e = p11} (refl, refl, refl)
-    (also {e = firstTied} (refl, refl, refl)
-    (also {e = removedLater} (refl, refl, refl)
-    (also {e = nothing} (refl, refl, refl) none))))
+    ((refl, refl, refl), ((refl, refl, refl), ((refl, refl, refl), ((refl, refl, refl), ((refl, refl, refl), tt)))))
+
+-- for the list of all examples that are marked for proof
+pub p10-right : Right p10
+p10-right = examples .0
+
+pub p11-right : Right p11
+p11-right = examples .1 .0

@@ -1,13 +1,14 @@
 pub mod Rounds
 pub mod Counts
 pub mod RoundLaws
+pub mod Chains
 pub mod Runs
 pub mod Pass
 pub mod Entries
 pub mod Steps
 pub mod Walked
-pub mod WalkLaws
 pub mod Required
 pub mod Asked
+pub mod WalkLaws
 pub mod Answers
 pub mod Examples

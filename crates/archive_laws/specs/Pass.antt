@@ -13,11 +13,12 @@ use lib.ListN.{getD, set, length, length-set}
 use lib.Seq.{getD-set-same, getD-set-other}
 use borrow.Author.Tests.{ne-eqb, ltb-true, ltb-false}
 use Rattle.archive_index.specs.Index.{offsetOf, nameOf}
-use Rattle.archive_index.specs.Rows.{memberAt, passAt, queueAt, storedName}
+use Rattle.archive_index.specs.Rows.{requiredAt, memberAt, passAt, queueAt, storedName}
 use Rattle.archive_walk.specs.Look.{Table, removedName, undefinedName}
 use Rattle.archive_walk.specs.Walk.{Queue, queueOf, marked, enqueue, tieOf, tieAll, removedOf}
-use Rattle.archive_laws.specs.Rounds.{among, Once, none, more, members, isFirst, anyBelow, pullAt, pull}
+use Rattle.archive_laws.specs.Rounds.{among, Once, none, more, isFirst, anyBelow, pullAt, pull}
 use Rattle.archive_laws.specs.Counts.{clash, any-in, any-none, cnt-le, First, first-one, among-here, among-there, Below, one-more, once-members}
+use Rattle.archive_laws.specs.Chains.{Linked, linked-kept}
 use Rattle.archive_laws.specs.Runs.{queueList}
 
 -- ---- the queue in the cells
@@ -38,12 +39,15 @@ module _ (s : List ℕ) (c : ℕ) where
     pub room : c * 8 ≤ length l
     pub name : (k : ℕ) → k < c → storedName s l k ≡ nameOf s c k
     pub member : (k : ℕ) → k < c → First s k (memberAt l k)
+    pub linked : Linked s c c l
 
   -- a representative has a pass just where its member is in the queue
   pub record Marks (l : List ℕ) (n : ℕ) : Type 0 where
     pub mark : (k : ℕ) → k < c → eqb (passAt l (memberAt l k)) 0 ≡ not (among s k (queueList l n))
     pub once : Once s (queueList l n)
     pub below : Below s c (queueList l n)
+    -- no name is required of a member that isn't queued
+    pub unmarked : (k : ℕ) → k < c → among s k (queueList l n) ≡ false → requiredAt l k ≡ 0
 
   pub record Sound (l : List ℕ) (n : ℕ) : Type 0 where
     pub rows : Rows l
@@ -59,42 +63,42 @@ module _ (s : List ℕ) (c : ℕ) where
     kept-queue : (n : ℕ) → ((i : ℕ) → i < n → i * 8 + 7 ≡ a → ⊥) → queueList (set l a v) n ≡ queueList l n
     kept-queue n h = queue-same l (set l a v) n (λ i e. kept-field i 7 (h i e))
 
-    kept-rows : ((j f : ℕ) → (f ≡ 1) ⊎ ((f ≡ 4) ⊎ (f ≡ 5)) → j * 8 + f ≡ a → ⊥) → Rows l → Rows (set l a v)
+    kept-rows : ((j f : ℕ) → 0 < f → f < 6 → j * 8 + f ≡ a → ⊥) → Rows l → Rows (set l a v)
     kept-rows h y = record {
       room = omega (arith, length-set l a v, y .room);
-      name = λ j e. rw (kept-field j 4 (h j 4 (inr (inl refl))), kept-field j 5 (h j 5 (inr (inr refl)))) (y .name j e);
-      member = λ j e. rw (kept-field j 1 (h j 1 (inl refl))) (y .member j e);
+      name = λ j e. rw (kept-field j 4 (h j 4 (omega arith) (omega arith)), kept-field j 5 (h j 5 (omega arith) (omega arith))) (y .name j e);
+      member = λ j e. rw (kept-field j 1 (h j 1 (omega arith) (omega arith))) (y .member j e);
+      linked = linked-kept s c c l (set l a v) (λ j f p q. kept-field j f (h j f p q)) (y .linked);
     }
 
-  other-field : (j f k g : ℕ) → (f ≡ 1) ⊎ ((f ≡ 4) ⊎ (f ≡ 5)) → (g ≡ 0) ⊎ ((g ≡ 6) ⊎ (g ≡ 7)) → j * 8 + f ≡ k * 8 + g → ⊥
-  other-field j f k g (inl a) (inl b) e = omega arith
-  other-field j f k g (inl a) (inr (inl b)) e = omega arith
-  other-field j f k g (inl a) (inr (inr b)) e = omega arith
-  other-field j f k g (inr (inl a)) (inl b) e = omega arith
-  other-field j f k g (inr (inl a)) (inr (inl b)) e = omega arith
-  other-field j f k g (inr (inl a)) (inr (inr b)) e = omega arith
-  other-field j f k g (inr (inr a)) (inl b) e = omega arith
-  other-field j f k g (inr (inr a)) (inr (inl b)) e = omega arith
-  other-field j f k g (inr (inr a)) (inr (inr b)) e = omega arith
+  other-field : (j f k g : ℕ) → 0 < f → f < 6 → (g ≡ 0) ⊎ ((g ≡ 6) ⊎ (g ≡ 7)) → j * 8 + f ≡ k * 8 + g → ⊥
+  other-field j f k g p q (inl b) e = omega arith
+  other-field j f k g p q (inr (inl b)) e = omega arith
+  other-field j f k g p q (inr (inr b)) e = omega arith
 
   -- an entry's name is required: nothing else is touched
   module _ (l : List ℕ) (k n : ℕ) (y : Sound l n) where
     pub noted-queue : queueList (set l (k * 8 + 0) 1) n ≡ queueList l n
     noted-queue = kept-queue l (k * 8 + 0) 1 n (λ i h e. omega arith)
 
-    noted-rows : Rows (set l (k * 8 + 0) 1)
-    noted-rows = kept-rows l (k * 8 + 0) 1 (λ j f a. other-field j f k 0 a (inl refl)) (y .rows)
+    pub noted-rows : Rows (set l (k * 8 + 0) 1)
+    noted-rows = kept-rows l (k * 8 + 0) 1 (λ j f a b. other-field j f k 0 a b (inl refl)) (y .rows)
 
-    noted-marks : Marks (set l (k * 8 + 0) 1) n
-    noted-marks = record {
+    noted-marks : among s k (queueList l n) ≡ true → Marks (set l (k * 8 + 0) 1) n
+    noted-marks queued = record {
       mark = λ j h.
           rw (noted-queue, kept-field l (k * 8 + 0) 1 j 1 (λ e. omega arith), kept-field l (k * 8 + 0) 1 (memberAt l j) 6 (λ e. omega arith)) (y .marks .mark j h);
       once = rw noted-queue (y .marks .once);
       below = rw noted-queue (y .marks .below);
+      unmarked = λ j h f. other j h (rw noted-queue at f);
     }
+      where
+        other : (j : ℕ) → j < c → among s j (queueList l n) ≡ false → requiredAt (set l (k * 8 + 0) 1) j ≡ 0
+        other j h f =
+            kept-field l (k * 8 + 0) 1 j 0 (λ e. let d : j ≡ k = omega arith in clash (among s k (queueList l n)) queued (rw d at f)) ∙ y .marks .unmarked j h f
 
-    pub noted-sound : Sound (set l (k * 8 + 0) 1) n
-    noted-sound = record { rows = noted-rows; marks = noted-marks }
+    pub noted-sound : among s k (queueList l n) ≡ true → Sound (set l (k * 8 + 0) 1) n
+    noted-sound queued = record { rows = noted-rows; marks = noted-marks queued }
 
   -- entry k goes to the end of the queue
   module _ (p k : ℕ) (l : List ℕ) (n : ℕ) (y : Sound l n) (h : k < c) (pos : p ≡ 0 → ⊥) (free : among s k (queueList l n) ≡ false) where
@@ -107,8 +111,8 @@ module _ (s : List ℕ) (c : ℕ) where
     abbrev b : List ℕ
     b = set a (r * 8 + 6) p
 
-    z : Sound a n
-    z = noted-sound l k n y
+    a-rows : Rows a
+    a-rows = noted-rows l k n y
 
     -- there is room: as many members are queued as are named at most
     room-left : n < c
@@ -118,14 +122,14 @@ module _ (s : List ℕ) (c : ℕ) where
         omega (arith, queue-length l n, once-members s c (k ∷ queueList l n) o w, cnt-le (isFirst s) c)
 
     b-rows : Rows b
-    b-rows = kept-rows a (r * 8 + 6) p (λ j f e. other-field j f r 6 e (inr (inl refl))) (z .rows)
+    b-rows = kept-rows a (r * 8 + 6) p (λ j f d e. other-field j f r 6 d e (inr (inl refl))) a-rows
 
     abbrev m : List ℕ
     m = marked p k r l n
 
     m-rows : Rows m
     unfolding marked
-    m-rows = kept-rows b (n * 8 + 7) k (λ j f e. other-field j f n 7 e (inr (inr refl))) b-rows
+    m-rows = kept-rows b (n * 8 + 7) k (λ j f d e. other-field j f n 7 d e (inr (inr refl))) b-rows
 
     pub m-member : (j : ℕ) → memberAt m j ≡ memberAt l j
     unfolding marked
@@ -145,7 +149,7 @@ module _ (s : List ℕ) (c : ℕ) where
     unfolding marked
     m-pass-here =
         let low : r < c = omega (arith, y .rows .member k h .low) in
-        let inside : r * 8 + 6 < length a = omega (arith, z .rows .room) in
+        let inside : r * 8 + 6 < length a = omega (arith, a-rows .room) in
         kept-field b (n * 8 + 7) k r 6 (λ e. omega arith) ∙ getD-set-same a (r * 8 + 6) p 0 inside
 
     pub m-pass-other : (q : ℕ) → (q ≡ r → ⊥) → passAt m q ≡ passAt l q
@@ -169,10 +173,21 @@ module _ (s : List ℕ) (c : ℕ) where
         go (no e) =
             rw (m-pass-other (memberAt l j) (λ d. e (sym (first-k .same) ∙ sym (ap (offsetOf s) d) ∙ first-j .same)), among-there s (queueList l n) k j e) (y .marks .mark j g)
 
+    m-unmarked : (j : ℕ) → j < c → among s j (queueList m (n + 1)) ≡ false → requiredAt m j ≡ 0
+    unfolding marked
+    m-unmarked j g f = go (ℕ-discrete (offsetOf s k) (offsetOf s j)) (rw m-queue at f)
+      where
+        go : Dec (offsetOf s k ≡ offsetOf s j) → among s j (k ∷ queueList l n) ≡ false → requiredAt m j ≡ 0
+        go (yes e) w = clash (among s j (k ∷ queueList l n)) (among-here s (queueList l n) k j e) w
+        go (no e) w =
+            kept-field b (n * 8 + 7) k j 0 (λ z. omega arith) ∙ kept-field a (r * 8 + 6) p j 0 (λ z. omega arith)
+            ∙ kept-field l (k * 8 + 0) 1 j 0 (λ z. let d : k ≡ j = omega arith in e (ap (offsetOf s) d))
+            ∙ y .marks .unmarked j g (sym (among-there s (queueList l n) k j e) ∙ w)
+
     pub marked-sound : Sound (marked p k r l n) (n + 1)
     marked-sound = record {
       rows = m-rows;
-      marks = record { mark = m-mark; once = rw m-queue (more free (y .marks .once)); below = rw m-queue (one-more h (y .marks .below)) };
+      marks = record { mark = m-mark; once = rw m-queue (more free (y .marks .once)); below = rw m-queue (one-more h (y .marks .below)); unmarked = m-unmarked };
     }
 
     -- what was queued before stays
@@ -235,7 +250,7 @@ module _ (s : List ℕ) (c : ℕ) where
         go true false w false e d = clash false d refl
         go true true w true e d = clash true refl d
         go true false true true e d = record {
-          sound = noted-sound l k n y;
+          sound = noted-sound l k n y e;
           queue = noted-queue l k n y;
           more = omega arith;
           front = λ i g. kept-queue l (k * 8 + 0) 1 i (λ j a z. omega arith);

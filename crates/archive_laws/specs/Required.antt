@@ -87,10 +87,10 @@ module _ (s : List ℕ) (c : ℕ) (t : Table) (p : ℕ) (pos : p ≡ 0 → ⊥) 
           at j g (yes d) = rw d (here ∙ sym one)
           at j g (no d) = there j d ∙ m .done j (omega arith)
 
-    noted : markOf k ≡ 1 → Mid (k + 1) (set l (k * 8 + 0) 1) n
-    noted one =
+    noted : markOf k ≡ 1 → among s k (queueList l n) ≡ true → Mid (k + 1) (set l (k * 8 + 0) 1) n
+    noted one held =
         set-one (set l (k * 8 + 0) 1) n one (getD-set-same l (k * 8 + 0) 1 0 (omega (arith, m .sound .rows .room)))
-        (λ j d. getD-set-other l (k * 8 + 0) (j * 8 + 0) 1 0 (λ e. d (omega arith))) (noted-sound s c l k n (m .sound)) (λ j e. rw (noted-queue s c l k n (m .sound)) (m .old j e))
+        (λ j d. getD-set-other l (k * 8 + 0) (j * 8 + 0) 1 0 (λ e. d (omega arith))) (noted-sound s c l k n (m .sound) held) (λ j e. rw (noted-queue s c l k n (m .sound)) (m .old j e))
         (λ j g. rw (noted-queue s c l k n (m .sound), kept-field s c l (k * 8 + 0) 1 j 1 (λ e. omega arith), kept-field s c l (k * 8 + 0) 1 (memberAt l j) 6 (λ e. omega arith)) (m .by j g))
 
     queued : markOf k ≡ 1 → among s k (queueList l n) ≡ false → Mid (k + 1) (marked p k (memberAt l k) l n) (n + 1)
@@ -148,7 +148,7 @@ module _ (s : List ℕ) (c : ℕ) (t : Table) (p : ℕ) (pos : p ≡ 0 → ⊥) 
         go false a b x w eu ex ew ea eb = skipped (sym (rw eu))
         go true true b x false eu ex ew ea eb = queued (unit eu (not-before ew)) ew
         go true true b x true eu ex ew ea eb = clash true refl ea
-        go true false true false w eu ex ew ea eb = noted (unit eu ex)
+        go true false true false w eu ex ew ea eb = noted (unit eu ex) (ew ∙ sym eb)
         go true false true true w eu ex ew ea eb = clash true refl eb
         go true false false true w eu ex ew ea eb = skipped (sym (rw (eu, ex)))
         go true false false false true eu ex ew ea eb = clash true refl (sym eb)

@@ -8,7 +8,7 @@ use lib.Dec.{eqb, ltb}
 use lib.ListN.{length}
 use Rattle.archive_index.specs.Index.{offsetOf}
 
--- two entries of one member: "Members are equal iff their offsets are"
+-- two entries of one member: members are equal if their offsets are
 abbrev pub Same : List ℕ → ℕ → ℕ → Type 0
 Same s j k = offsetOf s j ≡ offsetOf s k
 

@@ -62,6 +62,7 @@ module _ (s : List ℕ) (c : ℕ) where
     fine : Fine r
     same : seen r ≡ round s c (viewOf s c t) a
     wrote : r .walk .passes ≡ a .passes + 1 → r .cells ≡ tieAll s t (a .passes + 1) c 0 (queueOf l q) .cells
+    left : (r .walk .passes ≡ a .passes + 1 → ⊥) → r .cells ≡ l
 
   -- the counts of a walk that goes on are those of a walk
   pub going-fits : (l : List ℕ) (n p q o : ℕ) → n ≤ length s → Sound s c l q → Kept s c (roundsOf (queueList l q) o p false)
@@ -129,31 +130,36 @@ module _ (s : List ℕ) (c : ℕ) where
           fine = record { entries = refl; whole = h; sound = y; low = b; sent = one-sent l e };
           same = sym (round-sent v (queueList l q) o p (at-pass true ef));
           wrote = λ z. absurd (omega arith);
+          left = λ z. refl;
         }
         go true false false x z ew ef ej ex ez = record {
           fine = left-alone;
           same = sym (round-halted v (queueList l q) o p (at-pass false ef) (judged-out ej));
           wrote = λ z. absurd (omega arith);
+          left = λ z. refl;
         }
         go true false true true z ew ef ej ex ez = record {
           fine = left-alone;
           same = sym (round-halted v (queueList l q) o p (at-pass false ef) (judged-in true ej ex));
           wrote = λ z. absurd (omega arith);
+          left = λ z. refl;
         }
         go true false true false true ew ef ej ex ez = record {
           fine = record { entries = refl; whole = h; sound = made .sound; low = made .low later; sent = one-sent (u .cells) (e ∙ sym (made .front o (omega (arith, k .some, queue-length l q)))) };
           same = sym (round-made v (queueList l q) o p (queueList (u .cells) (u .queued)) (at-pass false ef) (judged-in false ej ex) (made .queue) (at-made true ez));
           wrote = λ z. refl;
+          left = λ z. absurd (z refl);
         }
         go true false true false false ew ef ej ex ez = record {
           fine = record { entries = refl; whole = h; sound = made .sound; low = made .low later; sent = e ∙ sym (made .front o (omega (arith, k .some, queue-length l q))) };
           same = sym (round-last v (queueList l q) o p (queueList (u .cells) (u .queued)) (at-pass false ef) (judged-in false ej ex) (made .queue) (at-made false ez));
           wrote = λ z. refl;
+          left = λ z. absurd (z refl);
         }
 
     step-done : Agree t l q (roundsOf (queueList l q) o p true) (stepRun s t (runOf l (walkAt n p q o true) os))
     unfolding stepRun nextOf
-    step-done = record { fine = record { entries = refl; whole = h; sound = y; low = b; sent = e }; same = sym (round-done v (queueList l q) o p); wrote = λ z. absurd (omega arith) }
+    step-done = record { fine = record { entries = refl; whole = h; sound = y; low = b; sent = e }; same = sym (round-done v (queueList l q) o p); wrote = λ z. absurd (omega arith); left = λ z. refl }
 
   step-at : (t : Table) (l : List ℕ) (n p q o : ℕ) (d : Bool) (os : List ℕ) → n ≤ length s → Sound s c l q → Low s c p l → os ≡ queueList l o
       → Kept s c (roundsOf (queueList l q) o p d) → Agree t l q (roundsOf (queueList l q) o p d) (stepRun s t (runOf l (walkAt n p q o d) os))
@@ -183,3 +189,7 @@ module _ (s : List ℕ) (c : ℕ) where
   pub step-wrote : (t : Table) (r : Run) → Fine r → Kept s c (seen r) → stepRun s t r .walk .passes ≡ r .walk .passes + 1
       → stepRun s t r .cells ≡ tieAll s t (r .walk .passes + 1) c 0 (queueOf (r .cells) (r .walk .queued)) .cells
   step-wrote t r f k = agrees t r f k .wrote
+
+  -- a call that makes no pass writes nothing
+  pub step-left : (t : Table) (r : Run) → Fine r → Kept s c (seen r) → (stepRun s t r .walk .passes ≡ r .walk .passes + 1 → ⊥) → stepRun s t r .cells ≡ r .cells
+  step-left t r f k = agrees t r f k .left

@@ -1,16 +1,18 @@
 -- The theorem on whole walks.
 -- Assumes nothing.
 use Prim.Native.Nat.{ℕ, zero, suc, _+_, _/_, _<_, _≤_}
+use native.Mathlib.Decide.{ℕ-discrete}
 use native.Mathlib.Omega.{arith}
 use mathlib.Core.Path.{_≡_, refl, sym, ap, subst, _∙_}
-use mathlib.Core.Bool.{Bool, true, false, cond, not}
+use mathlib.Core.Bool.{Bool, true, false, cond}
 use mathlib.Core.List.{List, [], _∷_}
 use lib.Dec.{eqb, ltb}
 use lib.ListN.{length}
-use borrow.Author.Tests.{eqb-true, eq-eqb, ltb-true, ltb-false, lt-ltb}
+use borrow.Author.Tests.{eqb-true, eq-eqb, ne-eqb, ltb-true, ltb-false, lt-ltb}
+use Rattle.byte_slices.specs.Bytes.{same}
 use Rattle.link.specs.Bounds.{lesser}
 use Rattle.archive_index.specs.declared.Opened.{Opened}
-use Rattle.archive_index.specs.Index.{countOf, namesAt, cutOf}
+use Rattle.archive_index.specs.Index.{countOf, offsetOf, namesAt, nameOf, cutOf}
 use Rattle.archive_index.specs.Rows.{requiredAt, passAt, memberAt, queueAt, rowsOf}
 use Rattle.archive_index.specs.Open.{Left, left, openedAs, refusedAs, offsetsIn, openRowsOf, openNamesOf, openEntriesOf, openOf}
 use Rattle.archive_walk.specs.declared.Walk.{Walk}
@@ -18,16 +20,19 @@ use Rattle.archive_walk.specs.declared.Started.{Started}
 use Rattle.archive_walk.specs.declared.Begun.the-variants.{Ready}
 use Rattle.archive_walk.specs.declared.Begun.the-variants as Begins
 use Rattle.archive_walk.specs.Look.{Table}
+use Rattle.archive_walk.specs.Names.{chainNames, requiredOf}
 use Rattle.archive_walk.specs.Walk.{begunNumber, freshWalk, noWalk, begunOf, startOf, goOf, walkFits, nextOf}
-use Rattle.archive_laws.specs.Rounds.{among, Once, none, more, pull, Rounds, roundsOf, round, rounds, fresh}
-use Rattle.archive_laws.specs.Counts.{no-one}
+use Rattle.archive_laws.specs.Rounds.{Same, among, Once, none, more, pull, Rounds, roundsOf, round, rounds, fresh}
+use Rattle.archive_laws.specs.Counts.{among-same, no-one}
 use Rattle.archive_laws.specs.RoundLaws.{newly, pull-into, did, Kept, kept-fresh, kept-did, passes-most, passes-going, pass-made, last-pass}
 use Rattle.archive_laws.specs.Runs.{queueList, viewOf, viewsOf, Run, runOf, stepRun, history, startRun, seen}
-use Rattle.archive_laws.specs.Pass.{queue-length, Sound, Low}
+use Rattle.archive_laws.specs.Pass.{queue-length, Rows, Sound, Low}
+use Rattle.archive_laws.specs.Chains.{any-same, chains-linked, chains-field, chains-length}
 use Rattle.archive_laws.specs.Entries.{rows-entered}
-use Rattle.archive_laws.specs.Steps.{Fine, going-fits, step-agrees, step-wrote}
+use Rattle.archive_laws.specs.Steps.{Fine, going-fits, step-agrees, step-wrote, step-left}
 use Rattle.archive_laws.specs.Required.{required-pass}
-use Rattle.archive_laws.specs.Walked.{tiedIn, queueIn, Pass, Walked}
+use Rattle.archive_laws.specs.Asked.{asked-is, asked-then}
+use Rattle.archive_laws.specs.Walked.{tiedIn, asks, queueIn, Pass, Walked}
 
 -- ---- the start
 
@@ -62,9 +67,12 @@ accepted s l =
     go false false false false false false ef eg z =
         record { names = ltb-false cut (countOf s) ef; rows = ltb-false (length l / 8) (countOf s) eg; made = refl }
 
--- the run that such a start gives
+-- the cells, and the run that such a start gives
+abbrev pub freshCells : List ℕ → List ℕ → List ℕ
+freshCells s l = chainNames s (countOf s) (rowsOf s (countOf s) (namesAt (countOf s)) l)
+
 abbrev pub freshRun : List ℕ → List ℕ → Run
-freshRun s l = runOf (rowsOf s (countOf s) (namesAt (countOf s)) l) (freshWalk (countOf s) (length s)) []
+freshRun s l = runOf (freshCells s l) (freshWalk (countOf s) (length s)) []
 
 opened-number : (n : ℕ) (o : Opened) → begunNumber (begunOf n o .begun) ≡ 0 → o .refusal .number ≡ 0
 unfolding begunOf
@@ -88,27 +96,40 @@ module _ (s l : List ℕ) where
   abbrev c : ℕ
   c = countOf s
 
-  fresh-sound : Accepted s l (openOf s l) → Sound s c (rowsOf s c (namesAt c) l) 0
-  unfolding queueList among
-  fresh-sound a =
-      let y = rows-entered s c l (omega (arith, a .rows)) (a .names) in
-      record {
-        rows = record { room = y .room; name = y .name; member = y .member };
-        marks = record {
-          mark = λ k h. eq-eqb (passAt (rowsOf s c (namesAt c) l) (memberAt (rowsOf s c (namesAt c) l) k)) 0 (y .unqueued (memberAt (rowsOf s c (namesAt c) l) k) (omega (arith, y .member k h .low)));
-          once = none;
-          below = no-one;
-        };
-      }
+  abbrev rows : List ℕ
+  rows = rowsOf s c (namesAt c) l
 
-  fresh-low : Accepted s l (openOf s l) → Low s c 0 (rowsOf s c (namesAt c) l)
-  fresh-low a j h =
-      let y = rows-entered s c l (omega (arith, a .rows)) (a .names) in
-      omega (arith, y .unqueued (memberAt (rowsOf s c (namesAt c) l) j) (omega (arith, y .member j h .low)))
+  module _ (a : Accepted s l (openOf s l)) where
+    fresh-rows : Rows s c (freshCells s l)
+    fresh-rows =
+        let y = rows-entered s c l (omega (arith, a .rows)) (a .names) in
+        record {
+          room = omega (arith, chains-length s c rows, y .room);
+          name = λ k h. rw (chains-field s c rows k 4 (omega arith) (λ z. omega arith) (λ z. omega arith), chains-field s c rows k 5 (omega arith) (λ z. omega arith) (λ z. omega arith)) (y .name k h);
+          member = λ k h. rw (chains-field s c rows k 1 (omega arith) (λ z. omega arith) (λ z. omega arith)) (y .member k h);
+          linked = chains-linked s c rows (y .room);
+        }
 
-  -- no name is required before a pass
-  pub fresh-unmarked : Accepted s l (openOf s l) → (j : ℕ) → j < c → requiredAt (rowsOf s c (namesAt c) l) j ≡ 0
-  fresh-unmarked a j h = rows-entered s c l (omega (arith, a .rows)) (a .names) .unmarked j h
+    unqueued : (k : ℕ) → k < c → passAt (freshCells s l) (memberAt (freshCells s l) k) ≡ 0
+    unqueued k h =
+        let y = rows-entered s c l (omega (arith, a .rows)) (a .names) in
+        let r : ℕ = memberAt (freshCells s l) k in
+        chains-field s c rows r 6 (omega arith) (λ z. omega arith) (λ z. omega arith) ∙ y .unqueued r (omega (arith, fresh-rows .member k h .low))
+
+    -- no name is required before a pass
+    pub fresh-unmarked : (j : ℕ) → j < c → requiredAt (freshCells s l) j ≡ 0
+    fresh-unmarked j h =
+        chains-field s c rows j 0 (omega arith) (λ z. omega arith) (λ z. omega arith) ∙ rows-entered s c l (omega (arith, a .rows)) (a .names) .unmarked j h
+
+    fresh-sound : Sound s c (freshCells s l) 0
+    unfolding queueList among
+    fresh-sound = record {
+      rows = fresh-rows;
+      marks = record { mark = λ k h. eq-eqb (passAt (freshCells s l) (memberAt (freshCells s l) k)) 0 (unqueued k h); once = none; below = no-one; unmarked = λ k h e. fresh-unmarked k h };
+    }
+
+    fresh-low : Low s c 0 (freshCells s l)
+    fresh-low j h = omega (arith, unqueued j h)
 
   -- ---- calls
 
@@ -142,23 +163,74 @@ module _ (s l : List ℕ) where
         let g : r .walk .offered ≡ r .walk .queued = omega (arith, k .some, queue-length (r .cells) (r .walk .queued)) in
         f .sent ∙ ap (queueList (r .cells)) g
 
+    -- a pass finds nothing queued
+    drained : (t : Table) → stepRun s t r .walk .passes ≡ r .walk .passes + 1 → r .offers ≡ queueIn r
+    drained t p =
+        let x = step-agrees s c t r f k in
+        let b = round s c (viewOf s c t) (seen r) in
+        let q : b .passes ≡ seen r .passes + 1 = ap (λ (z : Rounds). z .passes) (sym (x .1)) ∙ p in
+        let y = pass-made s c (viewOf s c t) (seen r) b (did s c (viewOf s c t) (seen r)) q in
+        all-sent (omega (arith, y .0, queue-length (r .cells) (r .walk .queued)))
+
     pass-facts : (t : Table) → stepRun s t r .walk .passes ≡ r .walk .passes + 1 → Pass s c t r (stepRun s t r)
     pass-facts t p =
         let x = step-agrees s c t r f k in
         let b = round s c (viewOf s c t) (seen r) in
         let q : b .passes ≡ seen r .passes + 1 = ap (λ (z : Rounds). z .passes) (sym (x .1)) ∙ p in
         let y = pass-made s c (viewOf s c t) (seen r) b (did s c (viewOf s c t) (seen r)) q in
-        let d : r .offers ≡ queueIn r = all-sent (omega (arith, y .0, queue-length (r .cells) (r .walk .queued))) in
+        let d : r .offers ≡ queueIn r = drained t p in
         let g : queueIn (stepRun s t r) ≡ pull s (tiedIn s c t) c 0 (r .offers) = ap (λ (z : Rounds). z .queue) (x .1) ∙ y .1 ∙ ap (pull s (tiedIn s c t) c 0) (sym d) in
         record {
           drained = d;
           newly = rw g (newly s (tiedIn s c t) (r .offers) c);
           all = λ j h e. rw g (pull-into s (tiedIn s c t) c 0 (r .offers) j (omega arith) (omega arith) e);
           required = λ j h.
-              rw (step-wrote s c t r f k p, d)
-              (required-pass s c t (r .walk .passes + 1) (λ z. omega arith) (r .cells) (r .walk .queued) (f .sound) (λ i e. omega (arith, f .low i e)) j h);
+              written j h ∙ ap (λ (q : List ℕ). cond (tiedIn s c t j) (cond (among s j q) (requiredAt (r .cells) j) 1) (requiredAt (r .cells) j)) (sym d);
+          names = λ e h o x. asked-then s c (r′ .cells) (step-agrees s c t r f k .0 .sound .rows) e h x t (marked e o);
           pulled = g;
         }
+      where
+        r′ : Run
+        r′ = stepRun s t r
+
+        written : (j : ℕ) → j < c → requiredAt (r′ .cells) j ≡ cond (tiedIn s c t j) (cond (among s j (queueIn r)) (requiredAt (r .cells) j) 1) (requiredAt (r .cells) j)
+        written j h =
+            rw (step-wrote s c t r f k p)
+            (required-pass s c t (r .walk .passes + 1) (λ z. omega arith) (r .cells) (r .walk .queued) (f .sound) (λ i e. omega (arith, f .low i e)) j h)
+
+        marked : (e : ℕ) → among s e (r .offers) ≡ false → (j : ℕ) → j < c → Same s j e → requiredAt (r′ .cells) j ≡ cond (tiedIn s c t j) 1 0
+        marked e o j h d =
+            let free : among s j (queueIn r) ≡ false = among-same s (queueIn r) j e d ∙ ap (among s e) (sym (drained t p)) ∙ o in
+            written j h ∙ rw (free, f .sound .marks .unmarked j h free)
+
+    marks-kept : (t : Table) (j : ℕ) → j < c → among s j (queueIn r) ≡ true → requiredAt (stepRun s t r .cells) j ≡ requiredAt (r .cells) j
+    marks-kept t j h e = go (ℕ-discrete (stepRun s t r .walk .passes) (r .walk .passes + 1))
+      where
+        either : (b : Bool) (m : ℕ) → cond b m m ≡ m
+        either true m = refl
+        either false m = refl
+
+        go : Dec (stepRun s t r .walk .passes ≡ r .walk .passes + 1) → requiredAt (stepRun s t r .cells) j ≡ requiredAt (r .cells) j
+        go (yes p) =
+            let d = pass-facts t p in
+            d .required j h ∙ rw (d .drained, e) (either (tiedIn s c t j) (requiredAt (r .cells) j))
+        go (no p) = ap (λ (m : List ℕ). requiredAt m j) (step-left s c t r f k p)
+
+    names-kept : (t : Table) (e : ℕ) → e < c → among s e (queueIn r) ≡ true → (x : List ℕ) → requiredOf s (stepRun s t r .cells) c e x ≡ requiredOf s (r .cells) c e x
+    names-kept t e h o x =
+        asked-is s c (stepRun s t r .cells) (step-agrees s c t r f k .0 .sound .rows) e h x
+        ∙ any-same (asks s c (stepRun s t r .cells) e x) (asks s c (r .cells) e x) c (λ j g. one j g (ℕ-discrete (offsetOf s j) (offsetOf s e)))
+        ∙ sym (asked-is s c (r .cells) (f .sound .rows) e h x)
+      where
+        never : (b : Bool) → cond b false false ≡ false
+        never true = refl
+        never false = refl
+
+        one : (j : ℕ) → j < c → Dec (offsetOf s j ≡ offsetOf s e) → asks s c (stepRun s t r .cells) e x j ≡ asks s c (r .cells) e x j
+        one j g (yes d) =
+            ap (λ (m : ℕ). cond (eqb m 1) (cond (eqb (offsetOf s j) (offsetOf s e)) (same (nameOf s c j) x) false) false) (marks-kept t j g (among-same s (queueIn r) j e d ∙ o))
+        one j g (no d) =
+            rw (ne-eqb (offsetOf s j) (offsetOf s e) d) (never (eqb (requiredAt (stepRun s t r .cells) j) 1) ∙ sym (never (eqb (requiredAt (r .cells) j) 1)))
 
     last-facts : (t : Table) → r .walk .done ≡ false → stepRun s t r .walk .done ≡ true → (j : ℕ) → j < c → tiedIn s c t j ≡ true → among s j (stepRun s t r .offers) ≡ true
     last-facts t p q j h e =
@@ -219,6 +291,8 @@ module _ (s l : List ℕ) where
         once = rw (f .sent) (once-front (r .cells) (r .walk .queued) (r .walk .offered) (omega (arith, k .some, queue-length (r .cells) (r .walk .queued))) (k .once));
         pass = pass-facts r f k;
         last = last-facts r f k;
+        asked = λ e h x. asked-is s c (r .cells) (f .sound .rows) e h x;
+        names-stay = names-kept r f k;
         still = λ t d. still-done t r d;
         blind = λ t t′ h. not-looked-at t t′ (r .cells) (r .walk) h;
       }

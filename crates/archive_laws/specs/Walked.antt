@@ -4,17 +4,28 @@ use Prim.Native.Nat.{ℕ, _+_, _<_, _≤_}
 use mathlib.Core.Path.{_≡_}
 use mathlib.Core.Bool.{Bool, true, false, cond}
 use mathlib.Core.List.{List}
-use Rattle.archive_index.specs.Index.{nameOf}
+use lib.Dec.{eqb}
+use Rattle.byte_slices.specs.Bytes.{same}
+use Rattle.archive_index.specs.Index.{offsetOf, nameOf}
 use Rattle.archive_index.specs.Rows.{requiredAt}
 use Rattle.archive_walk.specs.Look.{Table, undefinedName}
+use Rattle.archive_walk.specs.Names.{requiredOf}
 use Rattle.archive_walk.specs.Walk.{walkFits, nextOf}
-use Rattle.archive_laws.specs.Rounds.{among, Once, members, pull, rounds, fresh}
+use Rattle.archive_laws.specs.Rounds.{anyBelow, among, Once, members, pull, rounds, fresh}
 use Rattle.archive_laws.specs.RoundLaws.{Newly}
 use Rattle.archive_laws.specs.Runs.{queueList, viewsOf, Run, stepRun, seen}
 
 -- the index ties entry k to a name that is undefined in t
 abbrev pub tiedIn : List ℕ → ℕ → Table → ℕ → Bool
 tiedIn s c t k = undefinedName t (nameOf s c k)
+
+-- entry j, of the member of entry e, bears the name x, and is marked as required
+abbrev pub asks : List ℕ → ℕ → List ℕ → ℕ → List ℕ → ℕ → Bool
+asks s c l e x j = cond (eqb (requiredAt l j) 1) (cond (eqb (offsetOf s j) (offsetOf s e)) (same (nameOf s c j) x) false) false
+
+-- the index ties the name x to the member of entry e
+unfoldable pub inIndex : List ℕ → ℕ → ℕ → List ℕ → Bool
+inIndex s c e x = anyBelow (λ j. cond (eqb (offsetOf s j) (offsetOf s e)) (same (nameOf s c j) x) false) c
 
 -- every member queued so far, by its entry, last first
 abbrev pub queueIn : Run → List ℕ
@@ -28,6 +39,8 @@ pub record Pass (s : List ℕ) (c : ℕ) (t : Table) (r r′ : Run) : Type 0 whe
   pub all : (k : ℕ) → k < c → tiedIn s c t k ≡ true → among s k (queueIn r′) ≡ true
   -- the names that admission will ask for: those of the tied entries of the members that this pass queues; earlier ones stay
   pub required : (k : ℕ) → k < c → requiredAt (r′ .cells) k ≡ cond (tiedIn s c t k) (cond (among s k (r .offers)) (requiredAt (r .cells) k) 1) (requiredAt (r .cells) k)
+  -- so of a member that was not offered before just those names are required that the index ties to it and that are undefined at the pass
+  pub names : (e : ℕ) → e < c → among s e (r .offers) ≡ false → (x : List ℕ) → requiredOf s (r′ .cells) c e x ≡ cond (undefinedName t x) (inIndex s c e x) false
   pub pulled : queueIn r′ ≡ pull s (tiedIn s c t) c 0 (r .offers)
 
 pub record Walked (s : List ℕ) (c : ℕ) (ts : List Table) (r : Run) : Type 0 where
@@ -44,6 +57,10 @@ pub record Walked (s : List ℕ) (c : ℕ) (ts : List Table) (r : Run) : Type 0 
   pub pass : (t : Table) → stepRun s t r .walk .passes ≡ r .walk .passes + 1 → Pass s c t r (stepRun s t r)
   -- the last pass: no name undefined in its table is tied to a member that was not offered
   pub last : (t : Table) → r .walk .done ≡ false → stepRun s t r .walk .done ≡ true → (k : ℕ) → k < c → tiedIn s c t k ≡ true → among s k (stepRun s t r .offers) ≡ true
+  -- admission asks for a name just if it is that of a marked entry of the member
+  pub asked : (e : ℕ) → e < c → (x : List ℕ) → requiredOf s (r .cells) c e x ≡ anyBelow (asks s c (r .cells) e x) c
+  -- the names required of a queued member stay, though they may be defined since
+  pub names-stay : (t : Table) (e : ℕ) → e < c → among s e (queueIn r) ≡ true → (x : List ℕ) → requiredOf s (stepRun s t r .cells) c e x ≡ requiredOf s (r .cells) c e x
   -- done stays done
   pub still : (t : Table) → r .walk .done ≡ true → stepRun s t r ≡ r
   -- "a queued one is offered though its name is defined since": the table is not looked at

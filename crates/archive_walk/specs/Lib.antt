@@ -1,3 +1,4 @@
+pub mod Names
 pub mod Look
 pub mod Walk
 pub mod Ways

@@ -44,7 +44,7 @@ wasRemoved Nobody = false
 wasRemoved Removed = true
 wasRemoved (Known id) = false
 
--- weak or not
+-- weak or not: cell 5 of a symbol's row is its value's kind, 7 undefined
 abbrev pub isUndefined : List ℕ → Holder → Bool
 isUndefined symbols Unissued = false
 isUndefined symbols Nobody = false

@@ -6,11 +6,11 @@ use mathlib.Core.List.{List}
 use lib.Dec.{eqb, ltb}
 use lib.ListN.{set, length}
 use Rattle.link.specs.Judge.{refused}
-use Rattle.byte_slices.specs.Bytes.{same}
 use Rattle.archive_index.specs.declared.Opened.{Opened}
 use Rattle.archive_index.specs.Index.{offsetOf}
-use Rattle.archive_index.specs.Rows.{requiredAt, memberAt, passAt, queueAt, storedName}
+use Rattle.archive_index.specs.Rows.{memberAt, passAt, queueAt, storedName}
 use Rattle.archive_index.specs.Open.{openOf}
+use Rattle.archive_walk.specs.Names.{chainNames}
 use Rattle.archive_walk.specs.Look.{Table, judgeTable, removedName, undefinedName}
 use Rattle.archive_walk.specs.declared.Walk.{Walk}
 use Rattle.archive_walk.specs.declared.Begun.{Begun}
@@ -53,9 +53,9 @@ startLeft l r = record { cells = l; started = r }
 abbrev pub freshWalk : ℕ → ℕ → Walk
 freshWalk c n = record { entries = c; length = n; passes = 0; queued = 0; offered = 0; done = false }
 
--- what comes with a refusal: done, since there is nothing to walk over
+-- what comes with a refusal fits no index: a call for the next member gives 1, and doesn't say "done"
 abbrev pub noWalk : Walk
-noWalk = record { entries = 0; length = 0; passes = 0; queued = 0; offered = 0; done = true }
+noWalk = record { entries = 0; length = 0xffffffffffffffff; passes = 0; queued = 0; offered = 0; done = false }
 
 unfoldable pub begunOf : ℕ → Opened → Started
 begunOf n o =
@@ -63,7 +63,7 @@ begunOf n o =
     (record { walk = noWalk; begun = Begins.Refused (o .refusal) })
 
 unfoldable pub startOf : List ℕ → List ℕ → Start
-startOf s l = startLeft (openOf s l .cells) (begunOf (length s) (openOf s l .opened))
+startOf s l = startLeft (chainNames s (openOf s l .opened .entries) (openOf s l .cells)) (begunOf (length s) (openOf s l .opened))
 
 -- ---- a call for the next member
 
@@ -166,18 +166,3 @@ unfoldable pub nextOf : List ℕ → List ℕ → Walk → Table → Step
 nextOf s l w t =
     cond (w .done) (stepOf l w (Done (w .passes)))
     (cond (walkFits s l w) (goOf s l w t) (stepMoved l (refusedMove w 1 0)))
-
--- ---- the names that admission asks for
-
--- entry k bears the name x, and it was undefined in the pass that queued the member represented by r
-unfoldable pub bearsOf : List ℕ → List ℕ → ℕ → List ℕ → ℕ → Bool
-bearsOf s l r x k = cond (eqb (requiredAt l k) 1) (cond (eqb (memberAt l k) r) (same (storedName s l k) x) false) false
-
--- one of the n entries from k on does
-unfoldable pub requiredFrom : List ℕ → List ℕ → ℕ → List ℕ → ℕ → ℕ → Bool
-requiredFrom s l r x zero k = false
-requiredFrom s l r x (suc n) k = cond (bearsOf s l r x k) true (requiredFrom s l r x n (k + 1))
-
--- the name x is required of the member that was offered by entry e
-unfoldable pub requiredOf : List ℕ → List ℕ → ℕ → ℕ → List ℕ → Bool
-requiredOf s l c e x = requiredFrom s l (memberAt l e) x c 0

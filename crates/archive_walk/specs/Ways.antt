@@ -1,9 +1,9 @@
 -- The ways through the functions.
 -- Assumes nothing.
-use Prim.Native.Nat.{ℕ, _+_, _*_, _-_, _/_, _<_, _≤_}
+use Prim.Native.Nat.{ℕ, suc, _+_, _*_, _-_, _/_, _%_, _<_, _≤_}
 use native.Mathlib.Omega.{arith}
 use native.Mathlib.Nat.{sub-eq-zero-of-le}
-use mathlib.Core.Path.{_≡_, refl, sym, ap, _∙_}
+use mathlib.Core.Path.{_≡_, refl, sym, ap, subst, _∙_}
 use mathlib.Core.Bool.{Bool, true, false, cond}
 use mathlib.Core.List.{List}
 use lib.Dec.{eqb, ltb}
@@ -16,6 +16,7 @@ use Rattle.link.specs.declared.SymbolId.{SymbolId}
 use Rattle.link.specs.Judge.{judgeOf}
 use Rattle.byte_slices.specs.Bytes.{same}
 use Rattle.byte_slices.specs.Ways.{pick, apart}
+use Rattle.interner.specs.Hash.{hashFrom}
 use Rattle.interner.specs.Names.{findOf}
 use Rattle.symbol.specs.Row.{field}
 use Rattle.symbol_rows.specs.declared.Holder.{Holder}
@@ -23,7 +24,7 @@ use Rattle.symbol_rows.specs.declared.Holder.the-variants.{Unissued, Nobody, Re
 use Rattle.symbol_rows.specs.Holder.{holderOf}
 use Rattle.archive_index.specs.declared.Opened.{Opened}
 use Rattle.archive_index.specs.Index.{offsetOf}
-use Rattle.archive_index.specs.Rows.{requiredAt, memberAt, passAt, queueAt, storedName}
+use Rattle.archive_index.specs.Rows.{requiredAt, memberAt, passAt, queueAt, storedName, nextAt, headAt, noHeads}
 use Rattle.archive_index.specs.Open.{left, openOf}
 use Rattle.archive_index.specs.Ways.{one-more}
 use Rattle.archive_walk.specs.declared.Walk.{Walk}
@@ -33,7 +34,37 @@ use Rattle.archive_walk.specs.declared.Begun.the-variants as Begins
 use Rattle.archive_walk.specs.declared.Offer.the-variants.{Member, Done, Refused}
 use Rattle.archive_walk.specs.declared.Moved.{Moved}
 use Rattle.archive_walk.specs.Look.{Table, lentOf, judgeTable, nameHolder, removedName, undefinedName}
-use Rattle.archive_walk.specs.Walk.{startLeft, freshWalk, noWalk, begunOf, startOf, stepMoved, refusedMove, handedOut, ended, offerOf, Queue, queueOf, marked, enqueue, tieOf, tieAll, removedOf, passed, makeOf, searchOf, passOf, walkFits, goOf, nextOf, bearsOf, requiredFrom, requiredOf}
+use Rattle.archive_walk.specs.Walk.{startLeft, freshWalk, noWalk, begunOf, startOf, stepMoved, refusedMove, handedOut, ended, offerOf, Queue, queueOf, marked, enqueue, tieOf, tieAll, removedOf, passed, makeOf, searchOf, passOf, walkFits, goOf, nextOf}
+use Rattle.archive_walk.specs.Names.{nameChain, linkedOf, linkAll, chainNames, along, bearsOf, requiredOf}
+
+-- ---- the chains of names
+
+module _ (c r : ℕ) (x : List ℕ) (t : ℕ) where
+  pub name-chain-none : c ≡ 0 → t ≡ 0 → t ≡ nameChain c r x
+  unfolding nameChain
+  name-chain-none z q = simp (q, eq-eqb _ _ z)
+
+  pub name-chain-some : (h : ℕ) → (c ≡ 0 → ⊥) → h ≡ hashFrom 0 x → t ≡ (h % 0x100000000 + r % 0x100000000) % c → t ≡ nameChain c r x
+  unfolding nameChain
+  name-chain-some h z e q = q ∙ rw e (sym (rw (ne-eqb _ _ z)))
+
+module _ (s : List ℕ) (c : ℕ) (l : List ℕ) where
+  pub linked-is : (m t x : List ℕ) (k r b head : ℕ) → r ≡ memberAt l k → x ≡ storedName s l k → b ≡ nameChain c r x → head ≡ headAt l b
+      → m ≡ set l (k * 8 + 2) head → t ≡ set m (b * 8 + 3) (k + 1) → t ≡ linkedOf s c l k
+  unfolding linkedOf
+  linked-is m t x k r b head e f g h i q = q ∙ rw (i, h, g, f, e)
+
+  pub link-on : (m w : List ℕ) (k : ℕ) → k < c → m ≡ linkedOf s c l k → w ≡ linkAll s c (c - k) k l → w ≡ linkAll s c (c - (k + 1)) (k + 1) m
+  unfolding linkAll
+  link-on m w k h e q = q ∙ rw (one-more c k h) (rw e refl)
+
+  pub link-end : (w : List ℕ) (k : ℕ) → c ≤ k → w ≡ linkAll s c (c - k) k l → l ≡ w
+  unfolding linkAll
+  link-end w k h q = sym (q ∙ rw (sub-eq-zero-of-le h))
+
+  pub chain-names-is : (m t : List ℕ) → m ≡ noHeads c l → t ≡ linkAll s c c 0 m → t ≡ chainNames s c l
+  unfolding chainNames
+  chain-names-is m t e q = q ∙ rw e
 
 -- ---- the start
 
@@ -47,9 +78,10 @@ module _ (n : ℕ) (o : Opened) (t : Started) where
   begin-refused e q = q ∙ sym (rw (ne-eqb _ _ e))
 
 module _ (s l : List ℕ) where
-  pub start-is : (m : List ℕ) (o : Opened) (t : Started) → left m o ≡ openOf s l → t ≡ begunOf (length s) o → startLeft m t ≡ startOf s l
+  pub start-is : (m n : List ℕ) (o : Opened) (t : Started) → left m o ≡ openOf s l → n ≡ chainNames s (o .entries) m → t ≡ begunOf (length s) o
+      → startLeft n t ≡ startOf s l
   unfolding startOf
-  start-is m o t e q = rw (q, ← e)
+  start-is m n o t e f q = rw (q, f, ← e)
 
 -- ---- the table
 
@@ -292,21 +324,29 @@ module _ (s l : List ℕ) (r : ℕ) (x : List ℕ) (k : ℕ) (y : Bool) (a : ℕ
     unfolding bearsOf
     bears-name z e h f g i q = q ∙ sym (rw (← e, eq-eqb _ _ h, ← f, eq-eqb _ _ g, ← i))
 
-module _ (s l : List ℕ) (c e r : ℕ) (x : List ℕ) where
-  pub required-start : r ≡ memberAt l e → requiredOf s l c e x ≡ requiredFrom s l r x c 0
+module _ (s l : List ℕ) (c e r b at : ℕ) (x : List ℕ) where
+  pub seek-start : r ≡ memberAt l e → b ≡ nameChain c r x → at ≡ headAt l b → requiredOf s l c e x ≡ along l (bearsOf s l r x) at c
   unfolding requiredOf
-  required-start h = rw h
+  seek-start f g h = rw (h, g, f)
 
-module _ (s l : List ℕ) (r : ℕ) (x : List ℕ) (c k : ℕ) (w b : Bool) where
-  pub required-hit : k < c → b ≡ bearsOf s l r x k → b ≡ true → w ≡ requiredFrom s l r x (c - k) k → true ≡ w
-  unfolding requiredFrom
-  required-hit h e f q = sym (q ∙ rw (one-more c k h) (simp (← e, f)))
+module _ (l : List ℕ) (f : ℕ → Bool) (at n : ℕ) (w : Bool) where
+  one-less : 0 < n → n ≡ suc (n - 1)
+  one-less h = omega arith
 
-  pub required-on : k < c → b ≡ bearsOf s l r x k → b ≡ false → w ≡ requiredFrom s l r x (c - k) k → w ≡ requiredFrom s l r x (c - (k + 1)) (k + 1)
-  unfolding requiredFrom
-  required-on h e f q = q ∙ rw (one-more c k h) (simp (← e, f))
+  pub along-out : n ≤ 0 → w ≡ along l f at n → false ≡ w
+  unfolding along
+  along-out h q = let e : n ≡ 0 = omega arith in sym (q ∙ rw e)
 
-module _ (s l : List ℕ) (r : ℕ) (x : List ℕ) (c k : ℕ) (w : Bool) where
-  pub required-end : c ≤ k → w ≡ requiredFrom s l r x (c - k) k → false ≡ w
-  unfolding requiredFrom
-  required-end h q = sym (q ∙ rw (sub-eq-zero-of-le h))
+  pub along-end : 0 < n → at ≡ 0 → w ≡ along l f at n → false ≡ w
+  unfolding along
+  along-end h e q = sym (q ∙ rw (one-less h) (simp (eq-eqb _ _ e)))
+
+  module _ (b : Bool) where
+    pub along-hit : 0 < n → (at ≡ 0 → ⊥) → b ≡ f (at - 1) → b ≡ true → w ≡ along l f at n → true ≡ w
+    unfolding along
+    along-hit h e g i q = sym (q ∙ rw (one-less h) (simp (ne-eqb _ _ e, ← g, i)))
+
+    pub along-on : (m : ℕ) → 0 < n → (at ≡ 0 → ⊥) → b ≡ f (at - 1) → b ≡ false → m ≡ nextAt l (at - 1) → w ≡ along l f at n → w ≡ along l f m (n - 1)
+    unfolding along
+    along-on m h e g i j q =
+        q ∙ subst (λ (k : ℕ). along l f at k ≡ along l f m (n - 1)) (sym (one-less h)) (simp (ne-eqb _ _ e, ← g, i, j))

@@ -4,7 +4,8 @@ ghost use mathlib.Core.Path.{_≡_};
 ghost use Prim.Native.Nat.{_+_, _<_};
 ghost use lib.ListN.{length};
 ghost use Rattle.archive_walk.specs.Look.{tableOf, judgeTable, nameHolder, removedName, undefinedName};
-ghost use Rattle.archive_walk.specs.Walk.{startLeft, begunOf, startOf, stepMoved, refusedMove, offerOf, queueOf, marked, enqueue, tieOf, tieAll, removedOf, makeOf, passOf, walkFits, nextOf, bearsOf, requiredOf};
+ghost use Rattle.archive_walk.specs.Walk.{startLeft, begunOf, startOf, stepMoved, refusedMove, offerOf, queueOf, marked, enqueue, tieOf, tieAll, removedOf, makeOf, passOf, walkFits, nextOf};
+ghost use Rattle.archive_walk.specs.Names.{nameChain, linkedOf, linkAll, chainNames, bearsOf, requiredOf};
 use archive_index::Opened;
 use link::Interned;
 use link::Lent;
@@ -52,6 +53,50 @@ pub struct Moved {
     pub offer: Offer,
 }
 
+// ---- the names of a member, found by their hash
+
+// The chain of the name x of the member that r represents, among c chains.
+fn name_chain(c: usize, r: u64, x: &[u8]) -> usize
+    ensures { λ y. ⌜ y ≡ nameChain c r (now (x .entry)) ⌝ }
+{
+    if c == 0 {
+        return 0;
+    }
+    let h = interner::hash(x) % 0x1_0000_0000;
+    let m = r as usize % 0x1_0000_0000;
+    (h + m) % c
+}
+
+// Entry k goes to the head of its name's chain.
+fn link_name(index: &[u8], cells: &mut [u64], c: usize, k: usize)
+    requires { ⌜ k < 0xffffffffffffffff ⌝ }
+    ensures { λ _. ⌜ now (cells .exit) ≡ linkedOf (now (index .entry)) c (now (cells .entry)) k ⌝ }
+{
+    let r = cells::row_get(cells, k, 1);
+    let b = name_chain(c, r, archive_index::name(index, cells, k));
+    let head = cells::row_get(cells, b, 3);
+    cells::row_put(cells, k, 2, head);
+    cells::row_put(cells, b, 3, (k + 1) as u64);
+}
+
+fn link_all(index: &[u8], cells: &mut [u64], entries: usize)
+    ensures { λ _. ⌜ now (cells .exit) ≡ linkAll (now (index .entry)) entries entries 0 (now (cells .entry)) ⌝ }
+{
+    let mut k = 0;
+    while k < entries {
+        link_name(index, cells, entries, k);
+        k += 1;
+    }
+}
+
+// The cells in which the index chained members chain the names from now on.
+fn chain_names(index: &[u8], cells: &mut [u64], entries: usize)
+    ensures { λ _. ⌜ now (cells .exit) ≡ chainNames (now (index .entry)) entries (now (cells .entry)) ⌝ }
+{
+    archive_index::clear_heads(cells, entries);
+    link_all(index, cells, entries);
+}
+
 // ---- the start
 
 fn begin(length: usize, o: Opened) -> Started
@@ -74,11 +119,11 @@ fn begin(length: usize, o: Opened) -> Started
     Started {
         walk: Walk {
             entries: 0,
-            length: 0,
+            length: 0xffff_ffff_ffff_ffff,
             passes: 0,
             queued: 0,
             offered: 0,
-            done: true,
+            done: false,
         },
         begun: Begun::Refused { refusal: refusal },
     }
@@ -89,6 +134,7 @@ pub fn start(index: &[u8], cells: &mut [u64]) -> Started
     ensures { λ r. ⌜ startLeft (now (cells .exit)) r ≡ startOf (now (index .entry)) (now (cells .entry)) ⌝ }
 {
     let opened = archive_index::open(index, cells);
+    chain_names(index, cells, opened.entries);
     begin(index.len(), opened)
 }
 
@@ -362,7 +408,7 @@ fn pass(
 }
 
 // The index and the rows are as long as at the start, and the counts are those of a walk.
-fn fits(w: Walk, index: &[u8], cells: &[u64]) -> bool
+pub fn fits(w: Walk, index: &[u8], cells: &[u64]) -> bool
     ensures { λ r. ⌜ r ≡ walkFits (now (index .entry)) (now (cells .entry)) w ⌝ }
 {
     if index.len() < w.length {
@@ -424,17 +470,23 @@ fn bears(index: &[u8], cells: &[u64], r: u64, x: &[u8], k: usize) -> bool
     false
 }
 
-// Is the name required of the member that was offered by this entry: was it undefined in the pass that queued it?
+// Is the name required of the member that was offered by this entry: was it undefined in the pass that queued it? Along the name's chain.
 pub fn is_required(index: &[u8], cells: &[u64], entries: usize, entry: usize, x: &[u8]) -> bool
     ensures { λ y. ⌜ y ≡ requiredOf (now (index .entry)) (now (cells .entry)) entries entry (now (x .entry)) ⌝ }
 {
     let r = cells::row_get(cells, entry, 1);
-    let mut k = 0;
-    while k < entries {
-        if bears(index, cells, r, x, k) {
+    let b = name_chain(entries, r, x);
+    let mut at = cells::row_get(cells, b, 3) as usize;
+    let mut left = entries;
+    while 0 < left {
+        if at == 0 {
+            return false;
+        }
+        if bears(index, cells, r, x, at - 1) {
             return true;
         }
-        k += 1;
+        at = cells::row_get(cells, at - 1, 2) as usize;
+        left -= 1;
     }
     false
 }

@@ -193,7 +193,8 @@ fn entry_ok(entries: &[u64], i: usize) -> bool
     upcoming_symbol::elf_in_range(elf_at(entries, i))
 }
 
-fn bad_entry(entries: &[u64]) -> usize
+// The first symbol row out of range; as many as there are where none is.
+pub fn bad_entry(entries: &[u64]) -> usize
     ensures { λ r. ⌜ r ≡ badEntry (now (entries .entry)) ⌝ }
 {
     let rows = entries.len() / 8;

@@ -1,24 +1,27 @@
 -- Demand 3: "Collection, unless refused, keeps exactly what relocations reach from the roots." Of any call, whatever the cells hold.
 -- Assumes nothing.
-use Prim.Native.Nat.{ℕ, _/_, _≤_}
+use Prim.Native.Nat.{ℕ, _/_, _<_, _≤_}
 use native.Mathlib.Omega.{arith}
 use mathlib.Core.Path.{_≡_, sym, ap, _∙_}
 use mathlib.Core.Bool.{true, false}
 use mathlib.Core.List.{List}
 use borrow.Author.Tests.{eqb-true}
 use lib.Dec.{eqb, ltb}
+use lib.ListN.{length}
 use Rattle.cells.specs.Split.{by-test}
 use Rattle.byte_slices.specs.Ways.{pick}
 use Rattle.link.specs.declared.Link.{Link}
 use Rattle.link.specs.declared.Lent.{Lent}
 use Rattle.link.specs.declared.Refusal.{Refusal}
-use Rattle.link.specs.Bounds.{nameRows, nameBytes, symbolRows, sectionRows, inputRows}
-use Rattle.link.specs.Judge as Link
 use Rattle.link.specs.Judge.{refused, changeOf}
 use Rattle.link.specs.Passed.{judge-gives}
-use Rattle.sections.specs.Rows.{stateAt, isBuilt}
+use Rattle.symbol.specs.Row as Symbol
+use Rattle.symbol_rows.specs.Decide.{sectionCells}
+use Rattle.sections.specs.Rows.{field, stateAt, isBuilt}
 use Rattle.gc_sections.specs.declared.EntryPoint.{EntryPoint}
+use Rattle.gc_sections.specs.declared.Lead.the-variants as Leading
 use Rattle.gc_sections.specs.declared.Answer.the-variants.{Dropped, Refused}
+use Rattle.gc_sections.specs.Roots.{leadOf}
 use Rattle.gc_sections.specs.Run.{Left, Lists, numberOf, judgeCells, judgeOf, judged, runOf}
 use Rattle.gc_laws.specs.Reached.{Reached}
 use Rattle.gc_laws.specs.Collected as C
@@ -50,11 +53,12 @@ module _ (l : Link) (x : Lists) (symbols sections : List ℕ) (entry : EntryPoin
   abbrev R : ℕ → Type 0
   R = Reached l x symbols sections entry
 
-  -- what is refused at the head has the head's answer
+  -- 22, 1 and the work cells refuse nothing
   abbrev Passed : Type 0
   Passed = judged l x symbols sections work .number ≡ 0
 
-  head : (P : Type 0) → (Passed → P) → (r .answer ≡ Refused (judged l x symbols sections work) → P) → P
+  -- what is refused at the head has the head's answer
+  pub head : (P : Type 0) → (Passed → P) → (r .answer ≡ Refused (judged l x symbols sections work) → P) → P
   unfolding runOf
   head P f g = by-test (eqb (judged l x symbols sections work .number) 0) (λ t. f (eqb-true _ _ t)) (λ t. g (rw t))
 
@@ -87,6 +91,29 @@ module _ (l : Link) (x : Lists) (symbols sections : List ℕ) (entry : EntryPoin
         dropped = C.unreached-dropped l x symbols sections entry work ok whole;
       }
 
+  -- symbol i lies in section y
+  abbrev pub Lies : ℕ → ℕ → Type 0
+  Lies i y = leadOf symbols (l .symbols) (record { 0 = i }) ≡ Leading.Section (record { 0 = y })
+
+  abbrev pub Built : ℕ → Type 0
+  Built y = isBuilt sections n y ≡ true
+
+  -- not refused: "their symbols' rows with them", and no other cell of a row; a section's symbol goes with a removed `Section` row of it
+  pub record Removed : Type 0 where
+    pub removed : (i y : ℕ) → Lies i y → Built y → (R y → ⊥) → Symbol.stateAt (r .symbols) i ≡ 2
+    pub stays : (i f : ℕ) → f < 8 → (f ≡ 0 → (y : ℕ) → Lies i y → Built y → R y) → Symbol.field (r .symbols) i f ≡ Symbol.field symbols i f
+    pub sectionStays : (y f : ℕ) → y < sectionCells (length sections) → f < 8 → (f ≡ 0 → Built y → R y) → field (r .sections) y f ≡ field sections y f
+
+  pub removes : (a b : ℕ) → r .answer ≡ Dropped a b → Removed
+  removes a b e =
+      let ok = accepted-passed a b e in
+      let whole = accepted-whole a b e in
+      record {
+        removed = C.symbol-removed l x symbols sections entry work ok whole;
+        stays = C.symbol-stays l x symbols sections entry work ok whole;
+        sectionStays = C.others-stay l x symbols sections entry work ok whole;
+      }
+
   -- refused with 21: the place is the lowest section that is reached but not built
   pub record Lowest (k : ℕ) : Type 0 where
     pub reached : R k
@@ -96,7 +123,7 @@ module _ (l : Link) (x : Lists) (symbols sections : List ℕ) (entry : EntryPoin
   pub refuses : (k : ℕ) → r .answer ≡ Refused (refused 21 k) → Lowest k
   refuses k e = let f = C.refused-lowest l x symbols sections entry work (refused-passed k e) k e in record { reached = f .0; unbuilt = f .1; least = f .2 }
 
-  -- a call that passes its head is refused only so, and only where there is such a section
+  -- a call that passes its head is refused where there is such a section, and only there
   pub passes : Passed → (y : ℕ) → R y → isBuilt sections n y ≡ false → (k : ℕ) × (r .answer ≡ Refused (refused 21 k))
   passes ok y q u = C.unbuilt-refused l x symbols sections entry work ok y q u
 

@@ -1,6 +1,6 @@
 -- Worked examples of document 01 and of the reading of it, computed from the contract's definition.
 -- Assumes nothing.
-use Prim.Native.Nat.{ℕ}
+use Prim.Native.Nat.{ℕ, zero, suc, _+_}
 use mathlib.Core.Path.{_≡_, refl}
 use mathlib.Core.Bool.{false}
 use mathlib.Core.List.{List, [], _∷_, _++_}
@@ -14,6 +14,7 @@ use Rattle.symbols.specs.Remove.{dropSection, removeRowOf}
 use Rattle.sections.specs.Rows.{stateAt, isBuilt}
 use Rattle.symbol.specs.Row as Symbol
 use Rattle.gc_sections.specs.declared.EntryPoint.the-variants as Entry
+use Rattle.gc_sections.specs.declared.Answer.{Answer}
 use Rattle.gc_sections.specs.declared.Answer.the-variants.{Dropped, Refused}
 use Rattle.gc_sections.specs.Each.{each}
 use Rattle.gc_sections.specs.Roots.{valueLead, leadOf, readable, nameIs, rooted, isRoot}
@@ -42,56 +43,95 @@ reserved = 1 ∷ 0 ∷ 0 ∷ 0 ∷ 0 ∷ 0 ∷ 0 ∷ 0 ∷ []
 abbrev lent : List ℕ → List ℕ → Lists
 lent lists marks = listsOf [] (replicate {A = ℕ} 9 0) lists marks
 
+-- a collection without entry symbol: what it is given; its answer, and the states of the sections and of the symbols after it
+pub record Example : Type 0 where
+  pub link : Link
+  pub lists : Lists
+  pub symbols : List ℕ
+  pub sections : List ℕ
+  pub work : List ℕ
+  pub answer : Answer
+  pub sectionStates : List ℕ
+  pub symbolStates : List ℕ
+
+abbrev pub collected : Example → Left
+collected e = runOf (e .link) (e .lists) (e .symbols) (e .sections) Entry.None (e .work)
+
+abbrev pub statesFrom : (List ℕ → ℕ → ℕ) → List ℕ → ℕ → ℕ → List ℕ
+statesFrom state rows i zero = []
+statesFrom state rows i (suc n) = state rows i ∷ statesFrom state rows (i + 1) n
+
+abbrev pub Right : Example → Type 0
+Right e =
+    (collected e .answer ≡ e .answer) × (statesFrom stateAt (collected e .sections) 0 (e .link .sections) ≡ e .sectionStates)
+    × (statesFrom Symbol.stateAt (collected e .symbols) 0 (e .link .symbols) ≡ e .symbolStates)
+
 -- P12: two unrooted sections naming each other are both dropped, their symbols with them
-abbrev twoNaming : Left
-twoNaming =
-    runOf (counts 3 2 2) (lent (2 ∷ 1 ∷ []) (0 ∷ 0 ∷ 0 ∷ [])) (null ++ (inSection 0 ++ inSection 1)) (section 1 0 ++ (section 1 1 ++ (1 ∷ 2 ∷ []))) Entry.None
-    (9 ∷ 9 ∷ 9 ∷ 9 ∷ [])
+abbrev pub p12 : Example
+p12 =
+    record {
+      link = counts 3 2 2;
+      lists = lent (2 ∷ 1 ∷ []) (0 ∷ 0 ∷ 0 ∷ []);
+      symbols = null ++ (inSection 0 ++ inSection 1);
+      sections = section 1 0 ++ (section 1 1 ++ (1 ∷ 2 ∷ []));
+      work = 9 ∷ 9 ∷ 9 ∷ 9 ∷ [];
+      answer = Dropped 2 2;
+      sectionStates = 3 ∷ 3 ∷ [];
+      symbolStates = 1 ∷ 2 ∷ 2 ∷ [];
+    }
 
--- V16: three marks for four symbols; a marked symbol in section 70,000 and one in the reserved section 2: the lower gives 21
-abbrev shortMarks : Left
-shortMarks = runOf (counts 4 0 0) (lent [] (1 ∷ 1 ∷ 1 ∷ [])) (null ++ (null ++ (null ++ null))) [] Entry.None []
+-- V16: three marks for four symbols
+abbrev pub shortMarks : Example
+shortMarks =
+    record {
+      link = counts 4 0 0;
+      lists = lent [] (1 ∷ 1 ∷ 1 ∷ []);
+      symbols = null ++ (null ++ (null ++ null));
+      sections = [];
+      work = [];
+      answer = Refused (Link.refused 1 3);
+      sectionStates = [];
+      symbolStates = 1 ∷ 1 ∷ 1 ∷ 1 ∷ [];
+    }
 
-abbrev twoUnbuilt : Left
+-- V16: a marked symbol in section 70,000 and one in the reserved section 2: the lower gives 21
+abbrev pub twoUnbuilt : Example
 twoUnbuilt =
-    runOf (counts 3 3 0) (lent [] (0 ∷ 1 ∷ 1 ∷ [])) (null ++ (inSection 70000 ++ inSection 2))
-    (reserved ++ (reserved ++ (reserved ++ (0 ∷ 0 ∷ 0 ∷ [])))) Entry.None (9 ∷ 9 ∷ 9 ∷ 9 ∷ 9 ∷ 9 ∷ [])
+    record {
+      link = counts 3 3 0;
+      lists = lent [] (0 ∷ 1 ∷ 1 ∷ []);
+      symbols = null ++ (inSection 70000 ++ inSection 2);
+      sections = reserved ++ (reserved ++ (reserved ++ (0 ∷ 0 ∷ 0 ∷ [])));
+      work = replicate {A = ℕ} 6 9;
+      answer = Refused (Link.refused 21 2);
+      sectionStates = 1 ∷ 1 ∷ 1 ∷ [];
+      symbolStates = 1 ∷ 1 ∷ 1 ∷ [];
+    }
 
 -- V17: sections 0 and 1 name each other, section 2 can't be read and names section 3: 0 and 1 go, 2 and 3 stay
-abbrev unreadable : Left
+abbrev pub unreadable : Example
 unreadable =
-    runOf (counts 5 4 4) (lent (2 ∷ 1 ∷ 4 ∷ 4 ∷ []) (0 ∷ 0 ∷ 0 ∷ 0 ∷ 0 ∷ [])) (null ++ (inSection 0 ++ (inSection 1 ++ (inSection 2 ++ inSection 3))))
-    (section 1 0 ++ (section 1 1 ++ (section 0 2 ++ (section 1 3 ++ (1 ∷ 2 ∷ 3 ∷ 4 ∷ []))))) Entry.None (replicate {A = ℕ} 8 9)
+    record {
+      link = counts 5 4 4;
+      lists = lent (2 ∷ 1 ∷ 4 ∷ 4 ∷ []) (0 ∷ 0 ∷ 0 ∷ 0 ∷ 0 ∷ []);
+      symbols = null ++ (inSection 0 ++ (inSection 1 ++ (inSection 2 ++ inSection 3)));
+      sections = section 1 0 ++ (section 1 1 ++ (section 0 2 ++ (section 1 3 ++ (1 ∷ 2 ∷ 3 ∷ 4 ∷ []))));
+      work = replicate {A = ℕ} 8 9;
+      answer = Dropped 2 2;
+      sectionStates = 3 ∷ 3 ∷ 2 ∷ 2 ∷ [];
+      symbolStates = 1 ∷ 2 ∷ 2 ∷ 1 ∷ 1 ∷ [];
+    }
 
--- what stands in the states of four sections and five symbols
-abbrev states : Left → List ℕ
-states r = stateAt (r .sections) 0 ∷ stateAt (r .sections) 1 ∷ stateAt (r .sections) 2 ∷ stateAt (r .sections) 3 ∷ []
+abbrev pub All : List Example → Type 0
+All [] = Unit {0}
+All (e ∷ es) = Right e × All es
 
-abbrev symbolStates : Left → List ℕ
-symbolStates r =
-    Symbol.stateAt (r .symbols) 0 ∷ Symbol.stateAt (r .symbols) 1 ∷ Symbol.stateAt (r .symbols) 2 ∷ Symbol.stateAt (r .symbols) 3 ∷ Symbol.stateAt (r .symbols) 4 ∷ []
-
-pub record Right : Type 0 where
-  pub p12-answer : twoNaming .answer ≡ Dropped 2 2
-  pub p12-sections : stateAt (twoNaming .sections) 0 ∷ stateAt (twoNaming .sections) 1 ∷ [] ≡ 3 ∷ 3 ∷ []
-  pub p12-symbols : Symbol.stateAt (twoNaming .symbols) 0 ∷ Symbol.stateAt (twoNaming .symbols) 1 ∷ Symbol.stateAt (twoNaming .symbols) 2 ∷ [] ≡ 1 ∷ 2 ∷ 2 ∷ []
-  pub v16-marks : shortMarks .answer ≡ Refused (Link.refused 1 3)
-  pub v16-lowest : twoUnbuilt .answer ≡ Refused (Link.refused 21 2)
-  pub v17-answer : unreadable .answer ≡ Dropped 2 2
-  pub v17-sections : states unreadable ≡ 3 ∷ 3 ∷ 2 ∷ 2 ∷ []
-  pub v17-symbols : symbolStates unreadable ≡ 1 ∷ 2 ∷ 2 ∷ 1 ∷ 1 ∷ []
-
-pub right : Right
+pub examples : All (p12 ∷ shortMarks ∷ twoUnbuilt ∷ unreadable ∷ [])
 unfolding same lesser Link.otherLength Link.judgeSections Link.judgeNames Link.judgeLists Link.afterSymbols Link.afterSections Link.judgeOf Link.changeOf setSectionSymbol dropSection removeRowOf isBuilt each valueLead leadOf readable nameIs rooted isRoot
     saveOf reachOf addOf rootSymbol rootSection endOf relocation relocations follow visit clearCell startOf rootsOf processOf walked dropUnreached droppedNow purgeSymbol
     sweepSections purgeSymbols judgeCells judgeOf purgeOf sweepOf finished collectOf runOf
-right = record {
-  p12-answer = refl;
-  p12-sections = refl;
-  p12-symbols = refl;
-  v16-marks = refl;
-  v16-lowest = refl;
-  v17-answer = refl;
-  v17-sections = refl;
-  v17-symbols = refl;
-}
+examples = ((refl, refl, refl), ((refl, refl, refl), ((refl, refl, refl), ((refl, refl, refl), tt))))
+
+-- for the list of all examples that are marked for proof
+pub p12-right : Right p12
+p12-right = examples .0

@@ -36,6 +36,7 @@ abbrev pub queue : ℕ → SectionId → Walk → Walk
 queue n id s =
     walkOf (set (set (s .work) (id .0) 1) (n + s .visitor .queued) (id .0)) (visitorOf (s .visitor .queued + 1) (s .visitor .unbuilt))
 
+-- once: a section that has a 1 is queued already. The queue has a cell for each section, so it is never full
 unfoldable pub saveOf : ℕ → SectionId → Walk → Walk
 saveOf n id s = cond (eqb (getD (s .work) (id .0) 0) 0) (cond (ltb (s .visitor .queued) n) (queue n id s) s) s
 

@@ -20,7 +20,7 @@ symbolId i = record { 0 = i }
 abbrev pub sectionId : ℕ → SectionId
 sectionId i = record { 0 = i }
 
--- a value of kind 2, 3 or 4 lies in a section
+-- a value of kind 2 (section), 3 (relative) or 4 (virtual address) lies in section a
 unfoldable pub valueLead : ℕ → ℕ → Lead
 valueLead kind a =
     cond (eqb kind 2) (Section (sectionId a)) (cond (eqb kind 3) (Section (sectionId a)) (cond (eqb kind 4) (Section (sectionId a)) Nowhere))

@@ -29,16 +29,36 @@ abbrev pub placeOf : Answer → ℕ
 placeOf (Dropped sections symbols) = 0
 placeOf (Refused r) = r .place
 
--- every lent cell that a collection may write, the counts and the answer
+-- its values: how many sections were dropped, and how many symbols were removed with them
+abbrev pub sectionsIn : Answer → ℕ
+sectionsIn (Dropped sections symbols) = sections
+sectionsIn (Refused r) = 0
+
+abbrev pub symbolsIn : Answer → ℕ
+symbolsIn (Dropped sections symbols) = symbols
+symbolsIn (Refused r) = 0
+
+pub record Said : Type 0 where
+  pub number : ℕ
+  pub place : ℕ
+  pub sections : ℕ
+  pub symbols : ℕ
+
+abbrev pub saidOf : Answer → Said
+saidOf a = record { number = numberOf a; place = placeOf a; sections = sectionsIn a; symbols = symbolsIn a }
+
+-- every lent cell that a collection may write, the counts, the answer and what it says
 pub record Left : Type 0 where
   pub symbols : List ℕ
   pub sections : List ℕ
   pub work : List ℕ
   pub link : Link
   pub answer : Answer
+  pub said : Said
 
 abbrev pub left : List ℕ → List ℕ → List ℕ → Link → Answer → Left
-left symbols sections work l a = record { symbols = symbols; sections = sections; work = work; link = l; answer = a }
+left symbols sections work l a =
+    record { symbols = symbols; sections = sections; work = work; link = l; answer = a; said = saidOf a }
 
 abbrev pub outcome : List ℕ → List ℕ → List ℕ → Outcome → Left
 outcome symbols sections work r = left symbols sections work (r .link) (r .answer)

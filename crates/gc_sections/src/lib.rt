@@ -625,7 +625,8 @@ fn finish(
     }
 }
 
-// Marks: a byte for each symbol, nonzero a root. Refused with 21 at the lowest section that is reached but not built.
+// Marks: a byte for each symbol, nonzero a root. Refused with 21 at the lowest section that is reached but not built. After a call that isn't
+// refused the work cell of a section is 2 if this call dropped it, 1 if it is kept, 0 if it wasn't built.
 pub fn run(
     l: Link,
     bytes: &[u8],

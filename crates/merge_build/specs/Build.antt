@@ -15,7 +15,7 @@ use Rattle.interner.specs.Names.{Store, storeOf, findOf, fitsOf, keepOf}
 use Rattle.sections.specs.declared.Section.{Section}
 use Rattle.sections.specs.Rows.{builtOf}
 use Rattle.elf_object.specs.Judge.{rangeOk}
-use Rattle.elf_object.specs.Rows.{rowsIn, nameOffsetAt, retainAt, readAt, isLoaded, nameIn}
+use Rattle.elf_object.specs.Rows.{rowsIn, nameOffsetAt, retainAt, readAt, isLoaded, nameIn, conversionAt, markAt}
 use Rattle.merge_build.specs.declared.Plan.{Plan}
 use Rattle.merge_build.specs.Relocations.{tableFor, limitOf, relocationsOf, symbolsOk, appendFrom}
 
@@ -81,7 +81,7 @@ unfoldable pub planOf : Link → List ℕ → List ℕ → ℕ → List ℕ → 
 planOf l bytes names lists ids limit relocations x =
     planWith l bytes names lists ids limit relocations x (record { 0 = findOf bytes names (l .names) x })
 
--- the row that was reserved, from the conversion's cell
+-- the row that was reserved, from the conversion's cell; a section to be built has one, so its cell is at least 2
 unfoldable pub sectionIdOf : ℕ → SectionId
 sectionIdOf cell = cond (ltb cell 2) (record { 0 = 0 }) (record { 0 = cell - 2 })
 
@@ -106,7 +106,7 @@ sectionRow headers n kind id first count =
 unfoldable pub buildRowOf : List ℕ → List ℕ → List ℕ → RowState → List ℕ → Interned → ℕ → ℕ → RowState
 buildRowOf headers work ids s relocations id n kind =
     cond (listsFit (s .link .lists) (length (s .lists)) (length relocations))
-    (rowState (builtOf (s .sections) (sectionIdOf (getD work (n * 8 + 0) 0)) (sectionRow headers n kind id (s .link .lists) (length relocations)))
+    (rowState (builtOf (s .sections) (sectionIdOf (conversionAt work n)) (sectionRow headers n kind id (s .link .lists) (length relocations)))
     (appendFrom ids (s .lists) (s .link .lists) relocations) (moreLists (s .link) (length relocations))) s
 
 abbrev pub stop : LinkState → ℕ → ℕ → State
@@ -139,7 +139,7 @@ namedOf headers contents work ids s x t symbols n kind = tabledOf headers conten
 
 -- of that kind, not excluded, and not removed with a repeated group
 unfoldable pub builtFrom : List ℕ → List ℕ → ℕ → ℕ → Bool
-builtFrom headers work n kind = cond (isLoaded headers n kind) (cond (eqb (getD work (n * 8 + 1) 0) 2) false true) false
+builtFrom headers work n kind = cond (isLoaded headers n kind) (cond (eqb (markAt work n) 2) false true) false
 
 abbrev pub linked : State → LinkState
 linked s = linkState (s .bytes) (s .names) (s .sections) (s .lists) (s .stage .link)

@@ -1,7 +1,8 @@
-// The merge of an object into a link: its head, its last row, and what it answers. The stages between them are crates of their own; specs/
-// puts them together, in document 01's order.
+// The merge of an object into a link: its head, its stages, and what it answers.
 ghost use mathlib.Core.Path.{_≡_};
-ghost use Rattle.merge_elf.specs.Merge.{inputLinks, headOf, inputOf, endedAs};
+ghost use Rattle.link.specs.Judge.{goingOf};
+ghost use Rattle.merge_stages.specs.Stages.{allOf, objectOf};
+ghost use Rattle.merge_elf.specs.Merge.{headOf, endedAs, outcome, finishedOf, mergeOf};
 use link::Lent;
 use link::Link;
 use link::Refusal;
@@ -18,7 +19,7 @@ pub struct Outcome {
 }
 
 // 22; 1 of the link's counts, of the object's sections, then of its symbols; too few work cells 2 at place 0.
-pub fn head(
+fn head(
     l: Link,
     lent: Lent,
     headers: &[u64],
@@ -56,30 +57,8 @@ pub fn head(
     }
 }
 
-// The object's own row is taken last.
-pub fn input_row(l: Link, inputs: &mut [u64]) -> Stage
-    ensures { λ r. ⌜ inputLinks (now (inputs .exit)) r ≡ inputOf (now (inputs .entry)) l ⌝ }
-{
-    let n = l.inputs;
-    if n < link::input_rows(inputs.len()) {
-        cells::row_store(inputs, n, 1, 0, 0, 0, 0, 0, 0, 0);
-        return link::going(Link {
-            names: l.names,
-            bytes: l.bytes,
-            symbols: l.symbols,
-            sections: l.sections,
-            inputs: n + 1,
-            lists: l.lists,
-            chains: l.chains,
-            slots: l.slots,
-            broken: l.broken,
-        });
-    }
-    link::stopped(l, 2, 0)
-}
-
 // What a merge answers after its stages: a refusal breaks the link.
-pub fn ended(s: Stage) -> Outcome
+fn ended(s: Stage) -> Outcome
     ensures { λ r. ⌜ r ≡ endedAs s ⌝ }
 {
     let l = s.link;
@@ -98,4 +77,108 @@ pub fn ended(s: Stage) -> Outcome
         link: l,
         answer: Answer::Merged,
     }
+}
+
+// An object that passes the head.
+fn merge_judged(
+    l: Link,
+    bytes: &mut [u8],
+    names: &mut [u64],
+    symbols: &mut [u64],
+    sections: &mut [u64],
+    inputs: &mut [u64],
+    lists: &mut [u64],
+    work: &mut [u64],
+    ids: &mut [u64],
+    headers: &[u64],
+    entries: &[u64],
+    contents: &[u64],
+    file: &[u8],
+    strings: usize,
+) -> Outcome
+    ensures { λ r. ⌜ outcome (now (bytes .exit)) (now (names .exit)) (now (symbols .exit)) (now (sections .exit)) (now (inputs .exit)) (now (lists .exit)) (now (work .exit)) (now (ids .exit)) r
+        ≡ finishedOf (objectOf (now (headers .entry)) (now (entries .entry)) (now (contents .entry)) (now (file .entry)) strings)
+        (allOf (now (bytes .entry)) (now (names .entry)) (now (symbols .entry)) (now (sections .entry)) (now (inputs .entry)) (now (lists .entry)) (now (work .entry)) (now (ids .entry)) (goingOf l)) ⌝ }
+{
+    ended(merge_stages::merge_stages(
+        l,
+        bytes,
+        names,
+        symbols,
+        sections,
+        inputs,
+        lists,
+        work,
+        ids,
+        headers,
+        entries,
+        contents,
+        file,
+        strings,
+    ))
+}
+
+// Merges an object: section names lie in its section `strings`. The work cells are a row of 8 for each of its sections and a cell for each
+// of its symbols. A repeated group that lists a section number at or past the work rows lent gives 2, so lend 65,280 of them where objects
+// may list sections that they don't have.
+pub fn merge_elf(
+    l: Link,
+    bytes: &mut [u8],
+    names: &mut [u64],
+    symbols: &mut [u64],
+    sections: &mut [u64],
+    inputs: &mut [u64],
+    lists: &mut [u64],
+    work: &mut [u64],
+    ids: &mut [u64],
+    headers: &[u64],
+    entries: &[u64],
+    contents: &[u64],
+    file: &[u8],
+    strings: usize,
+) -> Outcome
+    ensures { λ r. ⌜ outcome (now (bytes .exit)) (now (names .exit)) (now (symbols .exit)) (now (sections .exit)) (now (inputs .exit)) (now (lists .exit)) (now (work .exit)) (now (ids .exit)) r
+        ≡ mergeOf (objectOf (now (headers .entry)) (now (entries .entry)) (now (contents .entry)) (now (file .entry)) strings)
+        (allOf (now (bytes .entry)) (now (names .entry)) (now (symbols .entry)) (now (sections .entry)) (now (inputs .entry)) (now (lists .entry)) (now (work .entry)) (now (ids .entry)) (goingOf l)) ⌝ }
+{
+    let lent = Lent {
+        names: names.len(),
+        bytes: bytes.len(),
+        symbols: symbols.len(),
+        sections: sections.len(),
+        inputs: inputs.len(),
+        lists: lists.len(),
+    };
+    let refusal = head(
+        l,
+        lent,
+        headers,
+        entries,
+        contents.len(),
+        file.len(),
+        work.len(),
+        ids.len(),
+    );
+    if refusal.number != 0 {
+        return Outcome {
+            link: l,
+            answer: Answer::Refused { refusal: refusal },
+        };
+    }
+    merge_judged(
+        l,
+        bytes,
+        names,
+        symbols,
+        sections,
+        inputs,
+        lists,
+        work,
+        ids,
+        headers,
+        entries,
+        contents,
+        file,
+        strings,
+    )
 }

@@ -16,8 +16,7 @@ use Rattle.symbol_rows.specs.declared.Decision.{Decision}
 use Rattle.symbol_rows.specs.declared.Decision.the-variants.{Refuse, Nothing, Keep}
 use Rattle.symbol_rows.specs.Holder.{holderOf}
 use Rattle.symbol_rows.specs.Decide.{decideOf}
-use Rattle.elf_object.specs.Rows.{field}
-use Rattle.section_groups.specs.Group.{markAt}
+use Rattle.elf_object.specs.Rows.{field, conversionAt, markAt}
 use Rattle.section_groups.specs.Filter.{sectionAfter}
 use Rattle.merge_plan.specs.declared.Planned.{Planned}
 
@@ -78,7 +77,7 @@ unfoldable pub rowedOf : View → Input → List ℕ → ℕ → Interned → El
 rowedOf v o x i id e r = planned id e r (judgedOf v (o .work) i (length x) e r)
 
 unfoldable pub readOf : View → Input → List ℕ → ℕ → ℕ → Interned → ElfSymbol → Planned
-readOf v o x i file id e = rowedOf v o x i id e (elfRowOf (getD (o .work) (e .section * 8 + 0) 0) e id (eqb (length x) 0) file)
+readOf v o x i file id e = rowedOf v o x i id e (elfRowOf (conversionAt (o .work) (e .section)) e id (eqb (length x) 0) file)
 
 -- the name's id, known or to come; the row that the symbol would become; the decision
 unfoldable pub plannedOf : View → Input → List ℕ → ℕ → ℕ → Planned

@@ -19,7 +19,7 @@ use Rattle.symbol_rows.specs.declared.Decision.{Decision}
 use Rattle.symbol_rows.specs.declared.Decision.the-variants.{Refuse, Nothing, Keep}
 use Rattle.symbol_rows.specs.Holder.{holderOf}
 use Rattle.symbol_rows.specs.Decide.{decideOf}
-use Rattle.section_groups.specs.Group.{markAt}
+use Rattle.elf_object.specs.Rows.{markAt}
 use Rattle.section_groups.specs.Filter.{sectionAfter}
 use Rattle.merge_plan.specs.declared.Planned.{Planned}
 use Rattle.merge_plan.specs.Plan.{filteredAt, isFirst, definesOf, ruleOf, View, Input, judgedOf, planned, rowedOf, readOf, plannedOf, placeOf, fileAfter}

@@ -18,7 +18,7 @@ eachFrom step (suc k) i work = eachFrom step k (i + 1) (step work i)
 unfoldable pub isTable : List ℕ → ℕ → Bool
 isTable headers t = cond (isLoaded headers t 5) true (isLoaded headers t 6)
 
--- at a section of the object
+-- a table is noted at the section that it applies to, if the object has that one
 unfoldable pub noteTableOf : List ℕ → List ℕ → ℕ → List ℕ
 noteTableOf headers work t =
     cond (leb (rowsIn headers) (infoAt headers t)) work

@@ -23,13 +23,14 @@ stateOf sections work r = record { sections = sections; work = work; reserved = 
 abbrev pub reservedOf : Link → ℕ → ℕ → ℕ → Reserved
 reservedOf l table number place = record { link = l; table = table; number = number; place = place }
 
--- 0 excluded, 1 not loaded, 2 gets a row, 3 a symbol table, 4 refused: "kinds 10 to 13"
+-- 1 not loaded, 2 gets a row, 3 a symbol table, 4 refused: "kinds 10 to 13"
 unfoldable pub kindClass : ℕ → ℕ
 kindClass k =
     cond (eqb k 1) 2
     (cond (eqb k 2) 2
     (cond (eqb k 3) 3 (cond (eqb k 10) 4 (cond (eqb k 11) 4 (cond (eqb k 12) 4 (cond (eqb k 13) 4 1))))))
 
+-- 0 excluded
 unfoldable pub classOf : List ℕ → ℕ → ℕ
 classOf headers n = cond (isExcluded headers n) 0 (kindClass (kindAt headers n))
 

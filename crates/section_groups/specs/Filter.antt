@@ -4,9 +4,8 @@ use Prim.Native.Nat.{ℕ}
 use mathlib.Core.Bool.{Bool, true, false, cond}
 use mathlib.Core.List.{List}
 use lib.Dec.{eqb, ltb}
-use Rattle.elf_object.specs.Rows.{rowsIn, field}
+use Rattle.elf_object.specs.Rows.{rowsIn, field, markAt}
 use Rattle.elf_object.specs.Judge.{firstBad}
-use Rattle.section_groups.specs.Group.{markAt}
 
 -- only numbers below 0xff00 are sections
 unfoldable pub sectionAfter : List ℕ → ℕ → ℕ

@@ -10,7 +10,7 @@ use Rattle.link.specs.declared.Stage.{Stage}
 use Rattle.link.specs.Judge.{goingOf, stoppedOf}
 use Rattle.strings.specs.Lookup.{Looked}
 use Rattle.interner.specs.Names.{Store, storeOf, findOf, fitsOf, keepOf}
-use Rattle.elf_object.specs.Rows.{rowsIn, field, comdatAt, linkAt, infoAt, firstAt, countAt, isLoaded, nameIn}
+use Rattle.elf_object.specs.Rows.{rowsIn, field, comdatAt, linkAt, infoAt, firstAt, countAt, isLoaded, nameIn, markAt}
 use Rattle.section_groups.specs.declared.Plan.{Plan}
 
 -- what is read of the object: its headers, the loaded symbol table's entries, lists, bytes, and that table's section
@@ -79,9 +79,6 @@ unfoldable pub planOf : Link → List ℕ → List ℕ → ℕ → List ℕ → 
 planOf l bytes names marks x listed =
     planWith (storeOf bytes names l) marks (length x) listed (findOf bytes names (l .names) x)
     (repeatedOf names (l .names) (findOf bytes names (l .names) x))
-
-abbrev pub markAt : List ℕ → ℕ → ℕ
-markAt work n = getD work (n * 8 + 1) 0
 
 -- 1 defines a group; 2, removed, is stronger
 unfoldable pub markGroupOf : List ℕ → ℕ → List ℕ

@@ -13,10 +13,10 @@ use Rattle.link.specs.declared.Stage.{Stage}
 use Rattle.link.specs.Judge.{goingOf, stoppedOf}
 use Rattle.strings.specs.Lookup.{Looked}
 use Rattle.interner.specs.Names.{Store, storeOf, findOf, fitsOf, keepOf}
-use Rattle.elf_object.specs.Rows.{rowsIn, field, flagsAt, linkAt, infoAt, firstAt, countAt, isLoaded, nameIn}
+use Rattle.elf_object.specs.Rows.{rowsIn, field, flagsAt, linkAt, infoAt, firstAt, countAt, isLoaded, nameIn, markAt}
 use Rattle.elf_object.specs.Ways.{one-less}
 use Rattle.section_groups.specs.declared.Plan.{Plan}
-use Rattle.section_groups.specs.Group.{Object, State, Step, stateOf, stepOf, shapeOf, signatureOf, repeatedOf, planned, markRefusal, planWith, planOf, markAt, markGroupOf, markRemovedOf, admitOf, decidedOf, namedOf, signedOf, shapedOf, groupOf, groupSectionOf, groupsFrom}
+use Rattle.section_groups.specs.Group.{Object, State, Step, stateOf, stepOf, shapeOf, signatureOf, repeatedOf, planned, markRefusal, planWith, planOf, markGroupOf, markRemovedOf, admitOf, decidedOf, namedOf, signedOf, shapedOf, groupOf, groupSectionOf, groupsFrom}
 use Rattle.section_groups.specs.Filter.{sectionAfter, symbolOk}
 
 -- ---- a group

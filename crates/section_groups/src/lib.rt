@@ -153,7 +153,7 @@ fn named_group(
 }
 
 // One group, of section n: 4, 5, 6, 7, 2; else it is marked.
-pub fn add_group(
+pub fn take_group(
     l: Link,
     bytes: &mut [u8],
     names: &mut [u64],
@@ -196,7 +196,7 @@ fn group_section(
 {
     if elf_object::is_loaded(headers, n, 7) {
         let l = s.link;
-        return add_group(
+        return take_group(
             l,
             bytes,
             names,

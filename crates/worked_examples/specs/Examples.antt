@@ -1,4 +1,5 @@
--- Document 01, "Marked for proof", with the add sheet and the example of "Bounds": rows of one list, and one theorem over it.
+-- Document 01, "Marked for proof", with the add sheet and the example of "Bounds": rows of one list, and one theorem over it. Groups, and the
+-- crates of the laws of walks and collections, say what their rows mean.
 -- Assumes nothing.
 use Prim.Native.Nat.{ℕ, zero, suc, _+_, _*_, _-_, _^_}
 use mathlib.Core.Path.{_≡_, refl}
@@ -38,6 +39,9 @@ use Rattle.symbols.specs.Calls.{Left}
 use Rattle.symbols.specs.New.{clearSymbols, nullOf, newOf}
 use Rattle.symbols.specs.Add.{judgeAddOf, issuedOf, directHolderOf, placeOf, decidedOf, committedOf, addRowOf, addOf}
 use Rattle.symbols.specs.Lookup.{foundAt, getOf}
+use Rattle.archive_laws.specs.Examples as Walks
+use Rattle.gc_laws.specs.Examples as Collections
+use Rattle.worked_examples.specs.Groups as Groups
 use Rattle.symbol_laws.specs.History.{State, withTable, opened, callNext, intern, addTo}
 
 -- ---- the table that the examples start from
@@ -104,11 +108,17 @@ pub data Case : Type 0 where
   adds : ℕ → List Line → List Said → List Symbol → Case
   -- a value in a section, and its offset
   offset : ℕ → ℤ → Case
+  group : Groups.Example → Case
+  walk : Walks.Example → Case
+  collection : Collections.Example → Case
 
 abbrev pub Right : Case → Type 0
 Right (adds n ls said table) =
     (answers ls (start n) ≡ said) × (after ls (start n) .link .symbols ≡ length table) × (rowsFrom 0 (length table) (after ls (start n)) ≡ found table)
 Right (offset v z) = offsetOf v ≡ z
+Right (group e) = Groups.Right e
+Right (walk e) = Walks.Right e
+Right (collection e) = Collections.Right e
 
 abbrev pub symbol : ℕ → ℕ → SymbolType → SymbolVisibility → SymbolValue → Symbol
 symbol i n k w v = record { id = record { 0 = i }; name = record { 0 = n }; kind = k; file = File.None; visibility = w; value = v }
@@ -144,9 +154,18 @@ cases =
     ∷ adds 4 (line 1 0 2 0 1 0 ∷ []) (refused 11 ∷ []) (null ∷ [])
     -- P7: weak then strong reference: weak
     ∷ adds 4 (line 1 2 0 0 0 0 ∷ line 1 1 0 0 0 0 ∷ []) (accepted 1 ∷ accepted 1 ∷ []) (null ∷ symbol 1 1 Ty.NoType weak (Val.Undefined true) ∷ [])
+    -- P8: non-COMDAT, zero sections: 4; COMDAT: 5
+    ∷ group Groups.p8
+    ∷ group Groups.p8Comdat
     -- P9: undefined of type 4 under a known name is accepted; new: 15
     ∷ adds 4 (line 1 1 0 2 1 0 ∷ line 1 1 0 4 0 0 ∷ line 2 1 0 4 0 0 ∷ []) (accepted 1 ∷ accepted 1 ∷ refused 15 ∷ [])
     (null ∷ symbol 1 1 Ty.Function strong (relative 1 0) ∷ [])
+    -- P10: one name to A and B, undefined: both are offered
+    ∷ walk Walks.p10
+    -- P11: one useless member: 2 passes
+    ∷ walk Walks.p11
+    -- P12: two unrooted sections naming each other: both dropped
+    ∷ collection Collections.p12
     -- the add sheet
     ∷ adds 4 (line 1 2 0 2 1 16 ∷ line 1 1 0 2 2 0 ∷ line 1 1 0 2 0 0 ∷ line 2 2 0 0 0 0 ∷ line 1 1 0 2 3 0 ∷ [])
     (accepted 1 ∷ accepted 1 ∷ accepted 1 ∷ accepted 2 ∷ refused 17 ∷ [])
@@ -169,4 +188,4 @@ All P (x ∷ xs) = P x × All P xs
 pub promises : All Right cases
 unfolding start putRow same copied lesser Judge.otherLength Judge.judgeSections Judge.judgeNames Judge.judgeLists Judge.afterSymbols Judge.afterSections Judge.judgeOf Judge.changeOf hashFrom headCell Names.chase Names.seekOf Names.findOf Names.roomOf Names.fitsOf Names.linked Names.keepOf Interns.issueOf Interns.internOf Interns.clearHeads Interns.newOf offsetOf wordOf typeAt successor fileAt visibilityAt valueAt symbolAt setRow Fields.sectionInRange Fields.elfInRange Fields.shownOf Fields.hiddenOf Fields.judgeOf inSection convertedOf undefinedOf valueOf elfRowOf heldBy holderOf Decide.weakOf Decide.rankOf Decide.typeRefusal Decide.sectionRoom Decide.roomOf Decide.newOf Decide.replaceOf Decide.rankedOf Decide.knownOf Decide.decideOf noteName setSectionSymbol noteSection appendOf applyOf clearSymbols nullOf newOf judgeAddOf issuedOf directHolderOf placeOf decidedOf committedOf addRowOf addOf foundAt getOf
 promises =
-    ((refl, refl, refl), ((refl, refl, refl), (refl, (refl, ((refl, refl, refl), ((refl, refl, refl), ((refl, refl, refl), ((refl, refl, refl), ((refl, refl, refl), ((refl, refl, refl), ((refl, refl, refl), ((refl, refl, refl), ((refl, refl, refl), tt)))))))))))))
+    ((refl, refl, refl), ((refl, refl, refl), (refl, (refl, ((refl, refl, refl), ((refl, refl, refl), ((refl, refl, refl), (Groups.p8-right, (Groups.p8-comdat-right, ((refl, refl, refl), (Walks.p10-right, (Walks.p11-right, (Collections.p12-right, ((refl, refl, refl), ((refl, refl, refl), ((refl, refl, refl), ((refl, refl, refl), ((refl, refl, refl), tt))))))))))))))))))

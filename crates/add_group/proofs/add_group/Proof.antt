@@ -1,0 +1,17 @@
+use borrow.Author.Needs.{needs}
+use Rattle.add_group.specs.Ways.{add-refused, add-judged}
+use Rattle.add_group.proofs.add_group.Statement.{statement}
+use Rattle.add_group.proofs.add_group.Tie as tie
+
+pub add-group-spec : {M : Type 1} → statement M
+add-group-spec =
+    tie.close
+    (tie.spec
+    (λ c κs. search needs)
+    (λ c. search add-refused)
+    (λ c κs. search needs)
+    (λ c κs. search needs)
+    (λ c. search needs)
+    (λ c. search needs)
+    (λ c. search needs)
+    (λ c. search add-judged))

@@ -1,0 +1,2 @@
+pub mod AddGroup
+pub mod Ways

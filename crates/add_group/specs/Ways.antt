@@ -1,0 +1,65 @@
+-- The ways through the functions.
+-- Assumes nothing.
+use Prim.Native.Nat.{ℕ, _/_, _<_, _≤_}
+use mathlib.Core.Path.{_≡_, _∙_, ap}
+use mathlib.Core.Bool.{Bool, true, false}
+use mathlib.Core.List.{List}
+use borrow.Author.Tests.{eq-eqb, ne-eqb, lt-ltb, le-ltb}
+use Rattle.link.specs.declared.Link.{Link}
+use Rattle.link.specs.declared.Lent.{Lent}
+use Rattle.link.specs.declared.Refusal.{Refusal}
+use Rattle.link.specs.declared.Stage.{Stage}
+use Rattle.link.specs.Judge as Link
+use Rattle.elf_object.specs.Rows.{rowsIn, isLoaded}
+use Rattle.elf_object.specs.Judge as Elf
+use Rattle.section_groups.specs.Group.{Object, Step, groupOf}
+use Rattle.section_groups.specs.Group as Group
+use Rattle.add_group.specs.declared.Answer.the-variants.{Added, Refused}
+use Rattle.add_group.specs.declared.Outcome.{Outcome}
+use Rattle.add_group.specs.AddGroup.{marksRefusal, rowsRefusal, headOf, Left, leftOf, answerOf, answered, headIn, addGroupOf}
+
+module _ (l : Link) (lent : Lent) (headers entries : List ℕ) (contents file work n : ℕ) (t c : Refusal) where
+  pub head-counts : c ≡ Link.changeOf l lent → (c .number ≡ 0 → ⊥) → t ≡ c → t ≡ headOf l lent headers entries contents file work n
+  unfolding headOf
+  head-counts e h q = simp (q, ← e, ne-eqb _ _ h)
+
+  module _ (r : Refusal) where
+    pub head-rows : c ≡ Link.changeOf l lent → c .number ≡ 0 → r ≡ Elf.judgeOf headers entries contents file → (r .number ≡ 0 → ⊥) → t ≡ r
+        → t ≡ headOf l lent headers entries contents file work n
+    unfolding headOf rowsRefusal
+    head-rows e h f g q = simp (q, ← e, eq-eqb _ _ h, ← f, ne-eqb _ _ g)
+
+    module _ (b : Bool) where
+      pub head-no-group : c ≡ Link.changeOf l lent → c .number ≡ 0 → r ≡ Elf.judgeOf headers entries contents file → r .number ≡ 0 → b ≡ isLoaded headers n 7 → b ≡ false
+          → t ≡ Link.refused 1 n → t ≡ headOf l lent headers entries contents file work n
+      unfolding headOf rowsRefusal marksRefusal
+      head-no-group e h f g i j q = simp (q, ← e, eq-eqb _ _ h, ← f, eq-eqb _ _ g, ← i, j)
+
+      pub head-marks : c ≡ Link.changeOf l lent → c .number ≡ 0 → r ≡ Elf.judgeOf headers entries contents file → r .number ≡ 0 → b ≡ isLoaded headers n 7 → b ≡ true
+          → work / 8 < rowsIn headers → t ≡ Link.refused 2 0 → t ≡ headOf l lent headers entries contents file work n
+      unfolding headOf rowsRefusal marksRefusal
+      head-marks e h f g i j k q = simp (q, ← e, eq-eqb _ _ h, ← f, eq-eqb _ _ g, ← i, j, lt-ltb _ _ k)
+
+      pub head-fine : c ≡ Link.changeOf l lent → c .number ≡ 0 → r ≡ Elf.judgeOf headers entries contents file → r .number ≡ 0 → b ≡ isLoaded headers n 7 → b ≡ true
+          → rowsIn headers ≤ work / 8 → t ≡ Link.refused 0 0 → t ≡ headOf l lent headers entries contents file work n
+      unfolding headOf rowsRefusal marksRefusal
+      head-fine e h f g i j k q = simp (q, ← e, eq-eqb _ _ h, ← f, eq-eqb _ _ g, ← i, j, le-ltb _ _ k)
+
+module _ (s : Stage) (t : Outcome) where
+  pub answer-added : s .number ≡ 0 → t ≡ record { link = s .link; answer = Added } → t ≡ answerOf s
+  unfolding answerOf
+  answer-added z q = simp (q, eq-eqb _ _ z)
+
+  pub answer-refused : (s .number ≡ 0 → ⊥) → t ≡ record { link = s .link; answer = Refused (Link.refused (s .number) (s .place)) } → t ≡ answerOf s
+  unfolding answerOf
+  answer-refused n q = simp (q, ne-eqb _ _ n)
+
+module _ (o : Object) (s : Group.State) (n : ℕ) (t : Left) (h : Refusal) where
+  pub add-refused : h ≡ headIn o s n → (h .number ≡ 0 → ⊥) → t ≡ leftOf (s .bytes) (s .names) (s .work) (record { link = s .link; answer = Refused h }) → t ≡ addGroupOf o s n
+  unfolding addGroupOf
+  add-refused e k q = simp (q, ← e, ne-eqb _ _ k)
+
+  pub add-judged : (g : Step) (r : Outcome) → h ≡ headIn o s n → h .number ≡ 0 → g ≡ groupOf o s n → r ≡ answerOf (g .stage)
+      → t ≡ leftOf (g .bytes) (g .names) (g .work) r → t ≡ addGroupOf o s n
+  unfolding addGroupOf
+  add-judged g r e z f i q = q ∙ ap (leftOf (g .bytes) (g .names) (g .work)) i ∙ ap answered f ∙ simp (← e, eq-eqb _ _ z)

@@ -1,0 +1,134 @@
+// A COMDAT group added by itself, outside a merge. Marks of the object's earlier groups lie in the work rows; a new object begins with
+// cleared ones.
+ghost use mathlib.Core.Path.{_≡_};
+ghost use Rattle.section_groups.specs.Group.{objectOf};
+ghost use Rattle.add_group.specs.AddGroup.{headOf, answerOf, leftOf, stateOf, addGroupOf};
+use link::Lent;
+use link::Link;
+use link::Refusal;
+use link::Stage;
+
+pub enum Answer {
+    Added,
+    Refused { refusal: Refusal },
+}
+
+pub struct Outcome {
+    pub link: Link,
+    pub answer: Answer,
+}
+
+// 22; 1 of the link's counts, of the object's sections, of its symbols, of a section that is no group; too few marks 2 at place 0.
+fn head(
+    l: Link,
+    lent: Lent,
+    headers: &[u64],
+    entries: &[u64],
+    contents: usize,
+    file: usize,
+    work: usize,
+    n: usize,
+) -> Refusal
+    ensures { λ r. ⌜ r ≡ headOf l lent (now (headers .entry)) (now (entries .entry)) contents file work n ⌝ }
+{
+    let counts = link::judge_change(l, lent);
+    if counts.number != 0 {
+        return counts;
+    }
+    let rows = elf_object::judge(headers, entries, contents, file);
+    if rows.number != 0 {
+        return rows;
+    }
+    if elf_object::is_loaded(headers, n, 7) {
+        if work / 8 < headers.len() / 8 {
+            return Refusal {
+                number: 2,
+                place: 0,
+            };
+        }
+        return Refusal {
+            number: 0,
+            place: 0,
+        };
+    }
+    Refusal {
+        number: 1,
+        place: n as u64,
+    }
+}
+
+fn answered(s: Stage) -> Outcome
+    ensures { λ r. ⌜ r ≡ answerOf s ⌝ }
+{
+    let l = s.link;
+    if s.number != 0 {
+        return Outcome {
+            link: l,
+            answer: Answer::Refused {
+                refusal: Refusal {
+                    number: s.number,
+                    place: s.place,
+                },
+            },
+        };
+    }
+    Outcome {
+        link: l,
+        answer: Answer::Added,
+    }
+}
+
+// The group of section n. The entries are those of the object's symbol table, which is of section t.
+pub fn add_group(
+    l: Link,
+    bytes: &mut [u8],
+    names: &mut [u64],
+    work: &mut [u64],
+    headers: &[u64],
+    entries: &[u64],
+    contents: &[u64],
+    file: &[u8],
+    t: usize,
+    n: usize,
+) -> Outcome
+    ensures { λ r. ⌜ leftOf (now (bytes .exit)) (now (names .exit)) (now (work .exit)) r
+        ≡ addGroupOf (objectOf (now (headers .entry)) (now (entries .entry)) (now (contents .entry)) (now (file .entry)) t)
+        (stateOf (now (bytes .entry)) (now (names .entry)) (now (work .entry)) l) n ⌝ }
+{
+    let lent = Lent {
+        names: names.len(),
+        bytes: bytes.len(),
+        symbols: link::NOT_LENT,
+        sections: link::NOT_LENT,
+        inputs: link::NOT_LENT,
+        lists: link::NOT_LENT,
+    };
+    let refusal = head(
+        l,
+        lent,
+        headers,
+        entries,
+        contents.len(),
+        file.len(),
+        work.len(),
+        n,
+    );
+    if refusal.number != 0 {
+        return Outcome {
+            link: l,
+            answer: Answer::Refused { refusal: refusal },
+        };
+    }
+    answered(section_groups::take_group(
+        l,
+        bytes,
+        names,
+        work,
+        headers,
+        entries,
+        contents,
+        file,
+        t,
+        n,
+    ))
+}

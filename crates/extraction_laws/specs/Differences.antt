@@ -1,0 +1,120 @@
+-- "Known places where gABI differs": those of archives, each with its smallest input, and beside them an input on which both agree. Computed from the
+-- contracts' definitions: a walk over an index that ties b to one member, and admission of that member's rows.
+-- Assumes nothing.
+use Prim.Native.Nat.{ℕ}
+use mathlib.Core.Path.{_≡_, refl}
+use mathlib.Core.Bool.{Bool, true, false}
+use mathlib.Core.List.{List, [], _∷_}
+use lib.ListN.{replicate}
+use Rattle.gabi.specs.StringTable.{beforeZero, hasName, nameAt, sameName}
+use Rattle.gabi.specs.StringTable as Strings
+use Rattle.gabi.specs.SymbolTable.{isGlobal, isWeak, isReference, isDefinition}
+use Rattle.gabi.specs.Resolution as Gabi
+use Rattle.gabi.specs.Resolution.{isGlobalDefinition, isWeakDefinition, isGlobalReference, has, resolve}
+use Rattle.gabi.specs.Archive.{isUnresolved, wants, offers, extracts}
+use Rattle.cells.specs.Rows.{putRow}
+use Rattle.byte_slices.specs.Bytes.{same}
+use Rattle.link.specs.Bounds.{lesser}
+use Rattle.link.specs.Judge.{otherLength, judgeSections, judgeNames, judgeLists, afterSymbols, afterSections}
+use Rattle.link.specs.Judge as Link
+use Rattle.interner.specs.Hash.{hashFrom, headCell}
+use Rattle.interner.specs.Names.{chase, seekOf, findOf}
+use Rattle.symbol_rows.specs.Holder.{heldBy, holderOf}
+use Rattle.upcoming_symbol.specs.Judge.{shownOf, hiddenOf, sectionInRange, elfInRange}
+use Rattle.upcoming_symbol.specs.Judge as Upcoming
+use Rattle.upcoming_symbol.specs.Upcoming.{inSection, convertedOf, undefinedOf, valueOf, elfRowOf}
+use Rattle.symbol_laws.specs.Rows.{rowAt}
+use Rattle.symbol_laws.specs.Gabi.{symOf}
+use Rattle.symbol_laws.specs.Differences.{elf}
+use Rattle.archive_index.specs.Index.{countOf, offsetOf, afterOf, cutOf}
+use Rattle.archive_index.specs.Rows as Rows
+use Rattle.archive_index.specs.Open.{openRowsOf, openNamesOf, openEntriesOf, openOf}
+use Rattle.archive_walk.specs.Look.{Table, tableOf, judgeTable, nameHolder, removedName, undefinedName}
+use Rattle.archive_walk.specs.Names.{nameChain, linkedOf, linkAll, chainNames, along, bearsOf, requiredOf}
+use Rattle.archive_walk.specs.Walk.{begunOf, startOf, offerOf, marked, enqueue, tieOf, tieAll, removedOf, makeOf, searchOf, passOf, walkFits, goOf, nextOf}
+use Rattle.archive_laws.specs.Runs.{Run, stepRun, history, startRun}
+use Rattle.elf_object.specs.Rows as Object
+use Rattle.elf_object.specs.Judge as Judged
+use Rattle.object_requirement.specs.declared.Admission.{Admission}
+use Rattle.object_requirement.specs.declared.Admission.the-variants.{Yes, No}
+use Rattle.object_requirement.specs.Matches as Admits
+use Rattle.extraction_laws.specs.Member.{withName, rowsNamed, sectionNamed, sectionsNamed, memberOf}
+
+abbrev b : List ℕ
+b = 98 ∷ []
+
+-- a table of one name, b, with this code of visibility and this second word of an undefined value
+abbrev tableWith : ℕ → ℕ → Table
+tableWith v a =
+    tableOf (record { names = 1; bytes = 1; symbols = 2; sections = 0; inputs = 0; lists = 0; chains = 1; slots = 0; broken = false }) b
+    (0 ∷ 1 ∷ 0 ∷ 1 ∷ 0 ∷ 0 ∷ 0 ∷ 0 ∷ 1 ∷ []) (1 ∷ 0 ∷ 0 ∷ 0 ∷ 0 ∷ 0 ∷ 0 ∷ 0 ∷ 1 ∷ 0 ∷ 0 ∷ 0 ∷ v ∷ 7 ∷ a ∷ 0 ∷ [])
+
+abbrev pub strongly : Table
+strongly = tableWith 1 0
+
+abbrev pub weakly : Table
+weakly = tableWith 3 1
+
+-- b to the member at 10
+abbrev index : List ℕ
+index = 0 ∷ 0 ∷ 0 ∷ 1 ∷ 0 ∷ 0 ∷ 0 ∷ 10 ∷ 98 ∷ 0 ∷ []
+
+-- one call over the table
+abbrev pub ran : Table → Run
+ran t = history index (t ∷ []) (startRun index (replicate {A = ℕ} 8 7))
+
+-- an object with a definition of b of that binding: no section, a symbol table, its string table
+abbrev headers : List ℕ
+headers = 0 ∷ 0 ∷ 0 ∷ 0 ∷ 0 ∷ 0 ∷ 0 ∷ 0 ∷ 3 ∷ 0 ∷ 0 ∷ 2 ∷ 0 ∷ 0 ∷ 1 ∷ 0 ∷ 4 ∷ 0 ∷ 0 ∷ 0 ∷ 0 ∷ 0 ∷ 3 ∷ 0 ∷ []
+
+abbrev entries : ℕ → List ℕ
+entries binding = 1 ∷ binding ∷ 0 ∷ 0 ∷ 1 ∷ 0 ∷ 0 ∷ 0 ∷ []
+
+abbrev file : List ℕ
+file = 0 ∷ 98 ∷ 0 ∷ []
+
+-- table, the binding of b's reference in it, the wanted names; the binding of the member's definition; whether the gABI extracts it, what admission says
+pub record Case : Type 0 where
+  pub table : Table
+  pub reference : ℕ
+  pub wanted : List (List ℕ)
+  pub definition : ℕ
+  pub extracted : Bool
+  pub admitted : Admission
+
+abbrev caseOf : Table → ℕ → List (List ℕ) → ℕ → Bool → Admission → Case
+caseOf t r w d x a = record { table = t; reference = r; wanted = w; definition = d; extracted = x; admitted = a }
+
+abbrev pub Right : Case → Type 0
+Right c =
+    -- the table's row is that of the reference
+    (rowAt (c .table .symbols) 1 ≡ elfRowOf 3 (elf (c .reference) 0 0) (record { 0 = 0 }) false 0)
+    -- the gABI wants b just if it is among the wanted names
+    × (wants (symOf (elf (c .reference) 0 0) ∷ []) ≡ Strings.among b (c .wanted))
+    × (extracts (memberOf headers (entries (c .definition)) file) (c .wanted) ≡ c .extracted)
+    -- the walk offers the member, by entry 0
+    × (ran (c .table) .offers ≡ 0 ∷ [])
+    × (Admits.matchesOf headers (entries (c .definition)) [] file index (ran (c .table) .cells) (ran (c .table) .walk) 0 ≡ c .admitted)
+
+-- strong reference, strong definition: both take the member
+abbrev pub agreeing : Case
+agreeing = caseOf strongly 1 (b ∷ []) 1 true Yes
+
+-- "Weak references pull members"
+abbrev pub weakReference : Case
+weakReference = caseOf weakly 2 [] 1 false Yes
+
+-- "a weak definition doesn't admit one"
+abbrev pub weakDefinition : Case
+weakDefinition = caseOf strongly 1 (b ∷ []) 2 true No
+
+pub data All : List Case → Type 0 where
+  none : All []
+  also : {c : Case} {cs : List Case} → Right c → All cs → All (c ∷ cs)
+
+pub differences : All (agreeing ∷ weakReference ∷ weakDefinition ∷ [])
+unfolding beforeZero hasName nameAt sameName Strings.among isGlobal isWeak isReference isDefinition Gabi.count isGlobalDefinition isWeakDefinition isGlobalReference has resolve isUnresolved wants offers extracts putRow same lesser otherLength judgeSections judgeNames judgeLists afterSymbols afterSections Link.judgeOf hashFrom headCell chase seekOf findOf heldBy holderOf shownOf hiddenOf sectionInRange elfInRange Upcoming.judgeOf inSection convertedOf undefinedOf valueOf elfRowOf countOf offsetOf afterOf cutOf Rows.chainOf Rows.chase Rows.representativeOf Rows.entered Rows.enterOf Rows.enterAll Rows.noHeads Rows.rowsOf openRowsOf openNamesOf openEntriesOf openOf judgeTable nameHolder removedName undefinedName nameChain linkedOf linkAll chainNames along bearsOf requiredOf begunOf startOf offerOf marked enqueue tieOf tieAll removedOf makeOf searchOf passOf walkFits goOf nextOf stepRun history startRun Object.sectionOf Object.entriesFrom Object.tableEntries Judged.rangeOk Judged.contentsOk Judged.headerOk Judged.entryOk Judged.firstBad Judged.badHeader Judged.badEntry Judged.judgeOf Admits.isSection Admits.nameAnywhere Admits.isRequired Admits.someFrom Admits.bearsRequired Admits.inTable Admits.isTable Admits.inSection Admits.hasGlobalSymbol Admits.offeredIn Admits.matchesOf withName rowsNamed sectionNamed sectionsNamed memberOf
+differences =
+    also {c = agreeing} (refl, refl, refl, refl, refl)
+    (also {c = weakReference} (refl, refl, refl, refl, refl)
+    (also {c = weakDefinition} (refl, refl, refl, refl, refl) none))

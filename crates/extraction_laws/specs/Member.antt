@@ -1,0 +1,88 @@
+-- An object's symbols as the gABI's: those of every symbol table, with their names, where these aren't missing. Admission over them.
+-- Assumes nothing.
+use Prim.Native.Nat.{ℕ, zero, suc, _+_}
+use mathlib.Core.Path.{_≡_, refl, sym}
+use mathlib.Core.Bool.{Bool, true, false, cond, _&&_}
+use mathlib.Core.List.{List, [], _∷_, _++_}
+use lib.Dec.{eqb}
+use Rattle.gabi.specs.SymbolTable.{Sym, isGlobal}
+use Rattle.gabi.specs.Archive.{Named}
+use Rattle.strings.specs.Lookup.{Looked}
+use Rattle.elf_object.specs.Rows.{rowsIn, field, linkAt, tableEntries, elfAt}
+use Rattle.object_requirement.specs.Matches.{nameAnywhere, isRequired, someFrom, bearsRequired, inTable, isTable, inSection, hasGlobalSymbol}
+use Rattle.symbol_laws.specs.Gabi.{symOf}
+use Rattle.extraction_laws.specs.Some.{and-cond, some, some-append}
+
+unfoldable pub withName : Looked → Sym → List Named → List Named
+withName x s rest = cond (x .found) (record { name = x .name; symbol = s } ∷ rest) rest
+
+-- of a table whose names are in string section `names`, the n rows from i on
+unfoldable pub rowsNamed : List ℕ → List ℕ → ℕ → List ℕ → ℕ → ℕ → List Named
+rowsNamed headers file names symbols i zero = []
+rowsNamed headers file names symbols i (suc n) =
+    withName (nameAnywhere headers file names (field symbols i 0)) (symOf (elfAt symbols i)) (rowsNamed headers file names symbols (i + 1) n)
+
+unfoldable pub sectionNamed : List ℕ → List ℕ → List ℕ → ℕ → List Named
+sectionNamed headers entries file n =
+    cond (isTable headers n)
+    (rowsNamed headers file (linkAt headers n) (tableEntries headers entries (n + 1)) 0 (rowsIn (tableEntries headers entries (n + 1)))) []
+
+-- of the m sections from n on
+unfoldable pub sectionsNamed : List ℕ → List ℕ → List ℕ → ℕ → ℕ → List Named
+sectionsNamed headers entries file n zero = []
+sectionsNamed headers entries file n (suc m) = sectionNamed headers entries file n ++ sectionsNamed headers entries file (n + 1) m
+
+unfoldable pub memberOf : List ℕ → List ℕ → List ℕ → List Named
+memberOf headers entries file = sectionsNamed headers entries file 0 (rowsIn headers)
+
+-- some symbol of binding 1 bears a name of which f holds
+abbrev pub admits : (List ℕ → Bool) → List Named → Bool
+admits f member = some (λ e. isGlobal (e .symbol) && f (e .name)) member
+
+-- ---- the object's rows admit just where its symbols do
+
+module _ (f : List ℕ → Bool) where
+  one-admits : (x : Looked) (s : Sym) (b : ℕ) (rest : List Named) → isGlobal s ≡ eqb b 1
+      → cond (cond (eqb b 1) (isRequired f x) false) true (admits f rest) ≡ admits f (withName x s rest)
+  unfolding isRequired withName some
+  one-admits x s b rest e = go (x .found)
+    where
+      never : (t : Bool) (a : Bool) → cond (cond t false false) true a ≡ a
+      never true a = refl
+      never false a = refl
+
+      go : (t : Bool) → cond (cond (eqb b 1) (cond t (f (x .name)) false) false) true (admits f rest)
+          ≡ admits f (cond t (record { name = x .name; symbol = s } ∷ rest) rest)
+      go true = rw (e, and-cond (eqb b 1) (f (x .name)))
+      go false = never (eqb b 1) (admits f rest)
+
+  rows-admit : (headers file : List ℕ) (names : ℕ) (symbols : List ℕ) (n i : ℕ)
+      → someFrom (bearsRequired headers file names symbols f) i n ≡ admits f (rowsNamed headers file names symbols i n)
+  unfolding someFrom bearsRequired rowsNamed isGlobal some
+  rows-admit headers file names symbols zero i = refl
+  rows-admit headers file names symbols (suc n) i =
+      rw (rows-admit headers file names symbols n (i + 1))
+      (one-admits (nameAnywhere headers file names (field symbols i 0)) (symOf (elfAt symbols i)) (field symbols i 1) (rowsNamed headers file names symbols (i + 1) n) refl)
+
+  section-admits : (headers entries file : List ℕ) (n : ℕ) → inSection headers entries file f n ≡ admits f (sectionNamed headers entries file n)
+  unfolding inSection inTable sectionNamed some
+  section-admits headers entries file n = go (isTable headers n)
+    where
+      table : List ℕ
+      table = tableEntries headers entries (n + 1)
+
+      go : (b : Bool) → cond b (someFrom (bearsRequired headers file (linkAt headers n) table f) 0 (rowsIn table)) false
+          ≡ admits f (cond b (rowsNamed headers file (linkAt headers n) table 0 (rowsIn table)) [])
+      go true = rows-admit headers file (linkAt headers n) table (rowsIn table) 0
+      go false = refl
+
+  sections-admit : (headers entries file : List ℕ) (m n : ℕ) → someFrom (inSection headers entries file f) n m ≡ admits f (sectionsNamed headers entries file n m)
+  unfolding someFrom sectionsNamed some
+  sections-admit headers entries file zero n = refl
+  sections-admit headers entries file (suc m) n =
+      rw (section-admits headers entries file n, sections-admit headers entries file m (n + 1))
+      (sym (some-append (λ e. isGlobal (e .symbol) && f (e .name)) (sectionNamed headers entries file n) (sectionsNamed headers entries file (n + 1) m)))
+
+  pub object-admits : (headers entries file : List ℕ) → hasGlobalSymbol headers entries file f ≡ admits f (memberOf headers entries file)
+  unfolding hasGlobalSymbol memberOf
+  object-admits headers entries file = sections-admit headers entries file (rowsIn headers) 0

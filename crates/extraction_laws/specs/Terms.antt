@@ -1,0 +1,74 @@
+-- The statement: over every walk, of the members that weren't offered before, what a pass chooses and admission lets in is what the gABI
+-- extracts for the names undefined at the pass's start, but for the two known places.
+-- Assumes nothing.
+use Prim.Native.Nat.{ℕ, _+_, _<_}
+use mathlib.Core.Path.{_≡_, refl, sym, ap, _∙_}
+use mathlib.Core.Bool.{Bool, true, false, _&&_, _||_}
+use mathlib.Core.List.{List}
+use Rattle.gabi.specs.StringTable as Strings
+use Rattle.gabi.specs.Archive.{Named, extracts}
+use Rattle.archive_index.specs.Index.{countOf}
+use Rattle.archive_walk.specs.Look.{Table, undefinedName}
+use Rattle.archive_walk.specs.Names.{requiredOf}
+use Rattle.archive_walk.specs.Walk.{begunNumber, startOf}
+use Rattle.archive_laws.specs.Rounds.{among}
+use Rattle.archive_laws.specs.Runs.{Run, stepRun, history, startRun}
+use Rattle.archive_laws.specs.Walked.{inIndex, queueIn, Pass}
+use Rattle.archive_laws.specs.WalkLaws.{walked}
+use Rattle.object_requirement.specs.Matches.{hasGlobalSymbol}
+use Rattle.extraction_laws.specs.Member.{memberOf}
+use Rattle.extraction_laws.specs.Taken.{lists, taken, weakOffers, taken-either, extracts-is}
+use Rattle.extraction_laws.specs.Chosen as Chosen
+
+or-swap : (a b c : Bool) → (a || b) || c ≡ (a || c) || b
+or-swap true b c = refl
+or-swap false true true = refl
+or-swap false true false = refl
+or-swap false false true = refl
+or-swap false false false = refl
+
+-- a start that isn't refused, any calls, then one over t that makes a pass
+module _ (s l : List ℕ) (start : begunNumber (startOf s l .started .begun) ≡ 0) (ts : List Table) (t : Table)
+    (made : stepRun s t (history s ts (startRun s l)) .walk .passes ≡ history s ts (startRun s l) .walk .passes + 1) where
+  abbrev before : Run
+  before = history s ts (startRun s l)
+
+  abbrev c : ℕ
+  c = countOf s
+
+  pass : Pass s c t before (stepRun s t before)
+  pass = walked s l start ts .pass t made
+
+  -- the member of entry e, not offered before, is this object; the index lists its global and weak definitions
+  module _ (e : ℕ) (low : e < c) (new : among s e (before .offers) ≡ false) (headers entries file : List ℕ)
+      (listed : (x : List ℕ) → inIndex s c e x ≡ lists (memberOf headers entries file) x) where
+    abbrev member : List Named
+    member = memberOf headers entries file
+
+    -- the pass queues it, and admission over its required names says yes
+    abbrev chosen : Bool
+    chosen = among s e (queueIn (stepRun s t before)) && hasGlobalSymbol headers entries file (requiredOf s (stepRun s t before .cells) c e)
+
+    -- just if a global symbol of it bears a name that is undefined at the pass, and that it defines
+    pub chosen-is : chosen ≡ taken (undefinedName t) member
+    chosen-is = Chosen.chosen-is s c t before (stepRun s t before) pass e low new headers entries file listed
+
+    -- where just the gABI's wanted names are undefined: "a weak definition doesn't admit one" is the whole difference
+    pub weak-definitions : (wanted : List (List ℕ)) → ((x : List ℕ) → lists member x ≡ true → undefinedName t x ≡ Strings.among x wanted) → extracts member wanted ≡ chosen || weakOffers wanted member
+    weak-definitions = Chosen.gabi-extracts s c t before (stepRun s t before) pass e low new headers entries file listed
+
+    -- so without one both take the same members
+    pub as-gabi : (wanted : List (List ℕ)) → ((x : List ℕ) → lists member x ≡ true → undefinedName t x ≡ Strings.among x wanted) → weakOffers wanted member ≡ false → chosen ≡ extracts member wanted
+    as-gabi = Chosen.chosen-as-gabi s c t before (stepRun s t before) pass e low new headers entries file listed
+
+    -- "Weak references pull members": beside what is taken for wanted names, what is taken for names that have weak references only
+    pub weak-references : (wanted weakly : List ℕ → Bool) → ((x : List ℕ) → undefinedName t x ≡ wanted x || weakly x) → chosen ≡ taken wanted member || taken weakly member
+    weak-references wanted weakly either = chosen-is ∙ taken-either member wanted weakly (undefinedName t) either
+
+    -- both places at once
+    pub both-differences : (wanted : List (List ℕ)) (weakly : List ℕ → Bool) → ((x : List ℕ) → undefinedName t x ≡ Strings.among x wanted || weakly x)
+        → chosen || weakOffers wanted member ≡ extracts member wanted || taken weakly member
+    both-differences wanted weakly either =
+        ap (λ (b : Bool). b || weakOffers wanted member) (weak-references (λ x. Strings.among x wanted) weakly either)
+        ∙ or-swap (taken (λ x. Strings.among x wanted) member) (taken weakly member) (weakOffers wanted member)
+        ∙ ap (λ (b : Bool). b || taken weakly member) (sym (extracts-is member (λ x. Strings.among x wanted) wanted (λ x h. refl)))

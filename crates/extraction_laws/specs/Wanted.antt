@@ -1,0 +1,93 @@
+-- Which names are undefined in a table: those that the gABI wants from an archive, and those that have weak references only.
+-- Assumes nothing.
+use Prim.Native.Nat.{ℕ, _<_}
+use native.Mathlib.Omega.{arith}
+use mathlib.Core.Path.{_≡_, refl, sym, _∙_}
+use mathlib.Core.Bool.{Bool, true, false, not, _||_}
+use mathlib.Core.List.{List, [], _∷_}
+use lib.Dec.{eqb, leb}
+use borrow.Author.Tests.{lt-leb, ne-eqb, leb-false}
+use Rattle.cells.specs.Split.{by-test}
+use Rattle.link.specs.Said.{numberIn}
+use Rattle.gabi.specs.SymbolTable.{Sym}
+use Rattle.gabi.specs.Resolution.{Resolution, defined, duplicate, unresolved, zeroValue, resolve}
+use Rattle.gabi.specs.Archive.{isUnresolved, wants}
+use Rattle.interner.specs.Names.{findOf}
+use Rattle.symbol.specs.declared.Row.{Row}
+use Rattle.symbol_rows.specs.Holder.{globalAt, heldBy, holderOf}
+use Rattle.symbols.specs.New.{newOf}
+use Rattle.symbol_laws.specs.Rows.{rowAt}
+use Rattle.symbol_laws.specs.History.{State, Entry, rows, Call, RemovesNothing}
+use Rattle.symbol_laws.specs.Demand.{Resolved}
+use Rattle.symbol_laws.specs.Gabi.{AllMean}
+use Rattle.symbol_laws.specs.Agreement.{Agrees}
+use Rattle.symbol_laws.specs.Terms as Terms
+use Rattle.archive_walk.specs.Look.{Table, tableOf, nameHolder, undefinedName}
+
+-- weak references, and nothing else
+abbrev pub isZeroValue : Resolution → Bool
+isZeroValue (defined k) = false
+isZeroValue duplicate = false
+isZeroValue unresolved = false
+isZeroValue zeroValue = true
+
+unfoldable pub weakOnly : List Sym → Bool
+weakOnly l = isZeroValue (resolve l)
+
+row-undefined : (c : Row) (cs : List Row) (g : Sym) (row : Row) (v : Resolution) → Agrees c cs g row v → eqb (row .value .kind) 7 ≡ isUnresolved v || isZeroValue v
+unfolding isUnresolved
+row-undefined c cs g row (defined k) a = back (eqb (row .value .kind) 7) (a .1)
+  where
+    back : (b : Bool) → not b ≡ true → b ≡ false
+    back true q = sym q
+    back false q = refl
+row-undefined c cs g row duplicate a = absurd a
+row-undefined c cs g row unresolved a = back (eqb (row .value .kind) 7) (a .1)
+  where
+    back : (b : Bool) → not b ≡ false → b ≡ true
+    back true q = refl
+    back false q = sym q
+row-undefined c cs g row zeroValue a = back (eqb (row .value .kind) 7) (a .1)
+  where
+    back : (b : Bool) → not b ≡ false → b ≡ true
+    back true q = refl
+    back false q = sym q
+
+-- the link and the rows that a pass is lent
+abbrev pub lentTable : State → Table
+lentTable s = tableOf (s .link) (s .bytes) (s .names) (s .symbols)
+
+abbrev pub idOf : State → List ℕ → ℕ
+idOf s x = findOf (s .bytes) (s .names) (s .link .names) x
+
+module _ (s : State) (x : List ℕ) where
+  undefined-held : (y : Entry) (ys : List Entry) → Resolved s (idOf s x) y ys → undefinedName (lentTable s) x ≡ eqb (rowAt (s .symbols) (y .id) .value .kind) 7
+  unfolding undefinedName nameHolder holderOf heldBy
+  undefined-held y ys h =
+      rw (lt-leb (s .link .names) (idOf s x) (h .issued), h .id, ne-eqb (y .id) 0 (λ q. omega (arith, h .real)), h .present)
+
+  undefined-nobody : (idOf s x < s .link .names → globalAt (s .names) (idOf s x) ≡ 0) → undefinedName (lentTable s) x ≡ false
+  unfolding undefinedName nameHolder holderOf heldBy
+  undefined-nobody h = by-test (leb (s .link .names) (idOf s x)) (λ t. rw t) (λ t. rw (t, h (leb-false (s .link .names) (idOf s x) t)))
+
+-- after a new table and any sequence of calls that removes nothing
+module _ (bytes names symbols sections : List ℕ) (new : numberIn (newOf bytes names symbols sections .said) ≡ 0)
+    (ks : List Call) (quiet : RemovesNothing ks (Terms.start bytes names symbols sections new)) (x : List ℕ) where
+  abbrev end : State
+  end = Terms.end bytes names symbols sections new ks quiet
+
+  abbrev adds : List Entry
+  adds = Terms.adds bytes names symbols sections new ks quiet (idOf end x)
+
+  -- a name under which g and gs were accepted is undefined just where the gABI wants it from an archive, or it has weak references only
+  pub undefined-wanted : (y : Entry) (ys : List Entry) → adds ≡ y ∷ ys → (g : Sym) (gs : List Sym) → AllMean (rows (y ∷ ys)) (g ∷ gs)
+      → undefinedName (lentTable end) x ≡ wants (g ∷ gs) || weakOnly (g ∷ gs)
+  unfolding wants weakOnly
+  undefined-wanted y ys e g gs m =
+      undefined-held end x y ys (Terms.demand-3a bytes names symbols sections new ks quiet (idOf end x) y ys e)
+      ∙ row-undefined (y .row) (rows ys) g (rowAt (end .symbols) (y .id)) (resolve (g ∷ gs))
+      (Terms.gabi-agrees bytes names symbols sections new ks quiet (idOf end x) y ys e g gs m)
+
+  -- a name under which nothing was accepted isn't
+  pub undefined-none : adds ≡ [] → undefinedName (lentTable end) x ≡ false
+  undefined-none e = undefined-nobody end x (λ i. Terms.no-row bytes names symbols sections new ks quiet (idOf end x) e i)

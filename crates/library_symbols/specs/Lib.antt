@@ -1,0 +1,4 @@
+pub mod Define
+pub mod DefineWays
+pub mod Load
+pub mod LoadWays

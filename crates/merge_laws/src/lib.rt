@@ -1,0 +1,1 @@
+// Theorems about the definitions of a merge: specs/Terms.antt has the statements.

@@ -1,0 +1,30 @@
+use borrow.Author.Needs.{needs}
+use Prim.Native.Nat.{_-_}
+use mathlib.Core.Path.{_≡_}
+use Rattle.archive_walk.specs.Names.{requiredOf}
+use Rattle.object_requirement.specs.Matches.{someFrom, inSection, hasGlobalSymbol}
+use Rattle.object_requirement.specs.Ways.{sections-start, some-here, some-on, some-end}
+use Rattle.object_requirement.proofs.has_global_symbol.Statement.{statement}
+use Rattle.object_requirement.proofs.has_global_symbol.Tie as tie
+
+abbrev Inv-loop : tie.InvT-loop
+Inv-loop headers entries file index cells count entry rows n₀ n =
+    hasGlobalSymbol headers entries file (requiredOf index cells count entry)
+    ≡ someFrom (inSection headers entries file (requiredOf index cells count entry)) n (rows - n)
+
+abbrev μ-loop : tie.MeasureT-loop
+μ-loop headers entries file index cells count entry rows n₀ n = rows - n
+
+pub has-global-symbol-spec : {M : Type 1} → statement M
+has-global-symbol-spec =
+    tie.close
+    (tie.spec
+    Inv-loop
+    μ-loop
+    (λ c. search sections-start)
+    (λ c κs. search needs)
+    (λ c. search some-here)
+    (λ c. search needs)
+    (λ c. search needs)
+    (λ c. search some-on)
+    (λ c. search some-end))

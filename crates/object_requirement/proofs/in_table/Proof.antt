@@ -1,0 +1,30 @@
+use borrow.Author.Needs.{needs}
+use Prim.Native.Nat.{_-_}
+use mathlib.Core.Path.{_≡_}
+use Rattle.archive_walk.specs.Names.{requiredOf}
+use Rattle.object_requirement.specs.Matches.{someFrom, bearsRequired, inTable}
+use Rattle.object_requirement.specs.Ways.{table-start, some-here, some-on, some-end}
+use Rattle.object_requirement.proofs.in_table.Statement.{statement}
+use Rattle.object_requirement.proofs.in_table.Tie as tie
+
+abbrev Inv-loop : tie.InvT-loop
+Inv-loop headers file names symbols index cells count entry rows i₀ i =
+    inTable headers file names symbols (requiredOf index cells count entry)
+    ≡ someFrom (bearsRequired headers file names symbols (requiredOf index cells count entry)) i (rows - i)
+
+abbrev μ-loop : tie.MeasureT-loop
+μ-loop headers file names symbols index cells count entry rows i₀ i = rows - i
+
+pub in-table-spec : {M : Type 1} → statement M
+in-table-spec =
+    tie.close
+    (tie.spec
+    Inv-loop
+    μ-loop
+    (λ c. search table-start)
+    (λ c κs. search needs)
+    (λ c. search some-here)
+    (λ c. search needs)
+    (λ c. search needs)
+    (λ c. search some-on)
+    (λ c. search some-end))

@@ -1,0 +1,88 @@
+-- Document 01, "Archives": "Admission as `ObjectRequirement::matches`: some symbol of binding 1, defined or not, bears a required name."
+-- Which names are required is a test of their bytes.
+-- Assumes nothing.
+use Prim.Native.Nat.{ℕ, zero, suc, _+_}
+use mathlib.Core.Bool.{Bool, true, false, cond}
+use mathlib.Core.List.{List, []}
+use lib.Dec.{eqb, leb, ltb}
+use lib.ListN.{length}
+use Rattle.strings.specs.Lookup.{Looked, looked, lookUp}
+use Rattle.link.specs.declared.Refusal.{Refusal}
+use Rattle.link.specs.Judge.{refused}
+use Rattle.archive_walk.specs.declared.Walk.{Walk}
+use Rattle.archive_walk.specs.Names.{requiredOf}
+use Rattle.archive_walk.specs.Walk.{walkFits}
+use Rattle.elf_object.specs.Rows.{rowsIn, field, kindAt, linkAt, stringsAt, tableEntries}
+use Rattle.elf_object.specs.Judge.{judgeOf}
+use Rattle.object_requirement.specs.declared.Admission.{Admission}
+use Rattle.object_requirement.specs.declared.Admission.the-variants.{Yes, No, Refused}
+
+-- document 01's number and place of each answer
+abbrev pub numberOf : Admission → ℕ
+numberOf Yes = 0
+numberOf No = 0
+numberOf (Refused r) = r .number
+
+abbrev pub placeOf : Admission → ℕ
+placeOf Yes = 0
+placeOf No = 0
+placeOf (Refused r) = r .place
+
+-- ---- names
+
+-- a section of that number and kind; that it is excluded matters to a merge only
+unfoldable pub isSection : List ℕ → ℕ → ℕ → Bool
+isSection headers n kind = cond (leb (rowsIn headers) n) false (cond (eqb (kindAt headers n) kind) true false)
+
+-- the name at an offset of string section n
+unfoldable pub nameAnywhere : List ℕ → List ℕ → ℕ → ℕ → Looked
+nameAnywhere headers file n offset = cond (isSection headers n 4) (lookUp (stringsAt headers file n) offset) (looked [] false)
+
+-- a missing name is no required one
+unfoldable pub isRequired : (List ℕ → Bool) → Looked → Bool
+isRequired required x = cond (x .found) (required (x .name)) false
+
+-- ---- symbols
+
+-- f holds of one of the n numbers from i on
+unfoldable pub someFrom : (ℕ → Bool) → ℕ → ℕ → Bool
+someFrom f i zero = false
+someFrom f i (suc n) = cond (f i) true (someFrom f (i + 1) n)
+
+-- symbol i of a table whose names are in string section `names`: binding exactly 1, of any type, defined or not
+unfoldable pub bearsRequired : List ℕ → List ℕ → ℕ → List ℕ → (List ℕ → Bool) → ℕ → Bool
+bearsRequired headers file names symbols required i =
+    cond (eqb (field symbols i 1) 1) (isRequired required (nameAnywhere headers file names (field symbols i 0))) false
+
+unfoldable pub inTable : List ℕ → List ℕ → ℕ → List ℕ → (List ℕ → Bool) → Bool
+inTable headers file names symbols required = someFrom (bearsRequired headers file names symbols required) 0 (rowsIn symbols)
+
+-- a symbol table of either kind
+unfoldable pub isTable : List ℕ → ℕ → Bool
+isTable headers n = cond (isSection headers n 3) true (isSection headers n 10)
+
+unfoldable pub inSection : List ℕ → List ℕ → List ℕ → (List ℕ → Bool) → ℕ → Bool
+inSection headers entries file required n =
+    cond (isTable headers n) (inTable headers file (linkAt headers n) (tableEntries headers entries (n + 1)) required) false
+
+-- the Rust's `HasGlobalSymbol`
+unfoldable pub hasGlobalSymbol : List ℕ → List ℕ → List ℕ → (List ℕ → Bool) → Bool
+hasGlobalSymbol headers entries file required = someFrom (inSection headers entries file required) 0 (rowsIn headers)
+
+abbrev pub admission : Bool → Admission
+admission true = Yes
+admission false = No
+
+abbrev pub afterJudging : Refusal → Admission → Admission
+afterJudging r a = cond (eqb (r .number) 0) a (Refused r)
+
+-- an entry of the walk's index, which is lent with its rows
+unfoldable pub offeredIn : List ℕ → List ℕ → Walk → ℕ → Bool
+offeredIn s l w e = cond (ltb e (w .entries)) (walkFits s l w) false
+
+-- 1 at the first row of the object that is out of range; 1 at 0 where the walk isn't as it was; then yes or no, over the names required of
+-- the member that entry e offered
+unfoldable pub matchesOf : List ℕ → List ℕ → List ℕ → List ℕ → List ℕ → List ℕ → Walk → ℕ → Admission
+matchesOf headers entries contents file s l w e =
+    afterJudging (judgeOf headers entries (length contents) (length file))
+    (cond (offeredIn s l w e) (admission (hasGlobalSymbol headers entries file (requiredOf s l (w .entries) e))) (Refused (refused 1 0)))

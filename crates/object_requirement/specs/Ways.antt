@@ -1,0 +1,149 @@
+-- The ways through the functions.
+-- Assumes nothing.
+use Prim.Native.Nat.{ℕ, suc, _+_, _-_, _<_, _≤_}
+use native.Mathlib.Nat.{sub-zero}
+use native.Mathlib.Omega.{arith}
+use mathlib.Core.Path.{_≡_, sym, _∙_}
+use mathlib.Core.Bool.{Bool, true, false}
+use mathlib.Core.List.{List, []}
+use lib.ListN.{length}
+use borrow.Author.Tests.{eq-eqb, ne-eqb, lt-leb, le-leb, lt-ltb, le-ltb}
+use Rattle.strings.specs.Lookup.{Looked, looked, lookUp}
+use Rattle.link.specs.declared.Refusal.{Refusal}
+use Rattle.link.specs.Judge.{refused}
+use Rattle.archive_walk.specs.declared.Walk.{Walk}
+use Rattle.archive_walk.specs.Names.{requiredOf}
+use Rattle.archive_walk.specs.Walk.{walkFits}
+use Rattle.elf_object.specs.Rows.{rowsIn, field, kindAt, linkAt, stringsAt, tableEntries}
+use Rattle.elf_object.specs.Judge.{judgeOf}
+use Rattle.object_requirement.specs.declared.Admission.{Admission}
+use Rattle.object_requirement.specs.declared.Admission.the-variants.{Yes, No, Refused}
+use Rattle.object_requirement.specs.Matches.{isSection, nameAnywhere, isRequired, someFrom, bearsRequired, inTable, isTable, inSection, hasGlobalSymbol, offeredIn, matchesOf}
+
+-- ---- names
+
+module _ (headers : List ℕ) (n kind : ℕ) (t : Bool) where
+  pub section-past : rowsIn headers ≤ n → t ≡ false → t ≡ isSection headers n kind
+  unfolding isSection
+  section-past h q = simp (q, le-leb _ _ h)
+
+  module _ (k : ℕ) where
+    pub section-yes : n < rowsIn headers → k ≡ kindAt headers n → k ≡ kind → t ≡ true → t ≡ isSection headers n kind
+    unfolding isSection
+    section-yes h e f q = simp (q, lt-leb _ _ h, ← e, eq-eqb _ _ f)
+
+    pub section-other : n < rowsIn headers → k ≡ kindAt headers n → (k ≡ kind → ⊥) → t ≡ false → t ≡ isSection headers n kind
+    unfolding isSection
+    section-other h e f q = simp (q, lt-leb _ _ h, ← e, ne-eqb _ _ f)
+
+module _ (headers file : List ℕ) (n offset : ℕ) (t : Looked) (b : Bool) where
+  pub name-there : (table : List ℕ) → b ≡ isSection headers n 4 → b ≡ true → table ≡ stringsAt headers file n → t ≡ lookUp table offset
+      → t ≡ nameAnywhere headers file n offset
+  unfolding nameAnywhere
+  name-there table e f g q = simp (q, ← e, f, g)
+
+  pub name-missing : b ≡ isSection headers n 4 → b ≡ false → t ≡ looked [] false → t ≡ nameAnywhere headers file n offset
+  unfolding nameAnywhere
+  name-missing e f q = simp (q, ← e, f)
+
+-- ---- symbols
+
+module _ (headers file : List ℕ) (names : ℕ) (symbols : List ℕ) (required : List ℕ → Bool) (i : ℕ) (t : Bool) (v : ℕ) where
+  pub bears-other : v ≡ field symbols i 1 → (v ≡ 1 → ⊥) → t ≡ false → t ≡ bearsRequired headers file names symbols required i
+  unfolding bearsRequired
+  bears-other e f q = simp (q, ← e, ne-eqb _ _ f)
+
+  module _ (o : ℕ) (x : List ℕ) (b : Bool) where
+    pub bears-missing : v ≡ field symbols i 1 → v ≡ 1 → o ≡ field symbols i 0 → looked x b ≡ nameAnywhere headers file names o → b ≡ false → t ≡ false
+        → t ≡ bearsRequired headers file names symbols required i
+    unfolding bearsRequired isRequired
+    bears-missing e f g h z q = q ∙ sym (rw (← e, eq-eqb _ _ f, ← g, ← h, z))
+
+    pub bears-name : v ≡ field symbols i 1 → v ≡ 1 → o ≡ field symbols i 0 → looked x b ≡ nameAnywhere headers file names o → b ≡ true → t ≡ required x
+        → t ≡ bearsRequired headers file names symbols required i
+    unfolding bearsRequired isRequired
+    bears-name e f g h z q = q ∙ sym (rw (← e, eq-eqb _ _ f, ← g, ← h, z))
+
+-- the loops: what holds from row i on, of n, is what holds from the start
+
+one-less : (n i : ℕ) → i < n → n - i ≡ suc (n - (i + 1))
+one-less n i h = omega arith
+
+module _ (f : ℕ → Bool) (n : ℕ) where
+  some-start : someFrom f 0 n ≡ someFrom f 0 (n - 0)
+  some-start = rw (sub-zero n)
+
+  module _ (w : Bool) (i : ℕ) where
+    pub some-end : w ≡ someFrom f i (n - i) → n ≤ i → false ≡ w
+    unfolding someFrom
+    some-end q h = let z : n - i ≡ 0 = omega arith in sym (q ∙ rw z)
+
+    module _ (b : Bool) where
+      pub some-here : w ≡ someFrom f i (n - i) → i < n → b ≡ f i → b ≡ true → true ≡ w
+      unfolding someFrom
+      some-here q h e z = sym (q ∙ rw (one-less n i h) (simp (← e, z)))
+
+      pub some-on : w ≡ someFrom f i (n - i) → i < n → b ≡ f i → b ≡ false → w ≡ someFrom f (i + 1) (n - (i + 1))
+      unfolding someFrom
+      some-on q h e z = q ∙ rw (one-less n i h) (simp (← e, z))
+
+pub table-start : (headers file : List ℕ) (names : ℕ) (symbols : List ℕ) (required : List ℕ → Bool)
+    → inTable headers file names symbols required ≡ someFrom (bearsRequired headers file names symbols required) 0 (rowsIn symbols - 0)
+unfolding inTable
+table-start headers file names symbols required = some-start _ _
+
+pub sections-start : (headers entries file : List ℕ) (required : List ℕ → Bool)
+    → hasGlobalSymbol headers entries file required ≡ someFrom (inSection headers entries file required) 0 (rowsIn headers - 0)
+unfolding hasGlobalSymbol
+sections-start headers entries file required = some-start _ _
+
+module _ (headers : List ℕ) (n : ℕ) (t b : Bool) where
+  pub table-yes : b ≡ isSection headers n 3 → b ≡ true → t ≡ true → t ≡ isTable headers n
+  unfolding isTable
+  table-yes e f q = simp (q, ← e, f)
+
+  pub table-other : b ≡ isSection headers n 3 → b ≡ false → t ≡ isSection headers n 10 → t ≡ isTable headers n
+  unfolding isTable
+  table-other e f q = simp (q, ← e, f)
+
+module _ (headers entries file : List ℕ) (required : List ℕ → Bool) (n : ℕ) (t b : Bool) where
+  pub section-table : (names : ℕ) (symbols : List ℕ) → b ≡ isTable headers n → b ≡ true → names ≡ linkAt headers n
+      → symbols ≡ tableEntries headers entries (n + 1) → t ≡ inTable headers file names symbols required → t ≡ inSection headers entries file required n
+  unfolding inSection
+  section-table names symbols e f g h q = simp (q, ← e, f, g, h)
+
+  pub section-none : b ≡ isTable headers n → b ≡ false → t ≡ false → t ≡ inSection headers entries file required n
+  unfolding inSection
+  section-none e f q = simp (q, ← e, f)
+
+module _ (s l : List ℕ) (w : Walk) (e : ℕ) (t : Bool) where
+  pub offered-entry : e < w .entries → t ≡ walkFits s l w → t ≡ offeredIn s l w e
+  unfolding offeredIn
+  offered-entry h q = simp (q, lt-ltb _ _ h)
+
+  pub offered-none : w .entries ≤ e → t ≡ false → t ≡ offeredIn s l w e
+  unfolding offeredIn
+  offered-none h q = simp (q, le-ltb _ _ h)
+
+module _ (headers entries contents file s l : List ℕ) (w : Walk) (k : ℕ) (t : Admission) (r : Refusal) where
+  pub matches-refused : r ≡ judgeOf headers entries (length contents) (length file) → (r .number ≡ 0 → ⊥) → t ≡ Refused r
+      → t ≡ matchesOf headers entries contents file s l w k
+  unfolding matchesOf
+  matches-refused e f q = q ∙ sym (rw (← e, ne-eqb _ _ f))
+
+  module _ (o : Bool) where
+    pub matches-unoffered : r ≡ judgeOf headers entries (length contents) (length file) → r .number ≡ 0 → o ≡ offeredIn s l w k → o ≡ false
+        → t ≡ Refused (refused 1 0) → t ≡ matchesOf headers entries contents file s l w k
+    unfolding matchesOf
+    matches-unoffered e f g h q = q ∙ sym (rw (← e, eq-eqb _ _ f, ← g, h))
+
+    module _ (b : Bool) where
+      pub matches-yes : r ≡ judgeOf headers entries (length contents) (length file) → r .number ≡ 0 → o ≡ offeredIn s l w k → o ≡ true
+          → b ≡ hasGlobalSymbol headers entries file (requiredOf s l (w .entries) k) → b ≡ true → t ≡ Yes → t ≡ matchesOf headers entries contents file s l w k
+      unfolding matchesOf
+      matches-yes e f g h i j q = q ∙ sym (rw (← e, eq-eqb _ _ f, ← g, h, ← i, j))
+
+      pub matches-no : r ≡ judgeOf headers entries (length contents) (length file) → r .number ≡ 0 → o ≡ offeredIn s l w k → o ≡ true
+          → b ≡ hasGlobalSymbol headers entries file (requiredOf s l (w .entries) k) → b ≡ false → t ≡ No → t ≡ matchesOf headers entries contents file s l w k
+      unfolding matchesOf
+      matches-no e f g h i j q = q ∙ sym (rw (← e, eq-eqb _ _ f, ← g, h, ← i, j))

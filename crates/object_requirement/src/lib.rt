@@ -1,0 +1,202 @@
+// Admission of an archive's member: does some symbol of binding 1 bear a name that was required of it? The Rust's `ObjectRequirement::matches`.
+// Every symbol table of the object is looked at, excluded or not, and so is its string section; nothing of the link is.
+ghost use mathlib.Core.Path.{_≡_};
+ghost use Prim.Native.Nat.{_+_, _<_};
+ghost use Rattle.strings.specs.Lookup.{looked};
+ghost use Rattle.elf_object.specs.Rows.{stringsAt};
+ghost use Rattle.archive_walk.specs.Names.{requiredOf};
+ghost use Rattle.object_requirement.specs.Matches.{isSection, nameAnywhere, bearsRequired, inTable, isTable, inSection, hasGlobalSymbol, offeredIn, matchesOf};
+use archive_walk::Walk;
+use link::Refusal;
+
+pub enum Admission {
+    Yes,
+    No,
+    Refused { refusal: Refusal },
+}
+
+// ---- names
+
+// Is there a section of that number and kind, excluded or not?
+fn is_section(headers: &[u64], n: usize, kind: u64) -> bool
+    ensures { λ r. ⌜ r ≡ isSection (now (headers .entry)) n kind ⌝ }
+{
+    if headers.len() / 8 <= n {
+        return false;
+    }
+    if cells::row_get(headers, n, 0) == kind {
+        return true;
+    }
+    false
+}
+
+fn strings_at<'a>(headers: &[u64], file: &'a [u8], n: usize) -> &'a [u8]
+    ensures { λ r. ⌜ now r ≡ stringsAt (now (headers .entry)) (now (file .entry)) n ⌝ }
+{
+    let first = cells::row_get(headers, n, 5);
+    let count = cells::row_get(headers, n, 6);
+    byte_slices::part_of(file, first as usize, count as usize)
+}
+
+// The name at an offset of string section n, excluded or not.
+fn name_anywhere<'a>(
+    headers: &[u64],
+    file: &'a [u8],
+    n: usize,
+    offset: usize,
+    found: &mut bool,
+) -> &'a [u8]
+    ensures { λ r. ⌜ looked (now r) (now (found .exit)) ≡ nameAnywhere (now (headers .entry)) (now (file .entry)) n offset ⌝ }
+{
+    if is_section(headers, n, 4) {
+        let table = strings_at(headers, file, n);
+        return strings::get(table, offset, found);
+    }
+    *found = false;
+    &file[..0]
+}
+
+// ---- symbols
+
+// Does symbol i of a table, whose names are in string section `names`, bear a required name?
+fn bears_required(
+    headers: &[u64],
+    file: &[u8],
+    names: usize,
+    symbols: &[u64],
+    i: usize,
+    index: &[u8],
+    cells: &[u64],
+    count: usize,
+    entry: usize,
+) -> bool
+    ensures { λ r. ⌜ r ≡ bearsRequired (now (headers .entry)) (now (file .entry)) names (now (symbols .entry)) (requiredOf (now (index .entry)) (now (cells .entry)) count entry) i ⌝ }
+{
+    if cells::row_get(symbols, i, 1) == 1 {
+        let mut found = false;
+        let offset = cells::row_get(symbols, i, 0) as usize;
+        let name = name_anywhere(headers, file, names, offset, &mut found);
+        if found {
+            return archive_walk::is_required(index, cells, count, entry, name);
+        }
+    }
+    false
+}
+
+fn in_table(
+    headers: &[u64],
+    file: &[u8],
+    names: usize,
+    symbols: &[u64],
+    index: &[u8],
+    cells: &[u64],
+    count: usize,
+    entry: usize,
+) -> bool
+    ensures { λ r. ⌜ r ≡ inTable (now (headers .entry)) (now (file .entry)) names (now (symbols .entry)) (requiredOf (now (index .entry)) (now (cells .entry)) count entry) ⌝ }
+{
+    let rows = symbols.len() / 8;
+    let mut i = 0;
+    while i < rows {
+        if bears_required(headers, file, names, symbols, i, index, cells, count, entry) {
+            return true;
+        }
+        i += 1;
+    }
+    false
+}
+
+// A symbol table, dynamic or not.
+fn is_table(headers: &[u64], n: usize) -> bool
+    ensures { λ r. ⌜ r ≡ isTable (now (headers .entry)) n ⌝ }
+{
+    if is_section(headers, n, 3) {
+        return true;
+    }
+    is_section(headers, n, 10)
+}
+
+fn in_section(
+    headers: &[u64],
+    entries: &[u64],
+    file: &[u8],
+    n: usize,
+    index: &[u8],
+    cells: &[u64],
+    count: usize,
+    entry: usize,
+) -> bool
+    requires { ⌜ n < 0xffffffffffffffff ⌝ }
+    ensures { λ r. ⌜ r ≡ inSection (now (headers .entry)) (now (entries .entry)) (now (file .entry)) (requiredOf (now (index .entry)) (now (cells .entry)) count entry) n ⌝ }
+{
+    if is_table(headers, n) {
+        let names = cells::row_get(headers, n, 3) as usize;
+        let symbols = elf_object::table_entries(headers, entries, (n + 1) as u64);
+        return in_table(headers, file, names, symbols, index, cells, count, entry);
+    }
+    false
+}
+
+fn has_global_symbol(
+    headers: &[u64],
+    entries: &[u64],
+    file: &[u8],
+    index: &[u8],
+    cells: &[u64],
+    count: usize,
+    entry: usize,
+) -> bool
+    ensures { λ r. ⌜ r ≡ hasGlobalSymbol (now (headers .entry)) (now (entries .entry)) (now (file .entry)) (requiredOf (now (index .entry)) (now (cells .entry)) count entry) ⌝ }
+{
+    let rows = headers.len() / 8;
+    let mut n = 0;
+    while n < rows {
+        if in_section(headers, entries, file, n, index, cells, count, entry) {
+            return true;
+        }
+        n += 1;
+    }
+    false
+}
+
+// Was the member offered by an entry of this walk's index, and are that index and its rows lent?
+fn is_offered(w: Walk, index: &[u8], cells: &[u64], entry: usize) -> bool
+    ensures { λ r. ⌜ r ≡ offeredIn (now (index .entry)) (now (cells .entry)) w entry ⌝ }
+{
+    if entry < w.entries {
+        return archive_walk::fits(w, index, cells);
+    }
+    false
+}
+
+// The object's rows; the walk, its index and rows, and the entry by which the member was offered. 1 of the object's rows at the first, of the
+// walk's at 0.
+pub fn matches(
+    headers: &[u64],
+    entries: &[u64],
+    contents: &[u64],
+    file: &[u8],
+    w: Walk,
+    index: &[u8],
+    cells: &[u64],
+    entry: usize,
+) -> Admission
+    ensures { λ r. ⌜ r ≡ matchesOf (now (headers .entry)) (now (entries .entry)) (now (contents .entry)) (now (file .entry)) (now (index .entry)) (now (cells .entry)) w entry ⌝ }
+{
+    let judged = elf_object::judge(headers, entries, contents.len(), file.len());
+    if judged.number != 0 {
+        return Admission::Refused { refusal: judged };
+    }
+    if is_offered(w, index, cells, entry) {
+        if has_global_symbol(headers, entries, file, index, cells, w.entries, entry) {
+            return Admission::Yes;
+        }
+        return Admission::No;
+    }
+    Admission::Refused {
+        refusal: Refusal {
+            number: 1,
+            place: 0,
+        },
+    }
+}

@@ -1,0 +1,949 @@
+// Replays lists of the oracle: every answer is compared with the Rust's, and every row where a list has a dump. Cases of our own, with answers
+// that were worked out by hand, may also lend less of each store (replay_lend) and ask for a link's counts (replay_changes).
+use archive_walk::Begun;
+use archive_walk::Moved;
+use archive_walk::Walk;
+use link::Link;
+use object_requirement::Admission;
+use replay_archive::Archive;
+use replay_changes::Changed;
+use replay_lend::Lend;
+use replay_object::Object;
+use replay_tally::Tally;
+use symbols::Symbols;
+use text_lines::Lines;
+use text_lines::Taken;
+
+// Library: is what was announced last a shared object?
+struct State {
+    table: Symbols,
+    object: Object,
+    library: bool,
+    archive: Archive,
+    walk: Walk,
+    lend: Lend,
+}
+
+// A state after an operation, and the length of its answers' text.
+struct Ran {
+    state: State,
+    to: usize,
+}
+
+// Operations that were passed over. Link: the rest of the link is. Last: the last operation was, and its answers are.
+struct Passing {
+    count: u64,
+    link: bool,
+    last: bool,
+}
+
+// Taken: the line in the buffer that comes next; More before the first.
+struct Replay {
+    state: State,
+    tally: Tally,
+    passing: Passing,
+    lines: Lines,
+    taken: Taken,
+    going: bool,
+}
+
+// Where an archive's index begins, behind the bytes of an object.
+const INDEX: usize = 16384;
+
+// ---- states
+
+fn with_table(s: State, table: Symbols) -> State {
+    let object = s.object;
+    let archive = s.archive;
+    let walk = s.walk;
+    let lend = s.lend;
+    State {
+        table: table,
+        object: object,
+        library: s.library,
+        archive: archive,
+        walk: walk,
+        lend: lend,
+    }
+}
+
+fn with_object(s: State, object: Object, library: bool) -> State {
+    let table = s.table;
+    let archive = s.archive;
+    let walk = s.walk;
+    let lend = s.lend;
+    State {
+        table: table,
+        object: object,
+        library: library,
+        archive: archive,
+        walk: walk,
+        lend: lend,
+    }
+}
+
+fn with_archive(s: State, archive: Archive, walk: Walk) -> State {
+    let table = s.table;
+    let object = s.object;
+    let lend = s.lend;
+    State {
+        table: table,
+        object: object,
+        library: s.library,
+        archive: archive,
+        walk: walk,
+        lend: lend,
+    }
+}
+
+fn with_lend(s: State, lend: Lend) -> State {
+    let table = s.table;
+    let object = s.object;
+    let archive = s.archive;
+    let walk = s.walk;
+    State {
+        table: table,
+        object: object,
+        library: s.library,
+        archive: archive,
+        walk: walk,
+        lend: lend,
+    }
+}
+
+fn no_walk() -> Walk {
+    Walk {
+        entries: 0,
+        length: 0,
+        passes: 0,
+        queued: 0,
+        offered: 0,
+        done: true,
+    }
+}
+
+fn after(s: State, to: usize) -> Ran {
+    Ran { state: s, to: to }
+}
+
+// ---- what a line is
+
+// Admission by names that were set by hand, or without a member.
+fn is_unoffered(a: Archive, line: &[u8]) -> bool {
+    if replay_words::is(line, 0, b"admit") {
+        return a.offered == 0;
+    }
+    false
+}
+
+// The class of an operation (replay_class) as things stand: a shared object's symbols aren't replayed, nor calls on a link after one that wasn't.
+fn class_in(s: State, p: Passing, line: &[u8]) -> u64 {
+    let k = replay_class::class(line);
+    if k == 1 {
+        if s.library {
+            if replay_words::is(line, 0, b"symbol") {
+                return 0;
+            }
+        }
+        return 1;
+    }
+    if p.link {
+        if replay_words::is(line, 0, b"link") {
+            return 2;
+        }
+        return 0;
+    }
+    if is_unoffered(s.archive, line) {
+        return 0;
+    }
+    k
+}
+
+// The class of a line: 8 for one that says nothing, 9 for an expected answer.
+fn line_class(r: Replay, line: &[u8]) -> u64 {
+    let s = r.state;
+    let p = r.passing;
+    let k = replay_words::kind(line);
+    match k {
+        0 => 8,
+        1 => 9,
+        _ => class_in(s, p, line),
+    }
+}
+
+// ---- the tally
+
+fn tallied(r: Replay, state: State, tally: Tally, passing: Passing) -> Replay {
+    let lines = r.lines;
+    let taken = r.taken;
+    Replay {
+        state: state,
+        tally: tally,
+        passing: passing,
+        lines: lines,
+        taken: taken,
+        going: true,
+    }
+}
+
+// Before an operation: the answers of the last one were compared.
+fn settled(r: Replay, out: &[u8], line: &[u8]) -> Tally {
+    let t = replay_tally::settle(r.tally, out);
+    if replay_words::is(line, 0, b"link") {
+        return replay_tally::on_link(t);
+    }
+    t
+}
+
+// At a link nothing is passed over any more.
+fn link_passed(p: Passing, line: &[u8]) -> bool {
+    if replay_words::is(line, 0, b"link") {
+        return false;
+    }
+    p.link
+}
+
+// After an operation whose answers are the first `to` bytes of the text.
+fn answered(r: Replay, t: Tally, o: Ran, line: &[u8]) -> Replay {
+    let state = o.state;
+    let p = r.passing;
+    let passing = Passing {
+        count: p.count,
+        link: link_passed(p, line),
+        last: false,
+    };
+    tallied(r, state, replay_tally::answered(t, o.to), passing)
+}
+
+fn library_after(s: State, line: &[u8]) -> State {
+    let object = s.object;
+    if replay_words::is(line, 0, b"library") {
+        return with_object(s, object, true);
+    }
+    s
+}
+
+fn passing_after(p: Passing, line: &[u8]) -> Passing {
+    let count = std::num::wrapping_add_u64(p.count, 1);
+    if replay_class::leaves(line) {
+        return Passing {
+            count: count,
+            link: p.link,
+            last: true,
+        };
+    }
+    Passing {
+        count: count,
+        link: true,
+        last: true,
+    }
+}
+
+fn passed_over(r: Replay, out: &[u8], line: &[u8]) -> Replay {
+    let s = library_after(r.state, line);
+    let p = passing_after(r.passing, line);
+    tallied(r, s, settled(r, out, line), p)
+}
+
+fn compared(r: Replay, out: &[u8], line: &[u8]) -> Replay {
+    let state = r.state;
+    let passing = r.passing;
+    if passing.last {
+        return r;
+    }
+    let t = replay_tally::compare(r.tally, out, replay_words::expected(line));
+    tallied(r, state, t, passing)
+}
+
+fn without_call(r: Replay, class: u64, out: &[u8], line: &[u8]) -> Replay {
+    if class == 8 {
+        return r;
+    }
+    if class == 9 {
+        return compared(r, out, line);
+    }
+    passed_over(r, out, line)
+}
+
+// ---- lines that are told
+
+fn tell_archive(s: State, file: &mut [u8], line: &[u8]) -> State {
+    let a = s.archive;
+    let walk = s.walk;
+    if replay_words::is(line, 0, b"archive") {
+        return with_archive(s, replay_archive::announce(file, INDEX, line), walk);
+    }
+    if replay_words::is(line, 0, b"entry") {
+        return with_archive(s, replay_archive::entry(file, INDEX, a, line), walk);
+    }
+    with_archive(s, replay_archive::told(file, INDEX, a, line), walk)
+}
+
+fn tell_object(s: State, rows: &mut [u64], file: &mut [u8], line: &[u8]) -> State {
+    let o = s.object;
+    if replay_words::is(line, 0, b"section") {
+        return with_object(s, replay_object::section(rows, file, o, line), false);
+    }
+    if replay_words::is(line, 0, b"symbol") {
+        return with_object(s, replay_object::symbol(rows, o, line), false);
+    }
+    if replay_words::is(line, 0, b"object") {
+        return with_object(s, replay_object::announce(line), false);
+    }
+    tell_archive(s, file, line)
+}
+
+fn tell(s: State, rows: &mut [u64], file: &mut [u8], line: &[u8]) -> State {
+    if replay_words::is(line, 0, b"lend") {
+        return with_lend(s, replay_lend::told(line));
+    }
+    if replay_words::is(line, 0, b"conversion") {
+        replay_object::convert(rows, line);
+        return s;
+    }
+    if replay_words::is(line, 0, b"require") {
+        return with_archive(s, replay_archive::unoffered(s.archive), s.walk);
+    }
+    tell_object(s, rows, file, line)
+}
+
+fn told(r: Replay, out: &[u8], rows: &mut [u64], file: &mut [u8], line: &[u8]) -> Replay {
+    let t = settled(r, out, line);
+    let s = tell(r.state, rows, file, line);
+    answered(r, t, after(s, 0), line)
+}
+
+// ---- changes
+
+fn changed(r: Replay, out: &mut [u8], c: Changed, s: State, line: &[u8]) -> Replay {
+    let t = settled(r, out, line);
+    let reply = c.reply;
+    let n = replay_changes::put_reply(out, reply);
+    answered(r, t, after(with_table(s, c.table), n), line)
+}
+
+// A new link: the archive and its walk are gone with the old one.
+fn before_change(s: State, line: &[u8]) -> State {
+    if replay_words::is(line, 0, b"link") {
+        return with_archive(s, replay_archive::none(), no_walk());
+    }
+    s
+}
+
+fn change(
+    r: Replay,
+    out: &mut [u8],
+    bytes: &mut [u8],
+    names: &mut [u64],
+    symbols: &mut [u64],
+    sections: &mut [u64],
+    rows: &[u64],
+    line: &[u8],
+) -> Replay {
+    let s = before_change(r.state, line);
+    let lend = s.lend;
+    let conversion = replay_object::conversion(rows);
+    let c = replay_changes::change(
+        s.table,
+        lend,
+        bytes,
+        names,
+        symbols,
+        sections,
+        conversion,
+        line,
+    );
+    changed(r, out, c, s, line)
+}
+
+fn merge(
+    r: Replay,
+    out: &mut [u8],
+    bytes: &mut [u8],
+    names: &mut [u64],
+    symbols: &mut [u64],
+    sections: &mut [u64],
+    inputs: &mut [u64],
+    lists: &mut [u64],
+    work: &mut [u64],
+    ids: &mut [u64],
+    rows: &[u64],
+    file: &[u8],
+    line: &[u8],
+) -> Replay {
+    let s = r.state;
+    let c = merged(
+        s,
+        bytes,
+        names,
+        symbols,
+        sections,
+        inputs,
+        lists,
+        work,
+        ids,
+        rows,
+        file,
+    );
+    changed(r, out, c, s, line)
+}
+
+fn merged(
+    s: State,
+    bytes: &mut [u8],
+    names: &mut [u64],
+    symbols: &mut [u64],
+    sections: &mut [u64],
+    inputs: &mut [u64],
+    lists: &mut [u64],
+    work: &mut [u64],
+    ids: &mut [u64],
+    rows: &[u64],
+    file: &[u8],
+) -> Changed {
+    let table = s.table;
+    let object = s.object;
+    let lend = s.lend;
+    replay_merge::merge(
+        table.link,
+        lend,
+        object,
+        bytes,
+        names,
+        symbols,
+        sections,
+        inputs,
+        lists,
+        work,
+        ids,
+        rows,
+        file,
+    )
+}
+
+// ---- a collection
+
+fn collect(
+    s: State,
+    out: &mut [u8],
+    bytes: &[u8],
+    names: &[u64],
+    symbols: &mut [u64],
+    sections: &mut [u64],
+    lists: &[u64],
+    work: &mut [u64],
+    line: &[u8],
+) -> Ran {
+    let table = s.table;
+    let lend = s.lend;
+    let o = replay_collect::collect(
+        table.link,
+        lend,
+        out,
+        bytes,
+        names,
+        symbols,
+        sections,
+        lists,
+        work,
+        line,
+    );
+    let l = o.link;
+    after(with_table(s, Symbols { link: l }), o.to)
+}
+
+// ---- a walk
+
+fn put_begun(out: &mut [u8], begun: Begun) -> usize {
+    match begun {
+        Begun::Ready { entries: _ } => text_lines::put(out, 0, b"started"),
+        Begun::Refused { refusal } => replay_text::put_refusal(out, 0, refusal),
+    }
+}
+
+fn start(s: State, out: &mut [u8], cells: &mut [u64], index: &[u8]) -> Ran {
+    let o = archive_walk::start(index, cells);
+    let begun = o.begun;
+    let archive = s.archive;
+    after(with_archive(s, archive, o.walk), put_begun(out, begun))
+}
+
+fn next(
+    s: State,
+    out: &mut [u8],
+    bytes: &[u8],
+    names: &[u64],
+    symbols: &[u64],
+    cells: &mut [u64],
+    index: &[u8],
+) -> Ran {
+    let table = s.table;
+    let o = archive_walk::next(s.walk, index, cells, table.link, bytes, names, symbols);
+    moved(s, out, cells, index, o)
+}
+
+fn moved(s: State, out: &mut [u8], cells: &[u64], index: &[u8], o: Moved) -> Ran {
+    let walk = o.walk;
+    let offer = o.offer;
+    let n = replay_archive::put_offer(out, index, cells, walk.entries, offer);
+    let archive = replay_archive::after_offer(s.archive, offer);
+    after(with_archive(s, archive, walk), n)
+}
+
+fn put_admission(out: &mut [u8], a: Admission) -> usize {
+    match a {
+        Admission::Yes => text_lines::put(out, 0, b"yes"),
+        Admission::No => text_lines::put(out, 0, b"no"),
+        Admission::Refused { refusal } => replay_text::put_refusal(out, 0, refusal),
+    }
+}
+
+// Whether the object told last is let in, by the names required of the member offered last.
+fn admit(s: State, out: &mut [u8], rows: &[u64], file: &[u8], index: &[u8]) -> Ran {
+    let object = s.object;
+    let archive = s.archive;
+    let walked = cells::part_of(rows, replay_object::CELLS, rows.len());
+    let a = object_requirement::matches(
+        replay_object::headers(rows, object),
+        replay_object::entries(rows, object),
+        replay_object::contents(rows, object),
+        byte_slices::part_of(file, 0, object.bytes),
+        s.walk,
+        index,
+        walked,
+        entry_of(archive.offered),
+    );
+    after(s, put_admission(out, a))
+}
+
+fn entry_of(offered: usize) -> usize {
+    if offered == 0 {
+        return 0;
+    }
+    offered - 1
+}
+
+// The walk's cells lie behind the object's.
+fn walk(
+    s: State,
+    out: &mut [u8],
+    bytes: &[u8],
+    names: &[u64],
+    symbols: &[u64],
+    rows: &mut [u64],
+    file: &[u8],
+    line: &[u8],
+) -> Ran {
+    if rows.len() < replay_object::CELLS {
+        return after(s, 0);
+    }
+    let archive = s.archive;
+    let index = replay_archive::index(file, INDEX, archive);
+    if replay_words::is(line, 0, b"start") {
+        return start(s, out, &mut rows[replay_object::CELLS..], index);
+    }
+    if replay_words::is(line, 0, b"admit") {
+        return admit(s, out, rows, file, index);
+    }
+    next(
+        s,
+        out,
+        bytes,
+        names,
+        symbols,
+        &mut rows[replay_object::CELLS..],
+        index,
+    )
+}
+
+// ---- calls that write their answers themselves
+
+fn look(
+    s: State,
+    class: u64,
+    out: &mut [u8],
+    bytes: &[u8],
+    names: &[u64],
+    symbols: &[u64],
+    sections: &[u64],
+    inputs: &[u64],
+    lists: &[u64],
+    line: &[u8],
+) -> Ran {
+    let table = s.table;
+    if class == 7 {
+        let l = table.link;
+        let n = replay_rows::put_dump(l, out, bytes, names, symbols, sections, inputs, lists);
+        return after(s, n);
+    }
+    after(
+        s,
+        replay_changes::look(table, out, bytes, names, symbols, sections, line),
+    )
+}
+
+// Lookups, dumps and walks are lent parts of what is only read.
+fn lent_look(
+    s: State,
+    class: u64,
+    out: &mut [u8],
+    bytes: &[u8],
+    names: &[u64],
+    symbols: &[u64],
+    sections: &[u64],
+    inputs: &[u64],
+    lists: &[u64],
+    rows: &mut [u64],
+    file: &[u8],
+    line: &[u8],
+) -> Ran {
+    let lend = s.lend;
+    let y = cells::part_of(symbols, 0, replay_lend::rows(lend.symbols, symbols.len()));
+    if class == 5 {
+        return walk(s, out, bytes, names, y, rows, file, line);
+    }
+    let t = cells::part_of(
+        sections,
+        0,
+        replay_lend::wide_rows(lend.sections, sections.len()),
+    );
+    look(s, class, out, bytes, names, y, t, inputs, lists, line)
+}
+
+fn call(
+    s: State,
+    class: u64,
+    out: &mut [u8],
+    bytes: &[u8],
+    names: &[u64],
+    symbols: &mut [u64],
+    sections: &mut [u64],
+    inputs: &[u64],
+    lists: &[u64],
+    work: &mut [u64],
+    rows: &mut [u64],
+    file: &[u8],
+    line: &[u8],
+) -> Ran {
+    let lend = s.lend;
+    let b = byte_slices::part_of(bytes, 0, replay_lend::cells(lend.bytes, bytes.len()));
+    let n = cells::part_of(names, 0, replay_lend::wide_rows(lend.names, names.len()));
+    let i = cells::part_of(lists, 0, replay_lend::cells(lend.lists, lists.len()));
+    if class == 4 {
+        return collect(s, out, b, n, symbols, sections, i, work, line);
+    }
+    lent_look(
+        s,
+        class,
+        out,
+        b,
+        n,
+        symbols,
+        sections,
+        inputs,
+        i,
+        rows,
+        file,
+        line,
+    )
+}
+
+fn called(
+    r: Replay,
+    class: u64,
+    out: &mut [u8],
+    bytes: &[u8],
+    names: &[u64],
+    symbols: &mut [u64],
+    sections: &mut [u64],
+    inputs: &[u64],
+    lists: &[u64],
+    work: &mut [u64],
+    rows: &mut [u64],
+    file: &[u8],
+    line: &[u8],
+) -> Replay {
+    let t = settled(r, out, line);
+    let s = r.state;
+    let o = call(
+        s,
+        class,
+        out,
+        bytes,
+        names,
+        symbols,
+        sections,
+        inputs,
+        lists,
+        work,
+        rows,
+        file,
+        line,
+    );
+    answered(r, t, o, line)
+}
+
+// ---- the list
+
+// One line: what it is decides what it is lent.
+fn take(
+    r: Replay,
+    out: &mut [u8],
+    bytes: &mut [u8],
+    names: &mut [u64],
+    symbols: &mut [u64],
+    sections: &mut [u64],
+    inputs: &mut [u64],
+    lists: &mut [u64],
+    work: &mut [u64],
+    ids: &mut [u64],
+    rows: &mut [u64],
+    file: &mut [u8],
+    line: &[u8],
+) -> Replay {
+    let k = line_class(r, line);
+    match k {
+        0 | 8 | 9 => without_call(r, k, out, line),
+        1 => told(r, out, rows, file, line),
+        2 => change(r, out, bytes, names, symbols, sections, rows, line),
+        3 => merge(
+            r,
+            out,
+            bytes,
+            names,
+            symbols,
+            sections,
+            inputs,
+            lists,
+            work,
+            ids,
+            rows,
+            file,
+            line,
+        ),
+        _ => called(
+            r,
+            k,
+            out,
+            bytes,
+            names,
+            symbols,
+            sections,
+            inputs,
+            lists,
+            work,
+            rows,
+            file,
+            line,
+        ),
+    }
+}
+
+// The line that was taken, where one was.
+fn line_of(r: Replay, buf: &[u8]) -> &[u8] {
+    let taken = r.taken;
+    match taken {
+        Taken::Line { from, len } => byte_slices::part_of(buf, from, len),
+        Taken::Long => byte_slices::part_of(buf, 0, 0),
+        Taken::End => byte_slices::part_of(buf, 0, 0),
+        Taken::More => byte_slices::part_of(buf, 0, 0),
+    }
+}
+
+fn too_long(t: Tally) -> Tally {
+    replay_tally::differs(t, b"a line of at most 65,536 bytes", b"a longer one")
+}
+
+fn tally_on(t: Tally, taken: Taken) -> Tally {
+    let on = replay_tally::on_line(t);
+    match taken {
+        Taken::Long => too_long(on),
+        Taken::Line { from: _, len: _ } => on,
+        Taken::End => on,
+        Taken::More => on,
+    }
+}
+
+// Is there a line to go on with?
+fn goes_on(taken: Taken) -> bool {
+    match taken {
+        Taken::Line { from: _, len: _ } => true,
+        Taken::Long => false,
+        Taken::End => false,
+        Taken::More => true,
+    }
+}
+
+fn read_on(r: Replay, buf: &mut [u8]) -> Replay {
+    let step = text_lines::next_line(buf, r.lines);
+    let state = r.state;
+    let passing = r.passing;
+    let lines = step.lines;
+    let taken = step.taken;
+    Replay {
+        state: state,
+        tally: tally_on(r.tally, taken),
+        passing: passing,
+        lines: lines,
+        taken: taken,
+        going: goes_on(taken),
+    }
+}
+
+// Before the first link there is an empty one, which has no room.
+fn no_link() -> Symbols {
+    Symbols {
+        link: Link {
+            names: 0,
+            bytes: 0,
+            symbols: 0,
+            sections: 0,
+            inputs: 0,
+            lists: 0,
+            chains: 0,
+            slots: 0,
+            broken: false,
+        },
+    }
+}
+
+fn first_state() -> State {
+    State {
+        table: no_link(),
+        object: replay_object::empty(),
+        library: false,
+        archive: replay_archive::none(),
+        walk: no_walk(),
+        lend: replay_lend::all(),
+    }
+}
+
+fn first() -> Replay {
+    Replay {
+        state: first_state(),
+        tally: replay_tally::start(),
+        passing: Passing {
+            count: 0,
+            link: false,
+            last: false,
+        },
+        lines: text_lines::new(),
+        taken: Taken::More,
+        going: true,
+    }
+}
+
+fn print(r: Replay, out: &[u8]) {
+    let p = r.passing;
+    replay_tally::print(replay_tally::settle(r.tally, out));
+    io::write_all(1, b"passed over ");
+    io::print_decimal(1, p.count);
+    io::write_all(1, b"\n");
+}
+
+fn turn(
+    r: Replay,
+    buf: &mut [u8],
+    out: &mut [u8],
+    bytes: &mut [u8],
+    names: &mut [u64],
+    symbols: &mut [u64],
+    sections: &mut [u64],
+    inputs: &mut [u64],
+    lists: &mut [u64],
+    work: &mut [u64],
+    ids: &mut [u64],
+    rows: &mut [u64],
+    file: &mut [u8],
+) -> Replay {
+    let line = line_of(r, buf);
+    let next = take(
+        r,
+        out,
+        bytes,
+        names,
+        symbols,
+        sections,
+        inputs,
+        lists,
+        work,
+        ids,
+        rows,
+        file,
+        line,
+    );
+    read_on(next, buf)
+}
+
+// Nothing says that the input ends, so turns are counted down.
+fn turns(
+    r: Replay,
+    buf: &mut [u8],
+    out: &mut [u8],
+    bytes: &mut [u8],
+    names: &mut [u64],
+    symbols: &mut [u64],
+    sections: &mut [u64],
+    inputs: &mut [u64],
+    lists: &mut [u64],
+    work: &mut [u64],
+    ids: &mut [u64],
+    rows: &mut [u64],
+    file: &mut [u8],
+) {
+    let mut now = r;
+    let mut left: u64 = 0xffff_ffff_ffff_ffff;
+    while 0 < left {
+        if now.going {
+            now = turn(
+                now,
+                buf,
+                out,
+                bytes,
+                names,
+                symbols,
+                sections,
+                inputs,
+                lists,
+                work,
+                ids,
+                rows,
+                file,
+            );
+            left -= 1;
+        } else {
+            print(now, out);
+            return;
+        }
+    }
+}
+
+fn main() {
+    let mut buf = [0u8; 65536];
+    let mut out = [0u8; 65536];
+    let mut bytes = [0u8; 65536];
+    let mut names = [0u64; 4617];
+    let mut symbols = [0u64; 4096];
+    let mut sections = [0u64; 576];
+    let mut inputs = [0u64; 512];
+    let mut lists = [0u64; 4096];
+    let mut work = [0u64; 4096];
+    let mut ids = [0u64; 512];
+    let mut rows = [0u64; 8256];
+    let mut file = [0u8; 32768];
+    turns(
+        first(),
+        &mut buf,
+        &mut out,
+        &mut bytes,
+        &mut names,
+        &mut symbols,
+        &mut sections,
+        &mut inputs,
+        &mut lists,
+        &mut work,
+        &mut ids,
+        &mut rows,
+        &mut file,
+    );
+}

@@ -1,0 +1,28 @@
+use borrow.Author.Needs.{needs}
+use mathlib.Core.Path.{sym}
+use lib.Seq.{length-take-le}
+use Rattle.replay_changes.proofs.change.Statement.{statement}
+use Rattle.replay_changes.proofs.change.Tie as tie
+
+pub change-spec : {M : Type 1} → statement M
+change-spec =
+    tie.close
+    (tie.spec
+    (λ c κs. search needs)
+    (λ c κs. search needs)
+    (λ c κs. search needs)
+    (λ c κs. search needs)
+    (λ c. search needs)
+    (λ c. sym (length-take-le _ _ (c .before .before .before .before .cells .ensures)))
+    (λ c. search needs)
+    (λ c. sym (length-take-le _ _ (c .before .before .before .before .wide-rows .ensures)))
+    (λ c. search needs)
+    (λ c. sym (length-take-le _ _ (c .before .before .before .before .rows .ensures)))
+    (λ c. search needs)
+    (λ c. sym (length-take-le _ _ (c .before .before .before .before .wide-rows2 .ensures)))
+    (λ c κs. search needs)
+    (λ c. search needs)
+    (λ c. search needs)
+    (λ c. search needs)
+    (λ c. search needs)
+    (λ c. search needs))

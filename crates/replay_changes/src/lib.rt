@@ -1,0 +1,281 @@
+// Direct calls that a list makes on a symbol table, and what they answer.
+use link::Interned;
+use link::Link;
+use link::Refusal;
+use link::SectionId;
+use link::SymbolId;
+use replay_lend::Lend;
+use symbols::Found;
+use symbols::SectionSymbol;
+use symbols::Symbols;
+use upcoming_symbol::UpcomingSymbol;
+
+// What a changing call answers; Silent for an operation without answer.
+pub enum Reply {
+    Silent,
+    Id { id: SymbolId },
+    Done,
+    Merged,
+    Refused { refusal: Refusal },
+}
+
+pub struct Changed {
+    pub table: Symbols,
+    pub reply: Reply,
+}
+
+struct Named {
+    link: Link,
+    name: Interned,
+    refusal: Refusal,
+}
+
+// ---- adds
+
+fn intern(l: Link, bytes: &mut [u8], names: &mut [u64], x: &[u8]) -> Named {
+    let o = interner::intern(l, bytes, names, x);
+    let after = o.link;
+    let answer = o.answer;
+    match answer {
+        interner::Answer::Name { id } => Named {
+            link: after,
+            name: id,
+            refusal: Refusal {
+                number: 0,
+                place: 0,
+            },
+        },
+        interner::Answer::Refused { refusal } => Named {
+            link: after,
+            name: Interned(0),
+            refusal: refusal,
+        },
+    }
+}
+
+fn refused(l: Link, refusal: Refusal) -> Changed {
+    Changed {
+        table: Symbols { link: l },
+        reply: Reply::Refused { refusal: refusal },
+    }
+}
+
+fn added(o: symbols::Outcome) -> Changed {
+    let table = o.table;
+    let answer = o.answer;
+    match answer {
+        symbols::Answer::Symbol { id } => Changed {
+            table: table,
+            reply: Reply::Id { id: id },
+        },
+        symbols::Answer::Refused { refusal } => Changed {
+            table: table,
+            reply: Reply::Refused { refusal: refusal },
+        },
+    }
+}
+
+fn add_upcoming(
+    table: Symbols,
+    names: &mut [u64],
+    symbols: &mut [u64],
+    sections: &mut [u64],
+    conversion: &[u64],
+    u: UpcomingSymbol,
+) -> Changed {
+    added(table.add(names, symbols, sections, conversion, u))
+}
+
+// Under its name, with the name of its file issued too.
+fn add_named(
+    named: Named,
+    bytes: &mut [u8],
+    names: &mut [u64],
+    symbols: &mut [u64],
+    sections: &mut [u64],
+    conversion: &[u64],
+    line: &[u8],
+) -> Changed {
+    let filed = intern(named.link, bytes, names, replay_words::file_name(line));
+    let l = filed.link;
+    let refusal = filed.refusal;
+    if refusal.number != 0 {
+        return refused(l, refusal);
+    }
+    let f = replay_words::file(line, filed.name);
+    let u = replay_words::upcoming(line, named.name, f);
+    let table = Symbols { link: l };
+    add_upcoming(table, names, symbols, sections, conversion, u)
+}
+
+fn add(
+    l: Link,
+    bytes: &mut [u8],
+    names: &mut [u64],
+    symbols: &mut [u64],
+    sections: &mut [u64],
+    conversion: &[u64],
+    line: &[u8],
+) -> Changed {
+    let named = intern(l, bytes, names, replay_words::added_name(line));
+    let refusal = named.refusal;
+    if refusal.number != 0 {
+        return refused(named.link, refusal);
+    }
+    add_named(named, bytes, names, symbols, sections, conversion, line)
+}
+
+// ---- other changes
+
+fn done(o: symbols::Outcome, reply: Reply) -> Changed {
+    let table = o.table;
+    let answer = o.answer;
+    match answer {
+        symbols::Answer::Symbol { id: _ } => Changed {
+            table: table,
+            reply: reply,
+        },
+        symbols::Answer::Refused { refusal } => Changed {
+            table: table,
+            reply: Reply::Refused { refusal: refusal },
+        },
+    }
+}
+
+fn remove(table: Symbols, symbols: &mut [u64], sections: &mut [u64], line: &[u8]) -> Changed {
+    let id = SymbolId(replay_words::number(line, 1) as usize);
+    done(table.remove(symbols, sections, id), Reply::Done)
+}
+
+fn new_link(
+    bytes: &mut [u8],
+    names: &mut [u64],
+    symbols: &mut [u64],
+    sections: &mut [u64],
+) -> Changed {
+    done(Symbols::new(bytes, names, symbols, sections), Reply::Silent)
+}
+
+fn change_lent(
+    table: Symbols,
+    bytes: &mut [u8],
+    names: &mut [u64],
+    symbols: &mut [u64],
+    sections: &mut [u64],
+    conversion: &[u64],
+    line: &[u8],
+) -> Changed {
+    if replay_words::is(line, 0, b"link") {
+        return new_link(bytes, names, symbols, sections);
+    }
+    if replay_words::is(line, 0, b"remove") {
+        return remove(table, symbols, sections, line);
+    }
+    add(
+        table.link,
+        bytes,
+        names,
+        symbols,
+        sections,
+        conversion,
+        line,
+    )
+}
+
+// `link`, `remove ID`, `add ..`, with what is lent of each store.
+pub fn change(
+    table: Symbols,
+    lend: Lend,
+    bytes: &mut [u8],
+    names: &mut [u64],
+    symbols: &mut [u64],
+    sections: &mut [u64],
+    conversion: &[u64],
+    line: &[u8],
+) -> Changed {
+    let b = replay_lend::cells(lend.bytes, bytes.len());
+    let n = replay_lend::wide_rows(lend.names, names.len());
+    let s = replay_lend::rows(lend.symbols, symbols.len());
+    let t = replay_lend::wide_rows(lend.sections, sections.len());
+    change_lent(
+        table,
+        &mut bytes[..b],
+        &mut names[..n],
+        &mut symbols[..s],
+        &mut sections[..t],
+        conversion,
+        line,
+    )
+}
+
+pub fn put_reply(out: &mut [u8], r: Reply) -> usize {
+    match r {
+        Reply::Silent => 0,
+        Reply::Id { id } => replay_text::put_numbered(out, 0, b"id ", id.0 as u64),
+        Reply::Done => text_lines::put(out, 0, b"ok"),
+        Reply::Merged => text_lines::put(out, 0, b"merged"),
+        Reply::Refused { refusal } => replay_text::put_refusal(out, 0, refusal),
+    }
+}
+
+// ---- lookups
+
+fn put_found(out: &mut [u8], bytes: &[u8], names: &[u64], f: Found) -> usize {
+    match f {
+        Found::Row { symbol } => replay_text::put_symbol(out, 0, bytes, names, symbol),
+        Found::Refused { refusal } => replay_text::put_refusal(out, 0, refusal),
+    }
+}
+
+fn put_section_symbol(out: &mut [u8], s: SectionSymbol) -> usize {
+    match s {
+        SectionSymbol::None => text_lines::put(out, 0, b"none"),
+        SectionSymbol::Symbol { id } => replay_text::put_numbered(out, 0, b"id ", id.0 as u64),
+    }
+}
+
+fn put_broken(out: &mut [u8], n: usize, broken: bool) -> usize {
+    if broken {
+        return text_lines::put(out, n, b" 1");
+    }
+    text_lines::put(out, n, b" 0")
+}
+
+// `counts NAMES BYTES SYMBOLS SECTIONS INPUTS LISTS BROKEN`
+fn put_counts(out: &mut [u8], l: Link) -> usize {
+    let names = replay_text::put_numbered(out, 0, b"counts ", l.names as u64);
+    let bytes = replay_text::put_numbered(out, names, b" ", l.bytes as u64);
+    let symbols = replay_text::put_numbered(out, bytes, b" ", l.symbols as u64);
+    let sections = replay_text::put_numbered(out, symbols, b" ", l.sections as u64);
+    let inputs = replay_text::put_numbered(out, sections, b" ", l.inputs as u64);
+    let lists = replay_text::put_numbered(out, inputs, b" ", l.lists as u64);
+    put_broken(out, lists, l.broken)
+}
+
+// `counts`, `get ID`, `global NAME`, `sectionsymbol SECTION`
+pub fn look(
+    table: Symbols,
+    out: &mut [u8],
+    bytes: &[u8],
+    names: &[u64],
+    symbols: &[u64],
+    sections: &[u64],
+    line: &[u8],
+) -> usize {
+    if replay_words::is(line, 0, b"counts") {
+        return put_counts(out, table.link);
+    }
+    if replay_words::is(line, 0, b"get") {
+        let id = SymbolId(replay_words::number(line, 1) as usize);
+        let found = table.get(symbols, id);
+        return put_found(out, bytes, names, found);
+    }
+    if replay_words::is(line, 0, b"global") {
+        let l = table.link;
+        let id = interner::find(bytes, names, l.names, replay_words::name_at(line, 1));
+        let found = table.get_global(names, symbols, Interned(id));
+        return put_found(out, bytes, names, found);
+    }
+    let section = SectionId(replay_words::number(line, 1) as usize);
+    put_section_symbol(out, table.section_symbol_id(sections, section))
+}

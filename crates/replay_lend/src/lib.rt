@@ -1,0 +1,61 @@
+// How much of each store calls are lent: rows, bytes or cells. `lend SYMBOLS SECTIONS INPUTS NAMES BYTES LISTS WORK IDS` tells it; a word that is
+// no number lends all.
+ghost use Prim.Native.Nat.{_≤_};
+
+pub struct Lend {
+    pub symbols: usize,
+    pub sections: usize,
+    pub inputs: usize,
+    pub names: usize,
+    pub bytes: usize,
+    pub lists: usize,
+    pub work: usize,
+    pub ids: usize,
+}
+
+pub fn told(line: &[u8]) -> Lend {
+    Lend {
+        symbols: replay_words::number(line, 1) as usize,
+        sections: replay_words::number(line, 2) as usize,
+        inputs: replay_words::number(line, 3) as usize,
+        names: replay_words::number(line, 4) as usize,
+        bytes: replay_words::number(line, 5) as usize,
+        lists: replay_words::number(line, 6) as usize,
+        work: replay_words::number(line, 7) as usize,
+        ids: replay_words::number(line, 8) as usize,
+    }
+}
+
+pub fn all() -> Lend {
+    told(b"lend")
+}
+
+// Of a slice of that length, the cells that are lent.
+pub fn cells(count: usize, len: usize) -> usize
+    ensures { λ r. ⌜ r ≤ len ⌝ }
+{
+    if count < len {
+        return count;
+    }
+    len
+}
+
+// The same for rows of 8 cells.
+pub fn rows(count: usize, len: usize) -> usize
+    ensures { λ r. ⌜ r ≤ len ⌝ }
+{
+    if count < len / 8 {
+        return count * 8;
+    }
+    len
+}
+
+// The same for rows of 8 cells with a cell more for each behind them.
+pub fn wide_rows(count: usize, len: usize) -> usize
+    ensures { λ r. ⌜ r ≤ len ⌝ }
+{
+    if count < len / 9 {
+        return count * 9;
+    }
+    len
+}

@@ -1,0 +1,222 @@
+// An object as a list tells it, row by row, in lent cells: headers, entries of symbol tables and contents, each from a fixed place on, and
+// behind them the conversion that direct adds are lent; the bytes of string tables in lent bytes.
+
+// Rows and the section-name string section that were announced; rows, contents and bytes that were told so far.
+pub struct Object {
+    pub sections: usize,
+    pub symbols: usize,
+    pub strings: usize,
+    pub headers: usize,
+    pub entries: usize,
+    pub contents: usize,
+    pub bytes: usize,
+}
+
+// First cells, and how many cells each part has.
+const ENTRIES: usize = 2048;
+
+const CONTENTS: usize = 4096;
+
+const CONVERSION: usize = 6144;
+
+const PART: usize = 2048;
+
+const CONVERTED: usize = 64;
+
+// The cells of all parts together.
+pub const CELLS: usize = 6208;
+
+pub fn empty() -> Object {
+    announced(0, 0, 0)
+}
+
+fn announced(sections: usize, symbols: usize, strings: usize) -> Object {
+    Object {
+        sections: sections,
+        symbols: symbols,
+        strings: strings,
+        headers: 0,
+        entries: 0,
+        contents: 0,
+        bytes: 0,
+    }
+}
+
+// `object SECTIONS SYMBOLS NAMES`
+pub fn announce(line: &[u8]) -> Object {
+    announced(
+        replay_words::number(line, 1) as usize,
+        replay_words::number(line, 2) as usize,
+        replay_words::number(line, 3) as usize,
+    )
+}
+
+// ---- what is lent to a merge
+
+// Cells of that many rows, as far as a part holds them.
+fn cells_of(rows: usize) -> usize {
+    if rows < PART / 8 {
+        return rows * 8;
+    }
+    PART
+}
+
+pub fn headers(cells: &[u64], o: Object) -> &[u64] {
+    cells::part_of(cells, 0, cells_of(o.sections))
+}
+
+pub fn entries(cells: &[u64], o: Object) -> &[u64] {
+    cells::part_of(cells, ENTRIES, cells_of(o.symbols))
+}
+
+pub fn contents(cells: &[u64], o: Object) -> &[u64] {
+    cells::part_of(cells, CONTENTS, o.contents)
+}
+
+pub fn conversion(cells: &[u64]) -> &[u64] {
+    cells::part_of(cells, CONVERSION, CONVERTED)
+}
+
+// ---- rows
+
+fn flag(line: &[u8], k: usize, value: u64) -> u64 {
+    if replay_words::is(line, k, b"1") {
+        return value;
+    }
+    0
+}
+
+// Exclude, retain, read, COMDAT.
+fn flags(line: &[u8]) -> u64 {
+    let a = std::num::wrapping_add_u64(flag(line, 3, 1), flag(line, 4, 2));
+    let b = std::num::wrapping_add_u64(flag(line, 5, 4), flag(line, 8, 8));
+    std::num::wrapping_add_u64(a, b)
+}
+
+fn put_listed(cells: &mut [u64], at: usize, line: &[u8], j: usize) {
+    let word = replay_words::number(line, std::num::wrapping_add_usize(11, j));
+    cells::put(cells, std::num::wrapping_add_usize(at, j), word);
+}
+
+// The words of a section's LIST, at the contents' end; nothing where there is no room.
+fn put_list(cells: &mut [u64], at: usize, line: &[u8], count: usize) {
+    if PART < count {
+        return;
+    }
+    let mut j = 0;
+    while j < count {
+        put_listed(cells, at, line, j);
+        j += 1;
+    }
+}
+
+// Where a section's contents begin and how many they are: symbols by the LIST's words, bytes in the file, else among the contents.
+fn first(o: Object, line: &[u8], kind: u64) -> u64 {
+    match kind {
+        3 => replay_words::number(line, 11),
+        10 => replay_words::number(line, 11),
+        4 => o.bytes as u64,
+        _ => o.contents as u64,
+    }
+}
+
+fn count(line: &[u8], kind: u64, bytes: usize) -> u64 {
+    match kind {
+        3 => replay_words::number(line, 12),
+        10 => replay_words::number(line, 12),
+        4 => bytes as u64,
+        _ => replay_words::number(line, 10),
+    }
+}
+
+fn put_header(cells: &mut [u64], o: Object, line: &[u8], bytes: usize) {
+    let kind = replay_words::number(line, 1);
+    cells::row_store(
+        cells,
+        o.headers,
+        kind,
+        replay_words::number(line, 2),
+        flags(line),
+        replay_words::number(line, 6),
+        replay_words::number(line, 7),
+        first(o, line, kind),
+        count(line, kind, bytes),
+        0,
+    );
+}
+
+// `section KIND NAMEOFFSET EXCLUDE RETAIN READ LINK INFO COMDAT BYTES LIST`
+pub fn section(cells: &mut [u64], file: &mut [u8], o: Object, line: &[u8]) -> Object {
+    let bytes = replay_words::put_bytes(file, o.bytes, text_fields::field(line, 9));
+    let listed = replay_words::number(line, 10) as usize;
+    put_list(
+        cells,
+        std::num::wrapping_add_usize(CONTENTS, o.contents),
+        line,
+        listed,
+    );
+    put_header(cells, o, line, bytes);
+    Object {
+        sections: o.sections,
+        symbols: o.symbols,
+        strings: o.strings,
+        headers: symbol::next(o.headers),
+        entries: o.entries,
+        contents: std::num::wrapping_add_usize(o.contents, listed),
+        bytes: std::num::wrapping_add_usize(o.bytes, bytes),
+    }
+}
+
+// `symbol NAMEOFFSET BINDING TYPE VISIBILITY SECTION VALUE`
+pub fn symbol(cells: &mut [u64], o: Object, line: &[u8]) -> Object {
+    cells::row_store(
+        cells,
+        std::num::wrapping_add_usize(ENTRIES / 8, o.entries),
+        replay_words::number(line, 1),
+        replay_words::number(line, 2),
+        replay_words::number(line, 3),
+        replay_words::number(line, 4),
+        replay_words::number(line, 5),
+        replay_words::number(line, 6),
+        0,
+        0,
+    );
+    Object {
+        sections: o.sections,
+        symbols: o.symbols,
+        strings: o.strings,
+        headers: o.headers,
+        entries: symbol::next(o.entries),
+        contents: o.contents,
+        bytes: o.bytes,
+    }
+}
+
+// ---- the conversion of direct adds
+
+// A cell: 0 nothing, 1 not loaded, else the id and 2.
+fn cell_of(word: &[u8]) -> u64 {
+    if word.len() == 0 {
+        return 0;
+    }
+    if byte_slices::same_bytes(word, b"none") {
+        return 0;
+    }
+    if byte_slices::same_bytes(word, b"unloaded") {
+        return 1;
+    }
+    std::num::wrapping_add_u64(replay_words::number_in(word), 2)
+}
+
+// `conversion WORD ...`
+pub fn convert(cells: &mut [u64], line: &[u8]) {
+    let mut i = 0;
+    while i < CONVERTED {
+        cells::put(
+            cells,
+            CONVERSION + i,
+            cell_of(text_fields::field(line, i + 1)),
+        );
+        i += 1;
+    }
+}

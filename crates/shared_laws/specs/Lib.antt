@@ -1,0 +1,11 @@
+pub mod Cleared
+pub mod Needed
+pub mod Lists
+pub mod Marks
+pub mod Exact
+pub mod Unneeded
+pub mod Grown
+pub mod Recorded
+pub mod Counted
+pub mod LibraryRow
+pub mod Names

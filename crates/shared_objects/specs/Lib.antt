@@ -1,0 +1,4 @@
+pub mod Stages
+pub mod StageWays
+pub mod Load
+pub mod LoadWays

@@ -1,0 +1,125 @@
+-- A library that is loaded: its name (2 at 0), its symbols in order, its dependencies (2 at their rows), its row: "An input's row is taken last
+-- (2, place 0)".
+-- Assumes nothing.
+use Prim.Native.Nat.{ℕ, _+_, _-_}
+use mathlib.Core.Bool.{cond}
+use mathlib.Core.List.{List, [], _∷_}
+use lib.Dec.{eqb, ltb}
+use lib.ListN.{length}
+use Rattle.cells.specs.Rows.{putRow}
+use Rattle.link.specs.declared.Link.{Link}
+use Rattle.link.specs.declared.Stage.{Stage}
+use Rattle.link.specs.declared.Interned.{Interned}
+use Rattle.link.specs.Bounds.{inputRows}
+use Rattle.link.specs.Judge.{goingOf, stoppedOf}
+use Rattle.interner.specs.Names.{Store, storeOf, findOf, fitsOf, keepOf}
+use Rattle.library_lists.specs.Record.{Recorded, recordedOf, dependenciesOf}
+use Rattle.library_symbols.specs.Load.{State, stateOf, symbolsOf}
+
+-- ---- the library's row, with the inputs
+
+pub record InputLinks : Type 0 where
+  pub inputs : List ℕ
+  pub stage : Stage
+
+abbrev pub inputLinks : List ℕ → Stage → InputLinks
+inputLinks i st = record { inputs = i; stage = st }
+
+abbrev pub moreInputs : Link → Link
+moreInputs l =
+    record {
+      names = l .names;
+      bytes = l .bytes;
+      symbols = l .symbols;
+      sections = l .sections;
+      inputs = l .inputs + 1;
+      lists = l .lists;
+      chains = l .chains;
+      slots = l .slots;
+      broken = l .broken;
+    }
+
+-- kind 2; the name; dependencies, which lie from middle up to end, and undefined names, from first up to middle: each the first and how many
+abbrev pub libraryCells : ℕ → ℕ → ℕ → ℕ → List ℕ
+libraryCells name first middle end = 2 ∷ name ∷ middle ∷ (end - middle) ∷ first ∷ (middle - first) ∷ 0 ∷ 0 ∷ []
+
+unfoldable pub inputOf : List ℕ → Link → Interned → ℕ → ℕ → InputLinks
+inputOf inputs l id first middle =
+    cond (ltb (l .inputs) (inputRows (length inputs)))
+    (inputLinks (putRow inputs (l .inputs) (libraryCells (id .0) first middle (l .lists))) (goingOf (moreInputs l)))
+    (inputLinks inputs (stoppedOf l 2 0))
+
+-- ---- the dependencies, and then that row
+
+pub record ListLinks : Type 0 where
+  pub bytes : List ℕ
+  pub names : List ℕ
+  pub inputs : List ℕ
+  pub lists : List ℕ
+  pub stage : Stage
+
+abbrev pub listLinks : List ℕ → List ℕ → List ℕ → List ℕ → Stage → ListLinks
+listLinks b n i l st = record { bytes = b; names = n; inputs = i; lists = l; stage = st }
+
+abbrev pub withInput : Recorded → InputLinks → ListLinks
+withInput r i = listLinks (r .bytes) (r .names) (i .inputs) (r .lists) (i .stage)
+
+unfoldable pub inputStage : List ℕ → Recorded → Interned → ℕ → ℕ → ListLinks
+inputStage inputs r id first middle =
+    cond (eqb (r .stage .number) 0) (withInput r (inputOf inputs (r .stage .link) id first middle))
+    (listLinks (r .bytes) (r .names) inputs (r .lists) (r .stage))
+
+unfoldable pub listsOf : List ℕ → List ℕ → ListLinks → Interned → ℕ → ListLinks
+listsOf file needs s id first =
+    inputStage (s .inputs) (dependenciesOf file needs (recordedOf (s .bytes) (s .names) (s .lists) (goingOf (s .stage .link)))) id first
+    (s .stage .link .lists)
+
+-- ---- the symbols, and then those
+
+pub record Links : Type 0 where
+  pub bytes : List ℕ
+  pub names : List ℕ
+  pub symbols : List ℕ
+  pub sections : List ℕ
+  pub inputs : List ℕ
+  pub lists : List ℕ
+  pub stage : Stage
+
+abbrev pub linksOf : List ℕ → List ℕ → List ℕ → List ℕ → List ℕ → List ℕ → Stage → Links
+linksOf b n s x i l st = record { bytes = b; names = n; symbols = s; sections = x; inputs = i; lists = l; stage = st }
+
+abbrev pub withLists : State → ListLinks → Links
+withLists s r = linksOf (r .bytes) (r .names) (s .symbols) (s .sections) (r .inputs) (r .lists) (r .stage)
+
+unfoldable pub listStage : List ℕ → List ℕ → List ℕ → State → Interned → ℕ → Links
+listStage file needs inputs s id first =
+    cond (eqb (s .stage .number) 0)
+    (withLists s (listsOf file needs (listLinks (s .bytes) (s .names) inputs (s .lists) (goingOf (s .stage .link))) id first))
+    (linksOf (s .bytes) (s .names) (s .symbols) (s .sections) inputs (s .lists) (s .stage))
+
+unfoldable pub contentsOf : List ℕ → List ℕ → List ℕ → Links → Interned → Links
+contentsOf entries file needs s id =
+    listStage file needs (s .inputs)
+    (symbolsOf entries file (stateOf (s .bytes) (s .names) (s .symbols) (s .sections) (s .lists) (s .stage))) id
+    (s .stage .link .lists)
+
+-- ---- the name, and then all
+
+abbrev pub withName : Links → Store → Stage → Links
+withName s k stage = linksOf (k .bytes) (k .names) (s .symbols) (s .sections) (s .inputs) (s .lists) stage
+
+unfoldable pub keptOf : List ℕ → List ℕ → List ℕ → Links → Store → Interned → Links
+keptOf entries file needs s k id = contentsOf entries file needs (withName s k (goingOf (k .link))) id
+
+abbrev pub stop : Links → ℕ → ℕ → Links
+stop s number place =
+    linksOf (s .bytes) (s .names) (s .symbols) (s .sections) (s .inputs) (s .lists) (stoppedOf (s .stage .link) number place)
+
+unfoldable pub issuedOf : List ℕ → List ℕ → List ℕ → Links → List ℕ → Interned → Links
+issuedOf entries file needs s x id =
+    cond (fitsOf (storeOf (s .bytes) (s .names) (s .stage .link)) id (length x))
+    (keptOf entries file needs s (keepOf (storeOf (s .bytes) (s .names) (s .stage .link)) id x) id) (stop s 2 0)
+
+unfoldable pub libraryOf : List ℕ → List ℕ → List ℕ → Links → List ℕ → Links
+libraryOf entries file needs s x =
+    issuedOf entries file needs s x (record { 0 = findOf (s .bytes) (s .names) (s .stage .link .names) x })
