@@ -174,7 +174,7 @@ fn add_named(
         name: name,
         file: SttFile::None,
     };
-    let o = table.add(names, symbols, sections, &conversion, upcoming);
+    let o = symbol_add::add(table, names, symbols, sections, &conversion, upcoming);
     let after = o.table;
     let answer = o.answer;
     match answer {
@@ -198,7 +198,7 @@ fn add(
     elf: ElfSymbol,
     name: &[u8],
 ) -> Added {
-    let o = interner::intern(l, bytes, names, name);
+    let o = interner_calls::intern(l, bytes, names, name);
     let named = o.link;
     let table = Symbols { link: named };
     let answer = o.answer;
@@ -411,26 +411,26 @@ fn first_line(buf: &mut [u8], table: Symbols) -> Sheet {
 fn put_name(buf: &mut [u8], n: usize, bytes: &[u8], names: &[u64], id: Interned) -> usize {
     let name = interner::name_of(bytes, names, id.0);
     if name.len() == 0 {
-        return text_lines::put(buf, n, b"-");
+        return text_out::put(buf, n, b"-");
     }
-    text_lines::put(buf, n, name)
+    text_out::put(buf, n, name)
 }
 
 fn put_weak(buf: &mut [u8], n: usize, v: SymbolVisibility) -> usize {
     match v {
-        SymbolVisibility::Local => text_lines::put(buf, n, b" - "),
+        SymbolVisibility::Local => text_out::put(buf, n, b" - "),
         SymbolVisibility::Global { weak, hidden: _ } => {
             if weak {
-                return text_lines::put(buf, n, b" yes ");
+                return text_out::put(buf, n, b" yes ");
             }
-            text_lines::put(buf, n, b" no ")
+            text_out::put(buf, n, b" no ")
         }
     }
 }
 
 fn put_numbered(buf: &mut [u8], n: usize, kind: &[u8], v: u64) -> usize {
-    let k = text_lines::put(buf, n, kind);
-    text_lines::put_decimal(buf, k, v)
+    let k = text_out::put(buf, n, kind);
+    text_out::put_decimal(buf, k, v)
 }
 
 fn put_offset(buf: &mut [u8], n: usize, offset: i64) -> usize {
@@ -444,7 +444,7 @@ fn put_offset(buf: &mut [u8], n: usize, offset: i64) -> usize {
 // An address, a section that isn't loaded and an external symbol don't occur on a sheet.
 fn put_value(buf: &mut [u8], n: usize, v: SymbolValue) -> usize {
     match v {
-        SymbolValue::Null => text_lines::put(buf, n, b"null 0"),
+        SymbolValue::Null => text_out::put(buf, n, b"null 0"),
         SymbolValue::Absolute { value } => put_numbered(buf, n, b"abs ", value),
         SymbolValue::Section { section } => put_numbered(buf, n, b"sec ", section.0 as u64),
         SymbolValue::SectionRelative { section, offset } => {
@@ -455,13 +455,13 @@ fn put_value(buf: &mut [u8], n: usize, v: SymbolValue) -> usize {
             let k = put_numbered(buf, n, b"addr ", section.0 as u64);
             put_numbered(buf, k, b":", address)
         }
-        SymbolValue::SectionNotLoaded => text_lines::put(buf, n, b"notloaded 0"),
-        SymbolValue::ExternallyDefined => text_lines::put(buf, n, b"external 0"),
+        SymbolValue::SectionNotLoaded => text_out::put(buf, n, b"notloaded 0"),
+        SymbolValue::ExternallyDefined => text_out::put(buf, n, b"external 0"),
         SymbolValue::Undefined { zero } => {
             if zero {
-                return text_lines::put(buf, n, b"undef 1");
+                return text_out::put(buf, n, b"undef 1");
             }
-            text_lines::put(buf, n, b"undef 0")
+            text_out::put(buf, n, b"undef 0")
         }
     }
 }
@@ -469,13 +469,13 @@ fn put_value(buf: &mut [u8], n: usize, v: SymbolValue) -> usize {
 fn put_symbol(buf: &mut [u8], bytes: &[u8], names: &[u64], s: Symbol) -> usize {
     let id = s.id;
     let k = put_numbered(buf, 0, b"", id.0 as u64);
-    let spaced = text_lines::put(buf, k, b" ");
+    let spaced = text_out::put(buf, k, b" ");
     let named = put_name(buf, spaced, bytes, names, s.name);
     let visibility = s.visibility;
     let weak = put_weak(buf, named, visibility);
     let value = s.value;
     let valued = put_value(buf, weak, value);
-    text_lines::put(buf, valued, b"\n")
+    text_out::put(buf, valued, b"\n")
 }
 
 fn print_row(
@@ -486,7 +486,7 @@ fn print_row(
     symbols: &[u64],
     i: usize,
 ) {
-    let found = table.get(symbols, SymbolId(i));
+    let found = symbol_lookup::get(table, symbols, SymbolId(i));
     match found {
         symbols::Found::Refused { refusal: _ } => {}
         symbols::Found::Row { symbol } => {
@@ -515,7 +515,7 @@ fn print_rows(
 fn print_refusal(buf: &mut [u8], cell: u64) {
     let k = put_numbered(buf, 0, b"refused ", cell / 32);
     let n = put_numbered(buf, k, b" ", cell % 32);
-    let end = text_lines::put(buf, n, b"\n");
+    let end = text_out::put(buf, n, b"\n");
     io::write_all(1, byte_slices::part_of(buf, 0, end));
 }
 

@@ -1,12 +1,9 @@
 // The System V index of an archive, and a row of 8 lent cells for each of its entries (specs/Rows.antt says what they hold).
 ghost use mathlib.Core.Path.{_≡_};
-ghost use Prim.Native.Nat.{_+_, _*_, _-_, _<_};
-ghost use lib.Dec.{eqb};
-ghost use lib.ListN.{length, getD};
-ghost use Rattle.link.specs.Bounds.{lesser};
-ghost use Rattle.archive_index.specs.Index.{wordAt, countOf, offsetOf, afterOf, cutOf};
-ghost use Rattle.archive_index.specs.Rows.{storedName, chainOf, representativeOf, entered, enterOf, enterAll, noHeads};
-ghost use Rattle.archive_index.specs.Open.{left, openedAs, openNamesOf, openOf};
+ghost use Prim.Native.Nat.{_+_, _*_, _<_};
+ghost use lib.ListN.{getD};
+ghost use Rattle.archive_index.specs.Index.{wordAt, countOf, offsetOf, afterOf};
+ghost use Rattle.archive_index.specs.Rows.{storedName, noHeads};
 use link::Refusal;
 
 // Number 0: the rows are made. Else there are no entries, and nothing was written.
@@ -68,22 +65,6 @@ pub fn after_name(index: &[u8], at: usize) -> usize
     0
 }
 
-// The first entry from place `at` on whose name is cut short, or the number of entries.
-fn cut_name(index: &[u8], entries: usize, start: usize) -> usize
-    ensures { λ r. ⌜ r ≡ cutOf (now (index .entry)) start entries 0 ⌝ }
-{
-    let mut at = start;
-    let mut k = 0;
-    while k < entries {
-        at = after_name(index, at);
-        if at == 0 {
-            return k;
-        }
-        k += 1;
-    }
-    k
-}
-
 // Entry k's name, as that very part of the index: read by its row, whatever the cells hold.
 pub fn name<'a>(index: &'a [u8], cells: &[u64], k: usize) -> &'a [u8]
     ensures { λ r. ⌜ now r ≡ storedName (now (index .entry)) (now (cells .entry)) k ⌝ }
@@ -96,100 +77,6 @@ pub fn name<'a>(index: &'a [u8], cells: &[u64], k: usize) -> &'a [u8]
 
 // ---- an entry's row
 
-fn chain(index: &[u8], entries: usize, k: usize) -> usize
-    ensures { λ r. ⌜ r ≡ chainOf (now (index .entry)) entries k ⌝ }
-{
-    if entries == 0 {
-        return 0;
-    }
-    (offset(index, k) as usize) % entries
-}
-
-// Is entry k of the member at the offset?
-fn is_of(index: &[u8], k: usize, o: u64) -> bool
-    ensures { λ r. ⌜ r ≡ eqb (offsetOf (now (index .entry)) k) o ⌝ }
-{
-    offset(index, k) == o
-}
-
-// Entry k's representative: along its chain the entry of its member, else itself.
-fn representative(index: &[u8], cells: &[u64], b: usize, k: usize) -> usize
-    ensures { λ r. ⌜ r ≡ representativeOf (now (index .entry)) (now (cells .entry)) b k ⌝ }
-{
-    let o = offset(index, k);
-    let mut at = cells::row_get(cells, b, 3) as usize;
-    let mut left = k;
-    while 0 < left {
-        if at == 0 {
-            return k;
-        }
-        if is_of(index, at - 1, o) {
-            return at - 1;
-        }
-        at = cells::row_get(cells, at - 1, 2) as usize;
-        left -= 1;
-    }
-    k
-}
-
-// The length of a name from one place up to the zero byte before the other.
-fn span(at: usize, after: usize) -> usize
-    ensures { λ r. ⌜ r ≡ after - (at + 1) ⌝ }
-{
-    if at < after {
-        return after - at - 1;
-    }
-    0
-}
-
-fn enter_as(cells: &mut [u64], b: usize, k: usize, r: usize, at: usize, len: usize)
-    requires { ⌜ k < 0xffffffffffffffff ⌝ }
-    ensures { λ _. ⌜ now (cells .exit) ≡ entered (now (cells .entry)) b k r at len ⌝ }
-{
-    let own = cells::row_get(cells, k, 3);
-    if r == k {
-        let next = cells::row_get(cells, b, 3);
-        cells::row_store(
-            cells,
-            k,
-            0,
-            r as u64,
-            next,
-            own,
-            at as u64,
-            len as u64,
-            0,
-            0,
-        );
-        cells::row_put(cells, b, 3, (k + 1) as u64);
-        return;
-    }
-    cells::row_store(cells, k, 0, r as u64, 0, own, at as u64, len as u64, 0, 0);
-}
-
-// Entry k, whose name starts at the place: answers the place after it.
-fn enter(index: &[u8], cells: &mut [u64], entries: usize, k: usize, at: usize) -> usize
-    requires { ⌜ k < 0xffffffffffffffff ⌝ }
-    ensures { λ r. ⌜ (r ≡ afterOf (now (index .entry)) at) × (now (cells .exit) ≡ enterOf (now (index .entry)) entries (now (cells .entry)) k at r) ⌝ }
-{
-    let after = after_name(index, at);
-    let b = chain(index, entries, k);
-    let r = representative(index, cells, b, k);
-    enter_as(cells, b, k, r, at, span(at, after));
-    after
-}
-
-fn enter_all(index: &[u8], cells: &mut [u64], entries: usize, start: usize)
-    ensures { λ _. ⌜ now (cells .exit) ≡ enterAll (now (index .entry)) entries entries 0 start (now (cells .entry)) ⌝ }
-{
-    let mut at = start;
-    let mut k = 0;
-    while k < entries {
-        at = enter(index, cells, entries, k, at);
-        k += 1;
-    }
-}
-
 // No chain has an entry.
 pub fn clear_heads(cells: &mut [u64], entries: usize)
     ensures { λ _. ⌜ now (cells .exit) ≡ noHeads entries (now (cells .entry)) ⌝ }
@@ -199,65 +86,4 @@ pub fn clear_heads(cells: &mut [u64], entries: usize)
         cells::row_put(cells, k, 3, 0);
         k += 1;
     }
-}
-
-// ---- the start
-
-fn answer(entries: usize, number: u64, place: usize) -> Opened
-    ensures { λ r. ⌜ r ≡ openedAs entries number place ⌝ }
-{
-    Opened {
-        entries: entries,
-        refusal: Refusal {
-            number: number,
-            place: place as u64,
-        },
-    }
-}
-
-// The names, then the room for the rows, then the rows.
-fn open_names(index: &[u8], cells: &mut [u64], entries: usize, start: usize) -> Opened
-    ensures { λ r. ⌜ left (now (cells .exit)) r ≡ openNamesOf (now (index .entry)) (now (cells .entry)) entries start ⌝ }
-{
-    let cut = cut_name(index, entries, start);
-    if cut < entries {
-        return answer(0, 1, cut);
-    }
-    if cells.len() / 8 < entries {
-        return answer(0, 2, 0);
-    }
-    clear_heads(cells, entries);
-    enter_all(index, cells, entries, start);
-    answer(entries, 0, 0)
-}
-
-fn lesser_of(a: usize, b: usize) -> usize
-    ensures { λ r. ⌜ r ≡ lesser a b ⌝ }
-{
-    if a < b {
-        return a;
-    }
-    b
-}
-
-// Judges the index, and makes a row for each of its entries: 20; 1; 2.
-pub fn open(index: &[u8], cells: &mut [u64]) -> Opened
-    ensures { λ r. ⌜ left (now (cells .exit)) r ≡ openOf (now (index .entry)) (now (cells .entry)) ⌝ }
-{
-    let n = index.len();
-    if n == 0 {
-        return answer(0, 20, 0);
-    }
-    if n < 4 {
-        return answer(0, 1, 0);
-    }
-    let entries = count(index);
-    let whole = (n - 4) / 4;
-    if whole < entries {
-        return answer(0, 1, lesser_of(65535, whole));
-    }
-    if 65535 < entries {
-        return answer(0, 1, 65535);
-    }
-    open_names(index, cells, entries, 4 + 4 * entries)
 }

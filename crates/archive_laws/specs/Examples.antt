@@ -10,7 +10,7 @@ use Rattle.cells.specs.Rows.{putRow}
 use Rattle.byte_slices.specs.Bytes.{same}
 use Rattle.link.specs.Bounds.{lesser}
 use Rattle.link.specs.Judge.{otherLength, judgeSections, judgeNames, judgeLists, afterSymbols, afterSections, judgeOf}
-use Rattle.interner.specs.Hash.{hashFrom, headCell}
+use Rattle.interner.specs.Hash.{mixed, hashFrom, spread, headCell}
 use Rattle.interner.specs.Names.{chase, seekOf, findOf}
 use Rattle.symbol_rows.specs.Holder.{heldBy, holderOf}
 use Rattle.archive_index.specs.Index.{countOf, offsetOf, afterOf, cutOf}
@@ -97,7 +97,7 @@ All [] = Unit {0}
 All (e ∷ es) = Right e × All es
 
 pub examples : All (p10 ∷ p11 ∷ firstTied ∷ removedLater ∷ nothing ∷ [])
-unfolding beforeZero hasName nameAt putRow same lesser otherLength judgeSections judgeNames judgeLists afterSymbols afterSections judgeOf hashFrom headCell chase seekOf findOf heldBy holderOf countOf offsetOf afterOf cutOf Rows.chainOf Rows.chase Rows.representativeOf Rows.entered Rows.enterOf Rows.enterAll Rows.noHeads Rows.rowsOf openRowsOf openNamesOf openEntriesOf openOf nameChain linkedOf linkAll chainNames judgeTable nameHolder removedName undefinedName begunOf startOf offerOf marked enqueue tieOf tieAll removedOf makeOf searchOf passOf walkFits goOf nextOf stepRun history startRun
+unfolding beforeZero hasName nameAt putRow same lesser otherLength judgeSections judgeNames judgeLists afterSymbols afterSections judgeOf mixed hashFrom spread headCell chase seekOf findOf heldBy holderOf countOf offsetOf afterOf cutOf Rows.chainOf Rows.chase Rows.representativeOf Rows.entered Rows.enterOf Rows.enterAll Rows.noHeads Rows.rowsOf openRowsOf openNamesOf openEntriesOf openOf nameChain linkedOf linkAll chainNames judgeTable nameHolder removedName undefinedName begunOf startOf offerOf marked enqueue tieOf tieAll removedOf makeOf searchOf passOf walkFits goOf nextOf stepRun history startRun
 examples =
     ((refl, refl, refl), ((refl, refl, refl), ((refl, refl, refl), ((refl, refl, refl), ((refl, refl, refl), tt)))))
 

@@ -6,8 +6,8 @@ use native.Mathlib.Nat.{not-suc-le-zero}
 use native.Mathlib.Decide.{ℕ-discrete}
 use native.Mathlib.Omega.{arith}
 use mathlib.Core.Path.{_≡_, refl, sym, ap, subst, _∙_}
-use mathlib.Core.Bool.{Bool, true, false, cond, not}
-use mathlib.Core.List.{List, _∷_}
+use mathlib.Core.Bool.{Bool, true, false, cond}
+use mathlib.Core.List.{List, [], _∷_}
 use lib.Dec.{ltb}
 use lib.ListN.{length}
 use borrow.Author.Tests.{ltb-true, ltb-false}
@@ -184,16 +184,22 @@ module _ (s : List ℕ) (c : ℕ) where
     pub going : a .done ≡ false → a .passes ≤ length (a .queue)
     pub over : a .passes ≤ length (a .queue) + 1
     pub drained : a .done ≡ true → a .offered ≡ length (a .queue)
+    pub some-pass : a .done ≡ true → 1 ≤ a .passes
 
-  pub kept-fresh : Kept fresh
-  kept-fresh = record {
+  -- a walk that begins, if it isn't done
+  pub kept-begun : (d : Bool) → (d ≡ true → 1 ≤ 0) → Kept (roundsOf [] 0 0 d)
+  kept-begun d u = record {
     once = none;
     below = no-one;
     some = omega arith;
     going = λ e. omega arith;
     over = omega arith;
     drained = λ e. refl;
+    some-pass = u;
   }
+
+  pub kept-fresh : Kept fresh
+  kept-fresh = kept-begun false (λ e. clash false e refl)
 
   grows : (tie : ℕ → Bool) (n k : ℕ) (q : List ℕ) → length q ≤ length (pull s tie n k q)
   unfolding pull
@@ -218,6 +224,7 @@ module _ (s : List ℕ) (c : ℕ) where
     going = λ z. k .going e;
     over = k .over;
     drained = λ z. clash false z refl;
+    some-pass = λ z. clash false z refl;
   }
   kept-did v a b k (made e f g h) = record {
     once = pull-once s (v .tied) c 0 (a .queue) (k .once);
@@ -226,6 +233,7 @@ module _ (s : List ℕ) (c : ℕ) where
     going = λ z. omega (arith, k .going e, k .some);
     over = omega (arith, k .going e, k .some);
     drained = λ z. clash false z refl;
+    some-pass = λ z. clash false z refl;
   }
   kept-did v a b k (last e f g h) = record {
     once = pull-once s (v .tied) c 0 (a .queue) (k .once);
@@ -234,6 +242,7 @@ module _ (s : List ℕ) (c : ℕ) where
     going = λ z. clash true refl z;
     over = omega (arith, k .going e, longer v a);
     drained = λ z. omega (arith, k .some, longer v a);
+    some-pass = λ z. omega arith;
   }
 
   -- "at most m + 1 passes", and at most m before the walk is done
@@ -250,6 +259,14 @@ module _ (s : List ℕ) (c : ℕ) where
   pass-made v a b (halted e f g) p = absurd (omega arith)
   pass-made v a b (made e f g h) p = (f, refl)
   pass-made v a b (last e f g h) p = (f, refl)
+
+  -- a call that ends the walk makes a pass
+  pub end-passes : (v : View) (a b : Rounds) → Did s c v a b → a .done ≡ false → b .done ≡ true → b .passes ≡ a .passes + 1
+  end-passes v a b (still e) p q = clash (a .done) e p
+  end-passes v a b (sent e f) p q = clash false q refl
+  end-passes v a b (halted e f g) p q = clash (a .done) q p
+  end-passes v a b (made e f g h) p q = clash false q refl
+  end-passes v a b (last e f g h) p q = refl
 
   -- the last pass: no name that is undefined in its table is tied to a member that was not offered
   pub last-pass : (v : View) (a b : Rounds) → Kept a → Did s c v a b → a .done ≡ false → b .done ≡ true

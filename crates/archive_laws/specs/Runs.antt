@@ -1,7 +1,8 @@
 -- Calls of the contracts' definitions in a row, each over its own table, and what of them the definition's rounds are.
 -- Assumes nothing.
-use Prim.Native.Nat.{ℕ, zero, suc}
-use mathlib.Core.Bool.{true, cond}
+use Prim.Native.Nat.{ℕ, zero, suc, _≤_}
+use mathlib.Core.Path.{_≡_}
+use mathlib.Core.Bool.{true, cond, false≢true}
 use mathlib.Core.List.{List, [], _∷_}
 use lib.Dec.{eqb}
 use Rattle.archive_index.specs.Index.{nameOf}
@@ -10,7 +11,7 @@ use Rattle.archive_walk.specs.declared.Walk.{Walk}
 use Rattle.archive_walk.specs.declared.Offer.{Offer}
 use Rattle.archive_walk.specs.declared.Offer.the-variants.{Member, Done, Refused}
 use Rattle.archive_walk.specs.Look.{Table, judgeTable, removedName, undefinedName}
-use Rattle.archive_walk.specs.Walk.{Step, startOf, nextOf}
+use Rattle.archive_walk.specs.Walk.{Step, freshWalk, startOf, nextOf}
 use Rattle.archive_laws.specs.Rounds.{anyBelow, View, Rounds, roundsOf}
 
 -- the entries of the first n of the queue, last first
@@ -54,8 +55,16 @@ unfoldable pub history : List ℕ → List Table → Run → Run
 history s [] r = r
 history s (t ∷ ts) r = history s ts (stepRun s t r)
 
+-- a walk begins with the cells and the walk that a start leaves; no member was offered
+abbrev pub begunRun : List ℕ → Walk → Run
+begunRun l w = runOf l w []
+
+-- of the last pass: no walk is done before a pass, and none begins as done
+pub begun-some-pass : (l : List ℕ) (c n : ℕ) → begunRun l (freshWalk c n) .walk .done ≡ true → 1 ≤ begunRun l (freshWalk c n) .walk .passes
+begun-some-pass l c n e = absurd (false≢true e)
+
 unfoldable pub startRun : List ℕ → List ℕ → Run
-startRun s l = runOf (startOf s l .cells) (startOf s l .started .walk) []
+startRun s l = begunRun (startOf s l .cells) (startOf s l .started .walk)
 
 -- as rounds of the definition
 abbrev pub seen : Run → Rounds

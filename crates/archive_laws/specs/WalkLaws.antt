@@ -24,14 +24,15 @@ use Rattle.archive_walk.specs.Names.{chainNames, requiredOf}
 use Rattle.archive_walk.specs.Walk.{begunNumber, freshWalk, noWalk, begunOf, startOf, goOf, walkFits, nextOf}
 use Rattle.archive_laws.specs.Rounds.{Same, among, Once, none, more, pull, Rounds, roundsOf, round, rounds, fresh}
 use Rattle.archive_laws.specs.Counts.{among-same, no-one}
-use Rattle.archive_laws.specs.RoundLaws.{newly, pull-into, did, Kept, kept-fresh, kept-did, passes-most, passes-going, pass-made, last-pass}
-use Rattle.archive_laws.specs.Runs.{queueList, viewOf, viewsOf, Run, runOf, stepRun, history, startRun, seen}
+use Rattle.archive_laws.specs.RoundLaws.{newly, pull-into, did, Kept, kept-begun, kept-did, passes-most, passes-going, pass-made, end-passes, last-pass}
+use Rattle.archive_laws.specs.Runs.{queueList, viewOf, viewsOf, Run, begunRun, begun-some-pass, stepRun, history, startRun, seen}
 use Rattle.archive_laws.specs.Pass.{queue-length, Rows, Sound, Low}
 use Rattle.archive_laws.specs.Chains.{any-same, chains-linked, chains-field, chains-length}
 use Rattle.archive_laws.specs.Entries.{rows-entered}
 use Rattle.archive_laws.specs.Steps.{Fine, going-fits, step-agrees, step-wrote, step-left}
 use Rattle.archive_laws.specs.Required.{required-pass}
 use Rattle.archive_laws.specs.Asked.{asked-is, asked-then}
+use Rattle.archive_laws.specs.Answers.{right}
 use Rattle.archive_laws.specs.Walked.{tiedIn, asks, queueIn, Pass, Walked}
 
 -- ---- the start
@@ -72,7 +73,7 @@ abbrev pub freshCells : List ℕ → List ℕ → List ℕ
 freshCells s l = chainNames s (countOf s) (rowsOf s (countOf s) (namesAt (countOf s)) l)
 
 abbrev pub freshRun : List ℕ → List ℕ → Run
-freshRun s l = runOf (freshCells s l) (freshWalk (countOf s) (length s)) []
+freshRun s l = begunRun (freshCells s l) (freshWalk (countOf s) (length s))
 
 opened-number : (n : ℕ) (o : Opened) → begunNumber (begunOf n o .begun) ≡ 0 → o .refusal .number ≡ 0
 unfolding begunOf
@@ -232,6 +233,13 @@ module _ (s l : List ℕ) where
         one j g (no d) =
             rw (ne-eqb (offsetOf s j) (offsetOf s e) d) (never (eqb (requiredAt (stepRun s t r .cells) j) 1) ∙ sym (never (eqb (requiredAt (r .cells) j) 1)))
 
+    end-facts : (t : Table) → r .walk .done ≡ false → stepRun s t r .walk .done ≡ true → stepRun s t r .walk .passes ≡ r .walk .passes + 1
+    end-facts t p q =
+        let x = step-agrees s c t r f k in
+        let b = round s c (viewOf s c t) (seen r) in
+        let z : b .done ≡ true = ap (λ (y : Rounds). y .done) (sym (x .1)) ∙ q in
+        ap (λ (y : Rounds). y .passes) (x .1) ∙ end-passes s c (viewOf s c t) (seen r) b (did s c (viewOf s c t) (seen r)) p z
+
     last-facts : (t : Table) → r .walk .done ≡ false → stepRun s t r .walk .done ≡ true → (j : ℕ) → j < c → tiedIn s c t j ≡ true → among s j (stepRun s t r .offers) ≡ true
     last-facts t p q j h e =
         let x = step-agrees s c t r f k in
@@ -279,7 +287,7 @@ module _ (s l : List ℕ) where
       start-fine = record { entries = refl; whole = omega arith; sound = fresh-sound a; low = fresh-low a; sent = refl }
 
       y : Fine s c (history s ts (freshRun s l)) × Kept s c (seen (history s ts (freshRun s l))) × (seen (history s ts (freshRun s l)) ≡ rounds s c (viewsOf s c ts) fresh)
-      y = told ts (freshRun s l) start-fine (kept-fresh s c)
+      y = told ts (freshRun s l) start-fine (kept-begun s c (freshRun s l .walk .done) (begun-some-pass (freshCells s l) c (length s)))
 
       facts : (r : Run) → Fine s c r → Kept s c (seen r) → seen r ≡ rounds s c (viewsOf s c ts) fresh → Walked s c ts r
       facts r f k e = record {
@@ -287,9 +295,12 @@ module _ (s l : List ℕ) where
         fits = fits-going r f k;
         bound = passes-most s c (seen r) k;
         going = passes-going s c (seen r) k;
+        answers = right s (r .cells) (r .walk);
         in-order = f .sent;
         once = rw (f .sent) (once-front (r .cells) (r .walk .queued) (r .walk .offered) (omega (arith, k .some, queue-length (r .cells) (r .walk .queued))) (k .once));
         pass = pass-facts r f k;
+        ends = end-facts r f k;
+        some-pass = k .some-pass;
         last = last-facts r f k;
         asked = λ e h x. asked-is s c (r .cells) (f .sound .rows) e h x;
         names-stay = names-kept r f k;

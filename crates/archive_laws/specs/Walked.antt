@@ -13,6 +13,7 @@ use Rattle.archive_walk.specs.Names.{requiredOf}
 use Rattle.archive_walk.specs.Walk.{walkFits, nextOf}
 use Rattle.archive_laws.specs.Rounds.{anyBelow, among, Once, members, pull, rounds, fresh}
 use Rattle.archive_laws.specs.RoundLaws.{Newly}
+use Rattle.archive_laws.specs.Answers.{Right}
 use Rattle.archive_laws.specs.Runs.{queueList, viewsOf, Run, stepRun, seen}
 
 -- the index ties entry k to a name that is undefined in t
@@ -51,10 +52,15 @@ pub record Walked (s : List ℕ) (c : ℕ) (ts : List Table) (r : Run) : Type 0 
   -- at most m + 1 passes, at most m before the walk is done
   pub bound : r .walk .passes ≤ members s c + 1
   pub going : r .walk .done ≡ false → r .walk .passes ≤ members s c
+  -- each answer tells the walk's own count of passes, whether it is done, and the offset of the entry that it names; a refusal leaves all
+  pub answers : (t : Table) → Right s (r .cells) (r .walk) (nextOf s (r .cells) (r .walk) t)
   -- members are offered in the order of the queue, none twice
   pub in-order : r .offers ≡ queueList (r .cells) (r .walk .offered)
   pub once : Once s (r .offers)
   pub pass : (t : Table) → stepRun s t r .walk .passes ≡ r .walk .passes + 1 → Pass s c t r (stepRun s t r)
+  -- "Every walk's last pass": a call that ends the walk makes a pass, so no walk is done before one
+  pub ends : (t : Table) → r .walk .done ≡ false → stepRun s t r .walk .done ≡ true → stepRun s t r .walk .passes ≡ r .walk .passes + 1
+  pub some-pass : r .walk .done ≡ true → 1 ≤ r .walk .passes
   -- the last pass: no name undefined in its table is tied to a member that was not offered
   pub last : (t : Table) → r .walk .done ≡ false → stepRun s t r .walk .done ≡ true → (k : ℕ) → k < c → tiedIn s c t k ≡ true → among s k (stepRun s t r .offers) ≡ true
   -- admission asks for a name just if it is that of a marked entry of the member

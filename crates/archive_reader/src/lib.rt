@@ -60,7 +60,7 @@ pub struct ArchiveIndex<'a> {
     pub entries: usize,
 }
 
-// Over the number of entries that `archive_index::open` answered.
+// Over the number of entries that `archive_open::open` answered.
 pub fn new<'a>(bytes: &'a [u8], entries: usize) -> ArchiveIndex<'a>
     ensures { λ r. ⌜ (r .bytes ≡ bytes .entry) × (r .entries ≡ entries) ⌝ }
 {

@@ -17,7 +17,7 @@ use Rattle.byte_slices.specs.Bytes.{same}
 use Rattle.link.specs.Bounds.{lesser}
 use Rattle.link.specs.Judge.{otherLength, judgeSections, judgeNames, judgeLists, afterSymbols, afterSections}
 use Rattle.link.specs.Judge as Link
-use Rattle.interner.specs.Hash.{hashFrom, headCell}
+use Rattle.interner.specs.Hash.{mixed, hashFrom, spread, headCell}
 use Rattle.interner.specs.Names.{chase, seekOf, findOf}
 use Rattle.symbol_rows.specs.Holder.{heldBy, holderOf}
 use Rattle.upcoming_symbol.specs.Judge.{shownOf, hiddenOf, sectionInRange, elfInRange}
@@ -63,27 +63,29 @@ index = 0 ∷ 0 ∷ 0 ∷ 1 ∷ 0 ∷ 0 ∷ 0 ∷ 10 ∷ 98 ∷ 0 ∷ []
 abbrev pub ran : Table → Run
 ran t = history index (t ∷ []) (startRun index (replicate {A = ℕ} 8 7))
 
--- an object with a definition of b of that binding: no section, a symbol table, its string table
+-- an object with a symbol b of that binding in that section: no section, a symbol table, its string table
 abbrev headers : List ℕ
 headers = 0 ∷ 0 ∷ 0 ∷ 0 ∷ 0 ∷ 0 ∷ 0 ∷ 0 ∷ 3 ∷ 0 ∷ 0 ∷ 2 ∷ 0 ∷ 0 ∷ 1 ∷ 0 ∷ 4 ∷ 0 ∷ 0 ∷ 0 ∷ 0 ∷ 0 ∷ 3 ∷ 0 ∷ []
 
-abbrev entries : ℕ → List ℕ
-entries binding = 1 ∷ binding ∷ 0 ∷ 0 ∷ 1 ∷ 0 ∷ 0 ∷ 0 ∷ []
+abbrev entries : ℕ → ℕ → List ℕ
+entries binding section = 1 ∷ binding ∷ 0 ∷ 0 ∷ section ∷ 0 ∷ 0 ∷ 0 ∷ []
 
 abbrev file : List ℕ
 file = 0 ∷ 98 ∷ 0 ∷ []
 
--- table, the binding of b's reference in it, the wanted names; the binding of the member's definition; whether the gABI extracts it, what admission says
+-- table, the binding of b's reference in it, the wanted names; binding and section of the member's symbol, which is undefined in section 0; whether the gABI
+-- extracts the member, what admission says
 pub record Case : Type 0 where
   pub table : Table
   pub reference : ℕ
   pub wanted : List (List ℕ)
-  pub definition : ℕ
+  pub binding : ℕ
+  pub section : ℕ
   pub extracted : Bool
   pub admitted : Admission
 
-abbrev caseOf : Table → ℕ → List (List ℕ) → ℕ → Bool → Admission → Case
-caseOf t r w d x a = record { table = t; reference = r; wanted = w; definition = d; extracted = x; admitted = a }
+abbrev caseOf : Table → ℕ → List (List ℕ) → ℕ → ℕ → Bool → Admission → Case
+caseOf t r w d s x a = record { table = t; reference = r; wanted = w; binding = d; section = s; extracted = x; admitted = a }
 
 abbrev pub Right : Case → Type 0
 Right c =
@@ -91,30 +93,34 @@ Right c =
     (rowAt (c .table .symbols) 1 ≡ elfRowOf 3 (elf (c .reference) 0 0) (record { 0 = 0 }) false 0)
     -- the gABI wants b just if it is among the wanted names
     × (wants (symOf (elf (c .reference) 0 0) ∷ []) ≡ Strings.among b (c .wanted))
-    × (extracts (memberOf headers (entries (c .definition)) file) (c .wanted) ≡ c .extracted)
+    × (extracts (memberOf headers (entries (c .binding) (c .section)) file) (c .wanted) ≡ c .extracted)
     -- the walk offers the member, by entry 0
     × (ran (c .table) .offers ≡ 0 ∷ [])
-    × (Admits.matchesOf headers (entries (c .definition)) [] file index (ran (c .table) .cells) (ran (c .table) .walk) 0 ≡ c .admitted)
+    × (Admits.matchesOf headers (entries (c .binding) (c .section)) [] file index (ran (c .table) .cells) (ran (c .table) .walk) 0 ≡ c .admitted)
 
 -- strong reference, strong definition: both take the member
 abbrev pub agreeing : Case
-agreeing = caseOf strongly 1 (b ∷ []) 1 true Yes
+agreeing = caseOf strongly 1 (b ∷ []) 1 1 true Yes
 
 -- "Weak references pull members"
 abbrev pub weakReference : Case
-weakReference = caseOf weakly 2 [] 1 false Yes
+weakReference = caseOf weakly 2 [] 1 1 false Yes
 
 -- "a weak definition doesn't admit one"
 abbrev pub weakDefinition : Case
-weakDefinition = caseOf strongly 1 (b ∷ []) 2 true No
+weakDefinition = caseOf strongly 1 (b ∷ []) 2 1 true No
+
+-- "some symbol of binding 1, defined or not": a member that only refers to b, by an index that ties b to it all the same
+abbrev pub memberRefers : Case
+memberRefers = caseOf strongly 1 (b ∷ []) 1 0 false Yes
 
 pub data All : List Case → Type 0 where
   none : All []
   also : {c : Case} {cs : List Case} → Right c → All cs → All (c ∷ cs)
 
-pub differences : All (agreeing ∷ weakReference ∷ weakDefinition ∷ [])
-unfolding beforeZero hasName nameAt sameName Strings.among isGlobal isWeak isReference isDefinition Gabi.count isGlobalDefinition isWeakDefinition isGlobalReference has resolve isUnresolved wants offers extracts putRow same lesser otherLength judgeSections judgeNames judgeLists afterSymbols afterSections Link.judgeOf hashFrom headCell chase seekOf findOf heldBy holderOf shownOf hiddenOf sectionInRange elfInRange Upcoming.judgeOf inSection convertedOf undefinedOf valueOf elfRowOf countOf offsetOf afterOf cutOf Rows.chainOf Rows.chase Rows.representativeOf Rows.entered Rows.enterOf Rows.enterAll Rows.noHeads Rows.rowsOf openRowsOf openNamesOf openEntriesOf openOf judgeTable nameHolder removedName undefinedName nameChain linkedOf linkAll chainNames along bearsOf requiredOf begunOf startOf offerOf marked enqueue tieOf tieAll removedOf makeOf searchOf passOf walkFits goOf nextOf stepRun history startRun Object.sectionOf Object.entriesFrom Object.tableEntries Judged.rangeOk Judged.contentsOk Judged.headerOk Judged.entryOk Judged.firstBad Judged.badHeader Judged.badEntry Judged.judgeOf Admits.isSection Admits.nameAnywhere Admits.isRequired Admits.someFrom Admits.bearsRequired Admits.inTable Admits.isTable Admits.inSection Admits.hasGlobalSymbol Admits.offeredIn Admits.matchesOf withName rowsNamed sectionNamed sectionsNamed memberOf
+pub differences : All (agreeing ∷ weakReference ∷ weakDefinition ∷ memberRefers ∷ [])
+unfolding beforeZero hasName nameAt sameName Strings.among isGlobal isWeak isReference isDefinition Gabi.count isGlobalDefinition isWeakDefinition isGlobalReference has resolve isUnresolved wants offers extracts putRow same lesser otherLength judgeSections judgeNames judgeLists afterSymbols afterSections Link.judgeOf mixed hashFrom spread headCell chase seekOf findOf heldBy holderOf shownOf hiddenOf sectionInRange elfInRange Upcoming.judgeOf inSection convertedOf undefinedOf valueOf elfRowOf countOf offsetOf afterOf cutOf Rows.chainOf Rows.chase Rows.representativeOf Rows.entered Rows.enterOf Rows.enterAll Rows.noHeads Rows.rowsOf openRowsOf openNamesOf openEntriesOf openOf judgeTable nameHolder removedName undefinedName nameChain linkedOf linkAll chainNames along bearsOf requiredOf begunOf startOf offerOf marked enqueue tieOf tieAll removedOf makeOf searchOf passOf walkFits goOf nextOf stepRun history startRun Object.sectionOf Object.entriesFrom Object.tableEntries Judged.rangeOk Judged.contentsOk Judged.headerOk Judged.entryOk Judged.firstBad Judged.badHeader Judged.badEntry Judged.judgeOf Admits.isSection Admits.nameAnywhere Admits.isRequired Admits.someFrom Admits.bearsRequired Admits.inTable Admits.isTable Admits.inSection Admits.hasGlobalSymbol Admits.offeredIn Admits.matchesOf withName rowsNamed sectionNamed sectionsNamed memberOf
 differences =
     also {c = agreeing} (refl, refl, refl, refl, refl)
     (also {c = weakReference} (refl, refl, refl, refl, refl)
-    (also {c = weakDefinition} (refl, refl, refl, refl, refl) none))
+    (also {c = weakDefinition} (refl, refl, refl, refl, refl) (also {c = memberRefers} (refl, refl, refl, refl, refl) none)))

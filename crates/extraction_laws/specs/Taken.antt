@@ -2,13 +2,14 @@
 -- Assumes nothing.
 use Prim.Native.Nat.{ℕ}
 use mathlib.Core.Path.{_≡_, refl, sym, ap, _∙_}
-use mathlib.Core.Bool.{Bool, true, false, _&&_, _||_}
+use mathlib.Core.Bool.{Bool, true, false, cond, _&&_, _||_}
 use mathlib.Core.List.{List, [], _∷_}
+use Rattle.cells.specs.Split.{by-test}
 use Rattle.gabi.specs.StringTable.{sameName, among, same-eq, same-refl}
 use Rattle.gabi.specs.SymbolTable.{Sym, isGlobal, isWeak, isDefinition}
 use Rattle.gabi.specs.Resolution.{isWeakDefinition}
 use Rattle.gabi.specs.Archive.{Named, offers, extracts}
-use Rattle.extraction_laws.specs.Some.{clash, and-in, and-left, and-right, or-left, or-right, or-out, or-none, both-ways, In, some, some-in, some-out}
+use Rattle.extraction_laws.specs.Some.{clash, and-in, and-left, and-right, or-left, or-right, or-out, or-none, both-ways, In, here, there, some, some-in, some-out}
 use Rattle.extraction_laws.specs.Member.{admits}
 
 -- the name x is in the index for this member: an index lists global and weak definitions
@@ -125,7 +126,7 @@ module _ (member : List Named) where
 
   -- ---- weak references pull members: what is taken for names referred to strongly or weakly is taken for the ones or for the others
 
-  module _ (f g h : List ℕ → Bool) (either : (x : List ℕ) → h x ≡ f x || g x) where
+  module _ (f g h : List ℕ → Bool) (either : (x : List ℕ) → lists member x ≡ true → h x ≡ f x || g x) where
     abbrev takes : (List ℕ → Bool) → Named → Bool
     takes u e = isGlobal (e .symbol) && (u (e .name) && lists member (e .name))
 
@@ -141,12 +142,13 @@ module _ (member : List Named) where
       where
         go : ((e : Named) × In e member × (takes h e ≡ true)) → some (takes f) member || some (takes g) member ≡ true
         go (e, i, q) =
+            let rest = and-right (isGlobal (e .symbol)) (h (e .name) && lists member (e .name)) q in
             or-out (f (e .name)) (g (e .name))
-            (sym (either (e .name)) ∙ and-left (h (e .name)) (lists member (e .name)) (and-right (isGlobal (e .symbol)) (h (e .name) && lists member (e .name)) q))
+            (sym (either (e .name) (and-right (h (e .name)) (lists member (e .name)) rest)) ∙ and-left (h (e .name)) (lists member (e .name)) rest)
             (λ a. or-left (some (takes f) member) (some (takes g) member) (takes-in f e i q a))
             (λ a. or-right (some (takes f) member) (some (takes g) member) (takes-in g e i q a))
 
-    together : (u : List ℕ → Bool) → ((x : List ℕ) → u x ≡ true → h x ≡ true) → some (takes u) member ≡ true → some (takes h) member ≡ true
+    together : (u : List ℕ → Bool) → ((x : List ℕ) → lists member x ≡ true → u x ≡ true → h x ≡ true) → some (takes u) member ≡ true → some (takes h) member ≡ true
     together u w p = go (some-out (takes u) member p)
       where
         go : ((e : Named) × In e member × (takes u e ≡ true)) → some (takes h) member ≡ true
@@ -154,9 +156,42 @@ module _ (member : List Named) where
             let rest = and-right (isGlobal (e .symbol)) (u (e .name) && lists member (e .name)) q in
             some-in (takes h) member e i
             (and-in (isGlobal (e .symbol)) (h (e .name) && lists member (e .name)) (and-left (isGlobal (e .symbol)) (u (e .name) && lists member (e .name)) q)
-            (and-in (h (e .name)) (lists member (e .name)) (w (e .name) (and-left (u (e .name)) (lists member (e .name)) rest)) (and-right (u (e .name)) (lists member (e .name)) rest)))
+            (and-in (h (e .name)) (lists member (e .name)) (w (e .name) (and-right (u (e .name)) (lists member (e .name)) rest) (and-left (u (e .name)) (lists member (e .name)) rest)) (and-right (u (e .name)) (lists member (e .name)) rest)))
 
     pub taken-either : taken h member ≡ taken f member || taken g member
     taken-either =
         both-ways (some (takes h) member) (some (takes f) member || some (takes g) member) apart
-        (λ p. or-out (some (takes f) member) (some (takes g) member) p (together f (λ x a. either x ∙ or-left (f x) (g x) a)) (together g (λ x a. either x ∙ or-right (f x) (g x) a)))
+        (λ p. or-out (some (takes f) member) (some (takes g) member) p (together f (λ x l a. either x l ∙ or-left (f x) (g x) a)) (together g (λ x l a. either x l ∙ or-right (f x) (g x) a)))
+
+-- ---- the wanted names as a list: those that the member bears
+
+abbrev pub wantedNames : (List ℕ → Bool) → List Named → List (List ℕ)
+wantedNames wanted [] = []
+wantedNames wanted (e ∷ member) = cond (wanted (e .name)) (e .name ∷ wantedNames wanted member) (wantedNames wanted member)
+
+module _ (wanted : List ℕ → Bool) where
+  names-wanted : (member : List Named) (x : List ℕ) → among x (wantedNames wanted member) ≡ true → wanted x ≡ true
+  unfolding among
+  names-wanted [] x h = clash false h refl
+  names-wanted (e ∷ member) x h =
+      by-test (wanted (e .name))
+      (λ t.
+      by-test (sameName (e .name) x) (λ q. ap wanted (sym (same-eq (e .name) x q)) ∙ t) (λ q. names-wanted member x (rw (t, q) at h)))
+      (λ t. names-wanted member x (rw t at h))
+
+  names-all : (member : List Named) (e : Named) → In e member → wanted (e .name) ≡ true → among (e .name) (wantedNames wanted member) ≡ true
+  unfolding among
+  names-all (d ∷ member) e (here q) h = rw (q, h, same-refl (e .name))
+  names-all (d ∷ member) e (there i) h =
+      by-test (wanted (d .name)) (λ t. by-test (sameName (d .name) (e .name)) (λ q. rw (t, q)) (λ q. rw (t, q) (names-all member e i h)))
+      (λ t. rw t (names-all member e i h))
+
+  pub wanted-names : (member : List Named) (x : List ℕ) → lists member x ≡ true → among x (wantedNames wanted member) ≡ wanted x
+  wanted-names member x l =
+      both-ways (among x (wantedNames wanted member)) (wanted x) (names-wanted member x)
+      (λ h. go h (some-out (λ e. offers (e .symbol) && sameName (e .name) x) member l))
+    where
+      go : wanted x ≡ true → ((e : Named) × In e member × (offers (e .symbol) && sameName (e .name) x ≡ true)) → among x (wantedNames wanted member) ≡ true
+      go h (e, i, q) =
+          let n : e .name ≡ x = same-eq (e .name) x (and-right (offers (e .symbol)) (sameName (e .name) x) q) in
+          ap (λ (y : List ℕ). among y (wantedNames wanted member)) (sym n) ∙ names-all member e i (ap wanted n ∙ h)

@@ -62,11 +62,11 @@ module _ (s l : List ℕ) (start : begunNumber (startOf s l .started .begun) ≡
     as-gabi = Chosen.chosen-as-gabi s c t before (stepRun s t before) pass e low new headers entries file listed
 
     -- "Weak references pull members": beside what is taken for wanted names, what is taken for names that have weak references only
-    pub weak-references : (wanted weakly : List ℕ → Bool) → ((x : List ℕ) → undefinedName t x ≡ wanted x || weakly x) → chosen ≡ taken wanted member || taken weakly member
+    pub weak-references : (wanted weakly : List ℕ → Bool) → ((x : List ℕ) → lists member x ≡ true → undefinedName t x ≡ wanted x || weakly x) → chosen ≡ taken wanted member || taken weakly member
     weak-references wanted weakly either = chosen-is ∙ taken-either member wanted weakly (undefinedName t) either
 
     -- both places at once
-    pub both-differences : (wanted : List (List ℕ)) (weakly : List ℕ → Bool) → ((x : List ℕ) → undefinedName t x ≡ Strings.among x wanted || weakly x)
+    pub both-differences : (wanted : List (List ℕ)) (weakly : List ℕ → Bool) → ((x : List ℕ) → lists member x ≡ true → undefinedName t x ≡ Strings.among x wanted || weakly x)
         → chosen || weakOffers wanted member ≡ extracts member wanted || taken weakly member
     both-differences wanted weakly either =
         ap (λ (b : Bool). b || weakOffers wanted member) (weak-references (λ x. Strings.among x wanted) weakly either)

@@ -34,7 +34,8 @@ isZeroValue zeroValue = true
 unfoldable pub weakOnly : List Sym → Bool
 weakOnly l = isZeroValue (resolve l)
 
-row-undefined : (c : Row) (cs : List Row) (g : Sym) (row : Row) (v : Resolution) → Agrees c cs g row v → eqb (row .value .kind) 7 ≡ isUnresolved v || isZeroValue v
+-- what agrees with the gABI's resolution is undefined just there
+pub row-undefined : (c : Row) (cs : List Row) (g : Sym) (row : Row) (v : Resolution) → Agrees c cs g row v → eqb (row .value .kind) 7 ≡ isUnresolved v || isZeroValue v
 unfolding isUnresolved
 row-undefined c cs g row (defined k) a = back (eqb (row .value .kind) 7) (a .1)
   where
@@ -86,7 +87,7 @@ module _ (bytes names symbols sections : List ℕ) (new : numberIn (newOf bytes 
   undefined-wanted y ys e g gs m =
       undefined-held end x y ys (Terms.demand-3a bytes names symbols sections new ks quiet (idOf end x) y ys e)
       ∙ row-undefined (y .row) (rows ys) g (rowAt (end .symbols) (y .id)) (resolve (g ∷ gs))
-      (Terms.gabi-agrees bytes names symbols sections new ks quiet (idOf end x) y ys e g gs m)
+      (Terms.gabi-agrees-any bytes names symbols sections new ks quiet (idOf end x) y ys e g gs m)
 
   -- a name under which nothing was accepted isn't
   pub undefined-none : adds ≡ [] → undefinedName (lentTable end) x ≡ false

@@ -1,13 +1,13 @@
 -- Demand 3: "Collection, unless refused, keeps exactly what relocations reach from the roots." Of any call, whatever the cells hold.
 -- Assumes nothing.
-use Prim.Native.Nat.{ℕ, _/_, _<_, _≤_}
+use Prim.Native.Nat.{ℕ, _+_, _*_, _/_, _<_, _≤_}
 use native.Mathlib.Omega.{arith}
 use mathlib.Core.Path.{_≡_, sym, ap, _∙_}
 use mathlib.Core.Bool.{true, false}
 use mathlib.Core.List.{List}
 use borrow.Author.Tests.{eqb-true}
 use lib.Dec.{eqb, ltb}
-use lib.ListN.{length}
+use lib.ListN.{getD, length}
 use Rattle.cells.specs.Split.{by-test}
 use Rattle.byte_slices.specs.Ways.{pick}
 use Rattle.link.specs.declared.Link.{Link}
@@ -98,11 +98,22 @@ module _ (l : Link) (x : Lists) (symbols sections : List ℕ) (entry : EntryPoin
   abbrev pub Built : ℕ → Type 0
   Built y = isBuilt sections n y ≡ true
 
-  -- not refused: "their symbols' rows with them", and no other cell of a row; a section's symbol goes with a removed `Section` row of it
+  -- the cell of section y's symbol, behind the section rows
+  abbrev pub cellOf : ℕ → ℕ
+  cellOf y = sectionCells (length sections) * 8 + y
+
+  -- its value is `Section`
+  abbrev pub IsSection : ℕ → Type 0
+  IsSection i = Symbol.field symbols i 5 ≡ 2
+
+  -- not refused: "their symbols' rows with them", and no other cell of a row
   pub record Removed : Type 0 where
     pub removed : (i y : ℕ) → Lies i y → Built y → (R y → ⊥) → Symbol.stateAt (r .symbols) i ≡ 2
     pub stays : (i f : ℕ) → f < 8 → (f ≡ 0 → (y : ℕ) → Lies i y → Built y → R y) → Symbol.field (r .symbols) i f ≡ Symbol.field symbols i f
     pub sectionStays : (y f : ℕ) → y < sectionCells (length sections) → f < 8 → (f ≡ 0 → Built y → R y) → field (r .sections) y f ≡ field sections y f
+    -- "`remove` of any `Section` row drops that entry": a section's symbol goes with each removed `Section` row of it, and no other cell changes
+    pub entryDropped : (i y : ℕ) → Lies i y → IsSection i → Built y → (R y → ⊥) → getD (r .sections) (cellOf y) 0 ≡ 0
+    pub entryStays : (y : ℕ) → ((i : ℕ) → Lies i y → IsSection i → Built y → R y) → getD (r .sections) (cellOf y) 0 ≡ getD sections (cellOf y) 0
 
   pub removes : (a b : ℕ) → r .answer ≡ Dropped a b → Removed
   removes a b e =
@@ -112,6 +123,8 @@ module _ (l : Link) (x : Lists) (symbols sections : List ℕ) (entry : EntryPoin
         removed = C.symbol-removed l x symbols sections entry work ok whole;
         stays = C.symbol-stays l x symbols sections entry work ok whole;
         sectionStays = C.others-stay l x symbols sections entry work ok whole;
+        entryDropped = C.section-symbol-dropped l x symbols sections entry work ok whole;
+        entryStays = C.section-symbol-stays l x symbols sections entry work ok whole;
       }
 
   -- refused with 21: the place is the lowest section that is reached but not built

@@ -516,7 +516,7 @@ fn purge_symbol(
         Lead::Nowhere => count,
         Lead::Section { id } => {
             if dropped_now(work, l.sections, id.0) {
-                symbols::remove_row(symbols, sections, SymbolId(i));
+                symbol_remove::remove_row(symbols, sections, SymbolId(i));
                 return count + 1;
             }
             count
@@ -580,7 +580,7 @@ fn judge_cells(l: Link, marks: usize, work: usize) -> Refusal
 fn judge(l: Link, lent: Lent, marks: usize, work: usize) -> Refusal
     ensures { λ r. ⌜ r ≡ judgeOf l lent marks work ⌝ }
 {
-    let head = link::judge_change(l, lent);
+    let head = link_judge::judge_change(l, lent);
     if head.number != 0 {
         return head;
     }

@@ -31,7 +31,7 @@ fn spelled(n: usize) -> [u8; 12] {
 
 fn issue(l: Link, bytes: &mut [u8], names: &mut [u64], n: usize) -> Link {
     let x = spelled(n);
-    let o = interner::intern(l, bytes, names, &x);
+    let o = interner_calls::intern(l, bytes, names, &x);
     o.link
 }
 
@@ -97,7 +97,7 @@ fn print(issued: usize, t: Tally) {
 }
 
 fn run(bytes: &mut [u8], names: &mut [u64], count: usize) {
-    let o = interner::new(bytes, names);
+    let o = interner_calls::new(bytes, names);
     let l = fill(o.link, bytes, names, count);
     print(l.names, chains(names));
 }

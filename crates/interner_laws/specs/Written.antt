@@ -12,7 +12,8 @@ use Rattle.cells.specs.Rows.{putRow, length-putRow, row-same, row-other}
 use Rattle.byte_slices.specs.Bytes.{part, copied}
 use Rattle.byte_slices.specs.Ways.{copied-whole}
 use Rattle.link.specs.Bounds.{nameRows}
-use Rattle.interner.specs.Hash.{hashFrom, headCell}
+use Rattle.interner.specs.Hash.{hashFrom, spread, headCell}
+use Rattle.interner.specs.Ways.{hash-small, spread-below}
 use Rattle.interner.specs.Names.{linked}
 
 -- ---- bytes
@@ -70,7 +71,7 @@ module _ (d x : List ℕ) (at : ℕ) (room : at + length x ≤ length d) where
 -- ---- heads lie behind the rows
 
 module _ (n : ℕ) (x : List ℕ) (some : 0 < nameRows n) where
-  head-is : headCell n x ≡ nameRows n * 8 + hashFrom 0 x % nameRows n
+  head-is : headCell n x ≡ nameRows n * 8 + spread (nameRows n) (hashFrom 0 x)
   unfolding headCell
   head-is = simp (ne-eqb (nameRows n) 0 (λ e. omega arith))
 
@@ -78,7 +79,7 @@ module _ (n : ℕ) (x : List ℕ) (some : 0 < nameRows n) where
   head-behind = omega (arith, head-is)
 
   pub head-within : headCell n x < n
-  head-within = omega (arith, head-is, mod-lt (hashFrom 0 x) some)
+  head-within = omega (arith, head-is, spread-below (nameRows n) (hashFrom 0 x) (hash-small x 0 (omega arith)) some)
 
 -- ---- the row
 

@@ -63,7 +63,7 @@ fn soname_missing(file: &[u8], sonamed: bool, soname: usize) -> bool
 fn judge_rows(entries: &[u64], file: &[u8], needs: &[u64], sonamed: bool, soname: usize) -> Refusal
     ensures { λ r. ⌜ r ≡ rowsOf (now (entries .entry)) (now (file .entry)) (now (needs .entry)) sonamed soname ⌝ }
 {
-    let i = elf_object::bad_entry(entries);
+    let i = object_range::bad_entry(entries);
     if i < entries.len() / 8 {
         return refuse(1, i);
     }
@@ -114,7 +114,7 @@ pub fn head(
 ) -> Refusal
     ensures { λ r. ⌜ r ≡ headOf l lent (now (entries .entry)) (now (file .entry)) (now (needs .entry)) archived sonamed soname asneeded marks ⌝ }
 {
-    let counts = link::judge_change(l, lent);
+    let counts = link_judge::judge_change(l, lent);
     if counts.number != 0 {
         return counts;
     }

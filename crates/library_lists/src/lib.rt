@@ -26,7 +26,7 @@ fn lists_at(l: Link, n: usize) -> Link
 fn record_fits(l: Link, bytes: &[u8], names: &[u64], lists: usize, id: Interned, len: usize) -> bool
     ensures { λ r. ⌜ r ≡ recordFits l (now (bytes .entry)) (now (names .entry)) lists id len ⌝ }
 {
-    if interner::fits(l, bytes, names, id, len) {
+    if interner_issue::fits(l, bytes, names, id, len) {
         if l.lists < lists {
             return true;
         }
@@ -47,7 +47,7 @@ fn keep_name(
     ensures { λ r. ⌜ recordedOf (now (bytes .exit)) (now (names .exit)) (now (lists .exit)) r ≡ keepName (recordedOf (now (bytes .entry)) (now (names .entry)) (now (lists .entry)) (goingOf l)) (now (x .entry)) id ⌝ }
 {
     let at = l.lists;
-    let kept = interner::keep(l, bytes, names, id, x);
+    let kept = interner_issue::keep(l, bytes, names, id, x);
     cells::put(lists, at, id.0 as u64);
     link::going(lists_at(kept, symbol::next(at)))
 }

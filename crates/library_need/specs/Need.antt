@@ -34,7 +34,7 @@ dependenciesAt inputs lists k = part lists (field inputs k 2) (field inputs k 3)
 abbrev pub undefinedAt : List ℕ → List ℕ → ℕ → List ℕ
 undefinedAt inputs lists k = part lists (field inputs k 4) (field inputs k 5)
 
--- ---- the marks: a cell for each name, 1 where an earlier library lacks it
+-- ---- the marks: a cell for each name; of the names that the library provides it is 1 where an earlier library lacks it
 
 -- a name that isn't issued is in nobody's dependencies
 unfoldable pub dependsOn : List ℕ → ℕ → ℕ → Bool

@@ -241,7 +241,8 @@ fn clear_marks(
     }
 }
 
-// Is the library named x needed? The marks hold what earlier libraries lack, whatever they held before.
+// Is the library named x needed? Of the names that it provides the marks then hold which ones earlier libraries lack; other marks may be stale, and
+// are not read.
 pub fn is_needed(
     l: Link,
     bytes: &[u8],

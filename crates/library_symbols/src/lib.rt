@@ -34,9 +34,9 @@ fn judged(
     ensures { λ r. ⌜ r ≡ judgedOf (viewOf (now (bytes .entry)) (now (names .entry)) (now (symbols .entry)) (now (sections .entry)) l) len row ⌝ }
 {
     let name = row.name;
-    if interner::fits(l, bytes, names, name, len) {
+    if interner_issue::fits(l, bytes, names, name, len) {
         let holder = symbol_rows::holder_of(names, symbols, l.names, name);
-        return symbol_rows::decide(l, symbols, sections, row, holder);
+        return symbol_resolution::decide(l, symbols, sections, row, holder);
     }
     Decision::Refuse { number: 2 }
 }
@@ -55,7 +55,7 @@ fn plan_definition(
     ensures { λ r. ⌜ r ≡ planOf (viewOf (now (bytes .entry)) (now (names .entry)) (now (symbols .entry)) (now (sections .entry)) l) (now (x .entry)) binding visibility ⌝ }
 {
     let id = Interned(interner::find(bytes, names, l.names, x));
-    let row = upcoming_symbol::external_row(id, binding, visibility);
+    let row = upcoming_row::external_row(id, binding, visibility);
     let decision = judged(l, bytes, names, symbols, sections, x.len(), row);
     Definition {
         id: id,
@@ -75,7 +75,7 @@ fn accept(
 ) -> Stage
     ensures { λ r. ⌜ rowedAs (now (names .exit)) (now (symbols .exit)) (now (sections .exit)) r ≡ acceptOf (tableOf (now (names .entry)) (now (symbols .entry)) (now (sections .entry)) l) row d ⌝ }
 {
-    let done = symbol_rows::apply(l, names, symbols, sections, row, d);
+    let done = symbol_write::apply(l, names, symbols, sections, row, d);
     link::going(done)
 }
 
@@ -99,7 +99,7 @@ fn commit(
     if number == 2 {
         return link::stopped(l, 2, i as u64);
     }
-    let kept = interner::keep(l, bytes, names, id, x);
+    let kept = interner_issue::keep(l, bytes, names, id, x);
     if number != 0 {
         return link::stopped(kept, number, merge_plan::place_of(number, id, i));
     }

@@ -122,7 +122,7 @@ fn plan_section(
     ensures { λ r. ⌜ r ≡ planOf l (now (bytes .entry)) (now (names .entry)) lists (now (ids .entry)) limit (now (relocations .entry)) (now (x .entry)) ⌝ }
 {
     let id = Interned(interner::find(bytes, names, l.names, x));
-    if interner::fits(l, bytes, names, id, x.len()) {
+    if interner_issue::fits(l, bytes, names, id, x.len()) {
         if symbols_ok(ids, limit, relocations) {
             if lists_fit(l.lists, lists, relocations.len()) {
                 return Plan { number: 0, id: id };
@@ -245,7 +245,7 @@ fn commit(
     if number == 2 {
         return link::stopped(l, 2, n as u64);
     }
-    let kept = interner::keep(l, bytes, names, id, x);
+    let kept = interner_issue::keep(l, bytes, names, id, x);
     if number != 0 {
         return link::stopped(kept, number, n as u64);
     }

@@ -10,6 +10,7 @@ use Rattle.link.specs.declared.Lent.{Lent}
 use Rattle.link.specs.declared.Refusal.{Refusal}
 use Rattle.link.specs.declared.Stage.{Stage}
 use Rattle.link.specs.Judge as Link
+use Rattle.link.specs.Counts.{lentOf}
 use Rattle.elf_object.specs.Rows.{rowsIn}
 use Rattle.elf_object.specs.Judge as Elf
 use Rattle.merge_stages.specs.Stages.{All, allOf, Object, stagesOf}
@@ -66,10 +67,6 @@ leaveAs a r = leave a (r .link) (r .answer)
 
 abbrev pub endedOf : All → Left
 endedOf a = leaveAs a (endedAs (a .stage))
-
-abbrev pub lentOf : ℕ → ℕ → ℕ → ℕ → ℕ → ℕ → Lent
-lentOf names bytes symbols sections inputs lists =
-    record { names = names; bytes = bytes; symbols = symbols; sections = sections; inputs = inputs; lists = lists }
 
 abbrev pub lent : All → Lent
 lent a =

@@ -31,11 +31,11 @@ fn head(
 ) -> Refusal
     ensures { λ r. ⌜ r ≡ headOf l lent (now (headers .entry)) (now (entries .entry)) contents file work ids ⌝ }
 {
-    let counts = link::judge_change(l, lent);
+    let counts = link_judge::judge_change(l, lent);
     if counts.number != 0 {
         return counts;
     }
-    let rows = elf_object::judge(headers, entries, contents, file);
+    let rows = object_range::judge(headers, entries, contents, file);
     if rows.number != 0 {
         return rows;
     }

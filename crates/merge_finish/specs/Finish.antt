@@ -10,6 +10,7 @@ use Rattle.link.specs.declared.Link.{Link}
 use Rattle.link.specs.declared.Stage.{Stage}
 use Rattle.link.specs.Bounds.{inputRows}
 use Rattle.link.specs.Judge as Link
+use Rattle.link.specs.Counts.{moreInputs}
 use Rattle.merge_build.specs.Build as Build
 
 -- ---- the object's row, with the inputs
@@ -20,20 +21,6 @@ pub record InputLinks : Type 0 where
 
 abbrev pub inputLinks : List ℕ → Stage → InputLinks
 inputLinks i st = record { inputs = i; stage = st }
-
-abbrev pub moreInputs : Link → Link
-moreInputs l =
-    record {
-      names = l .names;
-      bytes = l .bytes;
-      symbols = l .symbols;
-      sections = l .sections;
-      inputs = l .inputs + 1;
-      lists = l .lists;
-      chains = l .chains;
-      slots = l .slots;
-      broken = l .broken;
-    }
 
 unfoldable pub inputOf : List ℕ → Link → InputLinks
 inputOf inputs l =

@@ -10,8 +10,9 @@ use Rattle.link.specs.declared.Link.{Link}
 use Rattle.link.specs.declared.Stage.{Stage}
 use Rattle.link.specs.Bounds.{inputRows}
 use Rattle.link.specs.Judge as Link
+use Rattle.link.specs.Counts.{moreInputs}
 use Rattle.merge_build.specs.Build as Build
-use Rattle.merge_finish.specs.Finish.{InputLinks, inputLinks, moreInputs, inputOf, BuildLinks, building, afterBuild, withInput, inputStage, programStage, builtOf}
+use Rattle.merge_finish.specs.Finish.{InputLinks, inputLinks, inputOf, BuildLinks, building, afterBuild, withInput, inputStage, programStage, builtOf}
 
 module _ (inputs : List ℕ) (l : Link) (t : InputLinks) (rows : ℕ) where
   pub input-full : (s : Stage) → rows ≡ inputRows (length inputs) → rows ≤ l .inputs → s ≡ Link.stoppedOf l 2 0 → t ≡ inputLinks inputs s → t ≡ inputOf inputs l

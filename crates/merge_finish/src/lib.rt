@@ -11,7 +11,7 @@ fn input_row(l: Link, inputs: &mut [u64]) -> Stage
 {
     let n = l.inputs;
     if n < link::input_rows(inputs.len()) {
-        cells::row_store(inputs, n, 1, 0, 0, 0, 0, 0, 0, 0);
+        cell_writes::row_store(inputs, n, 1, 0, 0, 0, 0, 0, 0, 0);
         return link::going(Link {
             names: l.names,
             bytes: l.bytes,

@@ -1,6 +1,7 @@
 -- What a refusal of a merge leaves, by its number: document 01's refusal table.
 -- Assumes nothing.
-use Prim.Native.Nat.{ℕ, _*_, _/_}
+use Prim.Native.Nat.{ℕ, _*_, _/_, _<_}
+use native.Mathlib.Omega.{arith}
 use mathlib.Core.Path.{_≡_, refl, sym, ap, _∙_, subst}
 use mathlib.Core.Bool.{Bool, true, false, cond, false≢true}
 use mathlib.Core.List.{List, [], _∷_}
@@ -17,6 +18,7 @@ use Rattle.link.specs.declared.Refusal.{Refusal}
 use Rattle.link.specs.Judge.{refused, none, brokenOf, changeOf}
 use Rattle.link.specs.Judge as Link
 use Rattle.link.specs.Passed.{judge-gives}
+use Rattle.strings.specs.Lookup.{Looked, looked}
 use Rattle.interner.specs.Names.{Store, storeOf, findOf, keepOf}
 use Rattle.symbol_rows.specs.Decide.{sectionCells}
 use Rattle.elf_object.specs.Rows.{rowsIn}
@@ -37,17 +39,17 @@ use Rattle.merge_laws.specs.GroupStage.{groups-count}
 use Rattle.merge_laws.specs.MergeSteps.{groupFirst, reserveFirst}
 use Rattle.merge_laws.specs.Whole.{passed}
 use Rattle.merge_laws.specs.Unbroken.{stages-broken}
-use Rattle.merge_laws.specs.Refusals.{oneOf, SymbolLeft, BuildLeft}
+use Rattle.merge_laws.specs.Refusals.{oneOf, symbolName, SymbolLeft, place-other, sectionName, BuildLeft}
 use Rattle.merge_laws.specs.Refusals as Refusals
-use Rattle.merge_laws.specs.Stops.{object, prepared, marked, withAdded, sectionsTo, groupsTo, symbolsTo, uninitializedTo, programTo, before2, before1, before0, withBuild, end, number, Stops, in-sections, in-groups, in-filter, in-symbols, in-uninitialized, in-program, in-input, stops}
+use Rattle.merge_laws.specs.Stops.{object, prepared, marked, symbolReader, withAdded, builder, sectionsTo, groupsTo, symbolsTo, uninitializedTo, programTo, before2, before1, before0, withBuild, end, number, Stops, in-sections, in-groups, in-filter, in-symbols, in-uninitialized, in-program, in-input, stops}
 
 -- ---- numbers that no list shares
 
-abbrev disjoint : List ℕ → List ℕ → Bool
+abbrev pub disjoint : List ℕ → List ℕ → Bool
 disjoint [] ys = true
 disjoint (x ∷ xs) ys = cond (oneOf x ys) false (disjoint xs ys)
 
-apart : (n : ℕ) (xs ys : List ℕ) → disjoint xs ys ≡ true → oneOf n xs ≡ true → oneOf n ys ≡ true → ⊥
+pub apart : (n : ℕ) (xs ys : List ℕ) → disjoint xs ys ≡ true → oneOf n xs ≡ true → oneOf n ys ≡ true → ⊥
 apart n [] ys d a b = false≢true a
 apart n (x ∷ xs) ys d a b =
     by-test (oneOf x ys) (λ t. false≢true (rw t at d))
@@ -63,13 +65,13 @@ work-gives P two fine headers entries work ids =
     by-test (ltb (work / 8) (rowsIn headers)) (λ t. rw t (two 0))
     (λ t. by-test (ltb ids (rowsIn entries)) (λ u. rw (t, u) (two 0)) (λ u. rw (t, u) fine))
 
-elf-gives : (P : Refusal → Type 0) → ((k : ℕ) → P (refused 1 k)) → P none → (headers entries : List ℕ) (contents file : ℕ) → P (Elf.judgeOf headers entries contents file)
+pub elf-gives : (P : Refusal → Type 0) → ((k : ℕ) → P (refused 1 k)) → P none → (headers entries : List ℕ) (contents file : ℕ) → P (Elf.judgeOf headers entries contents file)
 unfolding Elf.judgeOf
 elf-gives P one fine headers entries contents file =
     by-test (ltb (Elf.badHeader headers (rowsIn entries) contents file) (rowsIn headers)) (λ t. rw t (one _))
     (λ t. by-test (ltb (Elf.badEntry entries) (rowsIn entries)) (λ u. rw (t, u) (one _)) (λ u. rw (t, u) fine))
 
-changed : (P : Refusal → Type 0) → P (refused 22 0) → ((k : ℕ) → P (refused 1 k)) → P none → (l : Link) (n : Lent) → P (changeOf l n)
+pub changed : (P : Refusal → Type 0) → P (refused 22 0) → ((k : ℕ) → P (refused 1 k)) → P none → (l : Link) (n : Lent) → P (changeOf l n)
 unfolding changeOf
 changed P broken one fine l n = pick P (l .broken) (refused 22 0) (Link.judgeOf l n) (λ t. broken) (λ t. judge-gives P one fine l n)
 
@@ -122,6 +124,10 @@ withStore b k = allOf (k .bytes) (k .names) (b .symbols) (b .sections) (b .input
 abbrev pub idIn : All → List ℕ → Interned
 idIn b x = record { 0 = findOf (b .bytes) (b .names) (b .stage .link .names) x }
 
+-- where no refusal leaves a name issued
+abbrev nameless : Looked
+nameless = looked [] false
+
 -- the name x issued
 abbrev pub named : All → List ℕ → All
 named b x = withStore b (keepOf (storeOf (b .bytes) (b .names) (b .stage .link)) (idIn b x) x)
@@ -168,7 +174,7 @@ module _ (o : Object) (a : All) where
   allLeft (sections n) = 2 ∷ 3 ∷ 24 ∷ []
   allLeft (groups n) = 2 ∷ 4 ∷ 5 ∷ 6 ∷ 7 ∷ []
   allLeft filter = 8 ∷ []
-  allLeft (symbols i) = 2 ∷ 9 ∷ []
+  allLeft (symbols i) = 2 ∷ 9 ∷ 17 ∷ 21 ∷ []
   allLeft (uninitialized n) = 2 ∷ 18 ∷ []
   allLeft (program n) = 2 ∷ 18 ∷ []
   allLeft input = 2 ∷ []
@@ -177,8 +183,8 @@ module _ (o : Object) (a : All) where
   nameStays (sections n) = []
   nameStays (groups n) = []
   nameStays filter = []
-  nameStays (symbols i) = 10 ∷ 11 ∷ 12 ∷ 13 ∷ 14 ∷ 16 ∷ 17 ∷ 21 ∷ []
-  nameStays (uninitialized n) = 19 ∷ []
+  nameStays (symbols i) = 10 ∷ 11 ∷ 12 ∷ 13 ∷ 14 ∷ 16 ∷ []
+  nameStays (uninitialized n) = []
   nameStays (program n) = 19 ∷ []
   nameStays input = []
 
@@ -192,51 +198,81 @@ module _ (o : Object) (a : All) where
   placeAt (program n) = n
   placeAt input = 0
 
+  -- the elements of its stage
+  abbrev pub elements : {b : All} → Between b → ℕ
+  elements (sections n) = rowsIn (o .headers)
+  elements (groups n) = rowsIn (o .headers)
+  elements filter = rowsIn (object o a .entries)
+  elements (symbols i) = rowsIn (object o a .entries)
+  elements (uninitialized n) = rowsIn (o .headers)
+  elements (program n) = rowsIn (o .headers)
+  elements input = 1
+
+  -- what the string table says of the name that a refusal may leave issued, the element's own
+  abbrev pub nameAt : {b : All} → Between b → Looked
+  nameAt (sections n) = nameless
+  nameAt (groups n) = nameless
+  nameAt filter = nameless
+  nameAt (symbols i) = symbolName (symbolReader o a) i
+  nameAt (uninitialized n) = nameless
+  nameAt (program n) = sectionName (builder o a) n
+  nameAt input = nameless
+
+  -- the refusal is met at one of the elements, and all before it were accepted
+  pub record Met {b : All} (at : Between b) : Type 0 where
+    pub below : placeAt at < elements at
+    pub accepted : b .stage .number ≡ 0
+
   pub data Leaves : Type 0 where
-    -- all elements before were accepted
-    all : (b : All) (at : Between b) → b .stage .number ≡ 0 → oneOf (number o a) (allLeft at) ≡ true → end o a ≡ stop b (number o a) (placeAt at) → Leaves
     -- the place of 21 is the name's id
-    but-its-name : (b : All) (at : Between b) (x : List ℕ) → b .stage .number ≡ 0 → oneOf (number o a) (nameStays at) ≡ true
-        → end o a ≡ stop (named b x) (number o a) (placeOf (number o a) (idIn b x) (placeAt at)) → Leaves
+    all : (b : All) (at : Between b) → Met at → oneOf (number o a) (allLeft at) ≡ true
+        → end o a ≡ stop b (number o a) (placeOf (number o a) (idIn b (nameAt at .name)) (placeAt at)) → Leaves
+    but-its-name : (b : All) (at : Between b) → nameAt at .found ≡ true → Met at → oneOf (number o a) (nameStays at) ≡ true
+        → end o a ≡ stop (named b (nameAt at .name)) (number o a) (placeAt at) → Leaves
 
   -- a refused state has its own number
   whole : (b : All) (p : ℕ → ℕ) (k : ℕ) → end o a ≡ stop b k (p k) → end o a ≡ stop b (number o a) (p (number o a))
   whole b p k e = e ∙ ap (λ (k : ℕ). stop b k (p k)) (sym (ap (λ (t : All). t .stage .number) e))
 
-  symbol-left-at : (i : ℕ) (t : Symbols.State) → symbolsTo o a i .stage .number ≡ 0 → SymbolLeft (symbolsTo o a i) t i → end o a ≡ withSymbols (marked o a) (withAdded o a t) → Leaves
-  symbol-left-at i t z (Refusals.as-it-was k q) e =
-      let f = e ∙ ap (λ (t : Symbols.State). withSymbols (marked o a) (withAdded o a t)) q in
-      all _ (symbols i) z (rw (ap (λ (t : All). t .stage .number) e) k) (whole (symbolsAt i) (λ k. i) _ f)
-  symbol-left-at i t z (Refusals.but-its-name x k q) e =
-      let f = e ∙ ap (λ (t : Symbols.State). withSymbols (marked o a) (withAdded o a t)) q in
-      but-its-name _ (symbols i) x z (rw (ap (λ (t : All). t .stage .number) e) k) (whole (named (symbolsAt i) x) (λ k. placeOf k (idIn (symbolsAt i) x) i) _ f)
+  -- where 21 isn't met
+  as-all : (b : All) (at : Between b) (k : ℕ) → Met at → oneOf 21 (allLeft at) ≡ false → oneOf k (allLeft at) ≡ true → end o a ≡ stop b k (placeAt at) → Leaves
+  as-all b at k m d h e =
+      let q : number o a ≡ k = ap (λ (t : All). t .stage .number) e in
+      let place : (n : ℕ) → ℕ = λ n. placeOf n (idIn b (nameAt at .name)) (placeAt at) in
+      all b at m (rw q h) (whole b place k (e ∙ ap (stop b k) (sym (place-other k (allLeft at) (idIn b (nameAt at .name)) (placeAt at) d h))))
 
-  uninitialized-left-at : (n : ℕ) (t : Build.State) → uninitializedTo o a n .stage .number ≡ 0 → BuildLeft (uninitializedTo o a n) t n → end o a ≡ withBuild o a (afterBuild (before2 o a) t) → Leaves
-  unfolding placeOf
-  uninitialized-left-at n t z (Refusals.as-it-was k q) e =
-      let f = e ∙ ap (λ (t : Build.State). withBuild o a (afterBuild (before2 o a) t)) q in
-      all _ (uninitialized n) z (rw (ap (λ (t : All). t .stage .number) e) k) (whole (uninitializedAt n) (λ k. n) _ f)
-  uninitialized-left-at n t z (Refusals.but-its-name x k q) e =
-      let f = e ∙ ap (λ (t : Build.State). withBuild o a (afterBuild (before2 o a) t)) q in
-      but-its-name _ (uninitialized n) x z (rw (ap (λ (t : All). t .stage .number) e ∙ k)) (whole (named (uninitializedAt n) x) (λ k. placeOf k (idIn (uninitializedAt n) x) n) 19 f)
+  symbol-left-at : (i : ℕ) (t : Symbols.State) → Met (symbols i) → SymbolLeft (symbolReader o a) (symbolsTo o a i) t i → end o a ≡ withSymbols (marked o a) (withAdded o a t) → Leaves
+  symbol-left-at i t m (Refusals.as-it-was k q) e =
+      let f = e ∙ ap (λ (t : Symbols.State). withSymbols (marked o a) (withAdded o a t)) q in
+      all _ (symbols i) m (rw (ap (λ (t : All). t .stage .number) e) k)
+      (whole (symbolsAt i) (λ k. placeOf k (idIn (symbolsAt i) (symbolName (symbolReader o a) i .name)) i) _ f)
+  symbol-left-at i t m (Refusals.but-its-name found k q) e =
+      let f = e ∙ ap (λ (t : Symbols.State). withSymbols (marked o a) (withAdded o a t)) q in
+      but-its-name _ (symbols i) found m (rw (ap (λ (t : All). t .stage .number) e) k) (whole (named (symbolsAt i) (symbolName (symbolReader o a) i .name)) (λ k. i) _ f)
 
-  program-left-at : (n : ℕ) (t : Build.State) → programTo o a n .stage .number ≡ 0 → BuildLeft (programTo o a n) t n → end o a ≡ withBuild o a (afterBuild (before1 o a) t) → Leaves
-  unfolding placeOf
-  program-left-at n t z (Refusals.as-it-was k q) e =
+  uninitialized-left-at : (n : ℕ) (t : Build.State) → Met (uninitialized n) → BuildLeft (builder o a) 2 (uninitializedTo o a n) t n → end o a ≡ withBuild o a (afterBuild (before2 o a) t) → Leaves
+  uninitialized-left-at n t m (Refusals.as-it-was k q) e =
+      as-all _ (uninitialized n) (t .stage .number) m refl k (e ∙ ap (λ (t : Build.State). withBuild o a (afterBuild (before2 o a) t)) q)
+  uninitialized-left-at n t m (Refusals.but-its-name one found k q) e = absurd (omega arith)
+
+  program-left-at : (n : ℕ) (t : Build.State) → Met (program n) → BuildLeft (builder o a) 1 (programTo o a n) t n → end o a ≡ withBuild o a (afterBuild (before1 o a) t) → Leaves
+  program-left-at n t m (Refusals.as-it-was k q) e =
+      as-all _ (program n) (t .stage .number) m refl k (e ∙ ap (λ (t : Build.State). withBuild o a (afterBuild (before1 o a) t)) q)
+  program-left-at n t m (Refusals.but-its-name one found k q) e =
       let f = e ∙ ap (λ (t : Build.State). withBuild o a (afterBuild (before1 o a) t)) q in
-      all _ (program n) z (rw (ap (λ (t : All). t .stage .number) e) k) (whole (programAt n) (λ k. n) _ f)
-  program-left-at n t z (Refusals.but-its-name x k q) e =
-      let f = e ∙ ap (λ (t : Build.State). withBuild o a (afterBuild (before1 o a) t)) q in
-      but-its-name _ (program n) x z (rw (ap (λ (t : All). t .stage .number) e ∙ k)) (whole (named (programAt n) x) (λ k. placeOf k (idIn (programAt n) x) n) 19 f)
+      but-its-name _ (program n) found m (rw (ap (λ (t : All). t .stage .number) e ∙ k)) (whole (named (programAt n) (sectionName (builder o a) n .name)) (λ k. n) 19 f)
+
+  met : {b : All} (at : Between b) → placeAt at < elements at → b .stage .number ≡ 0 → Met at
+  met at h z = record { below = h; accepted = z }
 
   left-at : Stops o a → Leaves
-  left-at (in-sections n z k e) = all _ (sections n) z k (whole (afterSections a (sectionsTo o a n)) (λ k. n) _ e)
-  left-at (in-groups n z k e) = all _ (groups n) z k (whole (afterGroups (prepared o a) (groupsTo o a n)) (λ k. n) _ e)
-  left-at (in-filter z e) = all _ filter z (rw (ap (λ (t : All). t .stage .number) e)) (whole (marked o a) (λ k. filterOf (marked o a .work) (object o a .entries)) 8 e)
-  left-at (in-symbols i t z l e) = symbol-left-at i t z l e
-  left-at (in-uninitialized n t z l e) = uninitialized-left-at n t z l e
-  left-at (in-program n t z l e) = program-left-at n t z l e
-  left-at (in-input z e) = all _ input z (rw (ap (λ (t : All). t .stage .number) e)) (whole (withBuild o a (before0 o a)) (λ k. 0) 2 e)
+  left-at (in-sections n h z k e) = as-all _ (sections n) (number o a) (met (sections n) h z) refl k e
+  left-at (in-groups n h z k e) = as-all _ (groups n) (number o a) (met (groups n) h z) refl k e
+  left-at (in-filter h z e) = as-all _ filter 8 (met filter h z) refl refl e
+  left-at (in-symbols i t _ _ _ h z q l e) = symbol-left-at i t (met (symbols i) h z) l e
+  left-at (in-uninitialized n t h z l e) = uninitialized-left-at n t (met (uninitialized n) h z) l e
+  left-at (in-program n t h z l e) = program-left-at n t (met (program n) h z) l e
+  left-at (in-input z e) = as-all _ input 2 (met input (omega arith) z) refl refl e
 
   pub refused-leaves : number o a ≢ 0 → Leaves
   refused-leaves u = left-at (stops o a u)
@@ -296,7 +332,7 @@ module _ (o : Object) (a : All) where
   never xs ys d k h = absurd (apart (number o a) xs ys d k h)
 
   abbrev addNumbers : List ℕ
-  addNumbers = 10 ∷ 11 ∷ 12 ∷ 13 ∷ 14 ∷ 16 ∷ 17 ∷ 21 ∷ []
+  addNumbers = 10 ∷ 11 ∷ 12 ∷ 13 ∷ 14 ∷ 16 ∷ []
 
   abbrev early : List ℕ
   early = 3 ∷ 4 ∷ 5 ∷ 6 ∷ 7 ∷ 8 ∷ 24 ∷ []
@@ -305,7 +341,7 @@ module _ (o : Object) (a : All) where
   early-left (all b (sections n) z k e) h = stopped-symbols _ _ _ e (sections-names n .symbols)
   early-left (all b (groups n) z k e) h = stopped-symbols _ _ _ e (groups-symbols n)
   early-left (all b filter z k e) h = stopped-symbols _ _ _ e filter-symbols
-  early-left (all b (symbols i) z k e) h = never (2 ∷ 9 ∷ []) early refl k h
+  early-left (all b (symbols i) z k e) h = never (2 ∷ 9 ∷ 17 ∷ 21 ∷ []) early refl k h
   early-left (all b (uninitialized n) z k e) h = never (2 ∷ 18 ∷ []) early refl k h
   early-left (all b (program n) z k e) h = never (2 ∷ 18 ∷ []) early refl k h
   early-left (all b input z k e) h = never (2 ∷ []) early refl k h
@@ -313,7 +349,7 @@ module _ (o : Object) (a : All) where
   early-left (but-its-name b (groups n) x z k e) h = never [] early refl k h
   early-left (but-its-name b filter x z k e) h = never [] early refl k h
   early-left (but-its-name b (symbols i) x z k e) h = never addNumbers early refl k h
-  early-left (but-its-name b (uninitialized n) x z k e) h = never (19 ∷ []) early refl k h
+  early-left (but-its-name b (uninitialized n) x z k e) h = never [] early refl k h
   early-left (but-its-name b (program n) x z k e) h = never (19 ∷ []) early refl k h
   early-left (but-its-name b input x z k e) h = never [] early refl k h
 
@@ -340,7 +376,7 @@ module _ (o : Object) (a : All) where
   first-left (all b (sections n) z k e) h = stopped-names _ _ _ e (sections-names n)
   first-left (all b (groups n) z k e) h = never (2 ∷ 4 ∷ 5 ∷ 6 ∷ 7 ∷ []) first refl k h
   first-left (all b filter z k e) h = never (8 ∷ []) first refl k h
-  first-left (all b (symbols i) z k e) h = never (2 ∷ 9 ∷ []) first refl k h
+  first-left (all b (symbols i) z k e) h = never (2 ∷ 9 ∷ 17 ∷ 21 ∷ []) first refl k h
   first-left (all b (uninitialized n) z k e) h = never (2 ∷ 18 ∷ []) first refl k h
   first-left (all b (program n) z k e) h = never (2 ∷ 18 ∷ []) first refl k h
   first-left (all b input z k e) h = never (2 ∷ []) first refl k h
@@ -348,7 +384,7 @@ module _ (o : Object) (a : All) where
   first-left (but-its-name b (groups n) x z k e) h = never [] first refl k h
   first-left (but-its-name b filter x z k e) h = never [] first refl k h
   first-left (but-its-name b (symbols i) x z k e) h = never addNumbers first refl k h
-  first-left (but-its-name b (uninitialized n) x z k e) h = never (19 ∷ []) first refl k h
+  first-left (but-its-name b (uninitialized n) x z k e) h = never [] first refl k h
   first-left (but-its-name b (program n) x z k e) h = never (19 ∷ []) first refl k h
   first-left (but-its-name b input x z k e) h = never [] first refl k h
 

@@ -20,20 +20,19 @@ use Rattle.section_groups.specs.Group.{markGroupOf, markRemovedOf, groupSection
 use Rattle.section_groups.specs.Filter.{sectionAfter, symbolOk}
 use Rattle.merge_plan.specs.Plan.{filteredAt}
 use Rattle.merge_stages.specs.Stages.{All, Object, groupObject}
-use Rattle.interner_laws.specs.Interns.{keep-issued}
-use Rattle.symbol_laws.specs.History.{State, store}
+use Rattle.symbol_laws.specs.History.{State}
 use Rattle.symbol_laws.specs.Gabi.{symOf}
 use Rattle.merge_laws.specs.Steps.{Step, others, runSteps}
 use Rattle.merge_laws.specs.Beside.{others-make}
 use Rattle.merge_laws.specs.Placed.{reserve-beside}
 use Rattle.merge_laws.specs.Loop.{loop, loopSteps, steps-next}
-use Rattle.merge_laws.specs.MergeSteps.{signedSteps, groupSectionSteps, groupFirst, reserveFirst}
-use Rattle.merge_laws.specs.GroupStage.{numberOf, section-makes, groups-loop, groups-make-to}
+use Rattle.merge_laws.specs.MergeSteps.{groupSectionSteps, groupFirst, reserveFirst}
+use Rattle.merge_laws.specs.GroupStage.{numberOf, groups-loop, groups-make-to}
 use Rattle.merge_laws.specs.GroupStage as GroupStage
 use Rattle.merge_laws.specs.Whole.{tableIn}
 use Rattle.merge_laws.specs.Stops.{reserved, object, prepared, groupsTo}
 use Rattle.merge_laws.specs.Marked.{Marked, marksOf, marks-append, steps-marked}
-use Rattle.merge_laws.specs.GroupMarks.{kept-new, group-marks}
+use Rattle.merge_laws.specs.GroupMarks.{kept-new, group-marks, group-signature}
 
 not-not : (b : Bool) → not (not b) ≡ b
 not-not true = refl
@@ -51,7 +50,7 @@ module _ (o : Object) (a : All) where
   abbrev pub listed : ℕ → ℕ
   listed n = getD (reader .contents) (firstAt (reader .headers) n) 0
 
-  abbrev stepsTo : ℕ → List Step
+  abbrev pub stepsTo : ℕ → List Step
   stepsTo n = loopSteps numberOf (groupSectionOf reader) (groupSectionSteps reader) n 0 (groupFirst (prepared o a))
 
   -- the signatures met before section n, after those of earlier objects
@@ -67,32 +66,26 @@ module _ (o : Object) (a : All) where
         (subst (λ (t : State). Marked t (met ++ [])) (steps .leads)
         (steps-marked (others (reserved o a .sections) (reserved o a .reserved .link) ∷ []) (tableIn a) met (steps .accepted) m))
 
-    to-marked : (n : ℕ) → Marked (GroupStage.tableIn (a .symbols) (reserved o a .sections) (groupsTo o a n)) (metTo met n)
+    pub to-marked : (n : ℕ) → Marked (GroupStage.tableIn (a .symbols) (reserved o a .sections) (groupsTo o a n)) (metTo met n)
     to-marked n =
         let steps = groups-make-to (a .symbols) (reserved o a .sections) reader n (groupFirst (prepared o a)) in
         subst (λ (t : State). Marked t (metTo met n)) (steps .leads)
         (steps-marked (stepsTo n) (tableIn (prepared o a)) met (steps .accepted) prepared-marked)
 
     -- the n-th section's own signature
-    section-marks : (s : Group.Step) (n : ℕ) (now : List (List ℕ)) → Marked (GroupStage.tableIn (a .symbols) (reserved o a .sections) s) now
+    pub section-marks : (s : Group.Step) (n : ℕ) (now : List (List ℕ)) → Marked (GroupStage.tableIn (a .symbols) (reserved o a .sections) s) now
         → isLoaded (reader .headers) n 7 ≡ true → groupSectionOf reader s n .stage .number ≡ 0
         → marksOf (groupSectionSteps reader s n) (GroupStage.tableIn (a .symbols) (reserved o a .sections) s) ≡ signature n ∷ []
-    unfolding groupSectionSteps signedSteps
-    section-marks s n now k g z =
-        let t : State = GroupStage.tableIn (a .symbols) (reserved o a .sections) s in
-        let go = section-makes (a .symbols) (reserved o a .sections) reader s n .accepted in
-        let fits = rw (g, eq-eqb (groupSectionOf reader s n .stage .number) 0 z) at go in
-        let e = keep-issued (store t) (signature n) (k .good) (fits .0) .right in
-        rw (g, eq-eqb (groupSectionOf reader s n .stage .number) 0 z) (ap (λ (x : List ℕ). x ∷ []) e)
+    section-marks s n now k g z = group-signature (a .symbols) (reserved o a .sections) reader s now k n g z
 
-    other-marks : (s : Group.Step) (n : ℕ) → isLoaded (reader .headers) n 7 ≡ false
+    pub other-marks : (s : Group.Step) (n : ℕ) → isLoaded (reader .headers) n 7 ≡ false
         → marksOf (groupSectionSteps reader s n) (GroupStage.tableIn (a .symbols) (reserved o a .sections) s) ≡ []
     unfolding groupSectionSteps
     other-marks s n g = rw g
 
-    marks-next : (n : ℕ) → groupsTo o a n .stage .number ≡ 0
-        → metTo met (suc n) ≡ metTo met n ++ marksOf (groupSectionSteps reader (groupsTo o a n) n) (GroupStage.tableIn (a .symbols) (reserved o a .sections) (groupsTo o a n))
-    marks-next n z =
+    pub marks-to : (n : ℕ) → groupsTo o a n .stage .number ≡ 0
+        → marksOf (stepsTo (suc n)) (tableIn (prepared o a)) ≡ marksOf (stepsTo n) (tableIn (prepared o a)) ++ marksOf (groupSectionSteps reader (groupsTo o a n) n) (GroupStage.tableIn (a .symbols) (reserved o a .sections) (groupsTo o a n))
+    marks-to n z =
         let first : Group.Step = groupFirst (prepared o a) in
         let t : State = tableIn (prepared o a) in
         let e : groupsTo o a n ≡ loop numberOf (groupSectionOf reader) n 0 first = groups-loop reader n 0 first in
@@ -103,8 +96,11 @@ module _ (o : Object) (a : All) where
         let m : marksOf (stepsTo (suc n)) t ≡ marksOf (stepsTo n) t ++ marksOf (groupSectionSteps reader (groupsTo o a n) n) (runSteps (stepsTo n) t) =
         ap (λ (l : List Step). marksOf l t) k ∙ marks-append (stepsTo n) (groupSectionSteps reader (groupsTo o a n) n) t in
         let r = groups-make-to (a .symbols) (reserved o a .sections) reader n first .leads in
-        ap (_++_ met) (m ∙ ap (λ (u : State). marksOf (stepsTo n) t ++ marksOf (groupSectionSteps reader (groupsTo o a n) n) u) r)
-        ∙ sym (append-assoc met (marksOf (stepsTo n) t) _)
+        m ∙ ap (λ (u : State). marksOf (stepsTo n) t ++ marksOf (groupSectionSteps reader (groupsTo o a n) n) u) r
+
+    marks-next : (n : ℕ) → groupsTo o a n .stage .number ≡ 0
+        → metTo met (suc n) ≡ metTo met n ++ marksOf (groupSectionSteps reader (groupsTo o a n) n) (GroupStage.tableIn (a .symbols) (reserved o a .sections) (groupsTo o a n))
+    marks-next n z = ap (_++_ met) (marks-to n z) ∙ sym (append-assoc met (marksOf (stepsTo n) (tableIn (prepared o a))) _)
 
     -- the signatures met are those of the accepted groups, in order
     pub met-group : (n : ℕ) → groupsTo o a n .stage .number ≡ 0 → isLoaded (reader .headers) n 7 ≡ true

@@ -48,10 +48,10 @@ steps-keep = kept stepNext stepNotes Inv step-keep
 
 -- ---- the log of accepted steps has every row that they add and that isn't local
 
-abbrev globalRows : Row → List Row
+abbrev pub globalRows : Row → List Row
 globalRows r = cond (eqb (r .visibility) 0) [] (r ∷ [])
 
-abbrev partRows : Part → List Row
+abbrev pub partRows : Part → List Row
 partRows (issue x) = []
 partRows (put r from) = globalRows r
 

@@ -1,5 +1,6 @@
 pub mod Terms
 pub mod Differences
+pub mod Unsupported
 pub mod Steps
 pub mod MergeSteps
 pub mod Calls
@@ -8,6 +9,7 @@ pub mod Issue
 pub mod Beside
 pub mod More
 pub mod Placed
+pub mod Committed
 pub mod SymbolStage
 pub mod SymbolIds
 pub mod GroupStage
@@ -16,12 +18,18 @@ pub mod Whole
 pub mod Kept
 pub mod Lookups
 pub mod Refusals
+pub mod Duplicates
 pub mod Stops
 pub mod Unbroken
 pub mod ByNumber
+pub mod SymbolDuplicates
 pub mod Marked
+pub mod Markless
 pub mod GroupMarks
 pub mod FirstKept
+pub mod Discarded
+pub mod Accepted
+pub mod RowStays
 pub mod Past
 pub mod Lists
 pub mod Seen

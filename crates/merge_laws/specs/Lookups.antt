@@ -37,12 +37,12 @@ use Rattle.merge_laws.specs.Lists.{keep-lists, merge-left}
 use Rattle.merge_laws.specs.Calls.{Linked, allIn, Call, direct, merge, callNext, runCalls, Removes, RemovesNothing}
 
 -- all but the count of the lists
-record Counted (l : Link) (names : List ℕ) : Type 0 where
-  bytes-in : l .bytes ≤ 1048576
-  bounded : Bounded l
-  chains-are : nameRows (length names) ≡ l .chains
+pub record Counted (l : Link) (names : List ℕ) : Type 0 where
+  pub bytes-in : l .bytes ≤ 1048576
+  pub bounded : Bounded l
+  pub chains-are : nameRows (length names) ≡ l .chains
 
-abbrev CountedIn : State → Type 0
+abbrev pub CountedIn : State → Type 0
 CountedIn s = Counted (s .link) (s .names)
 
 -- ---- a name issued
@@ -108,7 +108,7 @@ step-counted (mark n) s g c =
     record { bytes-in = c .bytes-in; bounded = c .bounded; chains-are = ap nameRows (length-set (s .names) (n * 8 + 4) 1) ∙ c .chains-are }
 step-counted (others x l) s g c = record { bytes-in = c .bytes-in; bounded = g .3 (c .bounded); chains-are = c .chains-are }
 
-steps-counted : (ks : List Step) (s : State) → AllGo ks s → CountedIn s → CountedIn (runSteps ks s)
+pub steps-counted : (ks : List Step) (s : State) → AllGo ks s → CountedIn s → CountedIn (runSteps ks s)
 steps-counted [] s g c = c
 steps-counted (k ∷ ks) s g c = steps-counted ks (stepNext k s) (g .1) (step-counted k s (g .0) c)
 
@@ -123,10 +123,10 @@ calls-counted : (ks : List Call) (s : Linked) → RemovesNothing ks s → Counte
 calls-counted [] s q c = c
 calls-counted (k ∷ ks) s q c = calls-counted ks (callNext k s) (q .1) (call-counted k s (q .0) c)
 
-counted : (l : Link) (names : List ℕ) → Within l names → Counted l names
+pub counted : (l : Link) (names : List ℕ) → Within l names → Counted l names
 counted l names w = record { bytes-in = w .bytes-in; bounded = (w .sections-in, w .inputs-in); chains-are = w .chains-are }
 
-within : (l : Link) (names : List ℕ) → Counted l names → l .lists ≤ notLent → Within l names
+pub within : (l : Link) (names : List ℕ) → Counted l names → l .lists ≤ notLent → Within l names
 within l names c h =
     record { bytes-in = c .bytes-in; sections-in = c .bounded .0; inputs-in = c .bounded .1; lists-in = h; chains-are = c .chains-are }
 
@@ -158,7 +158,7 @@ call-lists (direct k) s q =
     let e : History.callNext k (s .table) .link .lists ≡ s .table .link .lists =
     ap (λ (t : State). t .link .lists) (history-run (k ∷ []) (s .table) (q, tt)) ∙ parts-lists (historyParts (k ∷ []) (s .table)) (s .table) in
     record { long = refl; inside = λ h. omega arith }
-call-lists (merge o work ids) s q = let b = merge-left o (allIn s work ids) in record { long = b .lists-long; inside = b .lists-in }
+call-lists (merge o work ids) s q = let b = merge-left o (allIn s work ids) .lists in record { long = b .long; inside = b .inside }
 
 calls-lists : (ks : List Call) (s : Linked) → RemovesNothing ks s → ListsIn s (runCalls ks s)
 calls-lists [] s q = record { long = refl; inside = λ h. h }

@@ -6,6 +6,8 @@ use mathlib.Core.List.{List, [], _∷_, _++_}
 use lib.Dec.{eqb, ltb}
 use lib.ListN.{length}
 use Rattle.link.specs.declared.Link.{Link}
+use Rattle.symbol.specs.declared.Row.{Row}
+use Rattle.symbol_rows.specs.declared.Decision.{Decision}
 use Rattle.symbol_rows.specs.Decide.{refusalOf}
 use Rattle.strings.specs.Lookup.{Looked}
 use Rattle.interner.specs.Names.{findOf}
@@ -21,7 +23,7 @@ use Rattle.merge_sections.specs.Reserve as Reserve
 use Rattle.merge_finish.specs.Finish as Finish
 use Rattle.merge_stages.specs.Stages as Stages
 use Rattle.merge_elf.specs.Merge as Merge
-use Rattle.symbol_laws.specs.History.{issue, put, object}
+use Rattle.symbol_laws.specs.History.{Source, issue, put, object}
 use Rattle.merge_laws.specs.Steps.{Step, part, mark, others}
 use Rattle.merge_laws.specs.Loop.{loopSteps}
 
@@ -37,10 +39,13 @@ adds o x i =
     (definesOf (o .work) (filteredAt (o .entries) (o .work) i .section))
 
 -- nothing on 2; the name on another refusal, and where there is nothing to add; else the name and the row
-unfoldable pub plannedSteps : Bool → List ℕ → Planned → List Step
-plannedSteps adds x p =
-    cond (eqb (refusalOf (p .decision)) 2) []
-    (cond (eqb (refusalOf (p .decision)) 0) (cond adds (part (issue x) ∷ part (put (p .row) object) ∷ []) (part (issue x) ∷ [])) (part (issue x) ∷ []))
+unfoldable pub rowSteps : Source → Bool → List ℕ → Row → Decision → List Step
+rowSteps from adds x r d =
+    cond (eqb (refusalOf d) 2) []
+    (cond (eqb (refusalOf d) 0) (cond adds (part (issue x) ∷ part (put r from) ∷ []) (part (issue x) ∷ [])) (part (issue x) ∷ []))
+
+abbrev pub plannedSteps : Bool → List ℕ → Planned → List Step
+plannedSteps adds x p = rowSteps object adds x (p .row) (p .decision)
 
 unfoldable pub namedSteps : Input → Symbols.State → List ℕ → ℕ → List Step
 namedSteps o s x i = plannedSteps (adds o x i) x (plannedOf (Symbols.view s) o x i (s .stage .file))

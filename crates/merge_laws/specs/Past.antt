@@ -1,28 +1,30 @@
--- Rows past the counts are never written by a merge.
+-- Rows past the counts are never written by the steps of a call, and no lent slice gets longer or shorter.
 -- Assumes nothing.
 use Prim.Native.Nat.{ℕ, _+_, _*_, _<_, _≤_}
 use native.Mathlib.Omega.{arith}
 use mathlib.Core.Path.{_≡_, refl, _∙_, subst}
-use mathlib.Core.List.{List, [], _∷_, _++_}
+use mathlib.Core.List.{List, [], _∷_}
 use lib.Dec.{eqb}
-use lib.ListN.{getD, take, drop, length, length-set, length-append, length-drop, List·getD-append}
+use lib.ListN.{getD, set, take, drop, length, length-set, length-append, length-drop, List·getD-append}
 use lib.Seq.{getD-set-other, getD-take, length-take-le}
 use Rattle.cells.specs.Split.{by-test}
+use Rattle.cells.specs.Rows.{length-putRow}
 use Rattle.link.specs.Bounds.{nameRows}
 use Rattle.interner_laws.specs.Interns.{keep-untouched}
 use Rattle.symbol.specs.declared.Row.{Row}
+use Rattle.symbol.specs.Row.{setRow}
 use Rattle.symbol.specs.declared.SttFile.the-variants as File
+use Rattle.symbol_rows.specs.Holder.{globalAt}
 use Rattle.symbol_rows.specs.declared.Decision.{Decision}
 use Rattle.symbol_rows.specs.declared.Decision.the-variants.{Refuse, Nothing, Keep, Append, Replace}
 use Rattle.symbol_rows.specs.Decide.{sectionCells, refusalOf}
 use Rattle.symbol_rows.specs.Apply.{Table, noteName, appendOf, applyOf}
 use Rattle.symbols.specs.Add.{committedOf, addRowOf, decidedOf}
-use Rattle.symbol_laws.specs.History.{State, table, store, Entry, Part, issue, put, idOf, partNext}
-use Rattle.symbol_laws.specs.Held.{Inv}
+use Rattle.symbol_laws.specs.History.{State, table, store, Part, issue, put, idOf, partNext}
+use Rattle.symbol_laws.specs.Below.{Below, part-below}
 use Rattle.symbol_laws.specs.Writes.{put-past, issue-past}
-use Rattle.merge_laws.specs.Steps.{Step, part, mark, others, rowsFrom, stepNext, stepNotes, Goes, AllGo, runSteps, Makes}
+use Rattle.merge_laws.specs.Steps.{Step, part, mark, others, rowsFrom, stepNext, Goes, AllGo, runSteps, Makes}
 use Rattle.merge_laws.specs.More.{More, steps-more}
-use Rattle.merge_laws.specs.Kept.{step-keep}
 use Rattle.merge_laws.specs.SymbolStage.{applied-long}
 
 -- from s to t: rows and bytes past t's counts stand as they stood
@@ -31,7 +33,9 @@ pub record TablePast (s t : State) : Type 0 where
   pub names : (q : ℕ) → t .link .names * 8 ≤ q → q < nameRows (length (s .names)) * 8 → getD (t .names) q 0 ≡ getD (s .names) q 0
   pub bytes : (q : ℕ) → t .link .bytes ≤ q → getD (t .bytes) q 0 ≡ getD (s .bytes) q 0
   pub sections : (q : ℕ) → t .link .sections * 8 ≤ q → q < sectionCells (length (s .sections)) * 8 → getD (t .sections) q 0 ≡ getD (s .sections) q 0
+  pub symbols-long : length (t .symbols) ≡ length (s .symbols)
   pub names-long : length (t .names) ≡ length (s .names)
+  pub bytes-long : length (t .bytes) ≡ length (s .bytes)
   pub sections-long : length (t .sections) ≡ length (s .sections)
 
 past-none : (s : State) → TablePast s s
@@ -41,7 +45,9 @@ past-none s =
       names = λ q h l. refl;
       bytes = λ q h. refl;
       sections = λ q h l. refl;
+      symbols-long = refl;
       names-long = refl;
+      bytes-long = refl;
       sections-long = refl;
     }
 
@@ -52,7 +58,9 @@ past-both s t u m a b =
       names = λ q h l. b .names q h (rw (a .names-long) l) ∙ a .names q (omega (arith, m .names)) l;
       bytes = λ q h. b .bytes q h ∙ a .bytes q (omega (arith, m .bytes));
       sections = λ q h l. b .sections q h (rw (a .sections-long) l) ∙ a .sections q (omega (arith, m .sections)) l;
+      symbols-long = b .symbols-long ∙ a .symbols-long;
       names-long = b .names-long ∙ a .names-long;
+      bytes-long = b .bytes-long ∙ a .bytes-long;
       sections-long = b .sections-long ∙ a .sections-long;
     }
 
@@ -67,38 +75,51 @@ applied-names t r Append =
     by-test (eqb (r .visibility) 0) (λ a. rw a) (λ a. rw a (length-set (t .names) (r .name .0 * 8 + 3) (t .link .symbols)))
 applied-names t r (Replace id) = refl
 
+applied-symbols : (t : Table) (r : Row) (d : Decision) → length (applyOf t r d .symbols) ≡ length (t .symbols)
+unfolding applyOf appendOf setRow
+applied-symbols t r (Refuse n) = refl
+applied-symbols t r Nothing = refl
+applied-symbols t r (Keep id) = refl
+applied-symbols t r Append = length-putRow (t .symbols) (t .link .symbols) _
+applied-symbols t r (Replace id) = length-putRow (t .symbols) (id .0) _
+
 pub put-long : (t : Table) (r : Row)
-    → (length (addRowOf t r File.None .table .names) ≡ length (t .names)) × (length (addRowOf t r File.None .table .sections) ≡ length (t .sections))
+    → let u = addRowOf t r File.None .table in
+    (length (u .names) ≡ length (t .names)) × (length (u .sections) ≡ length (t .sections)) × (length (u .symbols) ≡ length (t .symbols))
 unfolding addRowOf committedOf
 put-long t r =
     let d : Decision = decidedOf t r File.None in
-    by-test (eqb (refusalOf d) 21) (λ a. rw a (refl, refl))
-    (λ a. by-test (eqb (refusalOf d) 0) (λ b. rw (a, b) (applied-names t r d, applied-long t r d)) (λ b. rw (a, b) (refl, refl)))
+    by-test (eqb (refusalOf d) 21) (λ a. rw a (refl, refl, refl))
+    (λ a. by-test (eqb (refusalOf d) 0) (λ b. rw (a, b) (applied-names t r d, applied-long t r d, applied-symbols t r d)) (λ b. rw (a, b) (refl, refl, refl)))
 
 -- ---- a step
 
-part-past : (p : Part) (s : State) (past : List Entry) → Inv s past → TablePast s (partNext p s)
-part-past (issue x) s past i =
-    let w = issue-past s past i x (idOf s x) in
+part-past : (p : Part) (s : State) → Below s → TablePast s (partNext p s)
+part-past (issue x) s b =
+    let w = issue-past s b x (idOf s x) in
     let u = keep-untouched (store s) (idOf s x) x in
     record {
       symbols = w .symbols;
       names = w .names;
       bytes = u .free-bytes;
       sections = λ q h l. w .sections q l;
+      symbols-long = refl;
       names-long = u .rows-same;
+      bytes-long = u .bytes-same;
       sections-long = refl;
     }
-part-past (put r from) s past i =
-    let w = put-past s past i r in
-    let (a, b) = put-long (table s) r in
+part-past (put r from) s b =
+    let w = put-past s b r in
+    let (x, y, z) = put-long (table s) r in
     record {
       symbols = w .symbols;
       names = w .names;
       bytes = λ q h. refl;
       sections = λ q h l. w .sections q l;
-      names-long = a;
-      sections-long = b;
+      symbols-long = z;
+      names-long = x;
+      bytes-long = refl;
+      sections-long = y;
     }
 
 pub rows-long : (x old : List ℕ) → length x ≡ length old → length (rowsFrom x old) ≡ length old
@@ -111,32 +132,53 @@ rows-front x old q e h =
     let n : ℕ = sectionCells (length old) * 8 in
     List·getD-append (take n x) (drop n old) 0 q (omega (arith, length-take-le n x (omega arith))) ∙ getD-take n x q 0 h
 
-step-past : (k : Step) (s : State) (past : List Entry) → Inv s past → Goes k s → TablePast s (stepNext k s)
-step-past (part p) s past i g = part-past p s past i
-step-past (mark n) s past i g =
+step-past : (k : Step) (s : State) → Below s → Goes k s → TablePast s (stepNext k s)
+step-past (part p) s b g = part-past p s b
+step-past (mark n) s b g =
     record {
       symbols = λ q h. refl;
       names = λ q h l. getD-set-other (s .names) (n * 8 + 4) q 1 0 (λ e. omega arith);
       bytes = λ q h. refl;
       sections = λ q h l. refl;
+      symbols-long = refl;
       names-long = length-set (s .names) (n * 8 + 4) 1;
+      bytes-long = refl;
       sections-long = refl;
     }
-step-past (others x l) s past i g =
+step-past (others x l) s b g =
     record {
       symbols = λ q h. refl;
       names = λ q h l. refl;
       bytes = λ q h. refl;
       sections = λ q h k. rows-front x (s .sections) q (g .1) k ∙ g .2 q h;
+      symbols-long = refl;
       names-long = refl;
+      bytes-long = refl;
       sections-long = rows-long x (s .sections) (g .1);
     }
 
-steps-past : (ks : List Step) (s : State) (past : List Entry) → Inv s past → AllGo ks s → TablePast s (runSteps ks s)
-steps-past [] s past i g = past-none s
-steps-past (k ∷ ks) s past i g =
-    past-both s (stepNext k s) (runSteps ks (stepNext k s)) (steps-more ks (stepNext k s) (g .1)) (step-past k s past i (g .0))
-    (steps-past ks (stepNext k s) (past ++ stepNotes k s) (step-keep k s past i) (g .1))
+-- ---- what holds of the counts, whatever was removed
 
-pub makes-past : (s t : State) (ks : List Step) (past : List Entry) → Inv s past → Makes s ks t → TablePast s t
-makes-past s t ks past i m = subst (TablePast s) (m .leads) (steps-past ks s past i (m .accepted))
+pub step-below : (k : Step) (s : State) → Below s → Below (stepNext k s)
+step-below (part p) s b = part-below p s b
+step-below (mark n) s b =
+    record {
+      few = b .few;
+      held = λ m h z.
+          let q : globalAt (set (s .names) (n * 8 + 4) 1) m ≡ globalAt (s .names) m = getD-set-other (s .names) (n * 8 + 4) (m * 8 + 3) 1 0 (λ e. omega arith) in
+          rw q (b .held m h (λ y. z (q ∙ y)));
+    }
+step-below (others x l) s b = record { few = b .few; held = b .held }
+
+pub steps-below : (ks : List Step) (s : State) → Below s → Below (runSteps ks s)
+steps-below [] s b = b
+steps-below (k ∷ ks) s b = steps-below ks (stepNext k s) (step-below k s b)
+
+steps-past : (ks : List Step) (s : State) → Below s → AllGo ks s → TablePast s (runSteps ks s)
+steps-past [] s b g = past-none s
+steps-past (k ∷ ks) s b g =
+    past-both s (stepNext k s) (runSteps ks (stepNext k s)) (steps-more ks (stepNext k s) (g .1)) (step-past k s b (g .0))
+    (steps-past ks (stepNext k s) (step-below k s b) (g .1))
+
+pub makes-past : (s t : State) (ks : List Step) → Below s → Makes s ks t → TablePast s t
+makes-past s t ks b m = subst (TablePast s) (m .leads) (steps-past ks s b (m .accepted))

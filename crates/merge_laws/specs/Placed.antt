@@ -11,7 +11,7 @@ use lib.ListN.{getD, length}
 use lib.Seq.{getD-set-other}
 use borrow.Author.Tests.{eqb-true, eqb-false, ltb-true, leb-true, leb-false, eq-eqb, lt-ltb, le-ltb}
 use Rattle.cells.specs.Split.{by-test}
-use Rattle.cells.specs.Rows.{length-putRow, row-same, row-other}
+use Rattle.cells.specs.Rows.{putRow, length-putRow, row-same, row-other}
 use Rattle.link.specs.declared.Link.{Link}
 use Rattle.link.specs.Bounds.{sectionSlots, sectionRows}
 use Rattle.symbol.specs.Codes.{successor}
@@ -31,6 +31,14 @@ rowOf work m = sectionIdOf (getD work (m * 8 + 0) 0) .0
 -- the first n sections' rows are below the count
 abbrev pub PlacedTo : ℕ → List ℕ → List ℕ → ℕ → Type 0
 PlacedTo n headers work count = (m : ℕ) → m < n → classOf headers m ≡ 2 → rowOf work m < count
+
+-- no two of them have the same row
+abbrev pub ApartTo : ℕ → List ℕ → List ℕ → Type 0
+ApartTo n headers work = (m k : ℕ) → m < k → k < n → classOf headers m ≡ 2 → classOf headers k ≡ 2 → rowOf work m < rowOf work k
+
+-- and each row is reserved
+abbrev pub HeldTo : ℕ → List ℕ → List ℕ → List ℕ → Type 0
+HeldTo n headers work sections = (m : ℕ) → m < n → classOf headers m ≡ 2 → getD sections (rowOf work m * 8 + 0) 0 ≡ 1
 
 abbrev pub Placed : List ℕ → List ℕ → ℕ → Type 0
 Placed headers work count = PlacedTo (rowsIn headers) headers work count
@@ -84,6 +92,8 @@ record Held (headers : List ℕ) (n : ℕ) (s : State) : Type 0 where
   room : rowsIn headers ≤ length (s .work) / 8
   counted : linkIn s .sections ≤ sectionRows (length (s .sections))
   placed : PlacedTo n headers (s .work) (linkIn s .sections)
+  apart : ApartTo n headers (s .work)
+  held : HeldTo n headers (s .work) (s .sections)
 
 few : (n : ℕ) → sectionRows n ≤ 65535
 few n = lesser-first 65535 (sectionSlots n)
@@ -169,6 +179,47 @@ module _ (headers : List ℕ) (s : State) (n : ℕ) where
         let q : rowOf noted m ≡ rowOf (s .work) m = ap (λ (k : ℕ). sectionIdOf k .0) (noted-other m u) in
         omega arith)
 
+    own-row : class ≡ 2 → here < 65535 → rowOf noted n ≡ here
+    own-row c d = ap (λ (k : ℕ). sectionIdOf k .0) (noted-own ∙ ap (λ (k : ℕ). conversionOf k here) c) ∙ converted here d
+
+    old-row : (m : ℕ) → m ≢ n → rowOf noted m ≡ rowOf (s .work) m
+    old-row m u = ap (λ (k : ℕ). sectionIdOf k .0) (noted-other m u)
+
+    more-apart : (class ≡ 2 → here < 65535) → ApartTo (n + 1) headers noted
+    more-apart d m k l e cm ck =
+        let p : rowOf noted m ≡ rowOf (s .work) m = old-row m (λ q. omega arith) in
+        by-test (eqb k n)
+        (λ t.
+        let q : k ≡ n = eqb-true _ _ t in
+        let c : class ≡ 2 = ap (classOf headers) (sym q) ∙ ck in
+        let r : rowOf noted k ≡ here = ap (rowOf noted) q ∙ own-row c (d c) in
+        let z : rowOf (s .work) m < here = h .placed m (omega arith) cm in
+        omega arith)
+        (λ t.
+        let u : k ≢ n = eqb-false _ _ t in
+        let r : rowOf noted k ≡ rowOf (s .work) k = old-row k u in
+        let z : rowOf (s .work) m < rowOf (s .work) k = h .apart m k l (omega arith) cm ck in
+        omega arith)
+
+    -- the same rows, where it has none itself
+    same-held : class ≢ 2 → HeldTo (n + 1) headers noted (s .sections)
+    same-held w m k c =
+        let u : m ≢ n = λ q. w (ap (classOf headers) (sym q) ∙ c) in
+        ap (λ (r : ℕ). getD (s .sections) (r * 8 + 0) 0) (old-row m u) ∙ h .held m (omega arith) c
+
+    more-held : class ≡ 2 → here < 65535 → here * 8 + 8 ≤ length (s .sections) → HeldTo (n + 1) headers noted (putRow (s .sections) here (1 ∷ 0 ∷ 0 ∷ 0 ∷ 0 ∷ 0 ∷ 0 ∷ 0 ∷ []))
+    more-held c d f m k cm =
+        let row : List ℕ = 1 ∷ 0 ∷ 0 ∷ 0 ∷ 0 ∷ 0 ∷ 0 ∷ 0 ∷ [] in
+        by-test (eqb m n)
+        (λ t.
+        ap (λ (r : ℕ). getD (putRow (s .sections) here row) (r * 8 + 0) 0) (ap (rowOf noted) (eqb-true m n t) ∙ own-row c d)
+        ∙ row-same (s .sections) here row 0 refl (omega arith) f)
+        (λ t.
+        let u : m ≢ n = eqb-false _ _ t in
+        let z : rowOf (s .work) m < here = h .placed m (omega arith) cm in
+        ap (λ (r : ℕ). getD (putRow (s .sections) here row) (r * 8 + 0) 0) (old-row m u)
+        ∙ row-other (s .sections) here row (rowOf (s .work) m) 0 refl (omega arith) (λ q. omega arith) ∙ h .held m (omega arith) cm)
+
     one-held : Held headers (n + 1) (reserveOneOf headers s n)
     unfolding reserveOneOf reserveClassOf takeRowOf Sections.reserveOf
     one-held =
@@ -183,11 +234,13 @@ module _ (headers : List ℕ) (s : State) (n : ℕ) where
           room = omega (arith, noted-long, h .room);
           counted = rw (length-putRow (s .sections) here (1 ∷ 0 ∷ 0 ∷ 0 ∷ 0 ∷ 0 ∷ 0 ∷ 0 ∷ [])) (omega arith);
           placed = more (here + 1) (omega arith) (λ e. omega arith) (λ e. omega arith);
+          apart = more-apart (λ e. omega arith);
+          held = more-held c′ (omega arith) (omega (arith, slots (length (s .sections))));
         }))
         (λ c.
         let u : class ≢ 2 = eqb-false _ _ c in
         rw (eq-eqb _ _ goes, c)
-        (record { room = omega (arith, noted-long, h .room); counted = h .counted; placed = more here (omega arith) (λ e. absurd (u e)) (λ e. absurd (u e)) }))
+        (record { room = omega (arith, noted-long, h .room); counted = h .counted; placed = more here (omega arith) (λ e. absurd (u e)) (λ e. absurd (u e)); apart = more-apart (λ e. absurd (u e)); held = same-held u }))
 
 one-number : (headers : List ℕ) (s : State) (n : ℕ) → reserveOneOf headers s n .reserved .number ≡ 0 → number headers s n ≡ 0
 unfolding reserveOneOf reserveClassOf
@@ -231,12 +284,21 @@ pub reserve-placed : (headers : List ℕ) (s : State) → rowsIn headers ≤ len
     → Reserved headers (reserveAllOf headers s .work) (reserveAllOf headers s .sections) (linkIn (reserveAllOf headers s) .sections)
 unfolding reserveAllOf
 reserve-placed headers s r c z =
-    let h = from-held headers (rowsIn headers) 0 s (omega arith) (record { room = r; counted = c; placed = λ m k e. absurd (omega arith) }) z in
+    let h = from-held headers (rowsIn headers) 0 s (omega arith) (record { room = r; counted = c; placed = λ m k e. absurd (omega arith); apart = λ m k l e. absurd (omega arith); held = λ m k e. absurd (omega arith) }) z in
     record { counted = h .counted; placed = h .placed }
+
+-- each in a row of its own
+pub reserve-rows : (headers : List ℕ) (s : State) → rowsIn headers ≤ length (s .work) / 8 → linkIn s .sections ≤ sectionRows (length (s .sections))
+    → reserveAllOf headers s .reserved .number ≡ 0
+    → ApartTo (rowsIn headers) headers (reserveAllOf headers s .work) × HeldTo (rowsIn headers) headers (reserveAllOf headers s .work) (reserveAllOf headers s .sections)
+unfolding reserveAllOf
+reserve-rows headers s r c z =
+    let h = from-held headers (rowsIn headers) 0 s (omega arith) (record { room = r; counted = c; placed = λ m k e. absurd (omega arith); apart = λ m k l e. absurd (omega arith); held = λ m k e. absurd (omega arith) }) z in
+    (h .apart, h .held)
 
 -- ---- a section that is built has a row
 
-loaded-class : (headers : List ℕ) (n kind : ℕ) → kindClass kind ≡ 2 → isLoaded headers n kind ≡ true → (n < rowsIn headers) × (classOf headers n ≡ 2)
+pub loaded-class : (headers : List ℕ) (n kind : ℕ) → kindClass kind ≡ 2 → isLoaded headers n kind ≡ true → (n < rowsIn headers) × (classOf headers n ≡ 2)
 unfolding isLoaded classOf
 loaded-class headers n kind k e =
     by-test (leb (rowsIn headers) n) (λ a. absurd (false≢true (rw a at e)))

@@ -1,13 +1,13 @@
 -- What a refused element of each stage leaves: all as it was, or all but its name.
 -- Assumes nothing.
 use Prim.Native.Nat.{ℕ, _+_, _*_, _/_}
-use mathlib.Core.Path.{_≡_, refl, sym, _∙_}
+use mathlib.Core.Path.{_≡_, refl, sym, ap, _∙_}
 use mathlib.Core.Bool.{Bool, true, false, cond, false≢true}
-use mathlib.Core.List.{List, [], _∷_}
+use mathlib.Core.List.{List, [], _∷_, _++_}
 use mathlib.Core.Logic.{_≢_}
 use lib.Dec.{eqb, ltb, leb}
 use lib.ListN.{getD, length}
-use borrow.Author.Tests.{eqb-false}
+use borrow.Author.Tests.{eqb-true, eqb-false, ltb-false, le-leb}
 use Rattle.cells.specs.Split.{by-test}
 use Rattle.byte_slices.specs.Ways.{pick}
 use Rattle.link.specs.declared.Link.{Link}
@@ -28,7 +28,7 @@ use Rattle.symbol_rows.specs.declared.Decision.{Decision}
 use Rattle.symbol_rows.specs.Holder.{holderOf}
 use Rattle.symbol_rows.specs.Decide.{rankOf, typeRefusal, roomOf, newOf, replaceOf, rankedOf, knownOf, decideOf, refusalOf}
 use Rattle.elf_object.specs.Rows as Elf
-use Rattle.elf_object.specs.Rows.{rowsIn, firstAt, isLoaded, nameIn, nameOffsetAt, comdatAt, countAt, linkAt, infoAt}
+use Rattle.elf_object.specs.Rows.{conversionAt, rowsIn, firstAt, isLoaded, nameIn, nameOffsetAt, comdatAt, countAt, linkAt, infoAt}
 use Rattle.sections.specs.Rows as Sections
 use Rattle.merge_sections.specs.Reserve as Reserve
 use Rattle.section_groups.specs.declared.Plan as GroupPlan
@@ -137,72 +137,110 @@ module _ (o : Group.Object) (s : Group.Step) (n : ℕ) where
 
 -- ---- symbols
 
-abbrev addNumbers : List ℕ
-addNumbers = 10 ∷ 11 ∷ 12 ∷ 13 ∷ 14 ∷ 16 ∷ 17 ∷ 21 ∷ []
+-- the refusals of an add under any name; those that need a known one
+abbrev pub newNumbers : List ℕ
+newNumbers = 10 ∷ 11 ∷ 12 ∷ 13 ∷ 14 ∷ 16 ∷ []
 
--- 2, or one of add's
-abbrev Judged : ℕ → Type 0
-Judged k = k ≢ 0 → k ≢ 2 → oneOf k addNumbers ≡ true
+abbrev pub knownNumbers : List ℕ
+knownNumbers = 17 ∷ 21 ∷ []
 
-abbrev Decided : Decision → Type 0
-Decided d = Judged (refusalOf d)
+pub one-front : (n : ℕ) (xs ys : List ℕ) → oneOf n xs ≡ true → oneOf n (xs ++ ys) ≡ true
+one-front n [] ys e = absurd (false≢true e)
+one-front n (x ∷ xs) ys e = by-test (eqb n x) (λ t. rw t) (λ t. rw t (one-front n xs ys (rw t at e)))
 
--- the numbers that a row's fields may hold
-record Fields (r : Row) : Type 0 where
-  shown : leb 5 (r .visibility) ≡ true → Judged (r .visibility)
-  valued : leb 13 (r .value .kind) ≡ true → Judged (r .value .kind)
-  typed : Judged (typeRefusal (r .kind))
+pub one-back : (n : ℕ) (xs ys : List ℕ) → oneOf n (xs ++ ys) ≡ true → oneOf n xs ≡ false → oneOf n ys ≡ true
+one-back n [] ys e f = e
+one-back n (x ∷ xs) ys e f =
+    by-test (eqb n x) (λ t. absurd (false≢true (sym f ∙ rw t))) (λ t. one-back n xs ys (rw t at e) (rw t at f))
 
-module _ (l : Link) (symbols sections : List ℕ) (r : Row) (f : Fields r) where
-  new-decided : Decided (newOf l symbols sections r)
-  unfolding newOf
-  new-decided =
-      pick Decided (leb 13 (r .value .kind)) _ _ (λ t. f .valued t)
-      (λ t.
-      pick Decided (eqb (typeRefusal (r .kind)) 0) _ _
-      (λ t. pick Decided (roomOf l symbols sections r) _ _ (λ t u w. absurd (u refl)) (λ t u w. absurd (w refl))) (λ t. f .typed))
-
-  known-decided : (id : SymbolId) → Decided (knownOf symbols r id)
-  unfolding knownOf rankedOf replaceOf
-  known-decided id =
-      let old : ℕ = rankOf (visibilityCodeAt symbols (id .0)) (field symbols (id .0) 5) in
-      let new : ℕ = rankOf (r .visibility) (r .value .kind) in
-      pick Decided (leb 13 (r .value .kind)) _ _ (λ t. f .valued t)
-      (λ t.
-      pick Decided (ltb old new) _ _ (λ t. pick Decided (eqb (typeRefusal (r .kind)) 0) _ _ (λ t u w. absurd (u refl)) (λ t. f .typed))
-      (λ t. pick Decided (eqb new 4) _ _ (λ t u w. refl) (λ t u w. absurd (u refl))))
-
-  decide-decided : (h : Holder) → Decided (decideOf l symbols sections r h)
-  unfolding decideOf
-  decide-decided Unissued =
-      pick Decided (leb 5 (r .visibility)) _ _ (λ t. f .shown t) (λ t. pick Decided (eqb (r .visibility) 0) _ _ (λ t u w. refl) (λ t u w. refl))
-  decide-decided Nobody =
-      pick Decided (leb 5 (r .visibility)) _ _ (λ t. f .shown t) (λ t. pick Decided (eqb (r .visibility) 0) _ _ (λ t. new-decided) (λ t. new-decided))
-  decide-decided Removed =
-      pick Decided (leb 5 (r .visibility)) _ _ (λ t. f .shown t) (λ t. pick Decided (eqb (r .visibility) 0) _ _ (λ t. new-decided) (λ t u w. refl))
-  decide-decided (Known id) =
-      pick Decided (leb 5 (r .visibility)) _ _ (λ t. f .shown t)
-      (λ t. pick Decided (eqb (r .visibility) 0) _ _ (λ t. new-decided) (λ t. known-decided id))
+pub one-behind : (n : ℕ) (xs ys : List ℕ) → oneOf n ys ≡ true → oneOf n (xs ++ ys) ≡ true
+one-behind n [] ys e = e
+one-behind n (x ∷ xs) ys e = by-test (eqb n x) (λ t. rw t) (λ t. rw t (one-behind n xs ys e))
 
 apart : {P : Type 0} → false ≡ true → P
 apart e = absurd (false≢true e)
 
-judged-shown : (b v : ℕ) → leb 5 (judgeOf b v) ≡ true → Judged (judgeOf b v)
-unfolding judgeOf shownOf hiddenOf
-judged-shown b v =
-    pick P (eqb v 0) _ _
-    (λ t.
-    pick P (eqb b 0) _ _ (λ t e. apart e)
-    (λ t. pick P (eqb b 1) _ _ (λ t e. apart e) (λ t. pick P (eqb b 2) _ _ (λ t e. apart e) (λ t e u w. refl))))
-    (λ t.
-    pick P (eqb v 2) _ _
-    (λ t.
-    pick P (eqb b 0) _ _ (λ t e u w. refl)
-    (λ t. pick P (eqb b 1) _ _ (λ t e. apart e) (λ t. pick P (eqb b 2) _ _ (λ t e. apart e) (λ t e u w. refl))))
-    (λ t e u w. refl))
-  where
-    P : ℕ → Type 0
-    P k = leb 5 k ≡ true → Judged k
+-- 2, or one of these
+module _ (numbers : List ℕ) where
+  abbrev pub JudgedIn : ℕ → Type 0
+  JudgedIn k = k ≢ 0 → k ≢ 2 → oneOf k numbers ≡ true
+
+  abbrev pub DecidedIn : Decision → Type 0
+  DecidedIn d = JudgedIn (refusalOf d)
+
+  -- the numbers that a row's fields may hold
+  pub record Fields (r : Row) : Type 0 where
+    pub shown : leb 5 (r .visibility) ≡ true → JudgedIn (r .visibility)
+    pub valued : leb 13 (r .value .kind) ≡ true → JudgedIn (r .value .kind)
+    pub typed : JudgedIn (typeRefusal (r .kind))
+
+  module _ (l : Link) (symbols sections : List ℕ) (r : Row) (f : Fields r) where
+    pub new-decided : DecidedIn (newOf l symbols sections r)
+    unfolding newOf
+    new-decided =
+        pick DecidedIn (leb 13 (r .value .kind)) _ _ (λ t. f .valued t)
+        (λ t.
+        pick DecidedIn (eqb (typeRefusal (r .kind)) 0) _ _
+        (λ t. pick DecidedIn (roomOf l symbols sections r) _ _ (λ t u w. absurd (u refl)) (λ t u w. absurd (w refl))) (λ t. f .typed))
+
+    -- 17 and 21 are for names that are held
+    pub nobody-decided : DecidedIn (decideOf l symbols sections r Nobody)
+    unfolding decideOf
+    nobody-decided =
+        pick DecidedIn (leb 5 (r .visibility)) _ _ (λ t. f .shown t) (λ t. pick DecidedIn (eqb (r .visibility) 0) _ _ (λ t. new-decided) (λ t. new-decided))
+
+  module _ (duplicate : oneOf 17 numbers ≡ true) (absent : oneOf 21 numbers ≡ true) (l : Link) (symbols sections : List ℕ) (r : Row) (f : Fields r) where
+    new : DecidedIn (newOf l symbols sections r)
+    new = new-decided l symbols sections r f
+
+    known-decided : (id : SymbolId) → DecidedIn (knownOf symbols r id)
+    unfolding knownOf rankedOf replaceOf
+    known-decided id =
+        let old : ℕ = rankOf (visibilityCodeAt symbols (id .0)) (field symbols (id .0) 5) in
+        let new : ℕ = rankOf (r .visibility) (r .value .kind) in
+        pick DecidedIn (leb 13 (r .value .kind)) _ _ (λ t. f .valued t)
+        (λ t.
+        pick DecidedIn (ltb old new) _ _ (λ t. pick DecidedIn (eqb (typeRefusal (r .kind)) 0) _ _ (λ t u w. absurd (u refl)) (λ t. f .typed))
+        (λ t. pick DecidedIn (eqb new 4) _ _ (λ t u w. duplicate) (λ t u w. absurd (u refl))))
+
+    pub decide-decided : (h : Holder) → DecidedIn (decideOf l symbols sections r h)
+    unfolding decideOf
+    decide-decided Unissued =
+        pick DecidedIn (leb 5 (r .visibility)) _ _ (λ t. f .shown t) (λ t. pick DecidedIn (eqb (r .visibility) 0) _ _ (λ t u w. absent) (λ t u w. absent))
+    decide-decided Nobody = nobody-decided l symbols sections r f
+    decide-decided Removed =
+        pick DecidedIn (leb 5 (r .visibility)) _ _ (λ t. f .shown t) (λ t. pick DecidedIn (eqb (r .visibility) 0) _ _ (λ t. new) (λ t u w. absent))
+    decide-decided (Known id) =
+        pick DecidedIn (leb 5 (r .visibility)) _ _ (λ t. f .shown t)
+        (λ t. pick DecidedIn (eqb (r .visibility) 0) _ _ (λ t. new) (λ t. known-decided id))
+
+  pub judged-shown : oneOf 10 numbers ≡ true → oneOf 11 numbers ≡ true → oneOf 12 numbers ≡ true → (b v : ℕ) → leb 5 (judgeOf b v) ≡ true → JudgedIn (judgeOf b v)
+  unfolding judgeOf shownOf hiddenOf
+  judged-shown visibility hidden binding b v =
+      pick P (eqb v 0) _ _
+      (λ t.
+      pick P (eqb b 0) _ _ (λ t e. apart e)
+      (λ t. pick P (eqb b 1) _ _ (λ t e. apart e) (λ t. pick P (eqb b 2) _ _ (λ t e. apart e) (λ t e u w. binding))))
+      (λ t.
+      pick P (eqb v 2) _ _
+      (λ t.
+      pick P (eqb b 0) _ _ (λ t e u w. hidden)
+      (λ t. pick P (eqb b 1) _ _ (λ t e. apart e) (λ t. pick P (eqb b 2) _ _ (λ t e. apart e) (λ t e u w. binding))))
+      (λ t e u w. visibility))
+    where
+      P : ℕ → Type 0
+      P k = leb 5 k ≡ true → JudgedIn k
+
+pub fields-more : (xs ys : List ℕ) (r : Row) → Fields xs r → Fields (xs ++ ys) r
+fields-more xs ys r f =
+    record {
+      shown = λ t u w. one-front (r .visibility) xs ys (f .shown t u w);
+      valued = λ t u w. one-front (r .value .kind) xs ys (f .valued t u w);
+      typed = λ u w. one-front (typeRefusal (r .kind)) xs ys (f .typed u w);
+    }
+
+abbrev Judged : ℕ → Type 0
+Judged = JudgedIn newNumbers
 
 judged-valued : (cell : ℕ) (e : ElfSymbol) (empty : Bool) → leb 13 (valueOf cell e empty .kind) ≡ true → Judged (valueOf cell e empty .kind)
 unfolding valueOf undefinedOf convertedOf inSection
@@ -226,28 +264,49 @@ unfolding typeRefusal
 judged-typed k e =
     pick Judged (ltb k 4) _ _ (λ t u w. absurd (u refl)) (λ t. pick Judged (eqb k 4) _ _ (λ t. apart (sym e ∙ t)) (λ t u w. refl))
 
-fields : (cell : ℕ) (e : ElfSymbol) (id : Interned) (empty : Bool) (file : ℕ) → eqb (e .kind) 4 ≡ false → Fields (elfRowOf cell e id empty file)
+fields : (cell : ℕ) (e : ElfSymbol) (id : Interned) (empty : Bool) (file : ℕ) → eqb (e .kind) 4 ≡ false → Fields newNumbers (elfRowOf cell e id empty file)
 unfolding elfRowOf
 fields cell e id empty file k =
-    record { shown = judged-shown (e .binding) (e .visibility); valued = judged-valued cell e empty; typed = judged-typed (e .kind) k }
+    record { shown = judged-shown newNumbers refl refl refl (e .binding) (e .visibility); valued = judged-valued cell e empty; typed = judged-typed (e .kind) k }
 
-planned-numbers : (v : View) (o : Input) (x : List ℕ) (i file : ℕ) → Decided (plannedOf v o x i file .decision)
-unfolding plannedOf readOf rowedOf judgedOf ruleOf elfRowOf
-planned-numbers v o x i file =
-    let e : ElfSymbol = filteredAt (o .entries) (o .work) i in
-    let id : Interned = record { 0 = findOf (v .bytes) (v .names) (v .link .names) x } in
-    let cell : ℕ = getD (o .work) (e .section * 8 + 0) 0 in
-    pick Decided (fitsOf (storeOf (v .bytes) (v .names) (v .link)) id (length x)) _ _
-    (λ t.
-    pick Decided (isFirst i (eqb (length x) 0) e) _ _ (λ t u w. absurd (u refl))
-    (λ t.
-    pick Decided (eqb (e .kind) 4) _ _ (λ t u w. absurd (u refl))
-    (λ k.
-    pick Decided (definesOf (o .work) (e .section)) _ _ (λ t u w. absurd (u refl))
-    (λ t.
-    decide-decided (v .link) (v .symbols) (v .sections) (elfRowOf cell e id (eqb (length x) 0) file) (fields cell e id (eqb (length x) 0) file k)
-    (holderOf (v .names) (v .symbols) (v .link .names) id)))))
-    (λ t u w. absurd (w refl))
+module _ (v : View) (o : Input) (x : List ℕ) (i file : ℕ) where
+  abbrev e : ElfSymbol
+  e = filteredAt (o .entries) (o .work) i
+
+  abbrev id : Interned
+  id = record { 0 = findOf (v .bytes) (v .names) (v .link .names) x }
+
+  abbrev row : Row
+  row = elfRowOf (conversionAt (o .work) (e .section)) e id (eqb (length x) 0) file
+
+  -- whatever holds of a decision on a row under a name, but of type 4
+  planned-decided : (numbers : List ℕ)
+      → (eqb (e .kind) 4 ≡ false → DecidedIn numbers (decideOf (v .link) (v .symbols) (v .sections) row (holderOf (v .names) (v .symbols) (v .link .names) id)))
+      → DecidedIn numbers (plannedOf v o x i file .decision)
+  unfolding plannedOf readOf rowedOf judgedOf ruleOf elfRowOf
+  planned-decided numbers f =
+      pick (DecidedIn numbers) (fitsOf (storeOf (v .bytes) (v .names) (v .link)) id (length x)) _ _
+      (λ t.
+      pick (DecidedIn numbers) (isFirst i (eqb (length x) 0) e) _ _ (λ t u w. absurd (u refl))
+      (λ t.
+      pick (DecidedIn numbers) (eqb (e .kind) 4) _ _ (λ t u w. absurd (u refl))
+      (λ k. pick (DecidedIn numbers) (definesOf (o .work) (e .section)) _ _ (λ t u w. absurd (u refl)) (λ t. f k))))
+      (λ t u w. absurd (w refl))
+
+  pub row-fields : eqb (e .kind) 4 ≡ false → Fields newNumbers row
+  row-fields k = fields (conversionAt (o .work) (e .section)) e id (eqb (length x) 0) file k
+
+  planned-numbers : DecidedIn (newNumbers ++ knownNumbers) (plannedOf v o x i file .decision)
+  planned-numbers =
+      planned-decided (newNumbers ++ knownNumbers)
+      (λ k.
+      decide-decided (newNumbers ++ knownNumbers) refl refl (v .link) (v .symbols) (v .sections) row (fields-more newNumbers knownNumbers row (row-fields k))
+      (holderOf (v .names) (v .symbols) (v .link .names) id))
+
+  -- the name isn't issued yet
+  planned-new : leb (v .link .names) (id .0) ≡ true → DecidedIn newNumbers (plannedOf v o x i file .decision)
+  unfolding holderOf
+  planned-new n = planned-decided newNumbers (λ k. rw n (nobody-decided newNumbers (v .link) (v .symbols) (v .sections) row (row-fields k)))
 
 planned-id : (v : View) (o : Input) (x : List ℕ) (i file : ℕ) → plannedOf v o x i file .id ≡ record { 0 = findOf (v .bytes) (v .names) (v .link .names) x }
 unfolding plannedOf readOf rowedOf
@@ -260,87 +319,130 @@ idIn s x = record { 0 = findOf (s .bytes) (s .names) (s .stage .link .names) x }
 abbrev pub namedIn : Symbols.State → List ℕ → Store
 namedIn s x = keepOf (storeOf (s .bytes) (s .names) (s .stage .link)) (idIn s x) x
 
--- all as it was at the symbol, or all but its name
-pub data SymbolLeft (s t : Symbols.State) (i : ℕ) : Type 0 where
-  as-it-was : oneOf (t .stage .number) (2 ∷ 9 ∷ []) ≡ true → t ≡ Symbols.refuse s (t .stage .number) i → SymbolLeft s t i
-  but-its-name : (x : List ℕ) → oneOf (t .stage .number) (10 ∷ 11 ∷ 12 ∷ 13 ∷ 14 ∷ 16 ∷ 17 ∷ 21 ∷ []) ≡ true
-      → t ≡ Symbols.refuseNamed s (namedIn s x) (t .stage .number) (placeOf (t .stage .number) (idIn s x) i) → SymbolLeft s t i
+-- what the string table says of symbol i's name
+abbrev pub symbolName : Symbols.Object → ℕ → Looked
+symbolName o i = nameIn (o .headers) (o .file) (o .strings) (Elf.field (o .entries) i 0)
 
-commit-left : (s : Symbols.State) (x : List ℕ) (p : Planned) (i : ℕ) → p .id ≡ idIn s x → Decided (p .decision) → Symbols.commitOf s x p i .stage .number ≢ 0
-    → SymbolLeft s (Symbols.commitOf s x p i) i
-unfolding Symbols.commitOf Symbols.keptOf Symbols.acceptRow
-commit-left s x p i e d u =
-    by-test (eqb (refusalOf (p .decision)) 2) (λ t. rw t (as-it-was refl refl))
-    (λ t.
-    by-test (eqb (refusalOf (p .decision)) 0) (λ z. absurd (u (rw (t, z))))
-    (λ z. rw (t, z, e) (but-its-name x (d (eqb-false _ _ z) (eqb-false _ _ t)) refl)))
+-- all as it was at the symbol, or all but its name; the place of 21 is the name's id
+pub data SymbolLeft (o : Symbols.Object) (s t : Symbols.State) (i : ℕ) : Type 0 where
+  as-it-was : oneOf (t .stage .number) (2 ∷ 9 ∷ 17 ∷ 21 ∷ []) ≡ true
+      → t ≡ Symbols.refuse s (t .stage .number) (placeOf (t .stage .number) (idIn s (symbolName o i .name)) i) → SymbolLeft o s t i
+  but-its-name : symbolName o i .found ≡ true → oneOf (t .stage .number) (10 ∷ 11 ∷ 12 ∷ 13 ∷ 14 ∷ 16 ∷ []) ≡ true
+      → t ≡ Symbols.refuseNamed s (namedIn s (symbolName o i .name)) (t .stage .number) i → SymbolLeft o s t i
 
-pub symbol-left : (o : Symbols.Object) (s : Symbols.State) (i : ℕ) → Symbols.symbolOf o s i .stage .number ≢ 0 → SymbolLeft s (Symbols.symbolOf o s i) i
-unfolding Symbols.symbolOf Symbols.lookedOf Symbols.namedOf
+-- the place of every other refusal than 21 is the element
+pub place-other : (n : ℕ) (xs : List ℕ) (id : Interned) (i : ℕ) → oneOf 21 xs ≡ false → oneOf n xs ≡ true → placeOf n id i ≡ i
+unfolding placeOf
+place-other n xs id i d e = by-test (eqb n 21) (λ t. absurd (false≢true (sym d ∙ ap (λ (k : ℕ). oneOf k xs) (sym (eqb-true n 21 t)) ∙ e))) (λ t. rw t)
+
+module _ (o : Symbols.Object) (s : Symbols.State) (i : ℕ) (found : symbolName o i .found ≡ true) where
+  abbrev name : List ℕ
+  name = symbolName o i .name
+
+  commit-left : (p : Planned) → p .id ≡ idIn s name → DecidedIn (newNumbers ++ knownNumbers) (p .decision)
+      → (leb (s .stage .link .names) (idIn s name .0) ≡ true → DecidedIn newNumbers (p .decision)) → Symbols.commitOf s name p i .stage .number ≢ 0
+      → SymbolLeft o s (Symbols.commitOf s name p i) i
+  unfolding Symbols.commitOf Symbols.keptOf Symbols.acceptRow keepOf placeOf
+  commit-left p e d n u =
+      let k : ℕ = refusalOf (p .decision) in
+      by-test (eqb k 2) (λ t. rw t (as-it-was refl refl))
+      (λ t.
+      by-test (eqb k 0) (λ z. absurd (u (rw (t, z))))
+      (λ z.
+      by-test (oneOf k newNumbers) (λ a. rw (t, z, e, place-other k newNumbers (idIn s name) i refl a) (but-its-name found a refl))
+      (λ a.
+      by-test (ltb (idIn s name .0) (s .stage .link .names))
+      (λ h.
+      rw (t, z, e, h) (as-it-was (one-behind k (2 ∷ 9 ∷ []) knownNumbers (one-back k newNumbers knownNumbers (d (eqb-false _ _ z) (eqb-false _ _ t)) a)) refl))
+      (λ h. absurd (false≢true (sym a ∙ n (le-leb (s .stage .link .names) (idIn s name .0) (ltb-false _ _ h)) (eqb-false _ _ z) (eqb-false _ _ t)))))))
+
+pub symbol-left : (o : Symbols.Object) (s : Symbols.State) (i : ℕ) → Symbols.symbolOf o s i .stage .number ≢ 0 → SymbolLeft o s (Symbols.symbolOf o s i) i
+unfolding Symbols.symbolOf Symbols.lookedOf Symbols.namedOf placeOf
 symbol-left o s i u =
-    let x : Looked = nameIn (o .headers) (o .file) (o .strings) (Elf.field (o .entries) i 0) in
+    let x : Looked = symbolName o i in
     let q : Input = inputOf (o .entries) (o .work) in
+    let v : View = Symbols.view s in
     by-test (x .found)
     (λ t.
     rw t
-    (commit-left s (x .name) (plannedOf (Symbols.view s) q (x .name) i (s .stage .file)) i (planned-id (Symbols.view s) q (x .name) i (s .stage .file))
-    (planned-numbers (Symbols.view s) q (x .name) i (s .stage .file)) (rw t at u)))
+    (commit-left o s i t (plannedOf v q (x .name) i (s .stage .file)) (planned-id v q (x .name) i (s .stage .file))
+    (planned-numbers v q (x .name) i (s .stage .file)) (planned-new v q (x .name) i (s .stage .file)) (rw t at u)))
     (λ t. rw t (as-it-was refl refl))
 
 -- ---- sections built
 
 build-numbers : (l : Link) (bytes names : List ℕ) (lists : ℕ) (ids : List ℕ) (limit : ℕ) (relocations x : List ℕ)
     → let p = Build.planOf l bytes names lists ids limit relocations x in
-    (p .id ≡ record { 0 = findOf bytes names (l .names) x }) × (p .number ≢ 0 → p .number ≢ 2 → p .number ≡ 19)
+    (p .id ≡ record { 0 = findOf bytes names (l .names) x }) × (p .number ≢ 0 → p .number ≢ 2 → (p .number ≡ 19) × (symbolsOk ids limit relocations ≡ false))
 unfolding Build.planOf Build.planWith
 build-numbers l bytes names lists ids limit relocations x =
-    let id : Interned = record { 0 = findOf bytes names (l .names) x } in
-    pick (λ (p : BuildPlan.Plan). (p .id ≡ id) × (p .number ≢ 0 → p .number ≢ 2 → p .number ≡ 19)) (fitsOf (storeOf bytes names l) id (length x)) _ _
+    pick P (fitsOf (storeOf bytes names l) id (length x)) _ _
     (λ t.
-    pick (λ (p : BuildPlan.Plan). (p .id ≡ id) × (p .number ≢ 0 → p .number ≢ 2 → p .number ≡ 19)) (symbolsOk ids limit relocations) _ _
+    pick P (symbolsOk ids limit relocations) _ _
     (λ t.
-    pick (λ (p : BuildPlan.Plan). (p .id ≡ id) × (p .number ≢ 0 → p .number ≢ 2 → p .number ≡ 19)) (Build.listsFit (l .lists) lists (length relocations)) _ _
-    (λ t. (refl, λ u w. absurd (u refl))) (λ t. (refl, λ u w. absurd (w refl))))
-    (λ t. (refl, λ u w. refl)))
+    pick P (Build.listsFit (l .lists) lists (length relocations)) _ _ (λ t. (refl, λ u w. absurd (u refl))) (λ t. (refl, λ u w. absurd (w refl))))
+    (λ t. (refl, λ u w. (refl, t))))
     (λ t. (refl, λ u w. absurd (w refl)))
+  where
+    id : Interned
+    id = record { 0 = findOf bytes names (l .names) x }
+
+    P : BuildPlan.Plan → Type 0
+    P p = (p .id ≡ id) × (p .number ≢ 0 → p .number ≢ 2 → (p .number ≡ 19) × (symbolsOk ids limit relocations ≡ false))
+
+-- a section without relocations has no 19
+none-without : (headers contents work ids : List ℕ) (limit n kind : ℕ)
+    → symbolsOk ids limit (relocationsOf headers contents (tableFor work n kind)) ≡ false → kind ≡ 1
+unfolding tableFor relocationsOf symbolsOk
+none-without headers contents work ids limit n kind e = by-test (eqb kind 1) (λ t. eqb-true _ _ t) (λ t. absurd (false≢true (sym (rw t at e))))
 
 abbrev pub nameKept : Build.State → List ℕ → Store
 nameKept s x = keepOf (storeOf (s .bytes) (s .names) (s .stage .link)) (record { 0 = findOf (s .bytes) (s .names) (s .stage .link .names) x }) x
 
--- all as it was at the section, or all but its name
-pub data BuildLeft (s t : Build.State) (n : ℕ) : Type 0 where
-  as-it-was : oneOf (t .stage .number) (2 ∷ 18 ∷ []) ≡ true → t ≡ Build.stop (Build.linked s) (t .stage .number) n → BuildLeft s t n
-  but-its-name : (x : List ℕ) → t .stage .number ≡ 19
-      → t ≡ Build.stateOf (nameKept s x .bytes) (nameKept s x .names) (s .sections) (s .lists) (stoppedOf (nameKept s x .link) 19 n) → BuildLeft s t n
+-- what the string table says of section n's name
+abbrev pub sectionName : Build.Object → ℕ → Looked
+sectionName o n = nameIn (o .headers) (o .file) (o .strings) (nameOffsetAt (o .headers) n)
 
-build-commit-left : (headers work ids : List ℕ) (s : Build.State) (relocations x : List ℕ) (n kind : ℕ) (p : BuildPlan.Plan)
-    → p .id ≡ record { 0 = findOf (s .bytes) (s .names) (s .stage .link .names) x } → (p .number ≢ 0 → p .number ≢ 2 → p .number ≡ 19)
+-- 19 at section n, every cell as it was but the name's
+abbrev pub refuseBuild : Build.State → Store → ℕ → Build.State
+refuseBuild s k n = Build.stateOf (k .bytes) (k .names) (s .sections) (s .lists) (stoppedOf (k .link) 19 n)
+
+-- all as it was at the section, or, of a program section, all but its name
+pub data BuildLeft (o : Build.Object) (kind : ℕ) (s t : Build.State) (n : ℕ) : Type 0 where
+  as-it-was : oneOf (t .stage .number) (2 ∷ 18 ∷ []) ≡ true → t ≡ Build.stop (Build.linked s) (t .stage .number) n → BuildLeft o kind s t n
+  but-its-name : kind ≡ 1 → sectionName o n .found ≡ true → t .stage .number ≡ 19
+      → t ≡ refuseBuild s (nameKept s (sectionName o n .name)) n → BuildLeft o kind s t n
+
+build-commit-left : (o : Build.Object) (headers work ids : List ℕ) (s : Build.State) (relocations x : List ℕ) (n kind : ℕ) (p : BuildPlan.Plan)
+    → sectionName o n .found ≡ true → x ≡ sectionName o n .name → p .id ≡ record { 0 = findOf (s .bytes) (s .names) (s .stage .link .names) x } → (p .number ≢ 0 → p .number ≢ 2 → (p .number ≡ 19) × (kind ≡ 1))
     → Build.commitOf headers work ids (Build.linked s) relocations x n kind p .stage .number ≢ 0
-    → BuildLeft s (Build.commitOf headers work ids (Build.linked s) relocations x n kind p) n
+    → BuildLeft o kind s (Build.commitOf headers work ids (Build.linked s) relocations x n kind p) n
 unfolding Build.commitOf Build.keptOf
-build-commit-left headers work ids s relocations x n kind p e d u =
+build-commit-left o headers work ids s relocations x n kind p found g e d u =
     by-test (eqb (p .number) 2) (λ t. rw t (as-it-was refl refl))
     (λ t.
     by-test (eqb (p .number) 0) (λ z. absurd (u (rw (t, z))))
     (λ z.
-    let k : p .number ≡ 19 = d (eqb-false _ _ z) (eqb-false _ _ t) in
-    rw (t, z, e, k) (but-its-name x refl refl)))
+    let k = d (eqb-false _ _ z) (eqb-false _ _ t) in
+    rw (t, z, e, k .0, g) (but-its-name (k .1) found refl refl)))
 
 pub build-left : (o : Build.Object) (s : Build.State) (n kind : ℕ) → s .stage .number ≡ 0 → Build.sectionOf o s n kind .stage .number ≢ 0
-    → BuildLeft s (Build.sectionOf o s n kind) n
+    → BuildLeft o kind s (Build.sectionOf o s n kind) n
 unfolding Build.sectionOf Build.lookedOf Build.namedOf Build.tabledOf
 build-left o s n kind z u =
-    let x : Looked = nameIn (o .headers) (o .file) (o .strings) (nameOffsetAt (o .headers) n) in
+    let x : Looked = sectionName o n in
     let table : ℕ = tableFor (o .work) n kind in
     let relocations : List ℕ = relocationsOf (o .headers) (o .contents) table in
     let limit : ℕ = limitOf (o .headers) table (o .table) (o .symbols) in
     let p : BuildPlan.Plan = Build.planOf (s .stage .link) (s .bytes) (s .names) (length (s .lists)) (o .ids) limit relocations (x .name) in
     let k = build-numbers (s .stage .link) (s .bytes) (s .names) (length (s .lists)) (o .ids) limit relocations (x .name) in
+    let only : p .number ≢ 0 → p .number ≢ 2 → (p .number ≡ 19) × (kind ≡ 1) =
+    λ v w. (k .1 v w .0, none-without (o .headers) (o .contents) (o .work) (o .ids) limit n kind (k .1 v w .1)) in
     by-test (Build.builtFrom (o .headers) (o .work) n kind)
     (λ a.
     by-test (x .found)
     (λ b.
     simp (a, b)
-    (build-commit-left (o .headers) (o .work) (o .ids) s relocations (x .name) n kind p (k .0) (k .1) (simp (a, b) at u)))
+    (build-commit-left o (o .headers) (o .work) (o .ids) s relocations (x .name) n kind p b refl (k .0) only (simp (a, b) at u)))
     (λ b. simp (a, b) (as-it-was refl refl)))
     (λ a. absurd (u (simp a z)))

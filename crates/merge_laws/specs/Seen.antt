@@ -1,4 +1,4 @@
--- The parts among a merge's steps, made alone: they leave the same names, symbols and sections' symbols.
+-- The parts among steps, made alone: they leave the same names, symbols and sections' symbols.
 -- Assumes nothing.
 use Prim.Native.Nat.{ℕ, zero, suc, _+_, _*_, _-_, _<_, _≤_}
 use native.Mathlib.Omega.{arith}
@@ -10,7 +10,6 @@ use lib.ListN.{getD, set, take, drop, length, length-set}
 use lib.Seq.{getD-set-same, getD-set-other, set-out, drop-set-add, drop-at, length-take-le}
 use borrow.Author.Tests.{eqb-true, eqb-false, ltb-true, ltb-false}
 use Rattle.cells.specs.Split.{by-test}
-use Rattle.byte_slices.specs.Bytes.{part}
 use Rattle.link.specs.declared.Link.{Link}
 use Rattle.link.specs.Said.{accepted, refusing, numberIn}
 use Rattle.link.specs.Judge.{refused}
@@ -32,14 +31,10 @@ use Rattle.symbols.specs.Add.{issuedOf, directHolderOf, decidedOf, placeOf, com
 use Rattle.symbol_laws.specs.Issue.{room-free}
 use Rattle.symbol_laws.specs.History as History
 use Rattle.symbol_laws.specs.History.{State, table, store, Entry, Part, issue, put, partNext, partNotes, runParts, logParts}
-use Rattle.merge_laws.specs.Steps.{Step, mark, others, rowsFrom, stepNext, PartGoes, Goes, AllGo, runSteps, logSteps}
+use Rattle.merge_laws.specs.Steps.{Step, mark, others, rowsFrom, stepNext, PartGoes, Goes, AllGo, runSteps, logSteps, Makes}
 use Rattle.merge_laws.specs.Steps as Steps
 use Rattle.merge_laws.specs.SymbolStage.{noted-long}
 use Rattle.merge_laws.specs.Issue.{keeps}
-use Rattle.merge_stages.specs.Stages.{All, Object}
-use Rattle.merge_elf.specs.Merge.{mergeOf, finishedOf}
-use Rattle.merge_laws.specs.MergeSteps.{mergeSteps}
-use Rattle.merge_laws.specs.Whole.{tableIn, merge-makes}
 use Rattle.merge_laws.specs.Past.{put-long, rows-long}
 
 -- the parts among the steps
@@ -448,14 +443,13 @@ seen-same s =
       symbols-count = refl;
     }
 
--- what a merge does of a table with no more names than rows
-pub record MergeParts (o : Object) (a : All) (ps : List Part) : Type 0 where
-  pub seen : Seen (runParts ps (tableIn a)) (tableIn (mergeOf o a .cells))
-  pub accepted : PartsGo ps (tableIn a)
-  pub logged : logSteps (mergeSteps o a) (tableIn a) ≡ logParts ps (tableIn a)
+-- steps from s to t, and the parts ps made alone
+pub record MadeAlone (s : State) (ks : List Step) (t : State) (ps : List Part) : Type 0 where
+  pub seen : Seen (runParts ps s) t
+  pub accepted : PartsGo ps s
+  pub logged : logSteps ks s ≡ logParts ps s
 
-pub merge-parts : (o : Object) (a : All) → a .stage .link .names ≤ nameRows (length (a .names)) → MergeParts o a (partsIn (mergeSteps o a))
-merge-parts o a r =
-    let m = merge-makes o a in
-    let p = parts-alone (mergeSteps o a) (tableIn a) (tableIn a) (seen-same (tableIn a)) r (m .accepted) in
-    record { seen = subst (Seen (runParts (partsIn (mergeSteps o a)) (tableIn a))) (m .leads) (p .seen); accepted = p .accepted; logged = p .logged }
+pub makes-parts : (s t : State) (ks : List Step) → s .link .names ≤ nameRows (length (s .names)) → Makes s ks t → MadeAlone s ks t (partsIn ks)
+makes-parts s t ks r m =
+    let p = parts-alone ks s s (seen-same s) r (m .accepted) in
+    record { seen = subst (Seen (runParts (partsIn ks) s)) (m .leads) (p .seen); accepted = p .accepted; logged = p .logged }

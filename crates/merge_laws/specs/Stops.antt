@@ -1,6 +1,6 @@
 -- Where a merge stops, and what it leaves there: what the elements before the refused one left, and at most that one's name.
 -- Assumes nothing.
-use Prim.Native.Nat.{ℕ}
+use Prim.Native.Nat.{ℕ, _<_}
 use native.Mathlib.Nat.{zero-add}
 use mathlib.Core.Path.{_≡_, refl, sym, ap, _∙_, subst}
 use mathlib.Core.Bool.{true, false}
@@ -8,7 +8,7 @@ use mathlib.Core.List.{[], _∷_}
 use mathlib.Core.Logic.{_≢_}
 use lib.Dec.{eqb, ltb}
 use lib.ListN.{length}
-use borrow.Author.Tests.{eqb-true, eqb-false, eq-eqb, ne-eqb}
+use borrow.Author.Tests.{ltb-true, eqb-true, eqb-false, eq-eqb, ne-eqb}
 use Rattle.cells.specs.Split.{by-test}
 use Rattle.link.specs.declared.Link.{Link}
 use Rattle.link.specs.Bounds.{inputRows}
@@ -32,20 +32,24 @@ use Rattle.merge_laws.specs.Refusals.{oneOf, SectionLeft, section-left, 
 
 module _ {S : Type 0} (number : S → ℕ) (next : S → ℕ → S) (Left : S → S → ℕ → Type 0)
     (left : (s : S) (i : ℕ) → number s ≡ 0 → number (next s i) ≢ 0 → Left s (next s i) i) where
-  -- after the first n elements
-  record Stopped (from : ℕ → S) (t : S) : Type 0 where
-    n : ℕ
-    goes : number (from n) ≡ 0
-    leaves : Left (from n) t n
+  -- after the first n of the elements
+  pub record Stopped (rows : ℕ) (from : ℕ → S) (t : S) : Type 0 where
+    pub n : ℕ
+    pub below : n < rows
+    pub goes : number (from n) ≡ 0
+    pub is : t ≡ next (from n) n
+    pub leaves : Left (from n) t n
 
-  loop-left : (rows : ℕ) (from : ℕ → S) (s : S) → ((n : ℕ) → from n ≡ loop number next n 0 s) → number s ≡ 0 → number (from rows) ≢ 0 → Stopped from (from rows)
+  pub loop-left : (rows : ℕ) (from : ℕ → S) (s : S) → ((n : ℕ) → from n ≡ loop number next n 0 s) → number s ≡ 0 → number (from rows) ≢ 0 → Stopped rows from (from rows)
   loop-left rows from s e z u =
       let r = loop-stops number next rows 0 s z (λ q. u (ap number (e rows) ∙ q)) in
       let t : from rows ≡ next (from (r .done)) (r .done) =
       e rows ∙ r .stopped ∙ ap (next (loop number next (r .done) 0 s)) (zero-add (r .done)) ∙ ap (λ (k : S). next k (r .done)) (sym (e (r .done))) in
       record {
         n = r .done;
+        below = r .below;
         goes = ap number (e (r .done)) ∙ r .going;
+        is = t;
         leaves =
             subst (λ (k : S). Left (from (r .done)) k (r .done)) (sym t)
             (left (from (r .done)) (r .done) (ap number (e (r .done)) ∙ r .going) (λ q. u (ap number t ∙ q)));
@@ -119,45 +123,45 @@ module _ (o : Object) (a : All) where
   -- ---- the places
 
   pub data Stops : Type 0 where
-    in-sections : (n : ℕ) → sectionsTo n .reserved .number ≡ 0 → oneOf number (2 ∷ 3 ∷ 24 ∷ []) ≡ true → end ≡ stop (afterSections a (sectionsTo n)) number n → Stops
-    in-groups : (n : ℕ) → groupsTo n .stage .number ≡ 0 → oneOf number (2 ∷ 4 ∷ 5 ∷ 6 ∷ 7 ∷ []) ≡ true → end ≡ stop (afterGroups prepared (groupsTo n)) number n → Stops
-    in-filter : grouped .stage .number ≡ 0 → end ≡ stop marked 8 (filterOf (marked .work) (object .entries)) → Stops
-    in-symbols : (i : ℕ) (t : Symbols.State) → symbolsTo i .stage .number ≡ 0 → SymbolLeft (symbolsTo i) t i → end ≡ withSymbols marked (withAdded t) → Stops
-    in-uninitialized : (n : ℕ) (t : Build.State) → uninitializedTo n .stage .number ≡ 0 → BuildLeft (uninitializedTo n) t n → end ≡ withBuild (afterBuild before2 t) → Stops
-    in-program : (n : ℕ) (t : Build.State) → programTo n .stage .number ≡ 0 → BuildLeft (programTo n) t n → end ≡ withBuild (afterBuild before1 t) → Stops
+    in-sections : (n : ℕ) → n < rowsIn (o .headers) → sectionsTo n .reserved .number ≡ 0 → oneOf number (2 ∷ 3 ∷ 24 ∷ []) ≡ true → end ≡ stop (afterSections a (sectionsTo n)) number n → Stops
+    in-groups : (n : ℕ) → n < rowsIn (o .headers) → groupsTo n .stage .number ≡ 0 → oneOf number (2 ∷ 4 ∷ 5 ∷ 6 ∷ 7 ∷ []) ≡ true → end ≡ stop (afterGroups prepared (groupsTo n)) number n → Stops
+    in-filter : filterOf (marked .work) (object .entries) < rowsIn (object .entries) → grouped .stage .number ≡ 0 → end ≡ stop marked 8 (filterOf (marked .work) (object .entries)) → Stops
+    in-symbols : (i : ℕ) (t : Symbols.State) → reserved .reserved .number ≡ 0 → grouped .stage .number ≡ 0 → ltb (filterOf (marked .work) (object .entries)) (rowsIn (object .entries)) ≡ false → i < rowsIn (object .entries) → symbolsTo i .stage .number ≡ 0 → t ≡ Symbols.symbolOf symbolReader (symbolsTo i) i → SymbolLeft symbolReader (symbolsTo i) t i → end ≡ withSymbols marked (withAdded t) → Stops
+    in-uninitialized : (n : ℕ) (t : Build.State) → n < rowsIn (o .headers) → uninitializedTo n .stage .number ≡ 0 → BuildLeft builder 2 (uninitializedTo n) t n → end ≡ withBuild (afterBuild before2 t) → Stops
+    in-program : (n : ℕ) (t : Build.State) → n < rowsIn (o .headers) → programTo n .stage .number ≡ 0 → BuildLeft builder 1 (programTo n) t n → end ≡ withBuild (afterBuild before1 t) → Stops
     in-input : before0 .stage .number ≡ 0 → end ≡ stop (withBuild before0) 2 0 → Stops
 
   -- ---- the stages one after the other
 
-  sections-stop : reserved .reserved .number ≢ 0 → end ≡ afterSections a reserved
+  pub sections-stop : reserved .reserved .number ≢ 0 → end ≡ afterSections a reserved
   unfolding stagesOf reservedStages groupStage
   sections-stop u = rw (ne-eqb (reserved .reserved .number) 0 u)
 
-  sections-pass : reserved .reserved .number ≡ 0 → end ≡ filterStage object marked
+  pub sections-pass : reserved .reserved .number ≡ 0 → end ≡ filterStage object marked
   unfolding stagesOf reservedStages groupStage mergeGroupsOf
   sections-pass z = rw (eq-eqb (reserved .reserved .number) 0 z)
 
-  groups-stop : grouped .stage .number ≢ 0 → filterStage object marked ≡ marked
+  pub groups-stop : grouped .stage .number ≢ 0 → filterStage object marked ≡ marked
   unfolding filterStage
   groups-stop u = rw (ne-eqb (grouped .stage .number) 0 u)
 
-  abbrev filtered : ℕ
+  abbrev pub filtered : ℕ
   filtered = filterOf (marked .work) (object .entries)
 
-  filter-stop : grouped .stage .number ≡ 0 → ltb filtered (rowsIn (object .entries)) ≡ true → filterStage object marked ≡ stop marked 8 filtered
+  pub filter-stop : grouped .stage .number ≡ 0 → ltb filtered (rowsIn (object .entries)) ≡ true → filterStage object marked ≡ stop marked 8 filtered
   unfolding filterStage filteredOf
   filter-stop z t = rw (eq-eqb (grouped .stage .number) 0 z, t)
 
-  filter-pass : grouped .stage .number ≡ 0 → ltb filtered (rowsIn (object .entries)) ≡ false
+  pub filter-pass : grouped .stage .number ≡ 0 → ltb filtered (rowsIn (object .entries)) ≡ false
       → filterStage object marked ≡ withSymbols marked (buildStage object (marked .work) (withAdded added))
   unfolding filterStage filteredOf mergeTableOf
   filter-pass z t = rw (eq-eqb (grouped .stage .number) 0 z, t)
 
-  symbols-stop : added .stage .number ≢ 0 → buildStage object (marked .work) (withAdded added) ≡ withAdded added
+  pub symbols-stop : added .stage .number ≢ 0 → buildStage object (marked .work) (withAdded added) ≡ withAdded added
   unfolding buildStage
   symbols-stop u = rw (ne-eqb (added .stage .number) 0 u)
 
-  symbols-pass : added .stage .number ≡ 0 → buildStage object (marked .work) (withAdded added) ≡ withBuilt (withAdded added) (programStage builder before1)
+  pub symbols-pass : added .stage .number ≡ 0 → buildStage object (marked .work) (withAdded added) ≡ withBuilt (withAdded added) (programStage builder before1)
   unfolding buildStage builtOf
   symbols-pass z = rw (eq-eqb (added .stage .number) 0 z)
 
@@ -187,7 +191,7 @@ module _ (o : Object) (a : All) where
       loop-left (λ (t : Reserve.State). t .reserved .number) (Reserve.reserveOneOf (o .headers)) SectionLeft (λ s n z u. section-left (o .headers) s n u)
       (rowsIn (o .headers)) sectionsTo first (λ n. reserve-loop (o .headers) n 0 first) refl u in
       let e : number ≡ reserved .reserved .number = ap (λ (a : All). a .stage .number) (sections-stop u) in
-      in-sections (r .n) (r .goes) (rw e (r .leaves .number)) (sections-stop u ∙ rw e (ap (afterSections a) (r .leaves .as-it-was)))
+      in-sections (r .n) (r .below) (r .goes) (rw e (r .leaves .number)) (sections-stop u ∙ rw e (ap (afterSections a) (r .leaves .as-it-was)))
 
   from-groups : reserved .reserved .number ≡ 0 → grouped .stage .number ≢ 0 → Stops
   unfolding Group.groupsOf
@@ -199,16 +203,17 @@ module _ (o : Object) (a : All) where
       (λ n. groups-loop reader n 0 first) refl u in
       let q : end ≡ marked = sections-pass z ∙ groups-stop u in
       let e : number ≡ grouped .stage .number = ap (λ (a : All). a .stage .number) q in
-      in-groups (r .n) (r .goes) (rw e (r .leaves .number)) (q ∙ rw e (ap (afterGroups prepared) (r .leaves .as-it-was)))
+      in-groups (r .n) (r .below) (r .goes) (rw e (r .leaves .number)) (q ∙ rw e (ap (afterGroups prepared) (r .leaves .as-it-was)))
 
-  from-symbols : end ≡ withSymbols marked (buildStage object (marked .work) (withAdded added)) → added .stage .number ≢ 0 → Stops
+  from-symbols : reserved .reserved .number ≡ 0 → grouped .stage .number ≡ 0 → ltb filtered (rowsIn (object .entries)) ≡ false
+      → end ≡ withSymbols marked (buildStage object (marked .work) (withAdded added)) → added .stage .number ≢ 0 → Stops
   unfolding Symbols.symbolsOf
-  from-symbols q u =
+  from-symbols z y c q u =
       let first : Symbols.State = symbolFirst (symbolsIn marked) in
       let r =
-      loop-left (λ (t : Symbols.State). t .stage .number) (Symbols.symbolOf symbolReader) SymbolLeft (λ s i z u. symbol-left symbolReader s i u)
+      loop-left (λ (t : Symbols.State). t .stage .number) (Symbols.symbolOf symbolReader) (SymbolLeft symbolReader) (λ s i z u. symbol-left symbolReader s i u)
       (rowsIn (object .entries)) symbolsTo first (λ n. symbols-loop symbolReader n 0 first) refl u in
-      in-symbols (r .n) added (r .goes) (r .leaves) (q ∙ ap (withSymbols marked) (symbols-stop u))
+      in-symbols (r .n) added z y c (r .below) (r .goes) (r .is) (r .leaves) (q ∙ ap (withSymbols marked) (symbols-stop u))
 
   module _ (q : end ≡ withBuild (programStage builder before1)) where
     from-uninitialized : before1 .stage .number ≢ 0 → Stops
@@ -216,18 +221,18 @@ module _ (o : Object) (a : All) where
     from-uninitialized u =
         let first : Build.State = building before2 in
         let r =
-        loop-left (λ (t : Build.State). t .stage .number) (λ (t : Build.State) (n : ℕ). Build.sectionOf builder t n 2) BuildLeft (λ s n z u. build-left builder s n 2 z u)
+        loop-left (λ (t : Build.State). t .stage .number) (λ (t : Build.State) (n : ℕ). Build.sectionOf builder t n 2) (BuildLeft builder 2) (λ s n z u. build-left builder s n 2 z u)
         (rowsIn (o .headers)) uninitializedTo first (λ n. build-loop builder 2 n 0 first) refl u in
-        in-uninitialized (r .n) (Build.buildOf builder first 2) (r .goes) (r .leaves) (q ∙ ap withBuild (program-stop u))
+        in-uninitialized (r .n) (Build.buildOf builder first 2) (r .below) (r .goes) (r .leaves) (q ∙ ap withBuild (program-stop u))
 
     from-program : before1 .stage .number ≡ 0 → before0 .stage .number ≢ 0 → Stops
     unfolding Build.buildOf
     from-program z u =
         let first : Build.State = building before1 in
         let r =
-        loop-left (λ (t : Build.State). t .stage .number) (λ (t : Build.State) (n : ℕ). Build.sectionOf builder t n 1) BuildLeft (λ s n z u. build-left builder s n 1 z u)
+        loop-left (λ (t : Build.State). t .stage .number) (λ (t : Build.State) (n : ℕ). Build.sectionOf builder t n 1) (BuildLeft builder 1) (λ s n z u. build-left builder s n 1 z u)
         (rowsIn (o .headers)) programTo first (λ n. build-loop builder 1 n 0 first) z u in
-        in-program (r .n) (Build.buildOf builder first 1) (r .goes) (r .leaves) (q ∙ ap withBuild (program-pass z ∙ input-stop u))
+        in-program (r .n) (Build.buildOf builder first 1) (r .below) (r .goes) (r .leaves) (q ∙ ap withBuild (program-pass z ∙ input-stop u))
 
     from-input : before1 .stage .number ≡ 0 → before0 .stage .number ≡ 0 → number ≢ 0 → Stops
     unfolding inputOf
@@ -245,7 +250,7 @@ module _ (o : Object) (a : All) where
       by-test (eqb (grouped .stage .number) 0)
       (λ b.
       let y = eqb-true _ _ b in
-      by-test (ltb filtered (rowsIn (object .entries))) (λ c. in-filter y (sections-pass z ∙ filter-stop y c))
+      by-test (ltb filtered (rowsIn (object .entries))) (λ c. in-filter (ltb-true _ _ c) y (sections-pass z ∙ filter-stop y c))
       (λ c.
       let q = sections-pass z ∙ filter-pass y c in
       by-test (eqb (added .stage .number) 0)
@@ -255,6 +260,6 @@ module _ (o : Object) (a : All) where
       (λ e.
       by-test (eqb (before0 .stage .number) 0) (λ f. from-input p (eqb-true _ _ e) (eqb-true _ _ f) u) (λ f. from-program p (eqb-true _ _ e) (eqb-false _ _ f)))
       (λ e. from-uninitialized p (eqb-false _ _ e)))
-      (λ d. from-symbols q (eqb-false _ _ d))))
+      (λ d. from-symbols z y c q (eqb-false _ _ d))))
       (λ b. from-groups z (eqb-false _ _ b)))
       (λ a. from-sections (eqb-false _ _ a))

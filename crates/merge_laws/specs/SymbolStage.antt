@@ -1,37 +1,33 @@
 -- The symbol stage is its steps.
 -- Assumes nothing.
-use Prim.Native.Nat.{ℕ, zero, suc, _+_, _*_, _≤_}
+use Prim.Native.Nat.{ℕ, zero, suc, _+_, _*_}
 use mathlib.Core.Path.{_≡_, refl, sym, ap, _∙_, subst}
 use mathlib.Core.Bool.{Bool, true, false, cond, false≢true}
-use mathlib.Core.List.{List, [], _∷_}
+use mathlib.Core.List.{List}
 use lib.Dec.{eqb, ltb}
 use lib.ListN.{length, length-set}
-use borrow.Author.Tests.{eqb-true}
 use Rattle.cells.specs.Split.{by-test}
-use Rattle.link.specs.Said.{numberIn}
 use Rattle.link.specs.declared.Link.{Link}
 use Rattle.link.specs.declared.Interned.{Interned}
 use Rattle.strings.specs.Lookup.{Looked}
 use Rattle.interner.specs.Names.{Store, storeOf, findOf, fitsOf, keepOf}
-use Rattle.interner_laws.specs.Find.{find-low}
 use Rattle.symbol.specs.declared.Row.{Row}
 use Rattle.symbol.specs.declared.SttFile.the-variants as File
 use Rattle.upcoming_symbol.specs.Upcoming.{elfRowOf}
 use Rattle.symbol_rows.specs.declared.Decision.{Decision}
 use Rattle.symbol_rows.specs.declared.Decision.the-variants.{Refuse, Nothing, Keep, Append, Replace}
-use Rattle.symbol_rows.specs.Holder.{holderOf}
-use Rattle.symbol_rows.specs.Decide.{sectionCells, decideOf, refusalOf}
+use Rattle.symbol_rows.specs.Decide.{sectionCells, refusalOf}
 use Rattle.symbol_rows.specs.Apply.{Table, tableOf, moreSymbols, setSectionSymbol, noteSection, appendOf, applyOf}
-use Rattle.symbols.specs.Add.{decidedOf, committedOf, addRowOf}
+use Rattle.symbols.specs.Add.{decidedOf}
 use Rattle.elf_object.specs.Rows.{rowsIn, field, nameIn}
 use Rattle.merge_plan.specs.declared.Planned.{Planned}
 use Rattle.merge_plan.specs.Plan.{Input, inputOf, isFirst, definesOf, filteredAt, ruleOf, judgedOf, rowedOf, readOf, plannedOf}
 use Rattle.merge_symbols.specs.Stage.{Object, acceptRow, keptOf, commitOf, view, namedOf, lookedOf, symbolOf, symbolsFrom, symbolsOf}
 use Rattle.merge_symbols.specs.Stage as Symbols
-use Rattle.symbol_laws.specs.History.{State, table, withStore, withTable, issue, put, object, partNext}
-use Rattle.merge_laws.specs.Steps.{part, Makes, makes-none, makes-both}
+use Rattle.symbol_laws.specs.History.{State, table, withStore, issue, object, partNext}
+use Rattle.merge_laws.specs.Steps.{Makes, makes-none}
 use Rattle.merge_laws.specs.Loop.{loop, loopSteps, loop-makes, loop-holds}
-use Rattle.merge_laws.specs.Issue.{decided-kept}
+use Rattle.merge_laws.specs.Committed.{Fair, same, committed, committed-makes}
 use Rattle.merge_laws.specs.MergeSteps.{addsOf, adds, plannedSteps, namedSteps, lookedSteps, symbolSteps}
 
 -- the table, without what the stage keeps for itself
@@ -39,14 +35,14 @@ abbrev pub tableIn : Symbols.State → State
 tableIn s = record { bytes = s .bytes; names = s .names; symbols = s .symbols; sections = s .sections; link = s .stage .link }
 
 -- what a plan decides, by its tests: fits, first, file, group
-abbrev chosen : Bool → Bool → Bool → Bool → Decision → Decision
+abbrev pub chosen : Bool → Bool → Bool → Bool → Decision → Decision
 chosen w f g h d = cond w (cond f (Keep (record { 0 = 0 })) (cond g Nothing (cond h Nothing d))) (Refuse 2)
 
-chosen-fits : (w f g h : Bool) (d : Decision) → eqb (refusalOf (chosen w f g h d)) 2 ≡ false → w ≡ true
+pub chosen-fits : (w f g h : Bool) (d : Decision) → eqb (refusalOf (chosen w f g h d)) 2 ≡ false → w ≡ true
 chosen-fits false f g h d e = absurd (false≢true (sym e))
 chosen-fits true f g h d e = refl
 
-chosen-add : (w f g h : Bool) (d : Decision) → addsOf f g h ≡ true → eqb (refusalOf (chosen w f g h d)) 2 ≡ false → chosen w f g h d ≡ d
+pub chosen-add : (w f g h : Bool) (d : Decision) → addsOf f g h ≡ true → eqb (refusalOf (chosen w f g h d)) 2 ≡ false → chosen w f g h d ≡ d
 unfolding addsOf
 chosen-add false f g h d a e = absurd (false≢true (sym e))
 chosen-add true true g h d a e = absurd (false≢true a)
@@ -63,70 +59,18 @@ chosen-no true false true h d a e t r = refl
 chosen-no true false false true d a e t r = refl
 chosen-no true false false false d a e t r = absurd (false≢true (sym a))
 
--- an add that is decided to go
-put-goes : (t : Table) (r : Row) (d : Decision) → decidedOf t r File.None ≡ d → refusalOf d ≡ 0
-    → (addRowOf t r File.None .table ≡ applyOf t r d) × (numberIn (addRowOf t r File.None .said) ≡ 0)
-unfolding addRowOf committedOf
-put-goes t r d e z = rw (e, z) (refl, refl)
-
 -- one planned symbol: a says whether it is added
 module _ (s : Symbols.State) (x : List ℕ) (p : Planned) (i : ℕ) (a : Bool) where
-  abbrev st : Store
-  st = storeOf (s .bytes) (s .names) (s .stage .link)
+  committed-is : committed (tableIn s) x (p .id) (p .row) (p .decision) ≡ tableIn (commitOf s x p i)
+  unfolding commitOf keptOf acceptRow
+  committed-is =
+      by-test (eqb (refusalOf (p .decision)) 2) (λ t. rw t)
+      (λ t. by-test (eqb (refusalOf (p .decision)) 0) (λ z. rw (t, z)) (λ z. rw (t, z)))
 
-  abbrev kept : Store
-  kept = keepOf st (p .id) x
-
-  abbrev before : Decision
-  before = decideOf (s .stage .link) (s .symbols) (s .sections) (p .row) (holderOf (s .names) (s .symbols) (s .stage .link .names) (p .row .name))
-
-  record Fair : Type 0 where
-    found : p .id ≡ record { 0 = findOf (s .bytes) (s .names) (s .stage .link .names) x }
-    own : p .row .name ≡ p .id
-    fits : eqb (refusalOf (p .decision)) 2 ≡ false → fitsOf st (p .id) (length x) ≡ true
-    added : a ≡ true → eqb (refusalOf (p .decision)) 2 ≡ false → p .decision ≡ before
-    idle : a ≡ false → eqb (refusalOf (p .decision)) 2 ≡ false → (t : Table) (r : Row) → applyOf t r (p .decision) ≡ t
-
-  abbrev named : State
-  named = withStore (tableIn s) kept
-
-  module _ (f : Fair) (two : eqb (refusalOf (p .decision)) 2 ≡ false) where
-    low : p .id .0 ≤ s .stage .link .names
-    low = rw (f .found) (find-low st x)
-
-    issued : Makes (tableIn s) (part (issue x) ∷ []) named
-    issued =
-        record {
-          leads = ap (λ (k : Interned). withStore (tableIn s) (keepOf st k x)) (sym (f .found));
-          accepted = (subst (λ (k : Interned). fitsOf st k (length x) ≡ true) (f .found) (f .fits two), tt);
-        }
-
-    same : decidedOf (table named) (p .row) File.None ≡ before
-    same =
-        subst (λ (k : Interned). decidedOf (table (withStore (tableIn s) (keepOf st k x))) (p .row) File.None ≡ before) (f .own)
-        (decided-kept st x (s .symbols) (s .sections) (p .row) (rw (f .own) (f .fits two)) (rw (f .own) low))
-
-    -- with the row of an accepted decision
-    module _ (b : a ≡ true) (z : refusalOf (p .decision) ≡ 0) where
-      abbrev both : (addRowOf (table named) (p .row) File.None .table ≡ applyOf (table named) (p .row) (p .decision))
-          × (numberIn (addRowOf (table named) (p .row) File.None .said) ≡ 0)
-      both = put-goes (table named) (p .row) (p .decision) (same ∙ sym (f .added b two)) z
-
-      rowed : Makes (tableIn s) (part (issue x) ∷ part (put (p .row) object) ∷ []) (withTable named (applyOf (table named) (p .row) (p .decision)))
-      rowed =
-          makes-both (tableIn s) named _ (part (issue x) ∷ []) (part (put (p .row) object) ∷ []) issued
-          (record { leads = ap (withTable named) (both .0); accepted = (both .1, tt) })
-
-  commit-makes : Fair → Makes (tableIn s) (plannedSteps a x p) (tableIn (commitOf s x p i))
-  unfolding commitOf keptOf acceptRow plannedSteps
+  commit-makes : Fair (tableIn s) x (p .id) (p .row) (p .decision) a → Makes (tableIn s) (plannedSteps a x p) (tableIn (commitOf s x p i))
   commit-makes f =
-      by-test (eqb (refusalOf (p .decision)) 2) (λ t. rw t (makes-none (tableIn s)))
-      (λ t.
-      by-test (eqb (refusalOf (p .decision)) 0)
-      (λ z.
-      by-test a (λ b. rw (t, z, b) (rowed f t b (eqb-true _ _ z)))
-      (λ b. rw (t, z, b) (subst (λ (u : Table). Makes (tableIn s) (part (issue x) ∷ []) (withTable named u)) (sym (f .idle b t (table named) (p .row))) (issued f t))))
-      (λ z. rw (t, z) (issued f t)))
+      subst (Makes (tableIn s) (plannedSteps a x p)) committed-is
+      (committed-makes (tableIn s) x (p .id) (p .row) (p .decision) a object f)
 
 -- the stage's own plan is fair
 module _ (o : Input) (s : Symbols.State) (x : List ℕ) (i : ℕ) where
@@ -148,7 +92,7 @@ module _ (o : Input) (s : Symbols.State) (x : List ℕ) (i : ℕ) where
   abbrev group : Bool
   group = definesOf (o .work) (filteredAt (o .entries) (o .work) i .section)
 
-  fair : Fair s x plan i (adds o x i)
+  fair : Fair (tableIn s) x (plan .id) (plan .row) (plan .decision) (adds o x i)
   unfolding plannedOf readOf rowedOf judgedOf ruleOf elfRowOf
   fair =
       record {
@@ -156,7 +100,7 @@ module _ (o : Input) (s : Symbols.State) (x : List ℕ) (i : ℕ) where
         own = refl;
         fits = chosen-fits room first file group _;
         added = chosen-add room first file group _;
-        idle = chosen-no room first file group _;
+        idle = λ b e t. chosen-no room first file group _ b e t _;
       }
 
   pub plan-id : plan .id ≡ id
@@ -169,7 +113,7 @@ module _ (o : Input) (s : Symbols.State) (x : List ℕ) (i : ℕ) where
       subst
       (λ (k : Interned). decidedOf (table (withStore (tableIn s) (keepOf (storeOf (s .bytes) (s .names) (s .stage .link)) k x))) (plan .row) File.None ≡ plan .decision)
       plan-id
-      (same s x plan i (adds o x i) fair two ∙ sym (fair .added b two))
+      (same (tableIn s) x (plan .id) (plan .row) (plan .decision) (adds o x i) fair two ∙ sym (fair .added b two))
 
   named-makes : Makes (tableIn s) (namedSteps o s x i) (tableIn (namedOf o s x i))
   unfolding namedOf namedSteps
@@ -193,12 +137,16 @@ symbols-loop o zero i s = refl
 symbols-loop o (suc n) i s =
     ap (λ (t : Symbols.State). cond (eqb (symbolOf o s i .stage .number) 0) t (symbolOf o s i)) (symbols-loop o n (i + 1) (symbolOf o s i))
 
+pub symbols-make-to : (o : Object) (n : ℕ) (s : Symbols.State)
+    → Makes (tableIn s) (loopSteps numberOf (symbolOf o) (symbolSteps o) n 0 s) (tableIn (symbolsFrom o n 0 s))
+symbols-make-to o n s =
+    rw (symbols-loop o n 0 s)
+    (loop-makes numberOf (symbolOf o) (symbolSteps o) tableIn (λ s. Unit {0}) (λ s i h. tt) (λ s i h. symbol-makes o s i) n 0 s tt)
+
 pub symbols-make : (o : Object) (s : Symbols.State)
     → Makes (tableIn s) (loopSteps numberOf (symbolOf o) (symbolSteps o) (rowsIn (o .entries)) 0 s) (tableIn (symbolsOf o s))
 unfolding symbolsOf
-symbols-make o s =
-    rw (symbols-loop o (rowsIn (o .entries)) 0 s)
-    (loop-makes numberOf (symbolOf o) (symbolSteps o) tableIn (λ s. Unit {0}) (λ s i h. tt) (λ s i h. symbol-makes o s i) (rowsIn (o .entries)) 0 s tt)
+symbols-make o s = symbols-make-to o (rowsIn (o .entries)) s
 
 -- ---- the list of sections keeps its length
 
@@ -221,7 +169,7 @@ applied-long t r (Keep id) = refl
 applied-long t r Append = noted-long (t .sections) r (t .link .symbols)
 applied-long t r (Replace id) = refl
 
-symbol-long : (o : Object) (s : Symbols.State) (i : ℕ) → length (symbolOf o s i .sections) ≡ length (s .sections)
+pub symbol-long : (o : Object) (s : Symbols.State) (i : ℕ) → length (symbolOf o s i .sections) ≡ length (s .sections)
 unfolding symbolOf lookedOf namedOf commitOf keptOf acceptRow
 symbol-long o s i =
     let x : Looked = nameIn (o .headers) (o .file) (o .strings) (field (o .entries) i 0) in

@@ -1,7 +1,7 @@
 -- The statements about merges. Their proofs stand in the other files.
 -- Assumes nothing.
 use Prim.Native.Nat.{ℕ, suc, _<_, _≤_}
-use mathlib.Core.Path.{_≡_}
+use mathlib.Core.Path.{_≡_, _∙_}
 use mathlib.Core.Bool.{true, false, not}
 use mathlib.Core.List.{List, [], _∷_, _++_}
 use mathlib.Core.Logic.{_≢_}
@@ -19,14 +19,16 @@ use Rattle.symbols.specs.declared.Found.the-variants as Fd
 use Rattle.symbol.specs.RowLaws.{symbolOf}
 use Rattle.symbol.specs.Codes.{successor}
 use Rattle.link.specs.Bounds.{notLent, nameRows}
-use Rattle.elf_object.specs.Rows.{field, elfAt, isLoaded}
+use Rattle.elf_object.specs.Rows.{rowsIn, field, elfAt, isLoaded}
+use Rattle.sections.specs.Rows.{stateAt}
+use Rattle.merge_sections.specs.Reserve.{classOf}
 use Rattle.section_groups.specs.Group.{markGroupOf, markRemovedOf, groupSectionOf}
 use Rattle.section_groups.specs.Filter.{symbolOk}
 use Rattle.merge_plan.specs.Plan.{inputOf, filteredAt}
 use Rattle.merge_symbols.specs.Stage as Symbols
 use Rattle.merge_elf.specs.declared.Answer.the-variants.{Refused}
 use Rattle.merge_stages.specs.Stages.{All, Object}
-use Rattle.merge_elf.specs.Merge.{leave, headIn, mergeOf, finishedOf}
+use Rattle.merge_elf.specs.Merge.{leave, headIn, mergeOf}
 use Rattle.symbol_laws.specs.Rank.{firstOf}
 use Rattle.symbol_laws.specs.Rows.{rowAt}
 use Rattle.symbol_laws.specs.History.{opened, Entry, only, rows, issue, putOf, partNext}
@@ -34,8 +36,9 @@ use Rattle.symbol_laws.specs.Held.{Inv}
 use Rattle.symbol_laws.specs.Start.{new-inv}
 use Rattle.symbol_laws.specs.Demand as Demand
 use Rattle.symbol_laws.specs.Within as Within
+use Rattle.symbol_laws.specs.Below.{inv-below}
 use Rattle.symbol_laws.specs.Writes as Writes
-use Rattle.symbol_laws.specs.Gabi.{AllMean, symOf}
+use Rattle.symbol_laws.specs.Gabi.{AllMean, symOfRow, symsOf, all-mean-own, symOf}
 use Rattle.symbol_laws.specs.Agreement as Agreement
 use Rattle.merge_laws.specs.Steps.{logSteps, Makes}
 use Rattle.merge_laws.specs.MergeSteps.{adds, mergeSteps}
@@ -44,15 +47,19 @@ use Rattle.merge_laws.specs.SymbolIds as SymbolIds
 use Rattle.merge_laws.specs.SymbolIds.{nameOf, planOf}
 use Rattle.merge_laws.specs.Whole.{tableIn, merge-makes}
 use Rattle.merge_laws.specs.Kept.{addedRows, log-rows}
-use Rattle.merge_laws.specs.Seen.{partsIn, MergeParts, merge-parts}
+use Rattle.merge_laws.specs.Seen.{partsIn, MadeAlone, makes-parts}
 use Rattle.merge_laws.specs.Calls.{Linked, linked, allIn, Call, merge, callNext, runCalls, logCalls, RemovesNothing, signatures, calls-keep-inv, calls-marked}
 use Rattle.merge_laws.specs.Refusals.{oneOf}
 use Rattle.merge_laws.specs.Stops as Stages
 use Rattle.merge_laws.specs.Stops.{groupsTo}
 use Rattle.merge_laws.specs.ByNumber as ByNumber
-use Rattle.merge_laws.specs.Marked.{Marked, new-marked}
+use Rattle.merge_laws.specs.Marked.{marksOf, Marked, new-marked}
 use Rattle.merge_laws.specs.FirstKept as FirstKept
 use Rattle.merge_laws.specs.FirstKept.{reader, metTo, signature, listed, removedIn}
+use Rattle.merge_laws.specs.Discarded as Discarded
+use Rattle.merge_laws.specs.Accepted as Accepted
+use Rattle.merge_laws.specs.Placed.{rowOf}
+use Rattle.merge_laws.specs.RowStays as RowStays
 use Rattle.merge_laws.specs.Lookups as Lookups
 use Rattle.merge_laws.specs.Lookups.{new-lists}
 use Rattle.merge_laws.specs.Past as Past
@@ -69,11 +76,18 @@ merge-is-its-steps = merge-makes
 pub merge-log : (o : Object) (a : All) → rows (logSteps (mergeSteps o a) (tableIn a)) ≡ addedRows (mergeSteps o a)
 merge-log o a = log-rows (mergeSteps o a) (tableIn a) (merge-makes o a .accepted)
 
+-- and of an accepted merge these are, in order, the rows of all symbols that are added and aren't local, each as it is planned on what the symbols
+-- before it left (symbolRows, Accepted.antt): no add is left out
+pub merge-log-whole : (o : Object) (a : All) → mergeOf o a .said .number ≡ 0
+    → rows (logSteps (mergeSteps o a) (tableIn a)) ≡ Accepted.symbolRows o a (rowsIn (Stages.object o a .entries))
+merge-log-whole o a ok = merge-log o a ∙ Accepted.merge-rows o a ok
+
 -- with no more names than rows, as after every history from a new table: names issued and rows added one by one, as direct calls do it, leave the
 -- same names but for the groups' marks, the same symbols, sections' symbols and counts of names and symbols; each is accepted where it is made,
 -- and the log is the same
-pub merge-is-its-parts : (o : Object) (a : All) → a .stage .link .names ≤ nameRows (length (a .names)) → MergeParts o a (partsIn (mergeSteps o a))
-merge-is-its-parts = merge-parts
+pub merge-is-its-parts : (o : Object) (a : All) → a .stage .link .names ≤ nameRows (length (a .names))
+    → MadeAlone (tableIn a) (mergeSteps o a) (tableIn (mergeOf o a .cells)) (partsIn (mergeSteps o a))
+merge-is-its-parts o a r = makes-parts (tableIn a) (tableIn (mergeOf o a .cells)) (mergeSteps o a) r (merge-makes o a)
 
 -- the cell of an accepted symbol that is added has the id that its add is answered, and 1; s is what the symbols before it left
 pub symbol-ids : (o : Symbols.Object) (s : Symbols.State) (i : ℕ) → nameOf o i .found ≡ true → adds (inputOf (o .entries) (o .work)) (nameOf o i .name) i ≡ true
@@ -128,10 +142,15 @@ module _ (bytes names symbols sections inputs lists : List ℕ) (new : numberIn 
         → Writes.Bears (runCalls ls end .table) n (globalAt (end .table .names) n)
     ids-stay ls q n i z = Writes.stays (end .table) (runCalls ls end .table) _ _ kept (calls-keep-inv ls end _ q kept) n i z
 
-    -- of symbols accepted under a name the gABI resolves to the one that the row has; undefined where it has none
-    pub gabi-agrees : (n : ℕ) (x : Entry) (xs : List Entry) → acceptedAdds n ≡ x ∷ xs → (s : Sym) (ss : List Sym) → AllMean (rows (x ∷ xs)) (s ∷ ss)
+    -- of the symbols that are accepted under a name the gABI resolves to the one that the row has; undefined where it has none
+    pub gabi-agrees : (n : ℕ) (x : Entry) (xs : List Entry) → acceptedAdds n ≡ x ∷ xs
+        → Agreement.Agrees (x .row) (rows xs) (symOfRow (x .row)) (rowAt (end .table .symbols) (x .id)) (resolve (symsOf (rows (x ∷ xs))))
+    gabi-agrees n x xs e = Agreement.accepted (end .table) _ kept n x xs e _ _ (all-mean-own (rows (x ∷ xs)))
+
+    -- whichever symbols the rows mean
+    pub gabi-agrees-any : (n : ℕ) (x : Entry) (xs : List Entry) → acceptedAdds n ≡ x ∷ xs → (s : Sym) (ss : List Sym) → AllMean (rows (x ∷ xs)) (s ∷ ss)
         → Agreement.Agrees (x .row) (rows xs) s (rowAt (end .table .symbols) (x .id)) (resolve (s ∷ ss))
-    gabi-agrees n x xs e s ss m = Agreement.accepted (end .table) _ kept n x xs e s ss m
+    gabi-agrees-any n x xs e s ss m = Agreement.accepted (end .table) _ kept n x xs e s ss m
 
     -- one more merge
     module _ (o : Object) (work ids : List ℕ) where
@@ -140,7 +159,7 @@ module _ (bytes names symbols sections inputs lists : List ℕ) (new : numberIn 
 
       -- "Rows past the count are never written"
       pub past-the-count : Past.TablePast (end .table) (callNext (merge o work ids) end .table)
-      past-the-count = Past.makes-past (end .table) (callNext (merge o work ids) end .table) (mergeSteps o all) _ kept (merge-makes o all)
+      past-the-count = Past.makes-past (end .table) (callNext (merge o work ids) end .table) (mergeSteps o all) (inv-below (end .table) _ kept) (merge-makes o all)
 
       -- of several groups of one signature, in this and earlier objects, the first is kept: where section n is an accepted group, its listed
       -- section is marked as removed unless the gABI keeps the group, whatever groups follow
@@ -161,6 +180,21 @@ module _ (bytes names symbols sections inputs lists : List ℕ) (new : numberIn 
           → metTo o all (signatures ks start) (suc n) ≡ metTo o all (signatures ks start) n
       met-other = FirstKept.met-other o all (signatures ks start) marked
 
+      -- an accepted merge marks the signatures of all its groups, in order, excluded ones aside
+      pub merge-signatures : mergeOf o all .said .number ≡ 0 → marksOf (mergeSteps o all) (end .table) ≡ Accepted.signaturesTo o all (rowsIn (o .headers))
+      merge-signatures ok = Accepted.merge-signatures o all ok (signatures ks start) marked
+
+      -- the section of a group that the gABI doesn't keep: its mark stands until the merge's end, so it isn't built, and its symbols are undefined
+      pub repeated-discarded : Stages.grouped o all .stage .number ≡ 0 → (n : ℕ) → n < rowsIn (o .headers) → isLoaded (o .headers) n 7 ≡ true → (later : List (List ℕ))
+          → let met = metTo o all (signatures ks start) n in
+          Gabi.kept (met ++ signature o all n ∷ later) (length met) ≡ false → Discarded.Discarded o all (listed o all n)
+      repeated-discarded = Discarded.repeated-discarded o all (signatures ks start) marked
+
+      -- and after an accepted merge the row that it has, of kind 1 or 2 and not excluded, is still reserved, not built
+      pub repeated-reserved : mergeOf o all .said .number ≡ 0 → (m : ℕ) → m < rowsIn (o .headers) → classOf (o .headers) m ≡ 2 → Discarded.Discarded o all m
+          → stateAt (mergeOf o all .cells .sections) (rowOf (Stages.marked o all .work) m) ≡ 1
+      repeated-reserved ok m h c d = RowStays.row-stays o all ok m h c (d .mark)
+
 -- ---- the refusal table, "Left as it was"
 
 module _ (o : Object) (a : All) where
@@ -180,7 +214,7 @@ module _ (o : Object) (a : All) where
   pub merged-whole : headIn o a .number ≡ 0 → Stages.number o a ≡ 0 → ByNumber.MergeLeaves o a
   merged-whole = ByNumber.accepted-stays o a
 
-  -- it leaves every cell as the elements before the refused one left it; on 10 to 14, 16, 17, 19 and 21 that one's name is issued besides
+  -- it leaves every cell as the elements before the refused one left it; on 10 to 14, 16 and 19 that one's name is issued besides
   pub refused-leaves : Stages.number o a ≢ 0 → ByNumber.Leaves o a
   refused-leaves = ByNumber.refused-leaves o a
 
@@ -192,8 +226,8 @@ module _ (o : Object) (a : All) where
   pub symbols-left : Stages.number o a ≢ 0 → oneOf (Stages.number o a) (3 ∷ 4 ∷ 5 ∷ 6 ∷ 7 ∷ 8 ∷ 24 ∷ []) ≡ true → ByNumber.SymbolsLeft o a (Stages.end o a)
   symbols-left = ByNumber.symbols-left o a
 
-  -- inputs and lists past their counts are never written
-  pub lists-past : Lists.ListsLeft (a .inputs) (a .lists) (a .stage .link) (mergeOf o a .cells .inputs) (mergeOf o a .cells .lists) (mergeOf o a .cells .stage .link)
+  -- inputs and lists that are counted before, and those past the counts that it leaves, are never written
+  pub lists-past : Lists.Listed (a .inputs) (a .lists) (a .stage .link) (mergeOf o a .cells .inputs) (mergeOf o a .cells .lists) (mergeOf o a .cells .stage .link)
   lists-past = Lists.merge-left o a
 
 -- ---- symbols of a removed section

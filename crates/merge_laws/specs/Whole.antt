@@ -170,7 +170,7 @@ pub record Passed (o : Object) (a : All) : Type 0 where
   pub work : rowsIn (o .headers) ≤ length (a .work) / 8
   pub ids : rowsIn (o .entries) ≤ length (a .ids)
 
-change-passed : (l : Link) (n : Lent) → changeOf l n .number ≡ 0 → (l .broken ≡ false) × (judgeOf l n .number ≡ 0)
+pub change-passed : (l : Link) (n : Lent) → changeOf l n .number ≡ 0 → (l .broken ≡ false) × (judgeOf l n .number ≡ 0)
 unfolding changeOf
 change-passed l n =
     pick (λ (r : Refusal). r .number ≡ 0 → (l .broken ≡ false) × (judgeOf l n .number ≡ 0)) (l .broken) (refused 22 0) (judgeOf l n)

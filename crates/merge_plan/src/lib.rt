@@ -25,7 +25,7 @@ fn filtered_at(entries: &[u64], work: &[u64], i: usize) -> ElfSymbol
         binding: e.binding,
         visibility: e.visibility,
         kind: e.kind,
-        section: section_groups::section_after(work, e.section),
+        section: group_filter::section_after(work, e.section),
         value: e.value,
     }
 }
@@ -87,7 +87,7 @@ fn rule(
     }
     let name = row.name;
     let holder = symbol_rows::holder_of(names, symbols, l.names, name);
-    symbol_rows::decide(l, symbols, sections, row, holder)
+    symbol_resolution::decide(l, symbols, sections, row, holder)
 }
 
 // A name that is neither known nor has room is 2.
@@ -106,7 +106,7 @@ fn judged(
     ensures { λ r. ⌜ r ≡ judgedOf (viewOf (now (bytes .entry)) (now (names .entry)) (now (symbols .entry)) (now (sections .entry)) l) (now (work .entry)) i len e row ⌝ }
 {
     let name = row.name;
-    if interner::fits(l, bytes, names, name, len) {
+    if interner_issue::fits(l, bytes, names, name, len) {
         return rule(l, names, symbols, sections, work, i, len == 0, e, row);
     }
     Decision::Refuse { number: 2 }
@@ -130,7 +130,7 @@ pub fn plan_symbol(
     let id = Interned(interner::find(bytes, names, l.names, x));
     let e = filtered_at(entries, work, i);
     let cell = cells::row_get(work, e.section as usize, 0);
-    let row = upcoming_symbol::elf_row(cell, e, id, x.len() == 0, file);
+    let row = upcoming_row::elf_row(cell, e, id, x.len() == 0, file);
     let decision = judged(l, bytes, names, symbols, sections, work, i, x.len(), e, row);
     Planned {
         id: id,

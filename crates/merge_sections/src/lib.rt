@@ -86,7 +86,7 @@ fn table_after(table: u64, class: u64, n: usize) -> u64
 fn note(work: &mut [u64], n: usize, conversion: u64)
     ensures { λ _. ⌜ now (work .exit) ≡ noteOf (now (work .entry)) n conversion ⌝ }
 {
-    cells::row_store(work, n, conversion, 0, 0, 0, 0, 0, 0, 0);
+    cell_writes::row_store(work, n, conversion, 0, 0, 0, 0, 0, 0, 0);
 }
 
 fn take_row(l: Link, sections: &mut [u64], class: u64) -> Link

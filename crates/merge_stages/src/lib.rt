@@ -98,7 +98,7 @@ fn filter_stage(
         return s;
     }
     let l = s.link;
-    let i = section_groups::filter_symbol_table(work, entries);
+    let i = group_filter::filter_symbol_table(work, entries);
     if i < entries.len() / 8 {
         return link::stopped(l, 8, i as u64);
     }
@@ -143,7 +143,7 @@ fn merge_groups(
         ≡ mergeGroupsOf (tableOf (now (headers .entry)) (now (entries .entry)) (now (contents .entry)) (now (file .entry)) strings t)
         (allOf (now (bytes .entry)) (now (names .entry)) (now (symbols .entry)) (now (sections .entry)) (now (inputs .entry)) (now (lists .entry)) (now (work .entry)) (now (ids .entry)) (goingOf l)) ⌝ }
 {
-    let g = section_groups::add_groups(
+    let g = object_groups::add_groups(
         link::going(l),
         bytes,
         names,

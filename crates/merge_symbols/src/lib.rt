@@ -54,7 +54,7 @@ fn accept(
 {
     let row = p.row;
     let d = p.decision;
-    let done = symbol_rows::apply(l, names, symbols, sections, row, d);
+    let done = symbol_write::apply(l, names, symbols, sections, row, d);
     cells::put(ids, i, cell_of(d, l.symbols));
     stage_of(done, merge_plan::file_after(file, p.kind, p.id), 0, 0)
 }
@@ -81,7 +81,7 @@ fn commit(
     if number == 2 {
         return stage_of(l, s.file, 2, i as u64);
     }
-    let kept = interner::keep(l, bytes, names, id, x);
+    let kept = interner_issue::keep(l, bytes, names, id, x);
     if number != 0 {
         return stage_of(kept, s.file, number, merge_plan::place_of(number, id, i));
     }

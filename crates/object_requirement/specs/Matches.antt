@@ -1,7 +1,7 @@
 -- Document 01, "Archives": "Admission as `ObjectRequirement::matches`: some symbol of binding 1, defined or not, bears a required name."
 -- Which names are required is a test of their bytes.
 -- Assumes nothing.
-use Prim.Native.Nat.{ℕ, zero, suc, _+_}
+use Prim.Native.Nat.{ℕ, zero, suc, _+_, _/_}
 use mathlib.Core.Bool.{Bool, true, false, cond}
 use mathlib.Core.List.{List, []}
 use lib.Dec.{eqb, leb, ltb}
@@ -11,7 +11,6 @@ use Rattle.link.specs.declared.Refusal.{Refusal}
 use Rattle.link.specs.Judge.{refused}
 use Rattle.archive_walk.specs.declared.Walk.{Walk}
 use Rattle.archive_walk.specs.Names.{requiredOf}
-use Rattle.archive_walk.specs.Walk.{walkFits}
 use Rattle.elf_object.specs.Rows.{rowsIn, field, kindAt, linkAt, stringsAt, tableEntries}
 use Rattle.elf_object.specs.Judge.{judgeOf}
 use Rattle.object_requirement.specs.declared.Admission.{Admission}
@@ -76,9 +75,9 @@ admission false = No
 abbrev pub afterJudging : Refusal → Admission → Admission
 afterJudging r a = cond (eqb (r .number) 0) a (Refused r)
 
--- an entry of the walk's index, which is lent with its rows
+-- an entry of the walk's index, which is lent with its rows; after "done" too
 unfoldable pub offeredIn : List ℕ → List ℕ → Walk → ℕ → Bool
-offeredIn s l w e = cond (ltb e (w .entries)) (walkFits s l w) false
+offeredIn s l w e = cond (ltb (length s) (w .length)) false (cond (ltb (length l / 8) (w .entries)) false (ltb e (w .entries)))
 
 -- 1 at the first row of the object that is out of range; 1 at 0 where the walk isn't as it was; then yes or no, over the names required of
 -- the member that entry e offered

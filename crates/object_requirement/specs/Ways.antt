@@ -1,6 +1,6 @@
 -- The ways through the functions.
 -- Assumes nothing.
-use Prim.Native.Nat.{ℕ, suc, _+_, _-_, _<_, _≤_}
+use Prim.Native.Nat.{ℕ, suc, _+_, _-_, _/_, _<_, _≤_}
 use native.Mathlib.Nat.{sub-zero}
 use native.Mathlib.Omega.{arith}
 use mathlib.Core.Path.{_≡_, sym, _∙_}
@@ -13,7 +13,6 @@ use Rattle.link.specs.declared.Refusal.{Refusal}
 use Rattle.link.specs.Judge.{refused}
 use Rattle.archive_walk.specs.declared.Walk.{Walk}
 use Rattle.archive_walk.specs.Names.{requiredOf}
-use Rattle.archive_walk.specs.Walk.{walkFits}
 use Rattle.elf_object.specs.Rows.{rowsIn, field, kindAt, linkAt, stringsAt, tableEntries}
 use Rattle.elf_object.specs.Judge.{judgeOf}
 use Rattle.object_requirement.specs.declared.Admission.{Admission}
@@ -117,13 +116,21 @@ module _ (headers entries file : List ℕ) (required : List ℕ → Bool) (n : �
   section-none e f q = simp (q, ← e, f)
 
 module _ (s l : List ℕ) (w : Walk) (e : ℕ) (t : Bool) where
-  pub offered-entry : e < w .entries → t ≡ walkFits s l w → t ≡ offeredIn s l w e
+  pub offered-index : length s < w .length → t ≡ false → t ≡ offeredIn s l w e
   unfolding offeredIn
-  offered-entry h q = simp (q, lt-ltb _ _ h)
+  offered-index h q = simp (q, lt-ltb _ _ h)
 
-  pub offered-none : w .entries ≤ e → t ≡ false → t ≡ offeredIn s l w e
+  pub offered-rows : w .length ≤ length s → length l / 8 < w .entries → t ≡ false → t ≡ offeredIn s l w e
   unfolding offeredIn
-  offered-none h q = simp (q, le-ltb _ _ h)
+  offered-rows h i q = simp (q, le-ltb _ _ h, lt-ltb _ _ i)
+
+  pub offered-entry : w .length ≤ length s → w .entries ≤ length l / 8 → e < w .entries → t ≡ true → t ≡ offeredIn s l w e
+  unfolding offeredIn
+  offered-entry h i j q = simp (q, le-ltb _ _ h, le-ltb _ _ i, lt-ltb _ _ j)
+
+  pub offered-none : w .length ≤ length s → w .entries ≤ length l / 8 → w .entries ≤ e → t ≡ false → t ≡ offeredIn s l w e
+  unfolding offeredIn
+  offered-none h i j q = simp (q, le-ltb _ _ h, le-ltb _ _ i, le-ltb _ _ j)
 
 module _ (headers entries contents file s l : List ℕ) (w : Walk) (k : ℕ) (t : Admission) (r : Refusal) where
   pub matches-refused : r ≡ judgeOf headers entries (length contents) (length file) → (r .number ≡ 0 → ⊥) → t ≡ Refused r

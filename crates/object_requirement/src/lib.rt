@@ -159,12 +159,18 @@ fn has_global_symbol(
     false
 }
 
-// Was the member offered by an entry of this walk's index, and are that index and its rows lent?
+// Are the walk's index and its rows lent, and has it that entry? After "done" too: the names required of a member stay in the rows.
 fn is_offered(w: Walk, index: &[u8], cells: &[u64], entry: usize) -> bool
     ensures { λ r. ⌜ r ≡ offeredIn (now (index .entry)) (now (cells .entry)) w entry ⌝ }
 {
+    if index.len() < w.length {
+        return false;
+    }
+    if cells.len() / 8 < w.entries {
+        return false;
+    }
     if entry < w.entries {
-        return archive_walk::fits(w, index, cells);
+        return true;
     }
     false
 }
@@ -183,7 +189,7 @@ pub fn matches(
 ) -> Admission
     ensures { λ r. ⌜ r ≡ matchesOf (now (headers .entry)) (now (entries .entry)) (now (contents .entry)) (now (file .entry)) (now (index .entry)) (now (cells .entry)) w entry ⌝ }
 {
-    let judged = elf_object::judge(headers, entries, contents.len(), file.len());
+    let judged = object_range::judge(headers, entries, contents.len(), file.len());
     if judged.number != 0 {
         return Admission::Refused { refusal: judged };
     }

@@ -21,7 +21,7 @@ pub fn next(
     ensures { λ r. ⌜ stepMoved (now (cells .exit)) (record { walk = now (walk .exit); offer = r }) ≡ nextOf (now (index .entry)) (now (cells .entry)) (now (walk .entry)) (tableOf l (now (bytes .entry)) (now (names .entry)) (now (symbols .entry))) ⌝ }
 {
     let w = *walk;
-    let m = archive_walk::next(w, index, cells, l, bytes, names, symbols);
+    let m = archive_pass::next(w, index, cells, l, bytes, names, symbols);
     *walk = m.walk;
     m.offer
 }

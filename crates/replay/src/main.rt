@@ -8,17 +8,19 @@ use object_requirement::Admission;
 use replay_archive::Archive;
 use replay_changes::Changed;
 use replay_lend::Lend;
+use replay_load::Library;
 use replay_object::Object;
 use replay_tally::Tally;
 use symbols::Symbols;
 use text_lines::Lines;
 use text_lines::Taken;
 
-// Library: is what was announced last a shared object?
+// Shared: is what was announced last a shared object?
 struct State {
     table: Symbols,
     object: Object,
-    library: bool,
+    library: Library,
+    shared: bool,
     archive: Archive,
     walk: Walk,
     lend: Lend,
@@ -37,38 +39,33 @@ struct Passing {
     last: bool,
 }
 
-// Taken: the line in the buffer that comes next; More before the first.
 struct Replay {
     state: State,
     tally: Tally,
     passing: Passing,
+}
+
+// A replay, what of the input was read, and the line that was read last; going unless there was none.
+struct Reading {
+    replay: Replay,
     lines: Lines,
     taken: Taken,
     going: bool,
 }
 
-// Where an archive's index begins, behind the bytes of an object.
-const INDEX: usize = 16384;
+// Where the bytes of a library begin, behind those of an object, and where an archive's index does, behind both.
+const LIBRARY: usize = 16384;
+
+const INDEX: usize = 24576;
+
+// Where a walk's cells begin, behind those of an object and of a library.
+const WALK: usize = 8512;
 
 // ---- states
 
 fn with_table(s: State, table: Symbols) -> State {
     let object = s.object;
-    let archive = s.archive;
-    let walk = s.walk;
-    let lend = s.lend;
-    State {
-        table: table,
-        object: object,
-        library: s.library,
-        archive: archive,
-        walk: walk,
-        lend: lend,
-    }
-}
-
-fn with_object(s: State, object: Object, library: bool) -> State {
-    let table = s.table;
+    let library = s.library;
     let archive = s.archive;
     let walk = s.walk;
     let lend = s.lend;
@@ -76,6 +73,41 @@ fn with_object(s: State, object: Object, library: bool) -> State {
         table: table,
         object: object,
         library: library,
+        shared: s.shared,
+        archive: archive,
+        walk: walk,
+        lend: lend,
+    }
+}
+
+fn with_object(s: State, object: Object) -> State {
+    let table = s.table;
+    let library = s.library;
+    let archive = s.archive;
+    let walk = s.walk;
+    let lend = s.lend;
+    State {
+        table: table,
+        object: object,
+        library: library,
+        shared: false,
+        archive: archive,
+        walk: walk,
+        lend: lend,
+    }
+}
+
+fn with_library(s: State, library: Library) -> State {
+    let table = s.table;
+    let object = s.object;
+    let archive = s.archive;
+    let walk = s.walk;
+    let lend = s.lend;
+    State {
+        table: table,
+        object: object,
+        library: library,
+        shared: true,
         archive: archive,
         walk: walk,
         lend: lend,
@@ -85,11 +117,13 @@ fn with_object(s: State, object: Object, library: bool) -> State {
 fn with_archive(s: State, archive: Archive, walk: Walk) -> State {
     let table = s.table;
     let object = s.object;
+    let library = s.library;
     let lend = s.lend;
     State {
         table: table,
         object: object,
-        library: s.library,
+        library: library,
+        shared: s.shared,
         archive: archive,
         walk: walk,
         lend: lend,
@@ -99,12 +133,14 @@ fn with_archive(s: State, archive: Archive, walk: Walk) -> State {
 fn with_lend(s: State, lend: Lend) -> State {
     let table = s.table;
     let object = s.object;
+    let library = s.library;
     let archive = s.archive;
     let walk = s.walk;
     State {
         table: table,
         object: object,
-        library: s.library,
+        library: library,
+        shared: s.shared,
         archive: archive,
         walk: walk,
         lend: lend,
@@ -136,15 +172,10 @@ fn is_unoffered(a: Archive, line: &[u8]) -> bool {
     false
 }
 
-// The class of an operation (replay_class) as things stand: a shared object's symbols aren't replayed, nor calls on a link after one that wasn't.
+// The class of an operation (replay_class) as things stand: calls on a link after one that wasn't replayed aren't either.
 fn class_in(s: State, p: Passing, line: &[u8]) -> u64 {
     let k = replay_class::class(line);
     if k == 1 {
-        if s.library {
-            if replay_words::is(line, 0, b"symbol") {
-                return 0;
-            }
-        }
         return 1;
     }
     if p.link {
@@ -173,19 +204,6 @@ fn line_class(r: Replay, line: &[u8]) -> u64 {
 
 // ---- the tally
 
-fn tallied(r: Replay, state: State, tally: Tally, passing: Passing) -> Replay {
-    let lines = r.lines;
-    let taken = r.taken;
-    Replay {
-        state: state,
-        tally: tally,
-        passing: passing,
-        lines: lines,
-        taken: taken,
-        going: true,
-    }
-}
-
 // Before an operation: the answers of the last one were compared.
 fn settled(r: Replay, out: &[u8], line: &[u8]) -> Tally {
     let t = replay_tally::settle(r.tally, out);
@@ -212,15 +230,12 @@ fn answered(r: Replay, t: Tally, o: Ran, line: &[u8]) -> Replay {
         link: link_passed(p, line),
         last: false,
     };
-    tallied(r, state, replay_tally::answered(t, o.to), passing)
-}
-
-fn library_after(s: State, line: &[u8]) -> State {
-    let object = s.object;
-    if replay_words::is(line, 0, b"library") {
-        return with_object(s, object, true);
+    let tally = replay_tally::answered(t, o.to);
+    Replay {
+        state: state,
+        tally: tally,
+        passing: passing,
     }
-    s
 }
 
 fn passing_after(p: Passing, line: &[u8]) -> Passing {
@@ -240,9 +255,14 @@ fn passing_after(p: Passing, line: &[u8]) -> Passing {
 }
 
 fn passed_over(r: Replay, out: &[u8], line: &[u8]) -> Replay {
-    let s = library_after(r.state, line);
+    let state = r.state;
     let p = passing_after(r.passing, line);
-    tallied(r, s, settled(r, out, line), p)
+    let t = settled(r, out, line);
+    Replay {
+        state: state,
+        tally: t,
+        passing: p,
+    }
 }
 
 fn compared(r: Replay, out: &[u8], line: &[u8]) -> Replay {
@@ -252,7 +272,11 @@ fn compared(r: Replay, out: &[u8], line: &[u8]) -> Replay {
         return r;
     }
     let t = replay_tally::compare(r.tally, out, replay_words::expected(line));
-    tallied(r, state, t, passing)
+    Replay {
+        state: state,
+        tally: t,
+        passing: passing,
+    }
 }
 
 fn without_call(r: Replay, class: u64, out: &[u8], line: &[u8]) -> Replay {
@@ -282,15 +306,61 @@ fn tell_archive(s: State, file: &mut [u8], line: &[u8]) -> State {
 fn tell_object(s: State, rows: &mut [u64], file: &mut [u8], line: &[u8]) -> State {
     let o = s.object;
     if replay_words::is(line, 0, b"section") {
-        return with_object(s, replay_object::section(rows, file, o, line), false);
+        return with_object(s, replay_object::section(rows, file, o, line));
     }
     if replay_words::is(line, 0, b"symbol") {
-        return with_object(s, replay_object::symbol(rows, o, line), false);
+        return with_object(s, replay_object::symbol(rows, o, line));
     }
     if replay_words::is(line, 0, b"object") {
-        return with_object(s, replay_object::announce(line), false);
+        return with_object(s, replay_object::announce(line));
     }
     tell_archive(s, file, line)
+}
+
+// Library lines.
+fn tell_lent(s: State, rows: &mut [u64], file: &mut [u8], line: &[u8]) -> State {
+    let l = s.library;
+    if replay_words::is(line, 0, b"library") {
+        return with_library(s, replay_load::announce(file, line));
+    }
+    if replay_words::is(line, 0, b"strings") {
+        return with_library(s, replay_load::strings(file, l, line));
+    }
+    if replay_words::is(line, 0, b"needs") {
+        return with_library(s, replay_load::need(rows, file, l, line));
+    }
+    with_library(s, replay_load::symbol(rows, l, line))
+}
+
+// Its cells lie behind the object's, its bytes too.
+fn tell_library(s: State, rows: &mut [u64], file: &mut [u8], line: &[u8]) -> State {
+    if rows.len() < WALK {
+        return s;
+    }
+    if file.len() < INDEX {
+        return s;
+    }
+    tell_lent(
+        s,
+        &mut rows[replay_object::CELLS..WALK],
+        &mut file[LIBRARY..INDEX],
+        line,
+    )
+}
+
+// Is it a line of a shared object?
+fn is_shared(s: State, line: &[u8]) -> bool {
+    if replay_words::is(line, 0, b"symbol") {
+        return s.shared;
+    }
+    replay_class::is_library(line)
+}
+
+fn tell_input(s: State, rows: &mut [u64], file: &mut [u8], line: &[u8]) -> State {
+    if is_shared(s, line) {
+        return tell_library(s, rows, file, line);
+    }
+    tell_object(s, rows, file, line)
 }
 
 fn tell(s: State, rows: &mut [u64], file: &mut [u8], line: &[u8]) -> State {
@@ -304,7 +374,7 @@ fn tell(s: State, rows: &mut [u64], file: &mut [u8], line: &[u8]) -> State {
     if replay_words::is(line, 0, b"require") {
         return with_archive(s, replay_archive::unoffered(s.archive), s.walk);
     }
-    tell_object(s, rows, file, line)
+    tell_input(s, rows, file, line)
 }
 
 fn told(r: Replay, out: &[u8], rows: &mut [u64], file: &mut [u8], line: &[u8]) -> Replay {
@@ -356,6 +426,7 @@ fn change(
     changed(r, out, c, s, line)
 }
 
+// A merge or a load.
 fn merge(
     r: Replay,
     out: &mut [u8],
@@ -384,6 +455,7 @@ fn merge(
         ids,
         rows,
         file,
+        line,
     );
     changed(r, out, c, s, line)
 }
@@ -400,10 +472,28 @@ fn merged(
     ids: &mut [u64],
     rows: &[u64],
     file: &[u8],
+    line: &[u8],
 ) -> Changed {
     let table = s.table;
-    let object = s.object;
     let lend = s.lend;
+    if replay_words::is(line, 0, b"load") {
+        let library = s.library;
+        return replay_load::load(
+            table.link,
+            lend,
+            library,
+            bytes,
+            names,
+            symbols,
+            sections,
+            inputs,
+            lists,
+            ids,
+            cells::part_of(rows, replay_object::CELLS, replay_load::CELLS),
+            byte_slices::part_of(file, LIBRARY, INDEX - LIBRARY),
+        );
+    }
+    let object = s.object;
     replay_merge::merge(
         table.link,
         lend,
@@ -456,7 +546,7 @@ fn collect(
 
 fn put_begun(out: &mut [u8], begun: Begun) -> usize {
     match begun {
-        Begun::Ready { entries: _ } => text_lines::put(out, 0, b"started"),
+        Begun::Ready { entries: _ } => text_out::put(out, 0, b"started"),
         Begun::Refused { refusal } => replay_text::put_refusal(out, 0, refusal),
     }
 }
@@ -478,7 +568,7 @@ fn next(
     index: &[u8],
 ) -> Ran {
     let table = s.table;
-    let o = archive_walk::next(s.walk, index, cells, table.link, bytes, names, symbols);
+    let o = archive_pass::next(s.walk, index, cells, table.link, bytes, names, symbols);
     moved(s, out, cells, index, o)
 }
 
@@ -492,8 +582,8 @@ fn moved(s: State, out: &mut [u8], cells: &[u64], index: &[u8], o: Moved) -> Ran
 
 fn put_admission(out: &mut [u8], a: Admission) -> usize {
     match a {
-        Admission::Yes => text_lines::put(out, 0, b"yes"),
-        Admission::No => text_lines::put(out, 0, b"no"),
+        Admission::Yes => text_out::put(out, 0, b"yes"),
+        Admission::No => text_out::put(out, 0, b"no"),
         Admission::Refused { refusal } => replay_text::put_refusal(out, 0, refusal),
     }
 }
@@ -502,7 +592,7 @@ fn put_admission(out: &mut [u8], a: Admission) -> usize {
 fn admit(s: State, out: &mut [u8], rows: &[u64], file: &[u8], index: &[u8]) -> Ran {
     let object = s.object;
     let archive = s.archive;
-    let walked = cells::part_of(rows, replay_object::CELLS, rows.len());
+    let walked = cells::part_of(rows, WALK, rows.len());
     let a = object_requirement::matches(
         replay_object::headers(rows, object),
         replay_object::entries(rows, object),
@@ -523,7 +613,7 @@ fn entry_of(offered: usize) -> usize {
     offered - 1
 }
 
-// The walk's cells lie behind the object's.
+// The walk's cells lie behind the object's and the library's.
 fn walk(
     s: State,
     out: &mut [u8],
@@ -534,26 +624,18 @@ fn walk(
     file: &[u8],
     line: &[u8],
 ) -> Ran {
-    if rows.len() < replay_object::CELLS {
+    if rows.len() < WALK {
         return after(s, 0);
     }
     let archive = s.archive;
     let index = replay_archive::index(file, INDEX, archive);
     if replay_words::is(line, 0, b"start") {
-        return start(s, out, &mut rows[replay_object::CELLS..], index);
+        return start(s, out, &mut rows[WALK..], index);
     }
     if replay_words::is(line, 0, b"admit") {
         return admit(s, out, rows, file, index);
     }
-    next(
-        s,
-        out,
-        bytes,
-        names,
-        symbols,
-        &mut rows[replay_object::CELLS..],
-        index,
-    )
+    next(s, out, bytes, names, symbols, &mut rows[WALK..], index)
 }
 
 // ---- calls that write their answers themselves
@@ -685,6 +767,58 @@ fn called(
 
 // ---- the list
 
+// A call, by its class.
+fn act(
+    r: Replay,
+    class: u64,
+    out: &mut [u8],
+    bytes: &mut [u8],
+    names: &mut [u64],
+    symbols: &mut [u64],
+    sections: &mut [u64],
+    inputs: &mut [u64],
+    lists: &mut [u64],
+    work: &mut [u64],
+    ids: &mut [u64],
+    rows: &mut [u64],
+    file: &[u8],
+    line: &[u8],
+) -> Replay {
+    match class {
+        2 => change(r, out, bytes, names, symbols, sections, rows, line),
+        3 => merge(
+            r,
+            out,
+            bytes,
+            names,
+            symbols,
+            sections,
+            inputs,
+            lists,
+            work,
+            ids,
+            rows,
+            file,
+            line,
+        ),
+        _ => called(
+            r,
+            class,
+            out,
+            bytes,
+            names,
+            symbols,
+            sections,
+            inputs,
+            lists,
+            work,
+            rows,
+            file,
+            line,
+        ),
+    }
+}
+
 // One line: what it is decides what it is lent.
 fn take(
     r: Replay,
@@ -705,9 +839,9 @@ fn take(
     match k {
         0 | 8 | 9 => without_call(r, k, out, line),
         1 => told(r, out, rows, file, line),
-        2 => change(r, out, bytes, names, symbols, sections, rows, line),
-        3 => merge(
+        _ => act(
             r,
+            k,
             out,
             bytes,
             names,
@@ -721,27 +855,11 @@ fn take(
             file,
             line,
         ),
-        _ => called(
-            r,
-            k,
-            out,
-            bytes,
-            names,
-            symbols,
-            sections,
-            inputs,
-            lists,
-            work,
-            rows,
-            file,
-            line,
-        ),
     }
 }
 
 // The line that was taken, where one was.
-fn line_of(r: Replay, buf: &[u8]) -> &[u8] {
-    let taken = r.taken;
+fn line_of(taken: Taken, buf: &[u8]) -> &[u8] {
     match taken {
         Taken::Line { from, len } => byte_slices::part_of(buf, from, len),
         Taken::Long => byte_slices::part_of(buf, 0, 0),
@@ -774,16 +892,21 @@ fn goes_on(taken: Taken) -> bool {
     }
 }
 
-fn read_on(r: Replay, buf: &mut [u8]) -> Replay {
-    let step = text_lines::next_line(buf, r.lines);
+// The next line, counted.
+fn read_on(g: Reading, buf: &mut [u8]) -> Reading {
+    let step = text_lines::next_line(buf, g.lines);
+    let r = g.replay;
     let state = r.state;
     let passing = r.passing;
     let lines = step.lines;
     let taken = step.taken;
-    Replay {
+    let replay = Replay {
         state: state,
         tally: tally_on(r.tally, taken),
         passing: passing,
+    };
+    Reading {
+        replay: replay,
         lines: lines,
         taken: taken,
         going: goes_on(taken),
@@ -811,7 +934,8 @@ fn first_state() -> State {
     State {
         table: no_link(),
         object: replay_object::empty(),
-        library: false,
+        library: replay_load::empty(),
+        shared: false,
         archive: replay_archive::none(),
         walk: no_walk(),
         lend: replay_lend::all(),
@@ -827,13 +951,20 @@ fn first() -> Replay {
             link: false,
             last: false,
         },
+    }
+}
+
+fn unread() -> Reading {
+    Reading {
+        replay: first(),
         lines: text_lines::new(),
         taken: Taken::More,
         going: true,
     }
 }
 
-fn print(r: Replay, out: &[u8]) {
+fn print(g: Reading, out: &[u8]) {
+    let r = g.replay;
     let p = r.passing;
     replay_tally::print(replay_tally::settle(r.tally, out));
     io::write_all(1, b"passed over ");
@@ -842,7 +973,7 @@ fn print(r: Replay, out: &[u8]) {
 }
 
 fn turn(
-    r: Replay,
+    g: Reading,
     buf: &mut [u8],
     out: &mut [u8],
     bytes: &mut [u8],
@@ -855,10 +986,13 @@ fn turn(
     ids: &mut [u64],
     rows: &mut [u64],
     file: &mut [u8],
-) -> Replay {
-    let line = line_of(r, buf);
-    let next = take(
-        r,
+) -> Reading {
+    let next = read_on(g, buf);
+    let taken = next.taken;
+    let line = line_of(taken, buf);
+    let before = next.replay;
+    let r = take(
+        before,
         out,
         bytes,
         names,
@@ -872,12 +1006,18 @@ fn turn(
         file,
         line,
     );
-    read_on(next, buf)
+    let lines = next.lines;
+    Reading {
+        replay: r,
+        lines: lines,
+        taken: taken,
+        going: next.going,
+    }
 }
 
 // Nothing says that the input ends, so turns are counted down.
 fn turns(
-    r: Replay,
+    g: Reading,
     buf: &mut [u8],
     out: &mut [u8],
     bytes: &mut [u8],
@@ -891,7 +1031,7 @@ fn turns(
     rows: &mut [u64],
     file: &mut [u8],
 ) {
-    let mut now = r;
+    let mut now = g;
     let mut left: u64 = 0xffff_ffff_ffff_ffff;
     while 0 < left {
         if now.going {
@@ -928,11 +1068,11 @@ fn main() {
     let mut inputs = [0u64; 512];
     let mut lists = [0u64; 4096];
     let mut work = [0u64; 4096];
-    let mut ids = [0u64; 512];
-    let mut rows = [0u64; 8256];
-    let mut file = [0u8; 32768];
+    let mut ids = [0u64; 513];
+    let mut rows = [0u64; 10560];
+    let mut file = [0u8; 40960];
     turns(
-        first(),
+        unread(),
         &mut buf,
         &mut out,
         &mut bytes,

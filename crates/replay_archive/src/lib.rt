@@ -41,7 +41,7 @@ pub fn after_offer(a: Archive, offer: Offer) -> Archive {
             entry,
             passes: _,
         } => offered_by(a, symbol::next(entry)),
-        Offer::Done { passes: _ } => offered_by(a, 0),
+        Offer::Done { passes: _ } => a,
         Offer::Refused { refusal: _ } => offered_by(a, 0),
     }
 }
@@ -180,11 +180,11 @@ fn required(index: &[u8], rows: &[u64], entries: usize, r: u64) -> usize {
 }
 
 fn put_name(out: &mut [u8], n: usize, x: &[u8]) -> usize {
-    let k = text_lines::put(out, n, b" ");
+    let k = text_out::put(out, n, b" ");
     if x.len() == 0 {
-        return text_lines::put(out, k, b"-");
+        return text_out::put(out, k, b"-");
     }
-    text_lines::put(out, k, x)
+    text_out::put(out, k, x)
 }
 
 fn put_required(

@@ -16,6 +16,8 @@ pub enum Reply {
     Id { id: SymbolId },
     Done,
     Merged,
+    Loaded,
+    NotNeeded,
     Refused { refusal: Refusal },
 }
 
@@ -33,7 +35,7 @@ struct Named {
 // ---- adds
 
 fn intern(l: Link, bytes: &mut [u8], names: &mut [u64], x: &[u8]) -> Named {
-    let o = interner::intern(l, bytes, names, x);
+    let o = interner_calls::intern(l, bytes, names, x);
     let after = o.link;
     let answer = o.answer;
     match answer {
@@ -83,7 +85,7 @@ fn add_upcoming(
     conversion: &[u64],
     u: UpcomingSymbol,
 ) -> Changed {
-    added(table.add(names, symbols, sections, conversion, u))
+    added(symbol_add::add(table, names, symbols, sections, conversion, u))
 }
 
 // Under its name, with the name of its file issued too.
@@ -144,7 +146,10 @@ fn done(o: symbols::Outcome, reply: Reply) -> Changed {
 
 fn remove(table: Symbols, symbols: &mut [u64], sections: &mut [u64], line: &[u8]) -> Changed {
     let id = SymbolId(replay_words::number(line, 1) as usize);
-    done(table.remove(symbols, sections, id), Reply::Done)
+    done(
+        symbol_remove::remove(table, symbols, sections, id),
+        Reply::Done,
+    )
 }
 
 fn new_link(
@@ -212,8 +217,10 @@ pub fn put_reply(out: &mut [u8], r: Reply) -> usize {
     match r {
         Reply::Silent => 0,
         Reply::Id { id } => replay_text::put_numbered(out, 0, b"id ", id.0 as u64),
-        Reply::Done => text_lines::put(out, 0, b"ok"),
-        Reply::Merged => text_lines::put(out, 0, b"merged"),
+        Reply::Done => text_out::put(out, 0, b"ok"),
+        Reply::Merged => text_out::put(out, 0, b"merged"),
+        Reply::Loaded => text_out::put(out, 0, b"loaded"),
+        Reply::NotNeeded => text_out::put(out, 0, b"notneeded"),
         Reply::Refused { refusal } => replay_text::put_refusal(out, 0, refusal),
     }
 }
@@ -229,16 +236,16 @@ fn put_found(out: &mut [u8], bytes: &[u8], names: &[u64], f: Found) -> usize {
 
 fn put_section_symbol(out: &mut [u8], s: SectionSymbol) -> usize {
     match s {
-        SectionSymbol::None => text_lines::put(out, 0, b"none"),
+        SectionSymbol::None => text_out::put(out, 0, b"none"),
         SectionSymbol::Symbol { id } => replay_text::put_numbered(out, 0, b"id ", id.0 as u64),
     }
 }
 
 fn put_broken(out: &mut [u8], n: usize, broken: bool) -> usize {
     if broken {
-        return text_lines::put(out, n, b" 1");
+        return text_out::put(out, n, b" 1");
     }
-    text_lines::put(out, n, b" 0")
+    text_out::put(out, n, b" 0")
 }
 
 // `counts NAMES BYTES SYMBOLS SECTIONS INPUTS LISTS BROKEN`
@@ -267,15 +274,18 @@ pub fn look(
     }
     if replay_words::is(line, 0, b"get") {
         let id = SymbolId(replay_words::number(line, 1) as usize);
-        let found = table.get(symbols, id);
+        let found = symbol_lookup::get(table, symbols, id);
         return put_found(out, bytes, names, found);
     }
     if replay_words::is(line, 0, b"global") {
         let l = table.link;
         let id = interner::find(bytes, names, l.names, replay_words::name_at(line, 1));
-        let found = table.get_global(names, symbols, Interned(id));
+        let found = symbol_lookup::get_global(table, names, symbols, Interned(id));
         return put_found(out, bytes, names, found);
     }
     let section = SectionId(replay_words::number(line, 1) as usize);
-    put_section_symbol(out, table.section_symbol_id(sections, section))
+    put_section_symbol(
+        out,
+        symbol_lookup::section_symbol_id(table, sections, section),
+    )
 }

@@ -1,8 +1,11 @@
 // What an operation of a list is, by its first word.
 
-// 1 for a line that is told and makes no call, 2 a direct change, 3 a merge, 4 a collection, 5 a walk, 6 a lookup, 7 a dump; 0 isn't replayed.
+// 1 for a line that is told and makes no call, 2 a direct change, 3 a merge or a load, 4 a collection, 5 a walk, 6 a lookup, 7 a dump; 0 isn't replayed.
 pub fn class(line: &[u8]) -> u64 {
     if replay_words::is(line, 0, b"merge") {
+        return 3;
+    }
+    if replay_words::is(line, 0, b"load") {
         return 3;
     }
     if replay_words::is(line, 0, b"collect") {
@@ -38,7 +41,21 @@ fn told_class(line: &[u8]) -> u64 {
     if replay_words::is(line, 0, b"lend") {
         return 1;
     }
+    if is_library(line) {
+        return 1;
+    }
     archive_class(line)
+}
+
+// Does a line tell of a shared object, its symbols apart?
+pub fn is_library(line: &[u8]) -> bool {
+    if replay_words::is(line, 0, b"library") {
+        return true;
+    }
+    if replay_words::is(line, 0, b"strings") {
+        return true;
+    }
+    replay_words::is(line, 0, b"needs")
 }
 
 fn archive_class(line: &[u8]) -> u64 {
@@ -97,18 +114,6 @@ fn looked_class(line: &[u8]) -> u64 {
 
 // Does an operation that isn't replayed leave the link?
 pub fn leaves(line: &[u8]) -> bool {
-    if replay_words::is(line, 0, b"library") {
-        return true;
-    }
-    if replay_words::is(line, 0, b"strings") {
-        return true;
-    }
-    if replay_words::is(line, 0, b"needs") {
-        return true;
-    }
-    if replay_words::is(line, 0, b"symbol") {
-        return true;
-    }
     if replay_words::is(line, 0, b"member") {
         return true;
     }

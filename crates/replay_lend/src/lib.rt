@@ -1,6 +1,8 @@
 // How much of each store calls are lent: rows, bytes or cells. `lend SYMBOLS SECTIONS INPUTS NAMES BYTES LISTS WORK IDS` tells it; a word that is
 // no number lends all.
+ghost use mathlib.Core.Path.{_≡_};
 ghost use Prim.Native.Nat.{_≤_};
+ghost use Rattle.replay_lend.specs.Part.{cellsOf, rowsOf, wideRowsOf};
 
 pub struct Lend {
     pub symbols: usize,
@@ -33,6 +35,7 @@ pub fn all() -> Lend {
 // Of a slice of that length, the cells that are lent.
 pub fn cells(count: usize, len: usize) -> usize
     ensures { λ r. ⌜ r ≤ len ⌝ }
+    ensures exact { λ r. ⌜ r ≡ cellsOf count len ⌝ }
 {
     if count < len {
         return count;
@@ -43,6 +46,7 @@ pub fn cells(count: usize, len: usize) -> usize
 // The same for rows of 8 cells.
 pub fn rows(count: usize, len: usize) -> usize
     ensures { λ r. ⌜ r ≤ len ⌝ }
+    ensures exact { λ r. ⌜ r ≡ rowsOf count len ⌝ }
 {
     if count < len / 8 {
         return count * 8;
@@ -53,6 +57,7 @@ pub fn rows(count: usize, len: usize) -> usize
 // The same for rows of 8 cells with a cell more for each behind them.
 pub fn wide_rows(count: usize, len: usize) -> usize
     ensures { λ r. ⌜ r ≤ len ⌝ }
+    ensures exact { λ r. ⌜ r ≡ wideRowsOf count len ⌝ }
 {
     if count < len / 9 {
         return count * 9;

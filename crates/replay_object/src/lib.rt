@@ -131,7 +131,7 @@ fn count(line: &[u8], kind: u64, bytes: usize) -> u64 {
 
 fn put_header(cells: &mut [u64], o: Object, line: &[u8], bytes: usize) {
     let kind = replay_words::number(line, 1);
-    cells::row_store(
+    cell_writes::row_store(
         cells,
         o.headers,
         kind,
@@ -169,7 +169,7 @@ pub fn section(cells: &mut [u64], file: &mut [u8], o: Object, line: &[u8]) -> Ob
 
 // `symbol NAMEOFFSET BINDING TYPE VISIBILITY SECTION VALUE`
 pub fn symbol(cells: &mut [u64], o: Object, line: &[u8]) -> Object {
-    cells::row_store(
+    cell_writes::row_store(
         cells,
         std::num::wrapping_add_usize(ENTRIES / 8, o.entries),
         replay_words::number(line, 1),

@@ -18,13 +18,13 @@ fn put_row(
     symbols: &[u64],
     i: usize,
 ) -> usize {
-    let found = table.get(symbols, SymbolId(i));
-    let k = text_lines::put(out, n, b"\n");
+    let found = symbol_lookup::get(table, symbols, SymbolId(i));
+    let k = text_out::put(out, n, b"\n");
     match found {
         Found::Row { symbol } => replay_text::put_symbol(out, k, bytes, names, symbol),
         Found::Refused { refusal: _ } => {
             let m = replay_text::put_numbered(out, k, b"symbol ", i as u64);
-            text_lines::put(out, m, b" removed")
+            text_out::put(out, m, b" removed")
         }
     }
 }
@@ -50,7 +50,7 @@ fn put_rows(
 
 // The symbol of a section, 0 for none.
 fn symbol_of(table: Symbols, sections: &[u64], section: usize) -> usize {
-    let s = table.section_symbol_id(sections, SectionId(section));
+    let s = symbol_lookup::section_symbol_id(table, sections, SectionId(section));
     match s {
         SectionSymbol::None => 0,
         SectionSymbol::Symbol { id } => id.0,
@@ -131,7 +131,7 @@ fn put_global(
     if id == 0 {
         return n;
     }
-    let k = text_lines::put(out, n, b"\nglobal ");
+    let k = text_out::put(out, n, b"\nglobal ");
     let name = Interned(cells::row_get(symbols, id, 1) as usize);
     let m = replay_text::put_name(out, k, bytes, names, name);
     replay_text::put_numbered(out, m, b" ", id as u64)
@@ -166,7 +166,7 @@ pub fn put_section_name(
     sections: &[u64],
     i: usize,
 ) -> usize {
-    let k = text_lines::put(out, n, b" ");
+    let k = text_out::put(out, n, b" ");
     let name = Interned(cells::row_get(sections, i, 1) as usize);
     replay_text::put_name(out, k, bytes, names, name)
 }
@@ -205,13 +205,13 @@ fn put_section(
     let k = replay_text::put_numbered(out, n, b"\nsection ", i as u64);
     let state = cells::row_get(sections, i, 0);
     if state == 1 {
-        return text_lines::put(out, k, b" reserved");
+        return text_out::put(out, k, b" reserved");
     }
     if state == 3 {
-        let d = text_lines::put(out, k, b" dropped");
+        let d = text_out::put(out, k, b" dropped");
         return put_section_name(out, d, bytes, names, sections, i);
     }
-    let b = text_lines::put(out, k, b" built");
+    let b = text_out::put(out, k, b" built");
     let named = put_section_name(out, b, bytes, names, sections, i);
     put_built(out, named, sections, lists, i)
 }
@@ -311,12 +311,12 @@ fn signatures(names: &[u64], count: usize) -> usize {
 }
 
 fn put_signature(out: &mut [u8], n: usize, bytes: &[u8], names: &[u64], name: usize) -> usize {
-    let k = text_lines::put(out, n, b"\ngroup ");
+    let k = text_out::put(out, n, b"\ngroup ");
     let x = name_of(bytes, names, name);
     if x.len() == 0 {
-        return text_lines::put(out, k, b"-");
+        return text_out::put(out, k, b"-");
     }
-    text_lines::put(out, k, x)
+    text_out::put(out, k, x)
 }
 
 fn put_groups(out: &mut [u8], from: usize, bytes: &[u8], names: &[u64], count: usize) -> usize {
@@ -334,18 +334,88 @@ fn put_groups(out: &mut [u8], from: usize, bytes: &[u8], names: &[u64], count: u
 
 // ---- inputs
 
-fn put_input(out: &mut [u8], n: usize, inputs: &[u64], i: usize) -> usize {
-    if cells::row_get(inputs, i, 0) == 1 {
-        return text_lines::put(out, n, b"\ninput object");
-    }
-    text_lines::put(out, n, b"\ninput of a kind that isn't replayed here")
+fn put_listed(
+    out: &mut [u8],
+    n: usize,
+    bytes: &[u8],
+    names: &[u64],
+    lists: &[u64],
+    k: usize,
+) -> usize {
+    let m = text_out::put(out, n, b" ");
+    let name = Interned(cells::get(lists, k) as usize);
+    replay_text::put_name(out, m, bytes, names, name)
 }
 
-fn put_inputs(out: &mut [u8], from: usize, inputs: &[u64], count: usize) -> usize {
+// A count and the names of that many cells of the lists.
+fn put_names(
+    out: &mut [u8],
+    from: usize,
+    bytes: &[u8],
+    names: &[u64],
+    lists: &[u64],
+    first: usize,
+    count: usize,
+) -> usize {
+    let mut n = replay_text::put_numbered(out, from, b" ", count as u64);
+    let mut j = 0;
+    while j < count {
+        let k = std::num::wrapping_add_usize(first, j);
+        n = put_listed(out, n, bytes, names, lists, k);
+        j += 1;
+    }
+    n
+}
+
+// Its name, its dependencies, the names that it records as undefined.
+fn put_library(
+    out: &mut [u8],
+    n: usize,
+    bytes: &[u8],
+    names: &[u64],
+    inputs: &[u64],
+    lists: &[u64],
+    i: usize,
+) -> usize {
+    let k = text_out::put(out, n, b"\ninput library ");
+    let name = Interned(cells::row_get(inputs, i, 1) as usize);
+    let named = replay_text::put_name(out, k, bytes, names, name);
+    let first = cells::row_get(inputs, i, 2) as usize;
+    let count = cells::row_get(inputs, i, 3) as usize;
+    let needed = put_names(out, named, bytes, names, lists, first, count);
+    let from = cells::row_get(inputs, i, 4) as usize;
+    let undefined = cells::row_get(inputs, i, 5) as usize;
+    put_names(out, needed, bytes, names, lists, from, undefined)
+}
+
+fn put_input(
+    out: &mut [u8],
+    n: usize,
+    bytes: &[u8],
+    names: &[u64],
+    inputs: &[u64],
+    lists: &[u64],
+    i: usize,
+) -> usize {
+    if cells::row_get(inputs, i, 0) == 1 {
+        return text_out::put(out, n, b"\ninput object");
+    }
+    put_library(out, n, bytes, names, inputs, lists, i)
+}
+
+fn put_inputs(
+    out: &mut [u8],
+    from: usize,
+    bytes: &[u8],
+    names: &[u64],
+    inputs: &[u64],
+    lists: &[u64],
+    count: usize,
+) -> usize {
     let mut n = replay_text::put_numbered(out, from, b"\ninputs ", count as u64);
     let mut i = 0;
     while i < count {
-        n = put_input(out, n, inputs, i);
+        n = put_input(out, n, bytes, names, inputs, lists, i);
         i += 1;
     }
     n
@@ -380,5 +450,5 @@ pub fn put_dump(
     let named = put_symbols(l, out, bytes, names, symbols, sections);
     let placed = put_sections(out, named, bytes, names, sections, lists, l.sections);
     let grouped = put_groups(out, placed, bytes, names, l.names);
-    put_inputs(out, grouped, inputs, l.inputs)
+    put_inputs(out, grouped, bytes, names, inputs, lists, l.inputs)
 }

@@ -8,8 +8,8 @@ use symbol::SymbolValue;
 use symbol::SymbolVisibility;
 
 pub fn put_numbered(buf: &mut [u8], n: usize, word: &[u8], v: u64) -> usize {
-    let k = text_lines::put(buf, n, word);
-    text_lines::put_decimal(buf, k, v)
+    let k = text_out::put(buf, n, word);
+    text_out::put_decimal(buf, k, v)
 }
 
 pub fn put_refusal(buf: &mut [u8], n: usize, r: Refusal) -> usize {
@@ -20,9 +20,9 @@ pub fn put_refusal(buf: &mut [u8], n: usize, r: Refusal) -> usize {
 pub fn put_name(buf: &mut [u8], n: usize, bytes: &[u8], names: &[u64], id: Interned) -> usize {
     let name = interner::name_of(bytes, names, id.0);
     if name.len() == 0 {
-        return text_lines::put(buf, n, b"-");
+        return text_out::put(buf, n, b"-");
     }
-    text_lines::put(buf, n, name)
+    text_out::put(buf, n, name)
 }
 
 fn put_offset(buf: &mut [u8], n: usize, offset: i64) -> usize {
@@ -35,7 +35,7 @@ fn put_offset(buf: &mut [u8], n: usize, offset: i64) -> usize {
 
 fn put_value(buf: &mut [u8], n: usize, v: SymbolValue) -> usize {
     match v {
-        SymbolValue::Null => text_lines::put(buf, n, b" null"),
+        SymbolValue::Null => text_out::put(buf, n, b" null"),
         SymbolValue::Absolute { value } => put_numbered(buf, n, b" abs ", value),
         SymbolValue::Section { section } => put_numbered(buf, n, b" sec ", section.0 as u64),
         SymbolValue::SectionRelative { section, offset } => {
@@ -46,29 +46,29 @@ fn put_value(buf: &mut [u8], n: usize, v: SymbolValue) -> usize {
             let k = put_numbered(buf, n, b" addr ", section.0 as u64);
             put_numbered(buf, k, b" ", address)
         }
-        SymbolValue::SectionNotLoaded => text_lines::put(buf, n, b" notloaded"),
-        SymbolValue::ExternallyDefined => text_lines::put(buf, n, b" external"),
+        SymbolValue::SectionNotLoaded => text_out::put(buf, n, b" notloaded"),
+        SymbolValue::ExternallyDefined => text_out::put(buf, n, b" external"),
         SymbolValue::Undefined { zero } => {
             if zero {
-                return text_lines::put(buf, n, b" undef 1");
+                return text_out::put(buf, n, b" undef 1");
             }
-            text_lines::put(buf, n, b" undef 0")
+            text_out::put(buf, n, b" undef 0")
         }
     }
 }
 
 fn put_flagged(buf: &mut [u8], n: usize, word: &[u8], flag: bool) -> usize {
-    let k = text_lines::put(buf, n, word);
+    let k = text_out::put(buf, n, word);
     if flag {
-        return text_lines::put(buf, k, b"1");
+        return text_out::put(buf, k, b"1");
     }
-    text_lines::put(buf, k, b"0")
+    text_out::put(buf, k, b"0")
 }
 
 // Class and hidden.
 fn put_visibility(buf: &mut [u8], n: usize, v: SymbolVisibility) -> usize {
     match v {
-        SymbolVisibility::Local => text_lines::put(buf, n, b" local 0"),
+        SymbolVisibility::Local => text_out::put(buf, n, b" local 0"),
         SymbolVisibility::Global { weak, hidden } => {
             if weak {
                 return put_flagged(buf, n, b" weak ", hidden);
@@ -80,18 +80,18 @@ fn put_visibility(buf: &mut [u8], n: usize, v: SymbolVisibility) -> usize {
 
 fn put_type(buf: &mut [u8], n: usize, t: SymbolType) -> usize {
     match t {
-        SymbolType::NoType => text_lines::put(buf, n, b" 0"),
-        SymbolType::Object => text_lines::put(buf, n, b" 1"),
-        SymbolType::Function => text_lines::put(buf, n, b" 2"),
-        SymbolType::Section => text_lines::put(buf, n, b" 3"),
+        SymbolType::NoType => text_out::put(buf, n, b" 0"),
+        SymbolType::Object => text_out::put(buf, n, b" 1"),
+        SymbolType::Function => text_out::put(buf, n, b" 2"),
+        SymbolType::Section => text_out::put(buf, n, b" 3"),
     }
 }
 
 fn put_file(buf: &mut [u8], n: usize, bytes: &[u8], names: &[u64], f: SttFile) -> usize {
     match f {
-        SttFile::None => text_lines::put(buf, n, b" 0 -"),
+        SttFile::None => text_out::put(buf, n, b" 0 -"),
         SttFile::Name { id } => {
-            let k = text_lines::put(buf, n, b" 1 ");
+            let k = text_out::put(buf, n, b" 1 ");
             put_name(buf, k, bytes, names, id)
         }
     }
@@ -108,7 +108,7 @@ fn put_kind(buf: &mut [u8], n: usize, s: Symbol) -> usize {
 pub fn put_symbol(buf: &mut [u8], n: usize, bytes: &[u8], names: &[u64], s: Symbol) -> usize {
     let id = s.id;
     let k = put_numbered(buf, n, b"symbol ", id.0 as u64);
-    let spaced = text_lines::put(buf, k, b" ");
+    let spaced = text_out::put(buf, k, b" ");
     let named = put_name(buf, spaced, bytes, names, s.name);
     let kinded = put_kind(buf, named, s);
     let file = s.file;

@@ -1,5 +1,9 @@
 // Words of an operation of a list, and what they tell: numbers, names, bytes, the symbol that an add adds.
+ghost use mathlib.Core.Path.{_≡_};
+ghost use lib.ListN.{set};
 ghost use Prim.Native.Nat.{_<_};
+ghost use Rattle.replay_words.specs.Words.{wordIs, numberIn, numberAt, nameAt};
+ghost use Rattle.replay_words.specs.Spelled.{letterOf, digitOf, spelledOf, spelled, putBytes};
 use link::Interned;
 use link::SectionId;
 use symbol::SttFile;
@@ -10,12 +14,16 @@ use upcoming_symbol::UpcomingSymbol;
 
 // ---- words
 
-pub fn is(line: &[u8], k: usize, word: &[u8]) -> bool {
+pub fn is(line: &[u8], k: usize, word: &[u8]) -> bool
+    ensures { λ r. ⌜ r ≡ wordIs (now (line .entry)) k (now (word .entry)) ⌝ }
+{
     byte_slices::same_bytes(text_fields::field(line, k), word)
 }
 
 // A word that is no number is one that no list holds.
-pub fn number_in(x: &[u8]) -> u64 {
+pub fn number_in(x: &[u8]) -> u64
+    ensures { λ r. ⌜ r ≡ numberIn (now (x .entry)) ⌝ }
+{
     let m = text_fields::decimal(x);
     match m {
         Number::None => 0xffff_ffff_ffff_ffff,
@@ -23,12 +31,16 @@ pub fn number_in(x: &[u8]) -> u64 {
     }
 }
 
-pub fn number(line: &[u8], k: usize) -> u64 {
+pub fn number(line: &[u8], k: usize) -> u64
+    ensures { λ r. ⌜ r ≡ numberAt (now (line .entry)) k ⌝ }
+{
     number_in(text_fields::field(line, k))
 }
 
 // `-` is the empty name.
-pub fn name_at(line: &[u8], k: usize) -> &[u8] {
+pub fn name_at(line: &[u8], k: usize) -> &[u8]
+    ensures { λ r. ⌜ now r ≡ nameAt (now (line .entry)) k ⌝ }
+{
     let name = text_fields::field(line, k);
     if byte_slices::same_bytes(name, b"-") {
         return byte_slices::part_of(line, 0, 0);
@@ -38,39 +50,57 @@ pub fn name_at(line: &[u8], k: usize) -> &[u8] {
 
 // ---- bytes
 
-// The value of a hexadecimal digit.
-fn digit(b: u8) -> u8
-    ensures { λ r. ⌜ r < 16 ⌝ }
+// The value of a hexadecimal digit above 9; 0 where it is none.
+fn letter(b: u8) -> u8
+    ensures { λ r. ⌜ r ≡ letterOf b ⌝ }
+    ensures small { λ r. ⌜ r < 16 ⌝ }
 {
-    if 48 <= b {
-        if b <= 57 {
-            return b - 48;
-        }
+    if b < 97 {
+        return 0;
     }
-    if 97 <= b {
-        if b <= 102 {
-            return b - 87;
-        }
+    if 102 < b {
+        return 0;
     }
-    0
+    b - 87
+}
+
+fn digit(b: u8) -> u8
+    ensures { λ r. ⌜ r ≡ digitOf b ⌝ }
+    ensures small { λ r. ⌜ r < 16 ⌝ }
+{
+    if b < 48 {
+        return letter(b);
+    }
+    if 57 < b {
+        return letter(b);
+    }
+    b - 48
 }
 
 // The byte that two digits of a word spell.
-fn spelled(word: &[u8], k: usize) -> u8 {
+fn spelled(word: &[u8], k: usize) -> u8
+    ensures { λ r. ⌜ r ≡ spelledOf (now (word .entry)) k ⌝ }
+{
     if k < word.len() / 2 {
-        return digit(word[2 * k]) * 16 + digit(word[2 * k + 1]);
+        let high = digit(word[2 * k]);
+        let low = digit(word[2 * k + 1]);
+        return high * 16 + low;
     }
     0
 }
 
-fn put_byte(to: &mut [u8], i: usize, b: u8) {
+fn put_byte(to: &mut [u8], i: usize, b: u8)
+    ensures { λ _. ⌜ now (to .exit) ≡ set (now (to .entry)) i b ⌝ }
+{
     if i < to.len() {
         to[i] = b;
     }
 }
 
 // The bytes that a word spells, put from a place on; answers how many they are. A lone `-` spells none.
-pub fn put_bytes(to: &mut [u8], at: usize, word: &[u8]) -> usize {
+pub fn put_bytes(to: &mut [u8], at: usize, word: &[u8]) -> usize
+    ensures { λ r. ⌜ spelled (now (to .exit)) r ≡ putBytes (now (to .entry)) at (now (word .entry)) ⌝ }
+{
     let count = word.len() / 2;
     let mut k = 0;
     while k < count {

@@ -2,8 +2,7 @@
 // Marks lie in the work rows of merge_sections, loaded signatures in the names' rows. The object's symbols are the loaded table's entries.
 ghost use mathlib.Core.Path.{_≡_};
 ghost use Rattle.strings.specs.Lookup.{looked};
-ghost use Rattle.section_groups.specs.Group.{objectOf, stateOf, stepOf, shapeOf, signatureOf, repeatedOf, markRefusal, planOf, markGroupOf, markRemovedOf, admitOf, namedOf, groupOf, groupSectionOf, groupsOf};
-ghost use Rattle.section_groups.specs.Filter.{sectionAfter, symbolOk, filterOf};
+ghost use Rattle.section_groups.specs.Group.{objectOf, stateOf, stepOf, shapeOf, signatureOf, repeatedOf, markRefusal, planOf, markGroupOf, markRemovedOf, admitOf, namedOf, groupOf};
 use link::Interned;
 use link::Link;
 use link::Stage;
@@ -82,7 +81,7 @@ fn plan_group(l: Link, bytes: &[u8], names: &[u64], marks: usize, x: &[u8], list
 {
     let id = interner::find(bytes, names, l.names, x);
     let repeated = is_repeated(names, l.names, id);
-    if interner::fits(l, bytes, names, Interned(id), x.len()) {
+    if interner_issue::fits(l, bytes, names, Interned(id), x.len()) {
         return Plan {
             number: mark_refusal(repeated, marks, listed),
             signature: Interned(id),
@@ -127,7 +126,7 @@ fn admit(
     ensures { λ r. ⌜ stateOf (now (bytes .exit)) (now (names .exit)) (now (work .exit)) r ≡ admitOf (stateOf (now (bytes .entry)) (now (names .entry)) (now (work .entry)) l) (now (x .entry)) p n listed ⌝ }
 {
     let id = p.signature;
-    let kept = interner::keep(l, bytes, names, id, x);
+    let kept = interner_issue::keep(l, bytes, names, id, x);
     cells::row_put(names, id.0, 4, 1);
     mark_group(work, n);
     mark_removed(work, p.repeated, listed);
@@ -178,119 +177,4 @@ pub fn take_group(
         return named_group(l, bytes, names, work, x, n, listed);
     }
     link::stopped(l, 7, n as u64)
-}
-
-fn group_section(
-    s: Stage,
-    bytes: &mut [u8],
-    names: &mut [u64],
-    work: &mut [u64],
-    headers: &[u64],
-    entries: &[u64],
-    contents: &[u64],
-    file: &[u8],
-    t: usize,
-    n: usize,
-) -> Stage
-    ensures { λ r. ⌜ stepOf (now (bytes .exit)) (now (names .exit)) (now (work .exit)) r ≡ groupSectionOf (objectOf (now (headers .entry)) (now (entries .entry)) (now (contents .entry)) (now (file .entry)) t) (stepOf (now (bytes .entry)) (now (names .entry)) (now (work .entry)) s) n ⌝ }
-{
-    if elf_object::is_loaded(headers, n, 7) {
-        let l = s.link;
-        return take_group(
-            l,
-            bytes,
-            names,
-            work,
-            headers,
-            entries,
-            contents,
-            file,
-            t,
-            n,
-        );
-    }
-    s
-}
-
-// All groups, ascending, up to the first refusal.
-pub fn add_groups(
-    s: Stage,
-    bytes: &mut [u8],
-    names: &mut [u64],
-    work: &mut [u64],
-    headers: &[u64],
-    entries: &[u64],
-    contents: &[u64],
-    file: &[u8],
-    t: usize,
-) -> Stage
-    ensures { λ r. ⌜ stepOf (now (bytes .exit)) (now (names .exit)) (now (work .exit)) r ≡ groupsOf (objectOf (now (headers .entry)) (now (entries .entry)) (now (contents .entry)) (now (file .entry)) t) (stepOf (now (bytes .entry)) (now (names .entry)) (now (work .entry)) s) ⌝ }
-{
-    let rows = headers.len() / 8;
-    let mut u = s;
-    let mut n = 0;
-    while n < rows {
-        u = group_section(
-            u,
-            bytes,
-            names,
-            work,
-            headers,
-            entries,
-            contents,
-            file,
-            t,
-            n,
-        );
-        let number = u.number;
-        if number != 0 {
-            return u;
-        }
-        n += 1;
-    }
-    u
-}
-
-// ---- the filter
-
-// The section of a symbol after the filter: undefined where it is removed.
-pub fn section_after(work: &[u64], section: u64) -> u64
-    ensures { λ r. ⌜ r ≡ sectionAfter (now (work .entry)) section ⌝ }
-{
-    if section < 0xff00 {
-        if cells::row_get(work, section as usize, 1) == 2 {
-            return 0;
-        }
-    }
-    section
-}
-
-// A local symbol must not lie in a removed section.
-fn symbol_ok(work: &[u64], entries: &[u64], i: usize) -> bool
-    ensures { λ r. ⌜ r ≡ symbolOk (now (work .entry)) (now (entries .entry)) i ⌝ }
-{
-    if cells::row_get(entries, i, 1) != 0 {
-        return true;
-    }
-    let section = cells::row_get(entries, i, 4);
-    if section_after(work, section) == section {
-        return true;
-    }
-    false
-}
-
-// The first local symbol in a removed section; as many as there are where none is.
-pub fn filter_symbol_table(work: &[u64], entries: &[u64]) -> usize
-    ensures { λ r. ⌜ r ≡ filterOf (now (work .entry)) (now (entries .entry)) ⌝ }
-{
-    let rows = entries.len() / 8;
-    let mut i = 0;
-    while i < rows {
-        if symbol_ok(work, entries, i) {
-            i += 1;
-        } else {
-            return i;
-        }
-    }
-    i
 }

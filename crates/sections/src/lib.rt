@@ -32,7 +32,7 @@ pub fn reserve(l: Link, sections: &mut [u64]) -> Link
 {
     if room(l, sections) {
         let id = l.sections;
-        cells::row_store(sections, id, 1, 0, 0, 0, 0, 0, 0, 0);
+        cell_writes::row_store(sections, id, 1, 0, 0, 0, 0, 0, 0, 0);
         return Link {
             names: l.names,
             bytes: l.bytes,
@@ -52,7 +52,7 @@ pub fn build(sections: &mut [u64], id: SectionId, s: Section)
     ensures { λ _. ⌜ now (sections .exit) ≡ builtOf (now (sections .entry)) id s ⌝ }
 {
     let name = s.name;
-    cells::row_store(
+    cell_writes::row_store(
         sections,
         id.0,
         2,

@@ -1,4 +1,4 @@
--- The count of inputs is the same all through a library's stages, until its row is taken.
+-- Of a library's stages none but the last, which takes its row, changes the count of inputs; and none that of sections.
 -- Assumes nothing.
 use Prim.Native.Nat.{ℕ, zero, suc, _+_}
 use mathlib.Core.Path.{_≡_, refl, ap, _∙_}
@@ -18,69 +18,72 @@ use Rattle.symbol.specs.declared.Row.{Row}
 use Rattle.symbol_rows.specs.declared.Decision.{Decision}
 use Rattle.symbol_rows.specs.declared.Decision.the-variants.{Refuse, Nothing, Keep, Append, Replace}
 use Rattle.symbol_rows.specs.Decide.{refusalOf}
-use Rattle.symbol_rows.specs.Apply.{Table, tableOf, appendOf, applyOf}
+use Rattle.symbol_rows.specs.Apply.{Table, tableOf, moreSymbols, appendOf, applyOf}
 use Rattle.elf_object.specs.Rows.{field}
 use Rattle.library_symbols.specs.declared.Definition.{Definition}
-use Rattle.library_lists.specs.Record.{Recorded, recordedOf, recordFits, keepName, recordAs, recordOf, dependencyOf, dependenciesFrom}
+use Rattle.library_lists.specs.Record.{Recorded, recordedOf, listsAt, recordFits, keepName, recordAs, recordOf, dependencyOf, dependenciesFrom}
 use Rattle.library_symbols.specs.Define.{Added, acceptOf, keptOf, commitOf, defineOf}
 use Rattle.library_symbols.specs.Load.{State, namedOf, lookedOf, symbolOf, symbolsFrom}
 
 pub keep-inputs : (s : Store) (id : Interned) (x : List ℕ) → keepOf s id x .link .inputs ≡ s .link .inputs
 keep-inputs s id x = ap (λ (l : Link). l .inputs) (untouched-by-keep s id x .others)
 
-record-inputs : (s : Recorded) (x : List ℕ) (place : ℕ) → recordOf s x place .stage .link .inputs ≡ s .stage .link .inputs
-unfolding recordOf recordAs keepName
-record-inputs s x place =
-    pick (λ (r : Recorded). r .stage .link .inputs ≡ s .stage .link .inputs)
-    (recordFits (s .stage .link) (s .bytes) (s .names) (length (s .lists)) (record { 0 = findOf (s .bytes) (s .names) (s .stage .link .names) x }) (length x)) _ _
-    (λ t. keep-inputs (storeOf (s .bytes) (s .names) (s .stage .link)) _ x) (λ t. refl)
+-- a count that neither names, nor symbols, nor lists change
+module _ (count : Link → ℕ) (keep : (s : Store) (id : Interned) (x : List ℕ) → count (keepOf s id x .link) ≡ count (s .link))
+    (more : (l : Link) (n : ℕ) → count (moreSymbols l n) ≡ count l) (list : (l : Link) (n : ℕ) → count (listsAt l n) ≡ count l) where
+  record-count : (s : Recorded) (x : List ℕ) (place : ℕ) → count (recordOf s x place .stage .link) ≡ count (s .stage .link)
+  unfolding recordOf recordAs keepName
+  record-count s x place =
+      pick (λ (r : Recorded). count (r .stage .link) ≡ count (s .stage .link))
+      (recordFits (s .stage .link) (s .bytes) (s .names) (length (s .lists)) (record { 0 = findOf (s .bytes) (s .names) (s .stage .link .names) x }) (length x)) _ _
+      (λ t. list (keepOf (storeOf (s .bytes) (s .names) (s .stage .link)) _ x .link) _ ∙ keep (storeOf (s .bytes) (s .names) (s .stage .link)) _ x) (λ t. refl)
 
-module _ (file needs : List ℕ) where
-  dependency-inputs : (s : Recorded) (j : ℕ) → dependencyOf file needs s j .stage .link .inputs ≡ s .stage .link .inputs
-  unfolding dependencyOf
-  dependency-inputs s j = record-inputs (recordedOf (s .bytes) (s .names) (s .lists) (goingOf (s .stage .link))) (nameAt file (getD needs j 0)) j
+  module _ (file needs : List ℕ) where
+    dependency-count : (s : Recorded) (j : ℕ) → count (dependencyOf file needs s j .stage .link) ≡ count (s .stage .link)
+    unfolding dependencyOf
+    dependency-count s j = record-count (recordedOf (s .bytes) (s .names) (s .lists) (goingOf (s .stage .link))) (nameAt file (getD needs j 0)) j
 
-  pub dependencies-inputs : (n j : ℕ) (s : Recorded) → dependenciesFrom file needs n j s .stage .link .inputs ≡ s .stage .link .inputs
-  unfolding dependenciesFrom
-  dependencies-inputs zero j s = refl
-  dependencies-inputs (suc n) j s =
-      pick (λ (r : Recorded). r .stage .link .inputs ≡ s .stage .link .inputs) (eqb (dependencyOf file needs s j .stage .number) 0) _ _
-      (λ t. dependencies-inputs n (j + 1) (dependencyOf file needs s j) ∙ dependency-inputs s j) (λ t. dependency-inputs s j)
+    pub dependencies-count : (n j : ℕ) (s : Recorded) → count (dependenciesFrom file needs n j s .stage .link) ≡ count (s .stage .link)
+    unfolding dependenciesFrom
+    dependencies-count zero j s = refl
+    dependencies-count (suc n) j s =
+        pick (λ (r : Recorded). count (r .stage .link) ≡ count (s .stage .link)) (eqb (dependencyOf file needs s j .stage .number) 0) _ _
+        (λ t. dependencies-count n (j + 1) (dependencyOf file needs s j) ∙ dependency-count s j) (λ t. dependency-count s j)
 
-apply-inputs : (t : Table) (r : Row) (d : Decision) → applyOf t r d .link .inputs ≡ t .link .inputs
-unfolding applyOf appendOf
-apply-inputs t r (Refuse n) = refl
-apply-inputs t r Nothing = refl
-apply-inputs t r (Keep id) = refl
-apply-inputs t r Append = refl
-apply-inputs t r (Replace id) = refl
+  apply-count : (t : Table) (r : Row) (d : Decision) → count (applyOf t r d .link) ≡ count (t .link)
+  unfolding applyOf appendOf
+  apply-count t r (Refuse n) = refl
+  apply-count t r Nothing = refl
+  apply-count t r (Keep id) = refl
+  apply-count t r Append = more (t .link) _
+  apply-count t r (Replace id) = refl
 
-commit-inputs : (s : Added) (x : List ℕ) (p : Definition) (i : ℕ) → commitOf s x p i .stage .link .inputs ≡ s .stage .link .inputs
-unfolding commitOf keptOf acceptOf
-commit-inputs s x p i =
-    let k = keepOf (storeOf (s .bytes) (s .names) (s .stage .link)) (p .id) x in
-    let e : k .link .inputs ≡ s .stage .link .inputs = keep-inputs (storeOf (s .bytes) (s .names) (s .stage .link)) (p .id) x in
-    pick (λ (r : Added). r .stage .link .inputs ≡ s .stage .link .inputs) (eqb (refusalOf (p .decision)) 2) _ _ (λ t. refl)
-    (λ t.
-    pick (λ (r : Added). r .stage .link .inputs ≡ s .stage .link .inputs) (eqb (refusalOf (p .decision)) 0) _ _
-    (λ u. apply-inputs (tableOf (k .names) (s .symbols) (s .sections) (k .link)) (p .row) (p .decision) ∙ e) (λ u. e))
-
-module _ (entries file : List ℕ) where
-  symbol-inputs : (s : State) (i : ℕ) → symbolOf entries file s i .stage .link .inputs ≡ s .stage .link .inputs
-  unfolding symbolOf lookedOf namedOf defineOf
-  symbol-inputs s i =
-      pick (λ (t : State). t .stage .link .inputs ≡ s .stage .link .inputs) (hasName file (field entries i 0)) _ _
-      (λ f.
-      pick (λ (t : State). t .stage .link .inputs ≡ s .stage .link .inputs) (eqb (field entries i 4) 0) _ _
+  commit-count : (s : Added) (x : List ℕ) (p : Definition) (i : ℕ) → count (commitOf s x p i .stage .link) ≡ count (s .stage .link)
+  unfolding commitOf keptOf acceptOf
+  commit-count s x p i =
+      let k = keepOf (storeOf (s .bytes) (s .names) (s .stage .link)) (p .id) x in
+      let e : count (k .link) ≡ count (s .stage .link) = keep (storeOf (s .bytes) (s .names) (s .stage .link)) (p .id) x in
+      pick (λ (r : Added). count (r .stage .link) ≡ count (s .stage .link)) (eqb (refusalOf (p .decision)) 2) _ _ (λ t. refl)
       (λ t.
-      pick (λ (t : State). t .stage .link .inputs ≡ s .stage .link .inputs) (eqb (field entries i 1) 1) _ _
-      (λ u. record-inputs (recordedOf (s .bytes) (s .names) (s .lists) (goingOf (s .stage .link))) (nameAt file (field entries i 0)) i) (λ u. refl))
-      (λ t. commit-inputs _ (nameAt file (field entries i 0)) _ i))
-      (λ f. refl)
+      pick (λ (r : Added). count (r .stage .link) ≡ count (s .stage .link)) (eqb (refusalOf (p .decision)) 0) _ _
+      (λ u. apply-count (tableOf (k .names) (s .symbols) (s .sections) (k .link)) (p .row) (p .decision) ∙ e) (λ u. e))
 
-  pub symbols-inputs : (n i : ℕ) (s : State) → symbolsFrom entries file n i s .stage .link .inputs ≡ s .stage .link .inputs
-  unfolding symbolsFrom
-  symbols-inputs zero i s = refl
-  symbols-inputs (suc n) i s =
-      pick (λ (r : State). r .stage .link .inputs ≡ s .stage .link .inputs) (eqb (symbolOf entries file s i .stage .number) 0) _ _
-      (λ t. symbols-inputs n (i + 1) (symbolOf entries file s i) ∙ symbol-inputs s i) (λ t. symbol-inputs s i)
+  module _ (entries file : List ℕ) where
+    symbol-count : (s : State) (i : ℕ) → count (symbolOf entries file s i .stage .link) ≡ count (s .stage .link)
+    unfolding symbolOf lookedOf namedOf defineOf
+    symbol-count s i =
+        pick (λ (t : State). count (t .stage .link) ≡ count (s .stage .link)) (hasName file (field entries i 0)) _ _
+        (λ f.
+        pick (λ (t : State). count (t .stage .link) ≡ count (s .stage .link)) (eqb (field entries i 4) 0) _ _
+        (λ t.
+        pick (λ (t : State). count (t .stage .link) ≡ count (s .stage .link)) (eqb (field entries i 1) 1) _ _
+        (λ u. record-count (recordedOf (s .bytes) (s .names) (s .lists) (goingOf (s .stage .link))) (nameAt file (field entries i 0)) i) (λ u. refl))
+        (λ t. commit-count _ (nameAt file (field entries i 0)) _ i))
+        (λ f. refl)
+
+    pub symbols-count : (n i : ℕ) (s : State) → count (symbolsFrom entries file n i s .stage .link) ≡ count (s .stage .link)
+    unfolding symbolsFrom
+    symbols-count zero i s = refl
+    symbols-count (suc n) i s =
+        pick (λ (r : State). count (r .stage .link) ≡ count (s .stage .link)) (eqb (symbolOf entries file s i .stage .number) 0) _ _
+        (λ t. symbols-count n (i + 1) (symbolOf entries file s i) ∙ symbol-count s i) (λ t. symbol-count s i)

@@ -20,6 +20,7 @@ use Rattle.link.specs.declared.Stage.{Stage}
 use Rattle.link.specs.declared.Interned.{Interned}
 use Rattle.link.specs.Bounds.{lesser, inputRows}
 use Rattle.link.specs.Judge.{goingOf, judgeSections, judgeNames, judgeLists, afterSymbols, afterSections, judgeOf, changeOf}
+use Rattle.link.specs.Counts.{moreInputs}
 use Rattle.interner.specs.Names.{Store, storeOf, findOf, fitsOf, keepOf}
 use Rattle.interner_laws.specs.Good.{Good, Issued, count, name}
 use Rattle.interner_laws.specs.Histories.{issued-stays}
@@ -31,12 +32,12 @@ use Rattle.library_lists.specs.Record.{Recorded, recordedOf, dependenciesOf}
 use Rattle.library_symbols.specs.Load.{State, stateOf, symbolsOf}
 use Rattle.shared_objects.specs.declared.Answer.the-variants.{Loaded, NotNeeded, Refused}
 use Rattle.shared_objects.specs.declared.Outcome.{Outcome}
-use Rattle.shared_objects.specs.Stages.{InputLinks, moreInputs, libraryCells, inputOf, ListLinks, listLinks, withInput, inputStage, listsOf, Links, withLists, listStage, contentsOf, withName, keptOf, issuedOf, libraryOf}
+use Rattle.shared_objects.specs.Stages.{InputLinks, libraryCells, inputOf, ListLinks, listLinks, withInput, inputStage, listsOf, Links, withLists, listStage, contentsOf, withName, keptOf, issuedOf, libraryOf}
 use Rattle.shared_objects.specs.Load.{All, Input, Left, wantOf, endedAs, linksIn, wantedOf, namedOf, headIn, nameOf, loadOf}
 use Rattle.shared_laws.specs.Grown.{Grown, first-part, second-part, before-same}
 use Rattle.shared_laws.specs.Recorded.{most, idIn, keep-lists, dependencyIds, dependencies-grown, undefinedIds, symbols-grown}
 use Rattle.shared_laws.specs.Names.{Kept, kept-both, relinked, Each, each-stays, recordStore, stateStore, undefinedNames, dependencyNames, symbols-names, dependencies-names}
-use Rattle.shared_laws.specs.Counted.{keep-inputs, dependencies-inputs, symbols-inputs}
+use Rattle.shared_laws.specs.Counted.{keep-inputs, dependencies-count, symbols-count}
 
 -- ---- what the head lets through has its lists
 
@@ -115,7 +116,7 @@ module _ (o : Input) (a : All) where
   abbrev x : List ℕ
   x = nameOf o
 
-  abbrev self : ℕ
+  abbrev pub self : ℕ
   self = idIn (a .bytes) (a .names) (a .link) x
 
   -- the names after the library's own
@@ -196,6 +197,9 @@ module _ (o : Input) (a : All) where
     pub name : field (after .inputs) k 1 ≡ self
     pub lacks : undefinedAt (after .inputs) (after .lists) k ≡ undefineds
     pub needs : dependenciesAt (after .inputs) (after .lists) k ≡ dependencies
+    -- both lie below the count of the lists
+    pub lacks-in : field (after .inputs) k 4 + field (after .inputs) k 5 ≤ after .link .lists
+    pub needs-in : field (after .inputs) k 2 + field (after .inputs) k 3 ≤ after .link .lists
     pub counted : after .link .inputs ≡ k + 1
     pub earlier-rows : (j f : ℕ) → j < k → f < 8 → field (after .inputs) j f ≡ field (a .inputs) j f
     pub earlier-lists : take (a .link .lists) (after .lists) ≡ take (a .link .lists) (a .lists)
@@ -237,11 +241,14 @@ module _ (o : Input) (a : All) where
     low : named .link .lists ≤ length (a .lists)
     low = rw first-is (head-lists o a head-zero)
 
+    abbrev inputs : Link → ℕ
+    inputs l = l .inputs
+
     inputs-is : end .stage .link .inputs ≡ k
     unfolding dependenciesOf symbolsOf
     inputs-is =
-        dependencies-inputs (o .file) (o .needs) (length (o .needs)) 0 middle
-        ∙ symbols-inputs (o .entries) (o .file) (rowsIn (o .entries)) 0 start
+        dependencies-count inputs keep-inputs (λ l n. refl) (λ l n. refl) (o .file) (o .needs) (length (o .needs)) 0 middle
+        ∙ symbols-count inputs keep-inputs (λ l n. refl) (λ l n. refl) (o .entries) (o .file) (rowsIn (o .entries)) 0 start
         ∙ keep-inputs (storeOf (a .bytes) (a .names) (a .link)) (record { 0 = self }) x
 
     grown-symbols : Grown (a .lists) (named .link .lists) (loaded .lists) (loaded .stage .link .lists) undefineds
@@ -270,6 +277,9 @@ module _ (o : Input) (a : All) where
         load-done e .link ∙ ap (λ (s : Links). s .stage .link) whole-is
         ∙ input-done (a .inputs) (end .stage .link) (record { 0 = self }) (named .link .lists) (loaded .stage .link .lists) row-zero .2
 
+    last-is : after .link .lists ≡ end .stage .link .lists
+    last-is = ap (λ (l : Link). l .lists) after-link
+
     room : k * 8 + 8 ≤ length (a .inputs)
     room = rw inputs-is at (input-done (a .inputs) (end .stage .link) (record { 0 = self }) (named .link .lists) (loaded .stage .link .lists) row-zero .0)
 
@@ -287,6 +297,8 @@ module _ (o : Input) (a : All) where
           needs = rw (cell 2 (omega arith), cell 3 (omega arith), after-lists) (
               second-part (a .lists) (loaded .lists) (end .lists) (named .link .lists) (loaded .stage .link .lists) (end .stage .link .lists) undefineds dependencies low grown-symbols grown-dependencies
               );
+          lacks-in = rw (cell 4 (omega arith), cell 5 (omega arith)) (omega (arith, grown-symbols .count, grown-dependencies .count, last-is));
+          needs-in = rw (cell 2 (omega arith), cell 3 (omega arith)) (omega (arith, grown-dependencies .count, last-is));
           counted = ap (λ (l : Link). l .inputs) after-link ∙ ap (λ (n : ℕ). n + 1) inputs-is;
           earlier-rows = λ j f h g. ap (λ (l : List ℕ). field l j f) after-inputs ∙ row-other (a .inputs) k cells j f refl g (λ q. omega arith);
           earlier-lists =

@@ -1,4 +1,4 @@
--- A name is marked exactly where an earlier library records it.
+-- Of the names whose marks were cleared, those are marked that an earlier library records.
 -- Assumes nothing.
 use Prim.Native.Nat.{ℕ, zero, suc, _+_, _<_, _≤_}
 use native.Mathlib.Omega.{arith}

@@ -11,6 +11,7 @@ use Rattle.link.specs.declared.Refusal.{Refusal}
 use Rattle.link.specs.declared.Stage.{Stage}
 use Rattle.link.specs.Said.{Said, accepted, refusing}
 use Rattle.link.specs.Judge.{refused, goingOf, brokenOf}
+use Rattle.link.specs.Counts.{lentOf}
 use Rattle.library_head.specs.Head.{headOf}
 use Rattle.library_need.specs.Need.{Judged, judgedAs, needOf, libraryName}
 use Rattle.shared_objects.specs.declared.Answer.{Answer}
@@ -103,10 +104,6 @@ namedOf entries file needs asneeded a x =
     (wantOf asneeded (a .link) (a .bytes) (a .names) (a .symbols) (a .inputs) (a .lists) (a .marks) entries file x)
 
 -- ---- the call
-
-abbrev pub lentOf : ℕ → ℕ → ℕ → ℕ → ℕ → ℕ → Lent
-lentOf names bytes symbols sections inputs lists =
-    record { names = names; bytes = bytes; symbols = symbols; sections = sections; inputs = inputs; lists = lists }
 
 abbrev pub headIn : Input → All → Refusal
 headIn o a =

@@ -13,10 +13,11 @@ use Rattle.link.specs.declared.Stage.{Stage}
 use Rattle.link.specs.declared.Interned.{Interned}
 use Rattle.link.specs.Bounds.{inputRows}
 use Rattle.link.specs.Judge.{goingOf, stoppedOf}
+use Rattle.link.specs.Counts.{moreInputs}
 use Rattle.interner.specs.Names.{Store, storeOf, findOf, fitsOf, keepOf}
 use Rattle.library_lists.specs.Record.{Recorded, recordedOf, dependenciesOf}
 use Rattle.library_symbols.specs.Load.{State, stateOf, symbolsOf}
-use Rattle.shared_objects.specs.Stages.{InputLinks, inputLinks, moreInputs, inputOf, ListLinks, listLinks, withInput, inputStage, listsOf, Links, linksOf, withLists, listStage, contentsOf, withName, keptOf, issuedOf, libraryOf}
+use Rattle.shared_objects.specs.Stages.{InputLinks, inputLinks, inputOf, ListLinks, listLinks, withInput, inputStage, listsOf, Links, linksOf, withLists, listStage, contentsOf, withName, keptOf, issuedOf, libraryOf}
 
 pub span-none : (from to t : ℕ) → to < from → t ≡ 0 → t ≡ to - from
 span-none from to t h q = omega arith

@@ -12,6 +12,7 @@ use Rattle.link.specs.declared.Stage.{Stage}
 use Rattle.link.specs.declared.Interned.{Interned}
 use Rattle.link.specs.Bounds.{inputRows}
 use Rattle.link.specs.Judge.{goingOf, stoppedOf}
+use Rattle.link.specs.Counts.{moreInputs}
 use Rattle.interner.specs.Names.{Store, storeOf, findOf, fitsOf, keepOf}
 use Rattle.library_lists.specs.Record.{Recorded, recordedOf, dependenciesOf}
 use Rattle.library_symbols.specs.Load.{State, stateOf, symbolsOf}
@@ -24,20 +25,6 @@ pub record InputLinks : Type 0 where
 
 abbrev pub inputLinks : List ℕ → Stage → InputLinks
 inputLinks i st = record { inputs = i; stage = st }
-
-abbrev pub moreInputs : Link → Link
-moreInputs l =
-    record {
-      names = l .names;
-      bytes = l .bytes;
-      symbols = l .symbols;
-      sections = l .sections;
-      inputs = l .inputs + 1;
-      lists = l .lists;
-      chains = l .chains;
-      slots = l .slots;
-      broken = l .broken;
-    }
 
 -- kind 2; the name; dependencies, which lie from middle up to end, and undefined names, from first up to middle: each the first and how many
 abbrev pub libraryCells : ℕ → ℕ → ℕ → ℕ → List ℕ

@@ -4,9 +4,10 @@
 ghost use mathlib.Core.Path.{_≡_};
 ghost use Prim.Native.Nat.{_-_};
 ghost use Rattle.link.specs.Judge.{goingOf};
+ghost use Rattle.link.specs.Counts.{lentOf};
 ghost use Rattle.library_need.specs.Need.{judgedAs};
 ghost use Rattle.shared_objects.specs.Stages.{inputLinks, inputOf, listLinks, listsOf, linksOf, contentsOf, libraryOf};
-ghost use Rattle.shared_objects.specs.Load.{wantOf, endedAs, lentOf, inputAs, allOf, outcome, namedOf, loadOf};
+ghost use Rattle.shared_objects.specs.Load.{wantOf, endedAs, inputAs, allOf, outcome, namedOf, loadOf};
 use link::Interned;
 use link::Lent;
 use link::Link;
@@ -44,7 +45,7 @@ fn input_row(l: Link, inputs: &mut [u64], id: Interned, first: usize, middle: us
     if n < link::input_rows(inputs.len()) {
         let dependencies = span(middle, l.lists);
         let undefined = span(first, middle);
-        cells::row_store(
+        cell_writes::row_store(
             inputs,
             n,
             2,
@@ -139,8 +140,8 @@ fn load_library(
     ensures { λ r. ⌜ linksOf (now (bytes .exit)) (now (names .exit)) (now (symbols .exit)) (now (sections .exit)) (now (inputs .exit)) (now (lists .exit)) r ≡ libraryOf (now (entries .entry)) (now (file .entry)) (now (needs .entry)) (linksOf (now (bytes .entry)) (now (names .entry)) (now (symbols .entry)) (now (sections .entry)) (now (inputs .entry)) (now (lists .entry)) (goingOf l)) (now (x .entry)) ⌝ }
 {
     let id = Interned(interner::find(bytes, names, l.names, x));
-    if interner::fits(l, bytes, names, id, x.len()) {
-        let kept = interner::keep(l, bytes, names, id, x);
+    if interner_issue::fits(l, bytes, names, id, x.len()) {
+        let kept = interner_issue::keep(l, bytes, names, id, x);
         return load_contents(
             link::going(kept),
             bytes,

@@ -6,7 +6,7 @@ use native.Mathlib.Nat.{not-suc-le-zero}
 use mathlib.Core.Path.{_≡_, refl, sym, _∙_, subst}
 use mathlib.Core.Bool.{Bool, true, false, cond, not, _&&_, false≢true}
 use mathlib.Core.List.{List, [], _∷_}
-use lib.Dec.{ltb}
+use lib.Dec.{eqb, ltb}
 use lib.ListN.{getD}
 use borrow.Author.Tests.{ltb-true, ltb-false, le-ltb}
 use Rattle.cells.specs.Split.{by-test}
@@ -19,7 +19,7 @@ use Rattle.symbol_laws.specs.Rows.{rowAt}
 use Rattle.symbol_laws.specs.History.{State, Entry, only, rows}
 use Rattle.symbol_laws.specs.Held.{Inv}
 use Rattle.symbol_laws.specs.Demand.{resolved}
-use Rattle.symbol_laws.specs.Gabi.{Means, AllMean, Match, counts, place, first-passes, first-none}
+use Rattle.symbol_laws.specs.Gabi.{Means, Zeroes, AllMean, symOfRow, means-own, symsOf, Match, counts, place, first-passes, first-none}
 
 -- ---- definitions on both sides
 
@@ -49,6 +49,47 @@ strong-match = matched strongDefinition isGlobalDefinition strong-same
 weak-match : (rs : List Row) (ss : List Sym) → AllMean rs ss → Match weakDefinition isWeakDefinition rs ss
 weak-match = matched weakDefinition isWeakDefinition weak-same
 
+-- ---- whichever symbols the rows mean, the gABI makes the same of them
+
+reference-same : (r : Row) (s : Sym) → Means r s → isGlobalReference s ≡ not (weak r) && eqb (r .value .kind) 7
+unfolding isGlobalReference
+reference-same r s m = rw (m .bound, ← m .weakly, ← m .refers)
+
+module _ (p : Sym → Bool) (same : (r : Row) (s : Sym) → Means r s → p s ≡ p (symOfRow r)) where
+  count-own : (rs : List Row) (ss : List Sym) → AllMean rs ss → Gabi.count p ss ≡ Gabi.count p (symsOf rs)
+  unfolding Gabi.count
+  count-own [] [] m = refl
+  count-own [] (s ∷ ss) m = absurd m
+  count-own (r ∷ rs) [] m = absurd m
+  count-own (r ∷ rs) (s ∷ ss) m = rw (same r s (m .0), count-own rs ss (m .1))
+
+  first-own : (rs : List Row) (ss : List Sym) → AllMean rs ss → Gabi.first p ss ≡ Gabi.first p (symsOf rs)
+  unfolding Gabi.first
+  first-own [] [] m = refl
+  first-own [] (s ∷ ss) m = absurd m
+  first-own (r ∷ rs) [] m = absurd m
+  first-own (r ∷ rs) (s ∷ ss) m = rw (same r s (m .0), first-own rs ss (m .1))
+
+pub resolve-own : (rs : List Row) (ss : List Sym) → AllMean rs ss → resolve ss ≡ resolve (symsOf rs)
+unfolding resolve has
+resolve-own rs ss m =
+    rw (
+      count-own isGlobalDefinition strong rs ss m,
+      first-own isGlobalDefinition strong rs ss m,
+      count-own isWeakDefinition weakly rs ss m,
+      first-own isWeakDefinition weakly rs ss m,
+      count-own isGlobalReference refers rs ss m,
+    )
+  where
+    strong : (r : Row) (s : Sym) → Means r s → isGlobalDefinition s ≡ isGlobalDefinition (symOfRow r)
+    strong r s m = sym (strong-same r s m) ∙ strong-same r (symOfRow r) (means-own r)
+
+    weakly : (r : Row) (s : Sym) → Means r s → isWeakDefinition s ≡ isWeakDefinition (symOfRow r)
+    weakly r s m = sym (weak-same r s m) ∙ weak-same r (symOfRow r) (means-own r)
+
+    refers : (r : Row) (s : Sym) → Means r s → isGlobalReference s ≡ isGlobalReference (symOfRow r)
+    refers r s m = reference-same r s m ∙ sym (reference-same r (symOfRow r) (means-own r))
+
 definition : (r : Row) (w : Bool) → (defines r && w) ≡ true → defines r ≡ true
 definition r w e = by-test (defines r) (λ t. t) (λ t. absurd (false≢true (rw t at e)))
 
@@ -65,8 +106,8 @@ abbrev pub Agrees : Row → List Row → Sym → Row → Resolution → Type 0
 Agrees c cs s row (defined k) = (row ≡ getD (c ∷ cs) k c) × (defines row ≡ true)
 Agrees c cs s row duplicate = ⊥
 -- P7: whether it reads as zero is the first reference's word
-Agrees c cs s row unresolved = (row ≡ c) × (defines row ≡ false) × (row .value .a ≡ cond (isWeak s) 1 0)
-Agrees c cs s row zeroValue = (row ≡ c) × (defines row ≡ false) × (row .value .a ≡ 1)
+Agrees c cs s row unresolved = (row ≡ c) × (defines row ≡ false) × (Zeroes c s → row .value .a ≡ cond (isWeak s) 1 0)
+Agrees c cs s row zeroValue = (row ≡ c) × (defines row ≡ false) × (Zeroes c s → row .value .a ≡ 1)
 
 module _ (c : Row) (cs : List Row) (s : Sym) (ss : List Sym) (m : AllMean (c ∷ cs) (s ∷ ss)) where
   abbrev strongs : ℕ
@@ -114,14 +155,14 @@ module _ (c : Row) (cs : List Row) (s : Sym) (ss : List Sym) (m : AllMean (c ∷
       reference = by-test (isReference s) (λ t. t) (λ t. absurd (false≢true (sym (rw (m .0 .refers, t) at undefined))))
 
       by-reference : Agrees c cs s (firstOf c cs) unresolved
-      by-reference = rw it (refl, undefined, m .0 .zeroes reference)
+      by-reference = rw it (refl, undefined, λ z. z reference)
 
       by-zero : has isGlobalReference (s ∷ ss) ≡ false → Agrees c cs s (firstOf c cs) zeroValue
       unfolding has Gabi.count isGlobalReference
       by-zero h =
           let k : Gabi.count isGlobalReference (s ∷ ss) ≤ 0 = ltb-false _ _ h in
           let w : isWeak s ≡ true = by-test (isWeak s) (λ t. t) (λ t. absurd (not-suc-le-zero (rw (m .0 .bound, t, reference) at k))) in
-          rw it (refl, undefined, m .0 .zeroes reference ∙ rw w)
+          rw it (refl, undefined, λ z. z reference ∙ rw w)
 
   pub agrees : strongs ≤ 1 → Agrees c cs s (firstOf c cs) (resolve (s ∷ ss))
   unfolding resolve has

@@ -3,15 +3,27 @@
 use mathlib.Core.Path.{_≡_, refl, sym, ap, _∙_, subst}
 use mathlib.Core.Bool.{cond}
 use mathlib.Core.List.{List, [], _∷_, _++_, append-nil}
+use mathlib.Core.Logic.{_≢_}
 use lib.Dec.{eqb}
 use borrow.Author.Tests.{eqb-true, eqb-false}
 use Rattle.cells.specs.Split.{by-test}
+use Rattle.link.specs.declared.Link.{Link}
 use Rattle.symbols.specs.Calls.{Left}
-use Rattle.symbol_laws.specs.History.{State, table, store, withTable, withStore, direct, Entry, noted, run-append, log-append, kept, Part, issue, put, putOf, idOf, partNext, partNotes, runParts, logParts, Call, add, intern, remove, upcoming, addTo, callNext, callNumber, callNotes, runCalls, logCalls, Removes, RemovesNothing}
-use Rattle.symbol_laws.specs.Refused.{add-accepted, intern-accepted, call-refused}
+use Rattle.symbols.specs.Remove.{Rows, rowsOf, removeOf}
+use Rattle.symbol_laws.specs.History.{State, table, store, withTable, withStore, withRows, direct, Entry, noted, run-append, log-append, kept, Part, issue, put, putOf, idOf, partNext, partNotes, runParts, logParts, Call, add, intern, remove, upcoming, addTo, callNext, callNumber, callNotes, runCalls, logCalls, Removes, RemovesNothing}
+use Rattle.symbol_laws.specs.Refused.{add-refused, add-accepted, intern-refused, intern-accepted, remove-refused, remove-link}
 use Rattle.symbol_laws.specs.Held.{Inv}
 use Rattle.symbol_laws.specs.Put.{noted-refused, put-step}
 use Rattle.symbol_laws.specs.Issue.{issue-step}
+
+-- a refused call leaves all
+pub call-refused : (k : Call) (s : State) → callNumber k s ≢ 0 → callNext k s ≡ s
+call-refused (add conversion u) s z = ap (withTable s) (add-refused (table s) conversion u z)
+call-refused (intern x) s z = ap (withStore s) (intern-refused (store s) x z)
+call-refused (remove id) s z =
+    let x : Rows = rowsOf (s .symbols) (s .sections) in
+    ap (λ (l : Link). withRows s (removeOf (s .link) x id .rows) l) (remove-link (s .link) x id)
+    ∙ ap (λ (x : Rows). withRows s x (s .link)) (remove-refused (s .link) x id z)
 
 abbrev ifAccepted : Call → State → List Part → List Part
 ifAccepted k s ps = cond (eqb (callNumber k s) 0) ps []

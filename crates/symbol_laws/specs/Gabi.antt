@@ -12,13 +12,13 @@ use lib.ListN.{getD}
 use borrow.Author.Tests.{eqb-true}
 use Rattle.cells.specs.Split.{by-test}
 use Rattle.link.specs.declared.Interned.{Interned}
-use Rattle.gabi.specs.SymbolTable.{Sym, isGlobal, isWeak, isReference}
+use Rattle.gabi.specs.SymbolTable.{Sym, stbGlobal, stbWeak, stvDefault, shnUndef, shnAbs, isGlobal, isWeak, isReference}
 use Rattle.gabi.specs.Resolution as Gabi
 use Rattle.symbol.specs.declared.Row.{Row}
 use Rattle.symbol_rows.specs.Decide.{weakOf}
 use Rattle.upcoming_symbol.specs.declared.ElfSymbol.{ElfSymbol}
 use Rattle.upcoming_symbol.specs.Judge.{shownOf, hiddenOf, judgeOf}
-use Rattle.upcoming_symbol.specs.Upcoming.{inSection, convertedOf, undefinedOf, valueOf, elfRowOf}
+use Rattle.upcoming_symbol.specs.Upcoming.{inSection, convertedOf, undefinedOf, valueOf, elfRowOf, externalRowOf}
 use Rattle.symbol_laws.specs.Rank.{weak, first, count}
 
 -- ---- a row and the symbol that it stands for
@@ -27,13 +27,53 @@ pub record Means (r : Row) (s : Sym) : Type 0 where
   pub refers : eqb (r .value .kind) 7 ≡ isReference s
   pub weakly : weak r ≡ isWeak s
   pub bound : isGlobal s ≡ not (isWeak s)
-  pub zeroes : isReference s ≡ true → r .value .a ≡ cond (isWeak s) 1 0
+
+-- the word of an undefined value: a weak reference reads as zero. So it is of every Elf symbol (elf-zeroes); a symbol that is added in another way
+-- chooses it freely
+abbrev pub Zeroes : Row → Sym → Type 0
+Zeroes r s = isReference s ≡ true → r .value .a ≡ cond (isWeak s) 1 0
 
 abbrev pub AllMean : List Row → List Sym → Type 0
 AllMean [] [] = Unit {0}
 AllMean [] (s ∷ ss) = ⊥
 AllMean (r ∷ rs) [] = ⊥
 AllMean (r ∷ rs) (s ∷ ss) = Means r s × AllMean rs ss
+
+-- the symbol that a row stands for: its binding, its type, and whether it is undefined. Resolution asks for no more: a definition is given as absolute,
+-- of default visibility and value 0
+abbrev pub symOfRow : Row → Sym
+symOfRow r =
+    record {
+      binding = cond (weak r) stbWeak stbGlobal;
+      type = r .kind;
+      visibility = stvDefault;
+      section = cond (eqb (r .value .kind) 7) shnUndef shnAbs;
+      value = 0;
+    }
+
+pub means-own : (r : Row) → Means r (symOfRow r)
+unfolding isReference isWeak isGlobal
+means-own r = record { refers = referred (eqb (r .value .kind) 7); weakly = weakened (weak r); bound = bounded (weak r) }
+  where
+    referred : (b : Bool) → b ≡ eqb (cond b shnUndef shnAbs) shnUndef
+    referred true = refl
+    referred false = refl
+
+    weakened : (b : Bool) → b ≡ eqb (cond b stbWeak stbGlobal) stbWeak
+    weakened true = refl
+    weakened false = refl
+
+    bounded : (b : Bool) → eqb (cond b stbWeak stbGlobal) stbGlobal ≡ not (eqb (cond b stbWeak stbGlobal) stbWeak)
+    bounded true = refl
+    bounded false = refl
+
+abbrev pub symsOf : List Row → List Sym
+symsOf [] = []
+symsOf (r ∷ rs) = symOfRow r ∷ symsOf rs
+
+pub all-mean-own : (rs : List Row) → AllMean rs (symsOf rs)
+all-mean-own [] = tt
+all-mean-own (r ∷ rs) = (means-own r, all-mean-own rs)
 
 -- the entry of a symbol table that an upcoming symbol carries
 abbrev pub symOf : ElfSymbol → Sym
@@ -59,9 +99,9 @@ module _ (cell : ℕ) (e : ElfSymbol) (name : Interned) (empty : Bool) (file : �
       by-test (eqb (e .section) 0xfff1) (λ b. rw (a, b))
       (λ b. by-test (eqb (e .section) 0xfff2) (λ c. rw (a, b, c)) (λ c. rw (a, b, c) (converted-kind _ (e .value)))))
 
-  zero-word : isReference (symOf e) ≡ true → row .value .a ≡ cond (isWeak (symOf e)) 1 0
+  pub elf-zeroes : Zeroes row (symOf e)
   unfolding elfRowOf valueOf undefinedOf isReference isWeak
-  zero-word a = by-test (eqb (e .binding) 2) (λ b. rw (a, b)) (λ b. rw (a, b))
+  elf-zeroes a = by-test (eqb (e .binding) 2) (λ b. rw (a, b)) (λ b. rw (a, b))
 
   -- what a visibility that passes says of the binding
   record Bound (code : ℕ) : Type 0 where
@@ -96,7 +136,15 @@ module _ (cell : ℕ) (e : ElfSymbol) (name : Interned) (empty : Bool) (file : �
   unfolding elfRowOf
   elf-means z p =
       let b : Bound (judgeOf (e .binding) (e .visibility)) = bound-judged z p in
-      record { refers = reference-kind; weakly = b .weak-code; bound = b .one-of; zeroes = zero-word }
+      record { refers = reference-kind; weakly = b .weak-code; bound = b .one-of }
+
+  -- a shared object's definition, which becomes a row without type and value
+  pub external-means : eqb (e .section) 0 ≡ false → externalRowOf name (e .binding) (e .visibility) .visibility ≢ 0
+      → leb 5 (externalRowOf name (e .binding) (e .visibility) .visibility) ≡ false → Means (externalRowOf name (e .binding) (e .visibility)) (symOf e)
+  unfolding externalRowOf isReference
+  external-means d z p =
+      let b : Bound (judgeOf (e .binding) (e .visibility)) = bound-judged z p in
+      record { refers = sym d; weakly = b .weak-code; bound = b .one-of }
 
 -- ---- lists: a test on rows and the same test on symbols
 

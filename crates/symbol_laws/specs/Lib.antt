@@ -12,6 +12,7 @@ pub mod Start
 pub mod Calls
 pub mod Demand
 pub mod Within
+pub mod Below
 pub mod Writes
 pub mod Gabi
 pub mod Agreement

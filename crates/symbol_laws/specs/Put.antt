@@ -169,6 +169,26 @@ module _ (s : State) (past : List Entry) (inv : Inv s past) (r : Row) (from : So
     unfolding successor
     one-more = rw (lt-ltb (s .link .symbols) 0xffffffffffffffff (omega (arith, f .few)))
 
+    -- the name's cell has the new row's id
+    note : Named (table s) r → noteName (s .names) r (s .link .symbols) ≡ set (s .names) (n * 8 + 3) (s .link .symbols)
+    unfolding noteName
+    note k = rw (ne-eqb (r .visibility) 0 (k .global))
+
+    -- demand 3a of the name's first add: its row is the one added
+    appended-own : Named (table s) r → Holds grown n (s .link .symbols) r
+    unfolding appendOf
+    appended-own k =
+        record {
+          found =
+              ap (λ (l : List ℕ). globalAt l n) (note k)
+              ∙ getD-set-same (s .names) (n * 8 + 3) (s .link .symbols) 0 (omega (arith, inv .names-room, k .issued));
+          there = stored-there (s .symbols) id r (f .fits);
+          content = stored-row (s .symbols) id r (f .fits);
+          named = refl;
+          above = inv .some;
+          below = omega (arith, one-more);
+        }
+
     grown-some : 1 ≤ grown .link .symbols
     unfolding appendOf
     grown-some = omega (arith, one-more)
@@ -215,37 +235,21 @@ module _ (s : State) (past : List Entry) (inv : Inv s past) (r : Row) (from : So
           room = grown-room;
           few = grown-few;
           names-room =
-              subst (λ (l : List ℕ). s .link .names * 9 ≤ length l) (sym note)
+              subst (λ (l : List ℕ). s .link .names * 9 ≤ length l) (sym (note k))
               (omega (arith, length-set (s .names) (n * 8 + 3) (s .link .symbols), inv .names-room));
           held-by =
               names-held grown refl (entry (s .link .symbols)) refl (k .issued)
               (subst (λ (l : List Entry). Held grown n (l ++ (entry (s .link .symbols) ∷ [])))
-              (sym (none-held s n (only n past) (inv .held-by n (k .issued)) z)) own)
+              (sym (none-held s n (only n past) (inv .held-by n (k .issued)) z)) (appended-own k))
               (λ m h u.
               grown-other (only m past) m
-              (ap (λ (l : List ℕ). globalAt l m) note ∙ getD-set-other (s .names) (n * 8 + 3) (m * 8 + 3) (s .link .symbols) 0 (λ q. u (omega arith)))
+              (ap (λ (l : List ℕ). globalAt l m) (note k) ∙ getD-set-other (s .names) (n * 8 + 3) (m * 8 + 3) (s .link .symbols) 0 (λ q. u (omega arith)))
               (inv .held-by m h));
           unissued = names-none grown refl (entry (s .link .symbols)) refl (k .issued);
           once =
               once-more (entry (s .link .symbols)) refl
               (omega (arith, ap strong (none-held s n (only n past) (inv .held-by n (k .issued)) z), strong-one (s .link .symbols)));
         }
-      where
-        note : noteName (s .names) r (s .link .symbols) ≡ set (s .names) (n * 8 + 3) (s .link .symbols)
-        note = rw (ne-eqb (r .visibility) 0 (k .global))
-
-        own : Holds grown n (s .link .symbols) r
-        own =
-            record {
-              found =
-                  ap (λ (l : List ℕ). globalAt l n) note
-                  ∙ getD-set-same (s .names) (n * 8 + 3) (s .link .symbols) 0 (omega (arith, inv .names-room, k .issued));
-              there = stored-there (s .symbols) id r (f .fits);
-              content = stored-row (s .symbols) id r (f .fits);
-              named = refl;
-              above = inv .some;
-              below = omega (arith, one-more);
-            }
 
 -- ---- the add
 

@@ -31,9 +31,8 @@ use Rattle.symbol_rows.specs.Apply.{Table}
 use Rattle.symbols.specs.Calls.{lentOf}
 use Rattle.upcoming_symbol.specs.Upcoming.{nameOf, rowOf}
 use Rattle.symbols.specs.Add.{emptyAt, fileOf, issuedOf, directHolderOf, decidedOf, committedOf, addRowOf, addOf, judgeAddOf, lent}
-use Rattle.symbols.specs.Remove.{Rows, rowsOf, removeOf}
+use Rattle.symbols.specs.Remove.{Rows, removeOf}
 use Rattle.symbol_laws.specs.View.{Refuses, unissued-refused}
-use Rattle.symbol_laws.specs.History.{State, table, store, withTable, withStore, withRows, Call, add, intern, remove, callNext, callNumber}
 
 -- ---- adds
 
@@ -128,12 +127,3 @@ module _ (l : Link) (x : Rows) (id : SymbolId) where
   pub remove-link : removeOf l x id .link ≡ l
   unfolding removeOf
   remove-link = by-test (eqb (judged .number) 0) (λ a. by-test (leb (l .symbols) (id .0)) (λ b. rw (a, b)) (λ b. rw (a, b))) (λ a. rw a)
-
--- one law for all three calls
-pub call-refused : (k : Call) (s : State) → callNumber k s ≢ 0 → callNext k s ≡ s
-call-refused (add conversion u) s z = ap (withTable s) (add-refused (table s) conversion u z)
-call-refused (intern x) s z = ap (withStore s) (intern-refused (store s) x z)
-call-refused (remove id) s z =
-    let x : Rows = rowsOf (s .symbols) (s .sections) in
-    ap (λ (l : Link). withRows s (removeOf (s .link) x id .rows) l) (remove-link (s .link) x id)
-    ∙ ap (λ (x : Rows). withRows s x (s .link)) (remove-refused (s .link) x id z)

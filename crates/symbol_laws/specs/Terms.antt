@@ -24,12 +24,12 @@ use Rattle.symbol_laws.specs.Rows.{rowAt}
 use Rattle.symbol_laws.specs.History.{State, opened, Entry, only, rows, Part, putOf, runParts, logParts, Call, callNext, callNumber, runCalls, logCalls, RemovesNothing}
 use Rattle.symbol_laws.specs.Held.{Inv}
 use Rattle.symbol_laws.specs.Start.{new-inv}
-use Rattle.symbol_laws.specs.Calls.{parts-keep, calls-keep}
+use Rattle.symbol_laws.specs.Calls.{call-refused, parts-keep, calls-keep}
 use Rattle.symbol_laws.specs.Demand as Demand
 use Rattle.symbol_laws.specs.Within as Within
-use Rattle.symbol_laws.specs.Refused as Refused
+use Rattle.symbol_laws.specs.Below.{inv-below}
 use Rattle.symbol_laws.specs.Writes as Writes
-use Rattle.symbol_laws.specs.Gabi.{Means, AllMean}
+use Rattle.symbol_laws.specs.Gabi.{Means, AllMean, symOfRow, means-own, symsOf, all-mean-own}
 use Rattle.symbol_laws.specs.Agreement as Agreement
 use Rattle.symbol_laws.specs.Duplicate as Duplicate
 
@@ -76,7 +76,7 @@ module _ (bytes names symbols sections : List ℕ) (new : numberIn (newOf bytes 
 
     -- "Rows past the count are never written": by one more call, accepted or refused, a removal too
     pub past-the-count : (k : Call) → Writes.Untouched end (callNext k end)
-    past-the-count k = Writes.call-past end _ kept k
+    past-the-count k = Writes.call-past end (inv-below end _ kept) k
 
     -- an id once given to a name stays its own
     pub ids-stay : (ls : List Call) → RemovesNothing ls end → (n : ℕ) → n < end .link .names → globalAt (end .names) n ≢ 0
@@ -85,23 +85,39 @@ module _ (bytes names symbols sections : List ℕ) (new : numberIn (newOf bytes 
 
     -- ---- demand 2: agreement with the gABI
 
-    -- of symbols accepted under a name the gABI resolves to the one that the row has; undefined where it has none
-    pub gabi-agrees : (n : ℕ) (x : Entry) (xs : List Entry) → adds n ≡ x ∷ xs → (s : Sym) (ss : List Sym) → AllMean (rows (x ∷ xs)) (s ∷ ss)
+    -- of the symbols that are accepted under a name the gABI resolves to the one that the row has; undefined where it has none
+    pub gabi-agrees : (n : ℕ) (x : Entry) (xs : List Entry) → adds n ≡ x ∷ xs
+        → Agreement.Agrees (x .row) (rows xs) (symOfRow (x .row)) (rowAt (end .symbols) (x .id)) (resolve (symsOf (rows (x ∷ xs))))
+    gabi-agrees n x xs e = Agreement.accepted end _ kept n x xs e _ _ (all-mean-own (rows (x ∷ xs)))
+
+    -- whichever symbols the rows mean
+    pub gabi-agrees-any : (n : ℕ) (x : Entry) (xs : List Entry) → adds n ≡ x ∷ xs → (s : Sym) (ss : List Sym) → AllMean (rows (x ∷ xs)) (s ∷ ss)
         → Agreement.Agrees (x .row) (rows xs) s (rowAt (end .symbols) (x .id)) (resolve (s ∷ ss))
-    gabi-agrees n x xs e s ss m = Agreement.accepted end _ kept n x xs e s ss m
+    gabi-agrees-any n x xs e s ss m = Agreement.accepted end _ kept n x xs e s ss m
 
     -- a further add is refused with 17 exactly where the gABI sees a duplicate
     module _ (r : Row) (x : Entry) (xs : List Entry) (e : adds (r .name .0) ≡ x ∷ xs) (global : r .visibility ≢ 0) (passes : leb 5 (r .visibility) ≡ false)
-        (valued : leb 13 (r .value .kind) ≡ false) (s : Sym) (ss : List Sym) (m : AllMean (rows (x ∷ xs)) (s ∷ ss)) (g : Sym) (own : Means r g) where
-      pub duplicate-refused : resolve ((s ∷ ss) ++ (g ∷ [])) ≡ duplicate → numberIn (putOf end r .said) ≡ 17
-      duplicate-refused = Duplicate.duplicate-refused end _ kept r x xs e global passes valued s ss m g own
+        (valued : leb 13 (r .value .kind) ≡ false) where
+      abbrev own : AllMean (rows (x ∷ xs)) (symsOf (rows (x ∷ xs)))
+      own = all-mean-own (rows (x ∷ xs))
 
-      pub refused-duplicate : numberIn (putOf end r .said) ≡ 17 → resolve ((s ∷ ss) ++ (g ∷ [])) ≡ duplicate
-      refused-duplicate = Duplicate.refused-duplicate end _ kept r x xs e global passes valued s ss m g own
+      pub duplicate-refused : resolve (symsOf (rows (x ∷ xs)) ++ (symOfRow r ∷ [])) ≡ duplicate → numberIn (putOf end r .said) ≡ 17
+      duplicate-refused = Duplicate.duplicate-refused end _ kept r x xs e global passes valued _ _ own _ (means-own r)
+
+      pub refused-duplicate : numberIn (putOf end r .said) ≡ 17 → resolve (symsOf (rows (x ∷ xs)) ++ (symOfRow r ∷ [])) ≡ duplicate
+      refused-duplicate = Duplicate.refused-duplicate end _ kept r x xs e global passes valued _ _ own _ (means-own r)
+
+      -- whichever symbols the rows mean
+      module _ (s : Sym) (ss : List Sym) (m : AllMean (rows (x ∷ xs)) (s ∷ ss)) (g : Sym) (mine : Means r g) where
+        pub duplicate-refused-any : resolve ((s ∷ ss) ++ (g ∷ [])) ≡ duplicate → numberIn (putOf end r .said) ≡ 17
+        duplicate-refused-any = Duplicate.duplicate-refused end _ kept r x xs e global passes valued s ss m g mine
+
+        pub refused-duplicate-any : numberIn (putOf end r .said) ≡ 17 → resolve ((s ∷ ss) ++ (g ∷ [])) ≡ duplicate
+        refused-duplicate-any = Duplicate.refused-duplicate end _ kept r x xs e global passes valued s ss m g mine
 
 -- "leaves behind what that table says": every refusal of these calls leaves all
 pub refusals-leave-all : (k : Call) (s : State) → callNumber k s ≢ 0 → callNext k s ≡ s
-refusals-leave-all = Refused.call-refused
+refusals-leave-all = call-refused
 
 -- an add writes no symbol row but the one whose id it answers
 pub one-row : (t : Table) (conversion : List ℕ) (u : UpcomingSymbol) (j f : ℕ) → f < 8 → j ≢ valueIn (addOf t conversion u .said)

@@ -33,10 +33,12 @@ use Rattle.upcoming_symbol.specs.declared.UpcomingSymbol.{UpcomingSymbol}
 use Rattle.upcoming_symbol.specs.Upcoming.{nameOf, rowOf}
 use Rattle.symbols.specs.Add.{emptyAt, fileOf, lent, judgeAddOf, committedOf, addRowOf, addOf}
 use Rattle.symbols.specs.Remove.{rowsOf, dropSection, removeRowOf, removeOf}
-use Rattle.symbol_laws.specs.View.{Named, Free, View, refused, kept, replaced, appended, local, view, decided}
-use Rattle.symbol_laws.specs.Refused.{commit-refused, row-refused, row-accepted, add-accepted, intern-accepted, call-refused}
+use Rattle.symbol_laws.specs.View.{Free, View, refused, kept, replaced, appended, local, view, decided}
+use Rattle.symbol_laws.specs.Refused.{commit-refused, row-refused, row-accepted, add-accepted, intern-accepted}
+use Rattle.symbol_laws.specs.Calls.{call-refused}
 use Rattle.symbol_laws.specs.History.{State, table, store, withTable, withStore, withRows, Entry, only, rows, putOf, idOf, Call, add, intern, remove, upcoming, callNext, callNumber}
 use Rattle.symbol_laws.specs.Held.{Holds, Held, Inv}
+use Rattle.symbol_laws.specs.Below.{Below}
 use Rattle.symbol_laws.specs.Issue.{linked-old, room-free}
 use Rattle.symbol_laws.specs.Rank.{best}
 use Rattle.symbol_laws.specs.Demand.{resolved}
@@ -99,7 +101,7 @@ unfolding setSectionSymbol
 symbol-behind l s id q h =
     by-test (ltb s (sectionCells (length l))) (λ t. rw t (getD-set-other l _ q id 0 (λ e. omega arith))) (λ t. rw t)
 
-section-behind : (l : List ℕ) (r : Row) (id q : ℕ) → q < sectionCells (length l) * 8 → getD (noteSection l r id) q 0 ≡ getD l q 0
+pub section-behind : (l : List ℕ) (r : Row) (id q : ℕ) → q < sectionCells (length l) * 8 → getD (noteSection l r id) q 0 ≡ getD l q 0
 unfolding noteSection
 section-behind l r id q h =
     by-test (eqb (r .visibility) 0)
@@ -111,15 +113,8 @@ note-low l r id count q i h =
     by-test (eqb (r .visibility) 0) (λ v. rw v)
     (λ v. let k : r .name .0 < count = i (eqb-false _ _ v) in rw v (getD-set-other l (r .name .0 * 8 + 3) q id 0 (λ e. omega arith)))
 
-module _ (s : State) (past : List Entry) (inv : Inv s past) where
+module _ (s : State) (b : Below s) where
   module _ (r : Row) where
-    held-low : Named (table s) r → globalAt (s .names) (r .name .0) ≢ 0 → globalAt (s .names) (r .name .0) < s .link .symbols
-    held-low k z = by-list (only (r .name .0) past) (inv .held-by (r .name .0) (k .issued))
-      where
-        by-list : (l : List Entry) → Held s (r .name .0) l → globalAt (s .names) (r .name .0) < s .link .symbols
-        by-list [] h = absurd (z h)
-        by-list (x ∷ xs) h = omega (arith, h .found, h .below)
-
     appended-past : Free (table s) r → (r .visibility ≢ 0 → r .name .0 < s .link .names) → Untouched s (withTable s (appendOf (table s) r))
     unfolding appendOf successor
     appended-past f i =
@@ -146,7 +141,7 @@ module _ (s : State) (past : List Entry) (inv : Inv s past) where
     past-viewed (replaced e k z o) =
         past-decides _ e
         (record {
-          symbols = λ q h. stored-past (s .symbols) _ r (s .link .symbols) q (held-low k z) h;
+          symbols = λ q h. stored-past (s .symbols) _ r (s .link .symbols) q (b .held (r .name .0) (k .issued) z) h;
           names = λ q h k. refl;
           sections = λ q h. refl;
         })
@@ -191,7 +186,7 @@ removed-past s id i =
       sections = λ q h. drop-behind (s .sections) _ _ q h;
     }))
 
-remove-past : (s : State) (id : SymbolId) → Untouched s (callNext (remove id) s)
+pub remove-past : (s : State) (id : SymbolId) → Untouched s (callNext (remove id) s)
 unfolding removeOf
 remove-past s id =
     by-test (eqb (changeOf (s .link) (lentOf notLent (length (s .symbols)) (length (s .sections))) .number) 0)
@@ -200,16 +195,16 @@ remove-past s id =
     (λ a. rw a (untouched s))
 
 -- after any call, accepted or refused
-pub call-past : (s : State) (past : List Entry) → Inv s past → (k : Call) → Untouched s (callNext k s)
-call-past s past inv (add conversion u) =
+pub call-past : (s : State) → Below s → (k : Call) → Untouched s (callNext k s)
+call-past s b (add conversion u) =
     by-test (eqb (callNumber (add conversion u) s) 0)
-    (λ a. subst (λ (o : Left). Untouched s (withTable s (o .table))) (sym (add-accepted (table s) conversion u (eqb-true _ _ a))) (put-past s past inv (upcoming s conversion u)))
+    (λ a. subst (λ (o : Left). Untouched s (withTable s (o .table))) (sym (add-accepted (table s) conversion u (eqb-true _ _ a))) (put-past s b (upcoming s conversion u)))
     (λ a. subst (Untouched s) (sym (call-refused (add conversion u) s (eqb-false _ _ a))) (untouched s))
-call-past s past inv (intern x) =
+call-past s b (intern x) =
     by-test (eqb (callNumber (intern x) s) 0)
-    (λ a. subst (λ (t : Store). Untouched s (withStore s t)) (sym (intern-accepted (store s) x (eqb-true _ _ a))) (issue-past s past inv x (idOf s x)))
+    (λ a. subst (λ (t : Store). Untouched s (withStore s t)) (sym (intern-accepted (store s) x (eqb-true _ _ a))) (issue-past s b x (idOf s x)))
     (λ a. subst (Untouched s) (sym (call-refused (intern x) s (eqb-false _ _ a))) (untouched s))
-call-past s past inv (remove id) = remove-past s id
+call-past s b (remove id) = remove-past s id
 
 -- ---- ids never move
 

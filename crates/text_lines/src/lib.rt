@@ -1,10 +1,9 @@
 // Lines of standard input, and text that is put together piece by piece.
 ghost use mathlib.Core.Path.{_≡_};
-ghost use Prim.Native.Nat.{_+_, _≤_};
+ghost use Prim.Native.Nat.{_+_};
 ghost use lib.ListN.{length};
 ghost use Rattle.text_lines.specs.Within.{Within};
 ghost use Rattle.text_lines.specs.Unread.{linesAt, unread, SameStart, Unsearched};
-ghost use Rattle.text_lines.specs.Text.{textOf, putOf, PutDecimal};
 
 // ---- lines
 
@@ -243,28 +242,4 @@ pub fn skip_line(buf: &mut [u8], l: Lines) -> Lines
         turns -= 1;
     }
     lines
-}
-
-// ---- text
-
-// Puts x behind the text of n bytes, and answers its new length; nothing where not all of it has room.
-pub fn put(buf: &mut [u8], n: usize, x: &[u8]) -> usize
-    ensures { λ r. ⌜ textOf (now (buf .exit)) r ≡ putOf (now (buf .entry)) n (now (x .entry)) ⌝ }
-{
-    if buf.len() < n {
-        return n;
-    }
-    if buf.len() - n < x.len() {
-        return n;
-    }
-    byte_slices::copy_in(buf, n, x);
-    n + x.len()
-}
-
-pub fn put_decimal(buf: &mut [u8], n: usize, v: u64) -> usize
-    ensures { λ r. ⌜ PutDecimal (now (buf .entry)) n v (textOf (now (buf .exit)) r) ⌝ }
-{
-    let mut digits = [0u8; 20];
-    let k = io::decimal(v, &mut digits);
-    put(buf, n, &digits[..k])
 }

@@ -3,7 +3,7 @@ use std::collections::BTreeMap;
 use std::fmt::Write;
 
 /// Answers by operation; numbers of refusals, and the words that tell cases apart, are kept.
-pub(crate) fn count(list: &str) -> String {
+pub fn count(list: &str) -> String {
     let mut counts: BTreeMap<String, u64> = BTreeMap::new();
     let mut operation = String::new();
     for line in list.lines() {

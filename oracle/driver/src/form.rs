@@ -1,6 +1,6 @@
 //! The words of the lists (oracle/README.md): numbers, names, bytes.
 
-pub(crate) type Fault = String;
+pub type Fault = String;
 
 /// A line's words after the keyword, taken one by one.
 pub(crate) struct Words<'a> {

@@ -1,13 +1,15 @@
 //! Takes the lines of a list one by one, runs them on the Rust and gives the answers.
+use crate::broken::{breaks, changes};
 use crate::direct::{Conversion, Direct};
 use crate::form::{Fault, Words};
 use crate::link::Link;
 use crate::passes::load_inputs::{ArchiveWalk, Required};
+use crate::refusal::refusal;
 use crate::rows::{LibraryRows, ObjectRows, SectionRow, SymbolRow};
 use cuddld_ar::{ArMemberId, ArSymbolTable, Archive, Entries};
 use std::collections::BTreeMap;
 
-pub(crate) struct Machine {
+pub struct Machine {
     pub(crate) link: Link,
     pub(crate) conversion: Vec<Conversion>,
     filling: Filling,
@@ -17,6 +19,7 @@ pub(crate) struct Machine {
     pub(crate) archive: ArchiveRows,
     pub(crate) walk: Option<ArchiveWalk>,
     pub(crate) required: Option<Required>,
+    broken: bool,
 }
 
 /// What the rows that come belong to.
@@ -34,7 +37,8 @@ pub(crate) struct ArchiveRows {
 }
 
 impl Machine {
-    pub(crate) fn new() -> Self {
+    #[allow(clippy::new_without_default)]
+    pub fn new() -> Self {
         Machine {
             link: Link::new(),
             conversion: Vec::new(),
@@ -45,11 +49,21 @@ impl Machine {
             archive: ArchiveRows::default(),
             walk: None,
             required: None,
+            broken: false,
         }
     }
 
-    /// The answers to a line, without their `> `.
-    pub(crate) fn line(&mut self, line: &str) -> Result<Vec<String>, Fault> {
+    /// The answers to a line, without their `> `. They are the Rust's, but for 22.
+    pub fn line(&mut self, line: &str) -> Result<Vec<String>, Fault> {
+        if self.broken && changes(line) {
+            return Ok(vec![refusal(22, Some(0)).to_string()]);
+        }
+        let answers = self.ask(line)?;
+        self.broken |= breaks(line, &answers);
+        Ok(answers)
+    }
+
+    fn ask(&mut self, line: &str) -> Result<Vec<String>, Fault> {
         let mut words = Words::of(line);
         let keyword = words.word()?;
         let mut answers = Vec::new();

@@ -3,6 +3,7 @@ use crate::passes::load_inputs::{
     MergeElfError, ReadObjectsError, SectionGroupsError, SharedObjectError,
 };
 use crate::repr::symbols::LoadSymbolsError;
+use std::any::Any;
 use std::cell::RefCell;
 use std::panic::{AssertUnwindSafe, catch_unwind};
 
@@ -37,10 +38,10 @@ thread_local! {
 }
 
 /// Panics inside a guarded call are answers: they are kept instead of printed.
-pub(crate) fn silence_panics() {
+pub fn silence_panics() {
     let loud = std::panic::take_hook();
     std::panic::set_hook(Box::new(move |info| {
-        let message = info.payload_as_str().unwrap_or_default().to_string();
+        let message = message(info.payload());
         let file = info.location().map(|at| at.file().to_string()).unwrap_or_default();
         let panic = Panic { message, file };
         if panic.number().is_none() {
@@ -48,6 +49,14 @@ pub(crate) fn silence_panics() {
         }
         LAST.set(Some(panic));
     }));
+}
+
+/// A panic's words: a `&str` if they are constant, else a `String`.
+fn message(payload: &dyn Any) -> String {
+    match payload.downcast_ref::<&str>() {
+        Some(words) => words.to_string(),
+        None => payload.downcast_ref::<String>().cloned().unwrap_or_default(),
+    }
 }
 
 /// Runs a call of the Rust. A panic that stands for no refusal is a fault of the oracle itself.

@@ -1,5 +1,5 @@
 use borrow.Author.Needs.{needs}
-use Rattle.object_requirement.specs.Ways.{offered-entry, offered-none}
+use Rattle.object_requirement.specs.Ways.{offered-index, offered-rows, offered-entry, offered-none}
 use Rattle.object_requirement.proofs.is_offered.Statement.{statement}
 use Rattle.object_requirement.proofs.is_offered.Tie as tie
 
@@ -7,6 +7,7 @@ pub is-offered-spec : {M : Type 1} → statement M
 is-offered-spec =
     tie.close
     (tie.spec
-    (λ c κs. search needs)
+    (λ c. search offered-index)
+    (λ c. search offered-rows)
     (λ c. search offered-entry)
     (λ c. search offered-none))

@@ -6,10 +6,10 @@ use Rattle.replay_rows.proofs.put_inputs.Statement.{statement}
 use Rattle.replay_rows.proofs.put_inputs.Tie as tie
 
 abbrev Inv-loop : tie.InvT-loop
-Inv-loop out₀ from inputs count n₀ i₀ out n i = length out ≡ length out₀
+Inv-loop out₀ from bytes names inputs lists count n₀ i₀ out n i = length out ≡ length out₀
 
 abbrev μ-loop : tie.MeasureT-loop
-μ-loop out₀ from inputs count n₀ i₀ out n i = count - i
+μ-loop out₀ from bytes names inputs lists count n₀ i₀ out n i = count - i
 
 pub put-inputs-spec : {M : Type 1} → statement M
 put-inputs-spec =

@@ -1,12 +1,14 @@
 use borrow.Author.Needs.{needs}
-use Prim.Native.Nat.{_-_}
+use Prim.Native.Nat.{_-_, _≤_}
 use mathlib.Core.Path.{_≡_}
 use lib.ListN.{length}
+use Rattle.replay_words.specs.Spelled.{putFrom}
+use Rattle.replay_words.specs.Ways.{put-start, put-more, put-end}
 use Rattle.replay_words.proofs.put_bytes.Statement.{statement}
 use Rattle.replay_words.proofs.put_bytes.Tie as tie
 
 abbrev Inv-loop : tie.InvT-loop
-Inv-loop to₀ at word count k₀ to k = length to ≡ length to₀
+Inv-loop to₀ at word count k₀ to k = (putFrom count to₀ at word 0 ≡ putFrom (count - k) to at word k) × (length to ≡ length to₀)
 
 abbrev μ-loop : tie.MeasureT-loop
 μ-loop to₀ at word count k₀ to k = count - k
@@ -17,12 +19,12 @@ put-bytes-spec =
     (tie.spec
     Inv-loop
     μ-loop
-    (λ c. search needs)
+    (λ c. (put-start _ _ _ _, search needs))
     (λ c κs. search needs)
     (λ c κs. search needs)
     (λ c κs. search needs)
     (λ c. search needs)
     (λ c. search needs)
+    (λ c. (put-more _ _ _ _ _ _ _ _ _ (c .before .before .before .before .before .before .loop-test .taken) (c .before .before .before .before .wrapping-add-usize .ensures) (c .before .before .before .spelled .ensures) (c .before .before .put-byte .ensures) (c .before .before .before .before .before .before .before .loop .inv .0), search needs))
     (λ c. search needs)
-    (λ c. search needs)
-    (λ c. search needs))
+    (λ c. search put-end))

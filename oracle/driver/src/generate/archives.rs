@@ -11,7 +11,7 @@ const NAMES: [&str; 7] = ["a", "b", "c", "d", "e", "mute", "clear"];
 const OFFSETS: [u64; 7] = [8, 100, 102, 4000, 70_000, 0, u32::MAX as u64];
 
 /// An index, and for each of its members an object that mostly bears what the index says.
-struct Made {
+pub(super) struct Made {
     entries: Vec<(u64, String)>,
     members: BTreeMap<u64, ObjectRows>,
 }
@@ -33,7 +33,13 @@ fn chain(random: &mut Random) -> Made {
     Made { entries, members }
 }
 
-fn archive(random: &mut Random) -> Made {
+impl Made {
+    pub(super) fn members(&mut self) -> impl Iterator<Item = &mut ObjectRows> {
+        self.members.values_mut()
+    }
+}
+
+pub(super) fn archive(random: &mut Random) -> Made {
     if random.chance(25) {
         return chain(random);
     }
@@ -131,7 +137,7 @@ fn one_section(random: &mut Random, wanted: &[(&str, u64, u64)]) -> ObjectRows {
 }
 
 /// The index' lines.
-fn describe(script: &mut Script, made: &Made) {
+pub(super) fn describe(script: &mut Script, made: &Made) {
     let has_index = !(made.entries.is_empty() && script.random.chance(50));
     script.say(format!("archive {} {}", has_index as u8, made.entries.len()));
     for (offset, name) in &made.entries {
@@ -142,7 +148,7 @@ fn describe(script: &mut Script, made: &Made) {
 }
 
 /// References that a walk may start from.
-fn references(script: &mut Script) {
+pub(super) fn references(script: &mut Script) {
     for _ in 0..script.random.between(1, 3) {
         let (name, binding) = (script.random.pick(&NAMES), script.random.pick(&[1, 1, 2]));
         script.say(format!("add elf {name} {binding} 0 0 0 0 0 -"));
@@ -167,7 +173,8 @@ pub(crate) fn steps(script: &mut Script, count: u64) {
     }
 }
 
-fn walk_in_steps(script: &mut Script, made: &Made) {
+/// Answers whether a merge broke the link.
+pub(super) fn walk_in_steps(script: &mut Script, made: &Made) -> bool {
     let mut broken = false;
     let mut done = 0;
     let mut steps = 0;
@@ -185,12 +192,12 @@ fn walk_in_steps(script: &mut Script, made: &Made) {
                     }
                     continue;
                 }
-                return;
+                return broken;
             }
             ["refused", ..] => {
                 // A removed name stays removed: every later pass is refused too.
                 if script.random.chance(70) {
-                    return;
+                    return broken;
                 }
             }
             ["member", offset, ..] => {
@@ -210,6 +217,7 @@ fn walk_in_steps(script: &mut Script, made: &Made) {
             between(script);
         }
     }
+    broken
 }
 
 /// Calls between two steps: a name defined since, a new reference, a removal.

@@ -40,7 +40,7 @@ pub(crate) fn links(script: &mut Script, count: u64) {
 
 /// Program sections that name one another, mostly the next one: long ways, branches, rings. Few of
 /// them are roots by themselves.
-fn graph(random: &mut Random, place: u64) -> ObjectRows {
+pub(super) fn graph(random: &mut Random, place: u64) -> ObjectRows {
     let count = random.between(2, 7);
     let row = |kind| SectionRow { kind, ..SectionRow::default() };
     let (strings, table) = (count + 1, count + 2);
@@ -106,7 +106,7 @@ fn direct(script: &mut Script) {
     };
 }
 
-fn collect(script: &mut Script) {
+pub(super) fn collect(script: &mut Script) {
     let count = script.symbol_count();
     let random = &mut script.random;
     let likely = random.pick(&[0, 10, 10, 30, 100]);

@@ -94,7 +94,7 @@ pub(crate) fn library(random: &mut Random) -> LibraryRows {
 }
 
 /// A symbol that add refuses, or an undefined one that nobody looks at.
-fn damage(random: &mut Random, rows: &mut LibraryRows) {
+pub(super) fn damage(random: &mut Random, rows: &mut LibraryRows) {
     if rows.symbols.is_empty() {
         return;
     }

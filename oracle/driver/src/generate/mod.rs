@@ -3,8 +3,10 @@ mod adds;
 mod archives;
 mod collections;
 mod damage;
+mod front;
 mod libraries;
 mod merges;
+mod mixed;
 mod objects;
 mod random;
 mod script;
@@ -12,12 +14,22 @@ mod sheets;
 
 const LIMITS: &str = include_str!("../../limits.txt");
 
-pub(crate) fn list(kind: &str, seed: u64, count: u64) -> Option<String> {
+/// The kinds of random links.
+pub const KINDS: [&str; 8] =
+    ["adds", "merges", "refusals", "shared", "archives", "walks", "collections", "mixed"];
+
+/// The operations of a list, without answers.
+pub fn list(kind: &str, seed: u64, count: u64) -> Option<String> {
     match kind {
         "limits" => return Some(LIMITS.into()),
         "examples" => return Some(crate::selftest::EXAMPLES.into()),
         _ => {}
     }
+    Some(histories(kind, seed, count)?.iter().map(|said| format!("{}\n", said.line)).collect())
+}
+
+/// Operations with the Rust's answers.
+pub fn histories(kind: &str, seed: u64, count: u64) -> Option<Vec<Said>> {
     let make = match kind {
         "short-adds" => adds::short,
         "adds" => adds::random,
@@ -27,12 +39,14 @@ pub(crate) fn list(kind: &str, seed: u64, count: u64) -> Option<String> {
         "archives" => archives::steps,
         "walks" => archives::walks,
         "collections" => collections::links,
+        "mixed" => mixed::links,
         _ => return None,
     };
     let mut script = script::Script::new(seed);
     make(&mut script, count);
-    Some(script.text())
+    Some(script.said())
 }
 
-pub(crate) use random::Random;
+pub use random::Random;
+pub use script::Said;
 pub(crate) use sheets::sheet;

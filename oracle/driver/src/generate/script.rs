@@ -1,5 +1,4 @@
-//! A list being written. Each line is also run, so that a generator sees the answers; they are
-//! not written.
+//! A list being written. Each line is also run, so that a generator sees the answers.
 use super::random::Random;
 use crate::machine::Machine;
 use crate::rows::{LibraryRows, ObjectRows};
@@ -7,27 +6,34 @@ use crate::rows::{LibraryRows, ObjectRows};
 pub(crate) struct Script {
     pub(crate) random: Random,
     pub(crate) machine: Machine,
-    out: String,
+    said: Vec<Said>,
+}
+
+/// An operation and what the Rust answers, without the `> `.
+pub struct Said {
+    pub line: String,
+    pub answers: Vec<String>,
 }
 
 impl Script {
     pub(crate) fn new(seed: u64) -> Self {
-        Script { random: Random::new(seed), machine: Machine::new(), out: String::new() }
+        Script { random: Random::new(seed), machine: Machine::new(), said: Vec::new() }
     }
 
-    pub(crate) fn text(self) -> String {
-        self.out
+    pub(crate) fn said(self) -> Vec<Said> {
+        self.said
     }
 
     /// The answer's first line, or nothing.
     pub(crate) fn say(&mut self, line: impl AsRef<str>) -> String {
         let line = line.as_ref();
-        self.out += line;
-        self.out += "\n";
-        match self.machine.line(line) {
-            Ok(answers) => answers.into_iter().next().unwrap_or_default(),
+        let answers = match self.machine.line(line) {
+            Ok(answers) => answers,
             Err(fault) => panic!("oracle: generated {line:?}: {fault}"),
-        }
+        };
+        let first = answers.first().cloned().unwrap_or_default();
+        self.said.push(Said { line: line.to_string(), answers });
+        first
     }
 
     pub(crate) fn object(&mut self, rows: &ObjectRows) {

@@ -7,6 +7,7 @@ mod merge;
 mod shared;
 mod table;
 
+use crate::broken::{breaks, changes};
 use crate::direct::Direct;
 use crate::form::{self, Words};
 use crate::machine::Machine;
@@ -33,6 +34,7 @@ pub(crate) struct Model {
     groups: BTreeSet<String>,
     inputs: Vec<Input>,
     walk: Walk,
+    broken: bool,
 }
 
 enum Section {
@@ -49,6 +51,15 @@ enum Input {
 impl Model {
     /// The answers to a line. What the line announces is read from the machine, which ran it.
     pub(crate) fn line(&mut self, line: &str, machine: &Machine) -> Vec<String> {
+        if self.broken && changes(line) {
+            return vec![Refused(22, Some(0)).line()];
+        }
+        let answers = self.answers(line, machine);
+        self.broken |= breaks(line, &answers);
+        answers
+    }
+
+    fn answers(&mut self, line: &str, machine: &Machine) -> Vec<String> {
         let mut words = Words::of(line);
         let refused_or = |result: Result<String, Refused>| match result {
             Ok(answer) => vec![answer],

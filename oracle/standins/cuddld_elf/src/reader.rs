@@ -10,7 +10,7 @@ use std::rc::Rc;
 
 pub enum Stored {
     Object(ElfObject),
-    Library(Library),
+    Library(Rc<Library>),
 }
 
 /// The dynamic part of a shared object, names looked up already.
@@ -101,7 +101,7 @@ impl ElfReader<'_> {
 }
 
 pub struct DynamicReader {
-    library: Library,
+    library: Rc<Library>,
 }
 
 impl DynamicReader {

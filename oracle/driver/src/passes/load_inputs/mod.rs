@@ -61,7 +61,7 @@ pub(crate) fn load(
     };
     shared_objects::load_shared_object(
         object,
-        &mut ElfReader::of(Stored::Library(library)),
+        &mut ElfReader::of(Stored::Library(library.into())),
         &name,
         CliInputOptions { as_needed },
         ObjectSpan::new_synthetic(),
@@ -93,6 +93,14 @@ impl Required {
 /// Whether `PendingArchive::new` finds nothing to offer, and so no walk is made.
 pub(crate) fn new_is_empty(archive: &std::path::Path, symbols: &Symbols) -> bool {
     read_objects::access::new_is_empty(archive, symbols)
+}
+
+/// The time of `PendingArchive::new`, if it finds something to offer.
+pub(crate) fn time_new(
+    archive: &std::path::Path,
+    symbols: &Symbols,
+) -> Result<Option<std::time::Duration>, ReadObjectsError> {
+    read_objects::access::time_new(archive, symbols)
 }
 
 pub(crate) struct ArchiveWalk(Steps);

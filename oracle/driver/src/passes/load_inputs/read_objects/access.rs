@@ -5,7 +5,9 @@
 //! `next` makes the first pass. (`ObjectsReader` calls `new` and `next` one after the other, over
 //! the same table: a whole walk through it shows that nothing else differs.)
 use super::*;
+use crate::bench::Clock;
 use cuddld_ar::Archive;
+use std::time::Duration;
 
 pub(in crate::passes::load_inputs) struct Steps {
     pending: PendingArchive<'static>,
@@ -62,6 +64,19 @@ impl Steps {
             }
         })
     }
+}
+
+/// The time of `PendingArchive::new` over an opened file, if it finds something to offer.
+pub(in crate::passes::load_inputs) fn time_new(
+    archive: &std::path::Path,
+    symbols: &Symbols,
+) -> Result<Option<Duration>, ReadObjectsError> {
+    let file = BufReader::new(File::open(archive).expect("the archive"));
+    let path = archive.to_path_buf();
+    let start = Clock::start();
+    let pending = PendingArchive::new(path, file, symbols, &OPTIONS)?;
+    let time = start.elapsed();
+    Ok(pending.map(|_| time))
 }
 
 /// Shows what document 01 does otherwise (see differences.rs).

@@ -1,0 +1,19 @@
+use borrow.Author.Needs.{needs}
+use Rattle.archive_walk.specs.Ways.{pass-judged, pass-removed, pass-made}
+use Rattle.archive_pass.proofs.pass.Statement.{statement}
+use Rattle.archive_pass.proofs.pass.Tie as tie
+
+pub pass-spec : {M : Type 1} → statement M
+pass-spec =
+    tie.close
+    (tie.spec
+    (λ c κs. search needs)
+    (λ c κs. search needs)
+    (λ c. search pass-judged)
+    (λ c κs. search needs)
+    (λ c κs. search needs)
+    (λ c. search needs)
+    (λ c. search pass-removed)
+    (λ c κs. search needs)
+    (λ c. search needs)
+    (λ c. search pass-made))

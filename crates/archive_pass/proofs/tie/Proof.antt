@@ -1,0 +1,17 @@
+use borrow.Author.Needs.{needs}
+use Rattle.archive_walk.specs.Ways.{tie-undefined, tie-not}
+use Rattle.archive_pass.proofs.tie.Statement.{statement}
+use Rattle.archive_pass.proofs.tie.Tie as tie
+
+pub tie-spec : {M : Type 1} → statement M
+tie-spec =
+    tie.close
+    (tie.spec
+    (λ c κs. search needs)
+    (λ c κs. search needs)
+    (λ c κs. search needs)
+    (λ c κs. search needs)
+    (λ c. search needs)
+    (λ c. search tie-undefined)
+    (λ c. search needs)
+    (λ c. search tie-not))

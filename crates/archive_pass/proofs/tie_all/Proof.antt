@@ -1,0 +1,38 @@
+use borrow.Author.Needs.{needs}
+use native.Mathlib.Nat.{sub-zero}
+use Prim.Native.Nat.{_+_, _-_, _≤_}
+use mathlib.Core.Path.{_≡_}
+use lib.ListN.{length}
+use Rattle.archive_walk.specs.Look.{tableOf}
+use Rattle.archive_walk.specs.Walk.{queueOf, tieAll}
+use Rattle.archive_walk.specs.Ways.{all-on, all-end, count-on}
+use Rattle.archive_pass.proofs.tie_all.Statement.{statement}
+use Rattle.archive_pass.proofs.tie_all.Tie as tie
+
+abbrev Inv-loop : tie.InvT-loop
+Inv-loop index cells₀ queued p entries l bytes names symbols n₀ k₀ cells n k =
+    (n ≤ queued + k) × (length cells ≡ length cells₀) ×
+    (tieAll index (tableOf l bytes names symbols) p entries 0 (queueOf cells₀ queued) ≡ tieAll index (tableOf l bytes names symbols) p (entries - k) k (queueOf cells n))
+
+abbrev μ-loop : tie.MeasureT-loop
+μ-loop index cells₀ queued p entries l bytes names symbols n₀ k₀ cells n k = entries - k
+
+loop-again : tie.Need-loop-again Inv-loop μ-loop
+loop-again c =
+    let tied = c .before .before in
+    let turn = tied .before .before in
+    (count-on _ _ _ _ _ _ _ _ _ (tied .tie .ensures) (turn .before .loop .inv .0), search needs, all-on _ _ _ _ _ _ _ _ (turn .loop-test .taken) (tied .tie .ensures) (turn .before .loop .inv .2))
+
+pub tie-all-spec : {M : Type 1} → statement M
+tie-all-spec =
+    tie.close
+    (tie.spec
+    Inv-loop
+    μ-loop
+    (λ c. search (needs, sub-zero))
+    (λ c κs. search needs)
+    (λ c. search needs)
+    (λ c. search needs)
+    loop-again
+    (λ c. search needs)
+    (λ c. search all-end))

@@ -1,0 +1,329 @@
+// The walk's calls for the next member, and its passes.
+ghost use mathlib.Core.Path.{_≡_};
+ghost use Prim.Native.Nat.{_+_, _<_};
+ghost use lib.ListN.{length};
+ghost use Rattle.archive_walk.specs.Look.{tableOf, judgeTable, nameHolder, removedName, undefinedName};
+ghost use Rattle.archive_walk.specs.Walk.{stepMoved, refusedMove, offerOf, queueOf, marked, enqueue, tieOf, tieAll, removedOf, makeOf, passOf, walkFits, nextOf};
+use archive_walk::Moved;
+use archive_walk::Offer;
+use archive_walk::Walk;
+use link::Interned;
+use link::Lent;
+use link::Link;
+use link::Refusal;
+use symbol_rows::Holder;
+
+fn judge_table(l: Link, bytes: &[u8], names: &[u64], symbols: &[u64]) -> Refusal
+    ensures { λ r. ⌜ r ≡ judgeTable (tableOf l (now (bytes .entry)) (now (names .entry)) (now (symbols .entry))) ⌝ }
+{
+    link_judge::judge(
+        l,
+        Lent {
+            names: names.len(),
+            bytes: bytes.len(),
+            symbols: symbols.len(),
+            sections: link::NOT_LENT,
+            inputs: link::NOT_LENT,
+            lists: link::NOT_LENT,
+        },
+    )
+}
+
+// Who holds a name of the index, which is looked up and never interned.
+fn name_holder(l: Link, bytes: &[u8], names: &[u64], symbols: &[u64], x: &[u8]) -> Holder
+    ensures { λ r. ⌜ r ≡ nameHolder (tableOf l (now (bytes .entry)) (now (names .entry)) (now (symbols .entry))) (now (x .entry)) ⌝ }
+{
+    let id = interner::find(bytes, names, l.names, x);
+    symbol_rows::holder_of(names, symbols, l.names, Interned(id))
+}
+
+fn is_removed(l: Link, bytes: &[u8], names: &[u64], symbols: &[u64], x: &[u8]) -> bool
+    ensures { λ r. ⌜ r ≡ removedName (tableOf l (now (bytes .entry)) (now (names .entry)) (now (symbols .entry))) (now (x .entry)) ⌝ }
+{
+    let holder = name_holder(l, bytes, names, symbols, x);
+    match holder {
+        Holder::Unissued => false,
+        Holder::Nobody => false,
+        Holder::Removed => true,
+        Holder::Known { id } => false,
+    }
+}
+
+// Weak or not.
+fn is_undefined(l: Link, bytes: &[u8], names: &[u64], symbols: &[u64], x: &[u8]) -> bool
+    ensures { λ r. ⌜ r ≡ undefinedName (tableOf l (now (bytes .entry)) (now (names .entry)) (now (symbols .entry))) (now (x .entry)) ⌝ }
+{
+    let holder = name_holder(l, bytes, names, symbols, x);
+    match holder {
+        Holder::Unissued => false,
+        Holder::Nobody => false,
+        Holder::Removed => false,
+        Holder::Known { id } => cells::row_get(symbols, id.0, 5) == 7,
+    }
+}
+
+// The first entry whose name's row was removed, or the number of entries.
+fn first_removed(
+    index: &[u8],
+    cells: &[u64],
+    entries: usize,
+    l: Link,
+    bytes: &[u8],
+    names: &[u64],
+    symbols: &[u64],
+) -> usize
+    ensures { λ r. ⌜ r ≡ removedOf (now (index .entry)) (now (cells .entry)) (tableOf l (now (bytes .entry)) (now (names .entry)) (now (symbols .entry))) entries 0 ⌝ }
+{
+    let mut k = 0;
+    while k < entries {
+        if is_removed(
+            l,
+            bytes,
+            names,
+            symbols,
+            archive_index::name(index, cells, k),
+        ) {
+            return k;
+        }
+        k += 1;
+    }
+    k
+}
+
+// Entry k goes to the end of the queue, and its name is required of its member.
+fn mark(cells: &mut [u64], queued: usize, p: usize, k: usize, r: usize)
+    ensures { λ _. ⌜ now (cells .exit) ≡ marked p k r (now (cells .entry)) queued ⌝ }
+{
+    cells::row_put(cells, k, 0, 1);
+    cells::row_put(cells, r, 6, p as u64);
+    cells::row_put(cells, queued, 7, k as u64);
+}
+
+// Entry k in pass p, its name undefined, its member represented by r; answers how many members are queued then.
+fn put_in_queue(cells: &mut [u64], queued: usize, p: usize, k: usize, r: usize) -> usize
+    requires { ⌜ queued < 0xffffffffffffffff ⌝ }
+    ensures { λ n. ⌜ queueOf (now (cells .exit)) n ≡ enqueue p k r (queueOf (now (cells .entry)) queued) ⌝ }
+{
+    let by = cells::row_get(cells, r, 6) as usize;
+    if by == 0 {
+        mark(cells, queued, p, k, r);
+        return queued + 1;
+    }
+    if by == p {
+        cells::row_put(cells, k, 0, 1);
+        return queued;
+    }
+    queued
+}
+
+fn tie(
+    index: &[u8],
+    cells: &mut [u64],
+    queued: usize,
+    p: usize,
+    k: usize,
+    l: Link,
+    bytes: &[u8],
+    names: &[u64],
+    symbols: &[u64],
+) -> usize
+    requires { ⌜ queued < 0xffffffffffffffff ⌝ }
+    ensures { λ n. ⌜ queueOf (now (cells .exit)) n ≡ tieOf (now (index .entry)) (tableOf l (now (bytes .entry)) (now (names .entry)) (now (symbols .entry))) p k (queueOf (now (cells .entry)) queued) ⌝ }
+{
+    if is_undefined(
+        l,
+        bytes,
+        names,
+        symbols,
+        archive_index::name(index, cells, k),
+    ) {
+        let r = cells::row_get(cells, k, 1) as usize;
+        return put_in_queue(cells, queued, p, k, r);
+    }
+    queued
+}
+
+// Pass p over all entries.
+fn tie_all(
+    index: &[u8],
+    cells: &mut [u64],
+    queued: usize,
+    p: usize,
+    entries: usize,
+    l: Link,
+    bytes: &[u8],
+    names: &[u64],
+    symbols: &[u64],
+) -> usize
+    requires { ⌜ queued + entries < 0xffffffffffffffff ⌝ }
+    ensures { λ n. ⌜ queueOf (now (cells .exit)) n ≡ tieAll (now (index .entry)) (tableOf l (now (bytes .entry)) (now (names .entry)) (now (symbols .entry))) p entries 0 (queueOf (now (cells .entry)) queued) ⌝ }
+{
+    let mut n = queued;
+    let mut k = 0;
+    while k < entries {
+        n = tie(index, cells, n, p, k, l, bytes, names, symbols);
+        k += 1;
+    }
+    n
+}
+
+fn refuse(w: Walk, number: u64, place: u64) -> Moved
+    ensures { λ r. ⌜ r ≡ refusedMove w number place ⌝ }
+{
+    Moved {
+        walk: w,
+        offer: Offer::Refused {
+            refusal: Refusal {
+                number: number,
+                place: place,
+            },
+        },
+    }
+}
+
+// The front of the queue; an empty queue ends the walk.
+fn hand_out(index: &[u8], cells: &[u64], w: Walk) -> Moved
+    ensures { λ r. ⌜ stepMoved (now (cells .entry)) r ≡ offerOf (now (index .entry)) (now (cells .entry)) w ⌝ }
+{
+    if w.offered < w.queued {
+        let e = cells::row_get(cells, w.offered, 7) as usize;
+        return Moved {
+            walk: Walk {
+                entries: w.entries,
+                length: w.length,
+                passes: w.passes,
+                queued: w.queued,
+                offered: w.offered + 1,
+                done: false,
+            },
+            offer: Offer::Member {
+                offset: archive_index::offset(index, e),
+                entry: e,
+                passes: w.passes,
+            },
+        };
+    }
+    Moved {
+        walk: Walk {
+            entries: w.entries,
+            length: w.length,
+            passes: w.passes,
+            queued: w.queued,
+            offered: w.offered,
+            done: true,
+        },
+        offer: Offer::Done { passes: w.passes },
+    }
+}
+
+// A pass over all entries, then the front of what it queued.
+fn make_pass(
+    w: Walk,
+    index: &[u8],
+    cells: &mut [u64],
+    l: Link,
+    bytes: &[u8],
+    names: &[u64],
+    symbols: &[u64],
+) -> Moved
+    requires { ⌜ w .queued + w .entries < 0xffffffffffffffff ⌝ }
+    requires { ⌜ w .passes < 0xffffffffffffffff ⌝ }
+    ensures { λ r. ⌜ stepMoved (now (cells .exit)) r ≡ makeOf (now (index .entry)) (now (cells .entry)) w (tableOf l (now (bytes .entry)) (now (names .entry)) (now (symbols .entry))) ⌝ }
+{
+    let p = w.passes + 1;
+    let n = tie_all(
+        index,
+        cells,
+        w.queued,
+        p,
+        w.entries,
+        l,
+        bytes,
+        names,
+        symbols,
+    );
+    let after = Walk {
+        entries: w.entries,
+        length: w.length,
+        passes: p,
+        queued: n,
+        offered: w.offered,
+        done: false,
+    };
+    hand_out(index, cells, after)
+}
+
+// The table is judged, then searched for a removed name, before anything is queued: 1; 21.
+fn pass(
+    w: Walk,
+    index: &[u8],
+    cells: &mut [u64],
+    l: Link,
+    bytes: &[u8],
+    names: &[u64],
+    symbols: &[u64],
+) -> Moved
+    requires { ⌜ w .queued + w .entries < 0xffffffffffffffff ⌝ }
+    requires { ⌜ w .passes < 0xffffffffffffffff ⌝ }
+    ensures { λ r. ⌜ stepMoved (now (cells .exit)) r ≡ passOf (now (index .entry)) (now (cells .entry)) w (tableOf l (now (bytes .entry)) (now (names .entry)) (now (symbols .entry))) ⌝ }
+{
+    let judged = judge_table(l, bytes, names, symbols);
+    if judged.number != 0 {
+        return refuse(w, judged.number, judged.place);
+    }
+    let x = first_removed(index, cells, w.entries, l, bytes, names, symbols);
+    if x < w.entries {
+        return refuse(w, 21, x as u64);
+    }
+    make_pass(w, index, cells, l, bytes, names, symbols)
+}
+
+// The index and the rows are as long as at the start, and the counts are those of a walk.
+pub fn fits(w: Walk, index: &[u8], cells: &[u64]) -> bool
+    ensures { λ r. ⌜ r ≡ walkFits (now (index .entry)) (now (cells .entry)) w ⌝ }
+{
+    if index.len() < w.length {
+        return false;
+    }
+    if cells.len() / 8 < w.entries {
+        return false;
+    }
+    if w.entries < w.queued {
+        return false;
+    }
+    if w.queued < w.offered {
+        return false;
+    }
+    if w.queued < w.passes {
+        return false;
+    }
+    true
+}
+
+// The next member: the front of the queue, though its name may be defined since; where none is queued, a pass is made over the table lent to
+// this call. After "done" it stays done. The link is judged at a pass only: nothing else looks at it. 1; then 21 at an entry's position.
+pub fn next(
+    w: Walk,
+    index: &[u8],
+    cells: &mut [u64],
+    l: Link,
+    bytes: &[u8],
+    names: &[u64],
+    symbols: &[u64],
+) -> Moved
+    ensures { λ r. ⌜ stepMoved (now (cells .exit)) r ≡ nextOf (now (index .entry)) (now (cells .entry)) w (tableOf l (now (bytes .entry)) (now (names .entry)) (now (symbols .entry))) ⌝ }
+{
+    if w.done {
+        return Moved {
+            walk: w,
+            offer: Offer::Done { passes: w.passes },
+        };
+    }
+    if fits(w, index, cells) {
+        if w.offered < w.queued {
+            return hand_out(index, cells, w);
+        }
+        return pass(w, index, cells, l, bytes, names, symbols);
+    }
+    refuse(w, 1, 0)
+}

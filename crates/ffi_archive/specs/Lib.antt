@@ -1,0 +1,3 @@
+pub mod Cells
+pub mod Calls
+pub mod Ways

@@ -1,0 +1,169 @@
+// The walk over an archive's members, and admission, for another language: the answer lies in a header (ffi_header), the walk in six cells. A
+// header of fewer than 16 cells gives 1, and nothing is read or written; a walk of fewer than six gives 1 at place 0 and is left.
+ghost use mathlib.Core.Path.{_≡_};
+ghost use Rattle.ffi_header.specs.Header.{told};
+ghost use Rattle.ffi_archive.specs.Cells.{walkIn, indexOut, walkOut};
+ghost use Rattle.ffi_archive.specs.Calls.{begunReply, offeredReply, admittedReply, walkLeft, startFit, startCall, nextFit, nextCall, matchesCall};
+use archive_walk::Begun;
+use archive_walk::Offer;
+use archive_walk::Walk;
+use ffi_header::Reply;
+use object_requirement::Admission;
+
+// ---- a walk
+
+pub fn walk_in(walk: &[u64]) -> Walk
+    ensures { λ r. ⌜ r ≡ walkIn (now (walk .entry)) ⌝ }
+{
+    Walk {
+        entries: cells::get(walk, 0) as usize,
+        length: cells::get(walk, 1) as usize,
+        passes: cells::get(walk, 2) as usize,
+        queued: cells::get(walk, 3) as usize,
+        offered: cells::get(walk, 4) as usize,
+        done: ffi_header::is_set(cells::get(walk, 5)),
+    }
+}
+
+fn put_index(walk: &mut [u64], w: Walk)
+    ensures { λ _. ⌜ now (walk .exit) ≡ indexOut (now (walk .entry)) w ⌝ }
+{
+    cells::put(walk, 0, w.entries as u64);
+    cells::put(walk, 1, w.length as u64);
+    cells::put(walk, 2, w.passes as u64);
+}
+
+pub fn put_walk(walk: &mut [u64], w: Walk)
+    ensures { λ _. ⌜ now (walk .exit) ≡ walkOut (now (walk .entry)) w ⌝ }
+{
+    put_index(walk, w);
+    cells::put(walk, 3, w.queued as u64);
+    cells::put(walk, 4, w.offered as u64);
+    cells::put(walk, 5, ffi_header::flag(w.done));
+}
+
+// ---- answers
+
+fn begun(a: Begun) -> Reply
+    ensures { λ r. ⌜ r ≡ begunReply a ⌝ }
+{
+    match a {
+        Begun::Ready { entries } => ffi_header::result(entries as u64, 0, 0, 0),
+        Begun::Refused { refusal } => ffi_header::refused(refusal),
+    }
+}
+
+fn offered(a: Offer) -> Reply
+    ensures { λ r. ⌜ r ≡ offeredReply a ⌝ }
+{
+    match a {
+        Offer::Member {
+            offset,
+            entry,
+            passes,
+        } => ffi_header::result(1, offset, entry as u64, passes as u64),
+        Offer::Done { passes } => ffi_header::result(0, 0, 0, passes as u64),
+        Offer::Refused { refusal } => ffi_header::refused(refusal),
+    }
+}
+
+fn admitted(a: Admission) -> Reply
+    ensures { λ r. ⌜ r ≡ admittedReply a ⌝ }
+{
+    match a {
+        Admission::Yes => ffi_header::result(1, 0, 0, 0),
+        Admission::No => ffi_header::result(0, 0, 0, 0),
+        Admission::Refused { refusal } => ffi_header::refused(refusal),
+    }
+}
+
+// ---- the calls
+
+fn start_fit(header: &mut [u64], walk: &mut [u64], index: &[u8], rows: &mut [u64]) -> u64
+    ensures { λ r. ⌜ walkLeft (told r (now (header .exit))) (now (walk .exit)) (now (rows .exit)) ≡ startFit (now (header .entry)) (now (walk .entry)) (now (index .entry)) (now (rows .entry)) ⌝ }
+{
+    let s = archive_walk::start(index, rows);
+    let w = s.walk;
+    let a = s.begun;
+    put_walk(walk, w);
+    ffi_header::answer(header, begun(a))
+}
+
+// The value is the number of entries; the link isn't looked at.
+pub fn archive_start(header: &mut [u64], walk: &mut [u64], index: &[u8], rows: &mut [u64]) -> u64
+    ensures { λ r. ⌜ walkLeft (told r (now (header .exit))) (now (walk .exit)) (now (rows .exit)) ≡ startCall (now (header .entry)) (now (walk .entry)) (now (index .entry)) (now (rows .entry)) ⌝ }
+{
+    if header.len() < 16 {
+        return 1;
+    }
+    if walk.len() < 6 {
+        return ffi_header::answer(header, ffi_header::refusal(1, 0));
+    }
+    start_fit(header, walk, index, rows)
+}
+
+fn next_fit(
+    header: &mut [u64],
+    walk: &mut [u64],
+    index: &[u8],
+    rows: &mut [u64],
+    bytes: &[u8],
+    names: &[u64],
+    symbols: &[u64],
+) -> u64
+    ensures { λ r. ⌜ walkLeft (told r (now (header .exit))) (now (walk .exit)) (now (rows .exit)) ≡ nextFit (now (header .entry)) (now (walk .entry)) (now (index .entry)) (now (rows .entry)) (now (bytes .entry)) (now (names .entry)) (now (symbols .entry)) ⌝ }
+{
+    let l = ffi_header::link_in(header);
+    let w = walk_in(walk);
+    let m = archive_pass::next(w, index, rows, l, bytes, names, symbols);
+    let moved = m.walk;
+    let a = m.offer;
+    put_walk(walk, moved);
+    ffi_header::answer(header, offered(a))
+}
+
+// The values are 1 for a member, its offset, the entry that queued it and the passes made; 0, 0, 0 and the passes where the walk is done.
+pub fn archive_next(
+    header: &mut [u64],
+    walk: &mut [u64],
+    index: &[u8],
+    rows: &mut [u64],
+    bytes: &[u8],
+    names: &[u64],
+    symbols: &[u64],
+) -> u64
+    ensures { λ r. ⌜ walkLeft (told r (now (header .exit))) (now (walk .exit)) (now (rows .exit)) ≡ nextCall (now (header .entry)) (now (walk .entry)) (now (index .entry)) (now (rows .entry)) (now (bytes .entry)) (now (names .entry)) (now (symbols .entry)) ⌝ }
+{
+    if header.len() < 16 {
+        return 1;
+    }
+    if walk.len() < 6 {
+        return ffi_header::answer(header, ffi_header::refusal(1, 0));
+    }
+    next_fit(header, walk, index, rows, bytes, names, symbols)
+}
+
+// The value is 1 where the object is admitted, else 0; the link isn't looked at.
+pub fn matches(
+    header: &mut [u64],
+    walk: &[u64],
+    index: &[u8],
+    rows: &[u64],
+    entry: usize,
+    headers: &[u64],
+    entries: &[u64],
+    contents: &[u64],
+    file: &[u8],
+) -> u64
+    ensures { λ r. ⌜ told r (now (header .exit)) ≡ matchesCall (now (header .entry)) (now (walk .entry)) (now (index .entry)) (now (rows .entry)) entry (now (headers .entry)) (now (entries .entry)) (now (contents .entry)) (now (file .entry)) ⌝ }
+{
+    if header.len() < 16 {
+        return 1;
+    }
+    if walk.len() < 6 {
+        return ffi_header::answer(header, ffi_header::refusal(1, 0));
+    }
+    let w = walk_in(walk);
+    let a = object_requirement::matches(headers, entries, contents, file, w, index, rows, entry);
+    ffi_header::answer(header, admitted(a))
+}

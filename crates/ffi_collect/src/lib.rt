@@ -1,0 +1,69 @@
+// Collection, for another language: the link and the answer lie in a header (ffi_header). A header of fewer than 16 cells gives 1, and nothing is
+// read or written.
+ghost use mathlib.Core.Path.{_≡_};
+ghost use Rattle.gc_sections.specs.Run.{saidOf, listsOf};
+ghost use Rattle.ffi_header.specs.Header.{told};
+ghost use Rattle.ffi_collect.specs.Calls.{collectedReply, entryOf, runLeft, runCall};
+use ffi_header::Reply;
+use gc_sections::Answer;
+use gc_sections::EntryPoint;
+use link::SymbolId;
+
+fn collected(a: Answer) -> Reply
+    ensures { λ r. ⌜ r ≡ collectedReply (saidOf a) ⌝ }
+{
+    match a {
+        Answer::Dropped { sections, symbols } => {
+            ffi_header::result(sections as u64, symbols as u64, 0, 0)
+        }
+        Answer::Refused { refusal } => ffi_header::refused(refusal),
+    }
+}
+
+fn entry_of(entered: bool, entry: usize) -> EntryPoint
+    ensures { λ r. ⌜ r ≡ entryOf entered entry ⌝ }
+{
+    if entered {
+        return EntryPoint::Symbol {
+            id: SymbolId(entry),
+        };
+    }
+    EntryPoint::None
+}
+
+// The entry symbol is `entry`, if one is given (`entered`). The values are how many sections were dropped, and how many symbols removed with them.
+pub fn gc_run(
+    header: &mut [u64],
+    bytes: &[u8],
+    names: &[u64],
+    symbols: &mut [u64],
+    sections: &mut [u64],
+    lists: &[u64],
+    marks: &[u8],
+    entered: bool,
+    entry: usize,
+    work: &mut [u64],
+) -> u64
+    ensures { λ r. ⌜ runLeft (told r (now (header .exit))) (now (symbols .exit)) (now (sections .exit)) (now (work .exit))
+        ≡ runCall (now (header .entry)) (listsOf (now (bytes .entry)) (now (names .entry)) (now (lists .entry)) (now (marks .entry))) (now (symbols .entry)) (now (sections .entry)) (entryOf entered entry) (now (work .entry)) ⌝ }
+{
+    if header.len() < 16 {
+        return 1;
+    }
+    let l = ffi_header::link_in(header);
+    let point = entry_of(entered, entry);
+    let o = gc_sections::run(
+        l,
+        bytes,
+        names,
+        symbols,
+        sections,
+        lists,
+        marks,
+        point,
+        work,
+    );
+    let left = o.link;
+    let a = o.answer;
+    ffi_header::tell(header, left, collected(a))
+}

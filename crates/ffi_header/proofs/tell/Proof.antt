@@ -1,0 +1,14 @@
+use borrow.Author.Needs.{needs}
+use Rattle.ffi_header.specs.Ways.{tell-told}
+use Rattle.ffi_header.proofs.tell.Statement.{statement}
+use Rattle.ffi_header.proofs.tell.Tie as tie
+
+pub tell-spec : {M : Type 1} → statement M
+tell-spec =
+    tie.close
+    (tie.spec
+    (λ c κs. search needs)
+    (λ c κs. search needs)
+    (λ c κs. search needs)
+    (λ c. search needs)
+    (λ c. search tell-told))

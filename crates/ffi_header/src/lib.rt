@@ -1,0 +1,140 @@
+// A link and an answer in the cells of a header, for the calls from another language. Cells 0 to 8 hold the link (names, bytes, symbols, sections,
+// inputs, lists, chains, slots, broken), 9 the number of the refusal, 10 its place, 11 to 15 the values of the answer.
+ghost use mathlib.Core.Path.{_≡_};
+ghost use Rattle.ffi_header.specs.Header.{isSet, flagOf, linkIn, resultOf, refusalOf, refusedOf, replyIn, countsIn, told, tellOf, answerOf};
+use link::Link;
+use link::Refusal;
+
+// Number 0 is a result, with its values; a refusal has none.
+pub struct Reply {
+    pub number: u64,
+    pub place: u64,
+    pub first: u64,
+    pub second: u64,
+    pub third: u64,
+    pub fourth: u64,
+}
+
+// ---- the header
+
+// A cell that holds yes or no: 0 is no, any other number yes.
+pub fn is_set(cell: u64) -> bool
+    ensures { λ r. ⌜ r ≡ isSet cell ⌝ }
+{
+    if cell == 0 {
+        return false;
+    }
+    true
+}
+
+pub fn flag(b: bool) -> u64
+    ensures { λ r. ⌜ r ≡ flagOf b ⌝ }
+{
+    if b {
+        return 1;
+    }
+    0
+}
+
+pub fn link_in(header: &[u64]) -> Link
+    ensures { λ r. ⌜ r ≡ linkIn (now (header .entry)) ⌝ }
+{
+    Link {
+        names: cells::get(header, 0) as usize,
+        bytes: cells::get(header, 1) as usize,
+        symbols: cells::get(header, 2) as usize,
+        sections: cells::get(header, 3) as usize,
+        inputs: cells::get(header, 4) as usize,
+        lists: cells::get(header, 5) as usize,
+        chains: cells::get(header, 6) as usize,
+        slots: cells::get(header, 7) as usize,
+        broken: is_set(cells::get(header, 8)),
+    }
+}
+
+// Cell 8 and the answer.
+fn put_reply(header: &mut [u64], broken: u64, r: Reply)
+    ensures { λ _. ⌜ now (header .exit) ≡ replyIn (now (header .entry)) broken r ⌝ }
+{
+    cell_writes::row_store(
+        header,
+        1,
+        broken,
+        r.number,
+        r.place,
+        r.first,
+        r.second,
+        r.third,
+        r.fourth,
+        0,
+    );
+}
+
+// The answer of a call that doesn't change a link: cells 0 to 8 stay.
+pub fn answer(header: &mut [u64], r: Reply) -> u64
+    ensures { λ n. ⌜ told n (now (header .exit)) ≡ answerOf (now (header .entry)) r ⌝ }
+{
+    let broken = cells::get(header, 8);
+    put_reply(header, broken, r);
+    r.number
+}
+
+fn put_counts(header: &mut [u64], l: Link)
+    ensures { λ _. ⌜ now (header .exit) ≡ countsIn (now (header .entry)) l ⌝ }
+{
+    cell_writes::row_store(
+        header,
+        0,
+        l.names as u64,
+        l.bytes as u64,
+        l.symbols as u64,
+        l.sections as u64,
+        l.inputs as u64,
+        l.lists as u64,
+        l.chains as u64,
+        l.slots as u64,
+    );
+}
+
+// The link that a call hands back, and its answer.
+pub fn tell(header: &mut [u64], l: Link, r: Reply) -> u64
+    ensures { λ n. ⌜ told n (now (header .exit)) ≡ tellOf (now (header .entry)) l r ⌝ }
+{
+    put_counts(header, l);
+    put_reply(header, flag(l.broken), r);
+    r.number
+}
+
+// ---- answers
+
+pub fn result(first: u64, second: u64, third: u64, fourth: u64) -> Reply
+    ensures { λ r. ⌜ r ≡ resultOf first second third fourth ⌝ }
+{
+    Reply {
+        number: 0,
+        place: 0,
+        first: first,
+        second: second,
+        third: third,
+        fourth: fourth,
+    }
+}
+
+pub fn refusal(number: u64, place: u64) -> Reply
+    ensures { λ r. ⌜ r ≡ refusalOf number place ⌝ }
+{
+    Reply {
+        number: number,
+        place: place,
+        first: 0,
+        second: 0,
+        third: 0,
+        fourth: 0,
+    }
+}
+
+pub fn refused(r: Refusal) -> Reply
+    ensures { λ x. ⌜ x ≡ refusedOf r ⌝ }
+{
+    refusal(r.number, r.place)
+}

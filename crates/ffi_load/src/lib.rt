@@ -1,0 +1,68 @@
+// The load of a shared object, for another language: the link and the answer lie in a header (ffi_header). A header of fewer than 16 cells gives 1,
+// and nothing is read or written.
+ghost use mathlib.Core.Path.{_≡_};
+ghost use Rattle.shared_objects.specs.Load.{saidOf, inputAs};
+ghost use Rattle.ffi_header.specs.Header.{saying, told};
+ghost use Rattle.ffi_load.specs.Calls.{rowsOf, loadLeft, loadCall};
+use ffi_header::Reply;
+use shared_objects::Answer;
+
+fn loaded(a: Answer) -> Reply
+    ensures { λ r. ⌜ r ≡ saying (saidOf a) ⌝ }
+{
+    match a {
+        Answer::Loaded => ffi_header::result(1, 0, 0, 0),
+        Answer::NotNeeded => ffi_header::result(0, 0, 0, 0),
+        Answer::Refused { refusal } => ffi_header::refused(refusal),
+    }
+}
+
+// The value is 1 where the library is loaded, 0 where it isn't needed.
+pub fn load_shared_object<'a>(
+    header: &mut [u64],
+    bytes: &mut [u8],
+    names: &mut [u64],
+    symbols: &mut [u64],
+    sections: &mut [u64],
+    inputs: &mut [u64],
+    lists: &mut [u64],
+    marks: &mut [u64],
+    entries: &[u64],
+    file: &'a [u8],
+    needs: &[u64],
+    path: &'a [u8],
+    archived: bool,
+    sonamed: bool,
+    soname: usize,
+    asneeded: bool,
+) -> u64
+    ensures { λ r. ⌜ loadLeft (told r (now (header .exit))) (rowsOf (now (bytes .exit)) (now (names .exit)) (now (symbols .exit)) (now (sections .exit)) (now (inputs .exit)) (now (lists .exit)) (now (marks .exit)))
+        ≡ loadCall (now (header .entry)) (inputAs (now (entries .entry)) (now (file .entry)) (now (needs .entry)) (now (path .entry)) archived sonamed soname asneeded)
+        (rowsOf (now (bytes .entry)) (now (names .entry)) (now (symbols .entry)) (now (sections .entry)) (now (inputs .entry)) (now (lists .entry)) (now (marks .entry))) ⌝ }
+{
+    if header.len() < 16 {
+        return 1;
+    }
+    let l = ffi_header::link_in(header);
+    let o = shared_objects::load_shared_object(
+        l,
+        bytes,
+        names,
+        symbols,
+        sections,
+        inputs,
+        lists,
+        marks,
+        entries,
+        file,
+        needs,
+        path,
+        archived,
+        sonamed,
+        soname,
+        asneeded,
+    );
+    let left = o.link;
+    let a = o.answer;
+    ffi_header::tell(header, left, loaded(a))
+}

@@ -1,0 +1,81 @@
+// Lookups of symbols, for another language: the link and the answer lie in a header (ffi_header), a symbol that was found in cells of its own
+// (ffi_cells). A header of fewer than 16 cells gives 1, and nothing is read or written; fewer than 9 cells for a symbol give 1 at place 0 and are
+// left.
+ghost use mathlib.Core.Path.{_≡_};
+ghost use Rattle.ffi_header.specs.Header.{told};
+ghost use Rattle.ffi_lookup.specs.Calls.{foundLeft, foundOf, getCall, getGlobalCall, sectionSymbolReply, sectionSymbolCall};
+use ffi_header::Reply;
+use link::Interned;
+use link::SectionId;
+use link::SymbolId;
+use symbols::Found;
+use symbols::SectionSymbol;
+use symbols::Symbols;
+
+// A symbol that was found goes out; there are no values.
+fn found(header: &mut [u64], out: &mut [u64], a: Found) -> u64
+    ensures { λ r. ⌜ foundLeft (told r (now (header .exit))) (now (out .exit)) ≡ foundOf (now (header .entry)) (now (out .entry)) a ⌝ }
+{
+    match a {
+        Found::Row { symbol } => {
+            ffi_cells::put_symbol(out, symbol);
+            ffi_header::answer(header, ffi_header::result(0, 0, 0, 0))
+        }
+        Found::Refused { refusal } => ffi_header::answer(header, ffi_header::refused(refusal)),
+    }
+}
+
+pub fn get(header: &mut [u64], symbols: &[u64], id: usize, out: &mut [u64]) -> u64
+    ensures { λ r. ⌜ foundLeft (told r (now (header .exit))) (now (out .exit)) ≡ getCall (now (header .entry)) (now (symbols .entry)) id (now (out .entry)) ⌝ }
+{
+    if header.len() < 16 {
+        return 1;
+    }
+    if out.len() < 9 {
+        return ffi_header::answer(header, ffi_header::refusal(1, 0));
+    }
+    let l = ffi_header::link_in(header);
+    let a = symbol_lookup::get(Symbols { link: l }, symbols, SymbolId(id));
+    found(header, out, a)
+}
+
+pub fn get_global(
+    header: &mut [u64],
+    names: &[u64],
+    symbols: &[u64],
+    name: usize,
+    out: &mut [u64],
+) -> u64
+    ensures { λ r. ⌜ foundLeft (told r (now (header .exit))) (now (out .exit)) ≡ getGlobalCall (now (header .entry)) (now (names .entry)) (now (symbols .entry)) name (now (out .entry)) ⌝ }
+{
+    if header.len() < 16 {
+        return 1;
+    }
+    if out.len() < 9 {
+        return ffi_header::answer(header, ffi_header::refusal(1, 0));
+    }
+    let l = ffi_header::link_in(header);
+    let a = symbol_lookup::get_global(Symbols { link: l }, names, symbols, Interned(name));
+    found(header, out, a)
+}
+
+fn section_symbol(a: SectionSymbol) -> Reply
+    ensures { λ r. ⌜ r ≡ sectionSymbolReply a ⌝ }
+{
+    match a {
+        SectionSymbol::None => ffi_header::result(0, 0, 0, 0),
+        SectionSymbol::Symbol { id } => ffi_header::result(1, id.0 as u64, 0, 0),
+    }
+}
+
+// The values are 1 where the section has a symbol, and its id.
+pub fn section_symbol_id(header: &mut [u64], sections: &[u64], section: usize) -> u64
+    ensures { λ r. ⌜ told r (now (header .exit)) ≡ sectionSymbolCall (now (header .entry)) (now (sections .entry)) section ⌝ }
+{
+    if header.len() < 16 {
+        return 1;
+    }
+    let l = ffi_header::link_in(header);
+    let a = symbol_lookup::section_symbol_id(Symbols { link: l }, sections, SectionId(section));
+    ffi_header::answer(header, section_symbol(a))
+}

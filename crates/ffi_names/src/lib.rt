@@ -1,0 +1,118 @@
+// Names, for another language: the link and the answer lie in a header (ffi_header). A header of fewer than 16 cells gives 1, and nothing is
+// read or written.
+ghost use mathlib.Core.Path.{_≡_};
+ghost use lib.ListN.{getD};
+ghost use Prim.Native.Nat.{_*_, _+_};
+ghost use Rattle.link.specs.Bounds.{lesser};
+ghost use Rattle.interner.specs.Names.{storeOf};
+ghost use Rattle.interner.specs.Calls.{said, lentOf};
+ghost use Rattle.ffi_header.specs.Header.{saying, told};
+ghost use Rattle.ffi_names.specs.Calls.{firstOf, partReply, foundReply, findReply, internLeft, internCall, resolveCall, findCall};
+use ffi_header::Reply;
+use interner::Answer;
+use link::Interned;
+use link::Lent;
+use link::Link;
+
+fn interned(a: Answer) -> Reply
+    ensures { λ r. ⌜ r ≡ saying (said a) ⌝ }
+{
+    match a {
+        Answer::Name { id } => ffi_header::result(id.0 as u64, 0, 0, 0),
+        Answer::Refused { refusal } => ffi_header::refused(refusal),
+    }
+}
+
+// The value is the name's id.
+pub fn intern(header: &mut [u64], bytes: &mut [u8], names: &mut [u64], name: &[u8]) -> u64
+    ensures { λ r. ⌜ internLeft (told r (now (header .exit))) (now (bytes .exit)) (now (names .exit)) ≡ internCall (now (header .entry)) (now (bytes .entry)) (now (names .entry)) (now (name .entry)) ⌝ }
+{
+    if header.len() < 16 {
+        return 1;
+    }
+    let l = ffi_header::link_in(header);
+    let o = interner_calls::intern(l, bytes, names, name);
+    let kept = o.link;
+    let a = o.answer;
+    ffi_header::tell(header, kept, interned(a))
+}
+
+// Where a name starts in so many bytes, whatever its row holds.
+fn first_of(names: &[u64], id: usize, bytes: usize) -> u64
+    ensures { λ r. ⌜ r ≡ firstOf (now (names .entry)) id bytes ⌝ }
+{
+    let start = cells::row_get(names, id, 0) as usize;
+    if start < bytes {
+        return start as u64;
+    }
+    bytes as u64
+}
+
+fn part_reply(names: &[u64], id: usize, bytes: usize, len: usize, number: u64, place: u64) -> Reply
+    ensures { λ r. ⌜ r ≡ partReply (now (names .entry)) id bytes len number place ⌝ }
+{
+    if number == 0 {
+        return ffi_header::result(first_of(names, id, bytes), len as u64, 0, 0);
+    }
+    ffi_header::refusal(number, place)
+}
+
+// The values are where the name starts in the bytes, and its length.
+pub fn resolve(header: &mut [u64], bytes: &[u8], names: &[u64], id: usize) -> u64
+    ensures { λ r. ⌜ told r (now (header .exit)) ≡ resolveCall (now (header .entry)) (now (bytes .entry)) (now (names .entry)) id ⌝ }
+{
+    if header.len() < 16 {
+        return 1;
+    }
+    let l = ffi_header::link_in(header);
+    let mut number = 0;
+    let mut place = 0;
+    let name = interner_calls::resolve(l, bytes, names, Interned(id), &mut number, &mut place);
+    let r = part_reply(names, id, bytes.len(), name.len(), number, place);
+    ffi_header::answer(header, r)
+}
+
+fn lent_names(bytes: usize, names: usize) -> Lent
+    ensures { λ r. ⌜ r ≡ lentOf bytes names ⌝ }
+{
+    Lent {
+        names: names,
+        bytes: bytes,
+        symbols: link::NOT_LENT,
+        sections: link::NOT_LENT,
+        inputs: link::NOT_LENT,
+        lists: link::NOT_LENT,
+    }
+}
+
+fn found_reply(id: usize, count: usize) -> Reply
+    ensures { λ r. ⌜ r ≡ foundReply id count ⌝ }
+{
+    if id < count {
+        return ffi_header::result(1, id as u64, 0, 0);
+    }
+    ffi_header::result(0, 0, 0, 0)
+}
+
+// A lookup: a broken link is accepted.
+fn find_reply(l: Link, bytes: &[u8], names: &[u64], name: &[u8]) -> Reply
+    ensures { λ r. ⌜ r ≡ findReply (storeOf (now (bytes .entry)) (now (names .entry)) l) (now (name .entry)) ⌝ }
+{
+    let head = link_judge::judge(l, lent_names(bytes.len(), names.len()));
+    if head.number != 0 {
+        return ffi_header::refused(head);
+    }
+    found_reply(interner::find(bytes, names, l.names, name), l.names)
+}
+
+// The values are 1 and the name's id where it was issued, else 0 and 0. No name is issued.
+pub fn find(header: &mut [u64], bytes: &[u8], names: &[u64], name: &[u8]) -> u64
+    ensures { λ r. ⌜ told r (now (header .exit)) ≡ findCall (now (header .entry)) (now (bytes .entry)) (now (names .entry)) (now (name .entry)) ⌝ }
+{
+    if header.len() < 16 {
+        return 1;
+    }
+    let l = ffi_header::link_in(header);
+    let r = find_reply(l, bytes, names, name);
+    ffi_header::answer(header, r)
+}

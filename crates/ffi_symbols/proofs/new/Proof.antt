@@ -1,0 +1,19 @@
+use borrow.Author.Needs.{needs}
+use Rattle.ffi_symbols.specs.Ways.{new-short, new-told}
+use Rattle.ffi_symbols.proofs.new.Statement.{statement}
+use Rattle.ffi_symbols.proofs.new.Tie as tie
+
+pub new-spec : {M : Type 1} → statement M
+new-spec =
+    tie.close
+    (tie.spec
+    (λ c. search new-short)
+    (λ c κs. search needs)
+    (λ c κs. search needs)
+    (λ c κs. search needs)
+    (λ c. search needs)
+    (λ c. search needs)
+    (λ c. search needs)
+    (λ c. search needs)
+    (λ c. search needs)
+    (λ c. search new-told))

@@ -1,0 +1,71 @@
+-- What the calls return, and every lent cell after them.
+-- Assumes nothing.
+use Prim.Native.Nat.{ℕ}
+use mathlib.Core.Bool.{cond}
+use mathlib.Core.List.{List}
+use Rattle.upcoming_symbol.specs.declared.UpcomingSymbol.{UpcomingSymbol}
+use Rattle.symbol_rows.specs.Apply.{tableOf}
+use Rattle.symbols.specs.Calls as Table
+use Rattle.symbols.specs.New as New
+use Rattle.symbols.specs.Add.{addOf}
+use Rattle.symbols.specs.Remove as Remove
+use Rattle.ffi_header.specs.Header.{isShort, linkIn, refusalOf, saying, Told, told, tellOf, answerOf}
+use Rattle.ffi_cells.specs.Cells.{isItem, itemIn}
+
+-- ---- new
+
+pub record NewLeft : Type 0 where
+  pub told : Told
+  pub bytes : List ℕ
+  pub names : List ℕ
+  pub symbols : List ℕ
+  pub sections : List ℕ
+
+abbrev pub newLeft : Told → List ℕ → List ℕ → List ℕ → List ℕ → NewLeft
+newLeft t b n s x = record { told = t; bytes = b; names = n; symbols = s; sections = x }
+
+abbrev pub newTold : List ℕ → New.NewLeft → NewLeft
+newTold h w =
+    newLeft (tellOf h (w .table .link) (saying (w .said))) (w .bytes) (w .table .names) (w .table .symbols) (w .table .sections)
+
+unfoldable pub newCall : List ℕ → List ℕ → List ℕ → List ℕ → List ℕ → NewLeft
+newCall h b n s x = cond (isShort h) (newLeft (told 1 h) b n s x) (newTold h (New.newOf b n s x))
+
+-- ---- add
+
+pub record AddLeft : Type 0 where
+  pub told : Told
+  pub names : List ℕ
+  pub symbols : List ℕ
+  pub sections : List ℕ
+
+abbrev pub addLeft : Told → List ℕ → List ℕ → List ℕ → AddLeft
+addLeft t n s x = record { told = t; names = n; symbols = s; sections = x }
+
+abbrev pub addTold : List ℕ → Table.Left → AddLeft
+addTold h w = addLeft (tellOf h (w .table .link) (saying (w .said))) (w .table .names) (w .table .symbols) (w .table .sections)
+
+unfoldable pub addKnown : List ℕ → List ℕ → List ℕ → List ℕ → List ℕ → UpcomingSymbol → AddLeft
+addKnown h n s x conversion u = addTold h (addOf (tableOf n s x (linkIn h)) conversion u)
+
+unfoldable pub addCall : List ℕ → List ℕ → List ℕ → List ℕ → List ℕ → List ℕ → AddLeft
+addCall h n s x conversion item =
+    cond (isShort h) (addLeft (told 1 h) n s x)
+    (cond (isItem item) (addKnown h n s x conversion (itemIn item)) (addLeft (answerOf h (refusalOf 1 0)) n s x))
+
+-- ---- remove
+
+pub record RemoveLeft : Type 0 where
+  pub told : Told
+  pub symbols : List ℕ
+  pub sections : List ℕ
+
+abbrev pub removeLeft : Told → List ℕ → List ℕ → RemoveLeft
+removeLeft t s x = record { told = t; symbols = s; sections = x }
+
+abbrev pub removeTold : List ℕ → Remove.RemoveLeft → RemoveLeft
+removeTold h w = removeLeft (tellOf h (w .link) (saying (w .said))) (w .rows .symbols) (w .rows .sections)
+
+unfoldable pub removeCall : List ℕ → List ℕ → List ℕ → ℕ → RemoveLeft
+removeCall h s x id =
+    cond (isShort h) (removeLeft (told 1 h) s x) (removeTold h (Remove.removeOf (linkIn h) (Remove.rowsOf s x) (record { 0 = id })))

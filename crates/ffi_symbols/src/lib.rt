@@ -1,0 +1,95 @@
+// A new table, symbols added and removed, for another language: the link and the answer lie in a header (ffi_header), a symbol that is to be added
+// in cells of its own (ffi_cells). A header of fewer than 16 cells gives 1, and nothing is read or written; other cells that are too few give 1 at
+// place 0 and are left.
+ghost use mathlib.Core.Path.{_≡_};
+ghost use Rattle.symbols.specs.Calls.{said};
+ghost use Rattle.ffi_header.specs.Header.{saying, told};
+ghost use Rattle.ffi_symbols.specs.Calls.{newLeft, newCall, addLeft, addKnown, addCall, removeLeft, removeCall};
+use ffi_header::Reply;
+use link::SymbolId;
+use symbols::Answer;
+use symbols::Symbols;
+use upcoming_symbol::UpcomingSymbol;
+
+fn added(a: Answer) -> Reply
+    ensures { λ r. ⌜ r ≡ saying (said a) ⌝ }
+{
+    match a {
+        Answer::Symbol { id } => ffi_header::result(id.0 as u64, 0, 0, 0),
+        Answer::Refused { refusal } => ffi_header::refused(refusal),
+    }
+}
+
+// The value is the null symbol's id. What the lent cells held before doesn't matter.
+pub fn new(
+    header: &mut [u64],
+    bytes: &mut [u8],
+    names: &mut [u64],
+    symbols: &mut [u64],
+    sections: &mut [u64],
+) -> u64
+    ensures { λ r. ⌜ newLeft (told r (now (header .exit))) (now (bytes .exit)) (now (names .exit)) (now (symbols .exit)) (now (sections .exit)) ≡ newCall (now (header .entry)) (now (bytes .entry)) (now (names .entry)) (now (symbols .entry)) (now (sections .entry)) ⌝ }
+{
+    if header.len() < 16 {
+        return 1;
+    }
+    let o = Symbols::new(bytes, names, symbols, sections);
+    let table = o.table;
+    let l = table.link;
+    let a = o.answer;
+    ffi_header::tell(header, l, added(a))
+}
+
+fn add_known(
+    header: &mut [u64],
+    names: &mut [u64],
+    symbols: &mut [u64],
+    sections: &mut [u64],
+    conversion: &[u64],
+    u: UpcomingSymbol,
+) -> u64
+    ensures { λ r. ⌜ addLeft (told r (now (header .exit))) (now (names .exit)) (now (symbols .exit)) (now (sections .exit)) ≡ addKnown (now (header .entry)) (now (names .entry)) (now (symbols .entry)) (now (sections .entry)) (now (conversion .entry)) u ⌝ }
+{
+    let l = ffi_header::link_in(header);
+    let o = symbol_add::add(Symbols { link: l }, names, symbols, sections, conversion, u);
+    let table = o.table;
+    let grown = table.link;
+    let a = o.answer;
+    ffi_header::tell(header, grown, added(a))
+}
+
+// The value is the symbol's id.
+pub fn add(
+    header: &mut [u64],
+    names: &mut [u64],
+    symbols: &mut [u64],
+    sections: &mut [u64],
+    conversion: &[u64],
+    item: &[u64],
+) -> u64
+    ensures { λ r. ⌜ addLeft (told r (now (header .exit))) (now (names .exit)) (now (symbols .exit)) (now (sections .exit)) ≡ addCall (now (header .entry)) (now (names .entry)) (now (symbols .entry)) (now (sections .entry)) (now (conversion .entry)) (now (item .entry)) ⌝ }
+{
+    if header.len() < 16 {
+        return 1;
+    }
+    if ffi_cells::is_item(item) {
+        let u = ffi_cells::item_in(item);
+        return add_known(header, names, symbols, sections, conversion, u);
+    }
+    ffi_header::answer(header, ffi_header::refusal(1, 0))
+}
+
+// The value is the id.
+pub fn remove(header: &mut [u64], symbols: &mut [u64], sections: &mut [u64], id: usize) -> u64
+    ensures { λ r. ⌜ removeLeft (told r (now (header .exit))) (now (symbols .exit)) (now (sections .exit)) ≡ removeCall (now (header .entry)) (now (symbols .entry)) (now (sections .entry)) id ⌝ }
+{
+    if header.len() < 16 {
+        return 1;
+    }
+    let l = ffi_header::link_in(header);
+    let o = symbol_remove::remove(Symbols { link: l }, symbols, sections, SymbolId(id));
+    let table = o.table;
+    let left = table.link;
+    let a = o.answer;
+    ffi_header::tell(header, left, added(a))
+}

@@ -1,0 +1,26 @@
+use borrow.Author.Needs.{needs}
+use Rattle.interner.specs.CallWays.{intern-refused, intern-known, intern-issued, intern-full}
+use Rattle.interner_calls.proofs.intern.Statement.{statement}
+use Rattle.interner_calls.proofs.intern.Tie as tie
+
+pub intern-spec : {M : Type 1} → statement M
+intern-spec =
+    tie.close
+    (tie.spec
+    (λ c κs. search needs)
+    (λ c κs. search needs)
+    (λ c κs. search needs)
+    (λ c. search intern-refused)
+    (λ c κs. search needs)
+    (λ c. search needs)
+    (λ c. search needs)
+    (λ c. search intern-known)
+    (λ c κs. search needs)
+    (λ c κs. search needs)
+    (λ c. search needs)
+    (λ c. search needs)
+    (λ c. search intern-issued)
+    (λ c κs. search needs)
+    (λ c. search needs)
+    (λ c. search needs)
+    (λ c. search intern-full))

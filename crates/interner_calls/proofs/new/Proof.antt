@@ -1,0 +1,21 @@
+use borrow.Author.Needs.{needs}
+use Rattle.interner.specs.CallWays.{new-none, new-made}
+use Rattle.interner_calls.proofs.new.Statement.{statement}
+use Rattle.interner_calls.proofs.new.Tie as tie
+
+pub new-spec : {M : Type 1} → statement M
+new-spec =
+    tie.close
+    (tie.spec
+    (λ c κs. search needs)
+    (λ c κs. search needs)
+    (λ c κs. search needs)
+    (λ c. search new-none)
+    (λ c. search needs)
+    (λ c κs. search needs)
+    (λ c κs. search needs)
+    (λ c. search needs)
+    (λ c κs. search needs)
+    (λ c. search needs)
+    (λ c. search needs)
+    (λ c. search new-made))

@@ -1,0 +1,122 @@
+// The calls on names: a new table, intern, resolve.
+ghost use mathlib.Core.Path.{_≡_};
+ghost use Prim.Native.Nat.{_<_};
+ghost use Rattle.interner.specs.Names.{storeOf};
+ghost use Rattle.interner.specs.Calls.{outcome, lentOf, refusedOf, internOf, noNames, newOf, resolved, resolveOf};
+use interner::Answer;
+use interner::Outcome;
+use link::Interned;
+use link::Lent;
+use link::Link;
+use link::Refusal;
+
+fn lent_names(bytes: usize, names: usize) -> Lent
+    ensures { λ r. ⌜ r ≡ lentOf bytes names ⌝ }
+{
+    Lent {
+        names: names,
+        bytes: bytes,
+        symbols: link::NOT_LENT,
+        sections: link::NOT_LENT,
+        inputs: link::NOT_LENT,
+        lists: link::NOT_LENT,
+    }
+}
+
+fn refused(l: Link, number: u64, place: u64) -> Outcome
+    ensures { λ r. ⌜ r ≡ refusedOf l number place ⌝ }
+{
+    Outcome {
+        link: l,
+        answer: Answer::Refused {
+            refusal: Refusal {
+                number: number,
+                place: place,
+            },
+        },
+    }
+}
+
+// Equal bytes get the same id. 22; 1; then, for a name not issued yet, 2.
+pub fn intern(l: Link, bytes: &mut [u8], names: &mut [u64], x: &[u8]) -> Outcome
+    ensures { λ r. ⌜ outcome (now (bytes .exit)) (now (names .exit)) r ≡ internOf (storeOf (now (bytes .entry)) (now (names .entry)) l) (now (x .entry)) ⌝ }
+{
+    let head = link_judge::judge_change(l, lent_names(bytes.len(), names.len()));
+    if head.number != 0 {
+        return refused(l, head.number, head.place);
+    }
+    let id = Interned(interner::find(bytes, names, l.names, x));
+    if id.0 < l.names {
+        return Outcome {
+            link: l,
+            answer: Answer::Name { id: id },
+        };
+    }
+    if interner_issue::fits(l, bytes, names, id, x.len()) {
+        let kept = interner_issue::keep(l, bytes, names, id, x);
+        return Outcome {
+            link: kept,
+            answer: Answer::Name { id: id },
+        };
+    }
+    refused(l, 2, 0)
+}
+
+fn no_names(chains: usize) -> Link
+    ensures { λ r. ⌜ r ≡ noNames chains ⌝ }
+{
+    Link {
+        names: 0,
+        bytes: 0,
+        symbols: 0,
+        sections: 0,
+        inputs: 0,
+        lists: 0,
+        chains: chains,
+        slots: 0,
+        broken: false,
+    }
+}
+
+// A link without rows but the empty name, whose id is 0. Whatever the cells held before doesn't matter.
+pub fn new(bytes: &mut [u8], names: &mut [u64]) -> Outcome
+    ensures { λ r. ⌜ outcome (now (bytes .exit)) (now (names .exit)) r ≡ newOf (now (bytes .entry)) (now (names .entry)) ⌝ }
+{
+    let rows = link::name_rows(names.len());
+    if rows == 0 {
+        return refused(no_names(0), 2, 0);
+    }
+    cell_writes::clear_from(names, rows * 8);
+    let kept = interner_issue::keep(no_names(rows), bytes, names, Interned(0), b"");
+    Outcome {
+        link: kept,
+        answer: Answer::Name { id: Interned(0) },
+    }
+}
+
+// The bytes of a name, as that very part of the lent bytes, and beside it the refusal: 1; 23 for an id never issued.
+pub fn resolve<'a>(
+    l: Link,
+    bytes: &'a [u8],
+    names: &[u64],
+    id: Interned,
+    number: &mut u64,
+    place: &mut u64,
+) -> &'a [u8]
+    ensures { λ r. ⌜ resolved (now r) (now (number .exit)) (now (place .exit)) ≡ resolveOf (storeOf (now (bytes .entry)) (now (names .entry)) l) id ⌝ }
+    ensures place { λ r. ⌜ r .ptr .0 ≡ bytes .entry .ptr .0 ⌝ }
+{
+    let head = link_judge::judge(l, lent_names(bytes.len(), names.len()));
+    if head.number != 0 {
+        *number = head.number;
+        *place = head.place;
+        return &bytes[..0];
+    }
+    *place = 0;
+    if id.0 < l.names {
+        *number = 0;
+        return interner::name_of(bytes, names, id.0);
+    }
+    *number = 23;
+    &bytes[..0]
+}

@@ -1,0 +1,15 @@
+use borrow.Author.Needs.{needs}
+use Rattle.interner.specs.Ways.{row-linked}
+use Rattle.interner_issue.proofs.link_row.Statement.{statement}
+use Rattle.interner_issue.proofs.link_row.Tie as tie
+
+pub link-row-spec : {M : Type 1} → statement M
+link-row-spec =
+    tie.close
+    (tie.spec
+    (λ c κs. search needs)
+    (λ c κs. search needs)
+    (λ c. search needs)
+    (λ c κs. search needs)
+    (λ c. search needs)
+    (λ c. search row-linked))

@@ -1,0 +1,15 @@
+use borrow.Author.Needs.{needs}
+use Rattle.interner.specs.Ways.{room-row, room-over, room-short, room-yes}
+use Rattle.interner_issue.proofs.room.Statement.{statement}
+use Rattle.interner_issue.proofs.room.Tie as tie
+
+pub room-spec : {M : Type 1} → statement M
+room-spec =
+    tie.close
+    (tie.spec
+    (λ c κs. search needs)
+    (λ c. search room-row)
+    (λ c κs. search needs)
+    (λ c. search room-over)
+    (λ c. search room-short)
+    (λ c. search room-yes))

@@ -1,0 +1,21 @@
+use borrow.Author.Needs.{needs}
+use Rattle.link.specs.Ways.{names-other, names-over, bytes-over, names-fine}
+use Rattle.link_judge.proofs.judge_names.Statement.{statement}
+use Rattle.link_judge.proofs.judge_names.Tie as tie
+
+pub judge-names-spec : {M : Type 1} → statement M
+judge-names-spec =
+    tie.close
+    (tie.spec
+    (λ c κs. search needs)
+    (λ c κs. search needs)
+    (λ c κs. search needs)
+    (λ c κs. search needs)
+    (λ c. search names-other)
+    (λ c κs. search needs)
+    (λ c. search names-over)
+    (λ c κs. search needs)
+    (λ c κs. search needs)
+    (λ c. search bytes-over)
+    (λ c κs. search needs)
+    (λ c. search names-fine))

@@ -1,0 +1,18 @@
+use borrow.Author.Needs.{needs}
+use Rattle.link.specs.Ways.{sections-other, sections-over, sections-fine}
+use Rattle.link_judge.proofs.judge_sections.Statement.{statement}
+use Rattle.link_judge.proofs.judge_sections.Tie as tie
+
+pub judge-sections-spec : {M : Type 1} → statement M
+judge-sections-spec =
+    tie.close
+    (tie.spec
+    (λ c κs. search needs)
+    (λ c κs. search needs)
+    (λ c κs. search needs)
+    (λ c. search sections-other)
+    (λ c κs. search needs)
+    (λ c κs. search needs)
+    (λ c. search sections-over)
+    (λ c κs. search needs)
+    (λ c. search sections-fine))

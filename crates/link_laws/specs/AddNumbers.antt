@@ -1,0 +1,140 @@
+-- Which refusals an add can give, by the row that is added.
+-- Assumes nothing.
+use Prim.Native.Nat.{ℕ}
+use mathlib.Core.Path.{_≡_}
+use mathlib.Core.Bool.{Bool, true, false, false≢true}
+use mathlib.Core.List.{List}
+use lib.Dec.{eqb, ltb, leb}
+use lib.ListN.{getD}
+use Rattle.byte_slices.specs.Ways.{pick}
+use Rattle.link.specs.declared.Link.{Link}
+use Rattle.link.specs.declared.SymbolId.{SymbolId}
+use Rattle.link.specs.declared.Interned.{Interned}
+use Rattle.symbol.specs.declared.Row.{Row}
+use Rattle.symbol.specs.declared.Words.{Words}
+use Rattle.symbol.specs.declared.SymbolValue.{SymbolValue}
+use Rattle.symbol.specs.declared.SymbolValue.the-variants as Val
+use Rattle.symbol.specs.Codes.{wordsOf}
+use Rattle.symbol.specs.Row.{field, visibilityCodeAt}
+use Rattle.upcoming_symbol.specs.declared.ElfSymbol.{ElfSymbol}
+use Rattle.upcoming_symbol.specs.declared.UpcomingSymbol.{UpcomingSymbol}
+use Rattle.upcoming_symbol.specs.declared.UpcomingSymbol.the-variants.{Null, GlobalUnknown, GlobalHidden, Section, ExternallyDefined, Elf}
+use Rattle.upcoming_symbol.specs.Judge.{shownOf, hiddenOf, judgeOf}
+use Rattle.upcoming_symbol.specs.Upcoming.{inSection, convertedOf, undefinedOf, valueOf, elfRowOf, externalRowOf, rowOf}
+use Rattle.symbol_rows.specs.declared.Holder.{Holder}
+use Rattle.symbol_rows.specs.declared.Holder.the-variants.{Unissued, Nobody, Removed, Known}
+use Rattle.symbol_rows.specs.declared.Decision.{Decision}
+use Rattle.symbol_rows.specs.Decide.{rankOf, typeRefusal, roomOf, newOf, replaceOf, rankedOf, knownOf, decideOf, refusalOf}
+
+apart : {P : Type 0} → false ≡ true → P
+apart e = absurd (false≢true e)
+
+-- of some numbers, 0, 2, 17 and 21 among them
+module _ (In : ℕ → Type 0) (in0 : In 0) (in2 : In 2) (in17 : In 17) (in21 : In 21) where
+  abbrev Decided : Decision → Type 0
+  Decided d = In (refusalOf d)
+
+  -- a row's fields may hold the number of a refusal
+  pub record Fields (r : Row) : Type 0 where
+    pub shown : leb 5 (r .visibility) ≡ true → In (r .visibility)
+    pub valued : leb 13 (r .value .kind) ≡ true → In (r .value .kind)
+    pub typed : In (typeRefusal (r .kind))
+
+  module _ (l : Link) (symbols sections : List ℕ) (r : Row) (f : Fields r) where
+    new-numbers : Decided (newOf l symbols sections r)
+    unfolding newOf
+    new-numbers =
+        pick Decided (leb 13 (r .value .kind)) _ _ (λ t. f .valued t)
+        (λ t.
+        pick Decided (eqb (typeRefusal (r .kind)) 0) _ _ (λ t. pick Decided (roomOf l symbols sections r) _ _ (λ t. in0) (λ t. in2)) (λ t. f .typed))
+
+    known-numbers : (id : SymbolId) → Decided (knownOf symbols r id)
+    unfolding knownOf rankedOf replaceOf
+    known-numbers id =
+        let old : ℕ = rankOf (visibilityCodeAt symbols (id .0)) (field symbols (id .0) 5) in
+        let new : ℕ = rankOf (r .visibility) (r .value .kind) in
+        pick Decided (leb 13 (r .value .kind)) _ _ (λ t. f .valued t)
+        (λ t.
+        pick Decided (ltb old new) _ _ (λ t. pick Decided (eqb (typeRefusal (r .kind)) 0) _ _ (λ t. in0) (λ t. f .typed))
+        (λ t. pick Decided (eqb new 4) _ _ (λ t. in17) (λ t. in0)))
+
+    pub decide-numbers : (h : Holder) → Decided (decideOf l symbols sections r h)
+    unfolding decideOf
+    decide-numbers Unissued =
+        pick Decided (leb 5 (r .visibility)) _ _ (λ t. f .shown t) (λ t. pick Decided (eqb (r .visibility) 0) _ _ (λ t. in21) (λ t. in21))
+    decide-numbers Nobody =
+        pick Decided (leb 5 (r .visibility)) _ _ (λ t. f .shown t) (λ t. pick Decided (eqb (r .visibility) 0) _ _ (λ t. new-numbers) (λ t. new-numbers))
+    decide-numbers Removed =
+        pick Decided (leb 5 (r .visibility)) _ _ (λ t. f .shown t) (λ t. pick Decided (eqb (r .visibility) 0) _ _ (λ t. new-numbers) (λ t. in21))
+    decide-numbers (Known id) =
+        pick Decided (leb 5 (r .visibility)) _ _ (λ t. f .shown t) (λ t. pick Decided (eqb (r .visibility) 0) _ _ (λ t. new-numbers) (λ t. known-numbers id))
+
+  -- ---- binding and visibility: 10, 11, 12
+
+  module _ (in10 : In 10) (in11 : In 11) (in12 : In 12) where
+    judged-shown : (b v : ℕ) → leb 5 (judgeOf b v) ≡ true → In (judgeOf b v)
+    unfolding judgeOf shownOf hiddenOf
+    judged-shown b v =
+        pick P (eqb v 0) _ _
+        (λ t. pick P (eqb b 0) _ _ (λ t e. apart e) (λ t. pick P (eqb b 1) _ _ (λ t e. apart e) (λ t. pick P (eqb b 2) _ _ (λ t e. apart e) (λ t e. in12))))
+        (λ t.
+        pick P (eqb v 2) _ _
+        (λ t. pick P (eqb b 0) _ _ (λ t e. in11) (λ t. pick P (eqb b 1) _ _ (λ t e. apart e) (λ t. pick P (eqb b 2) _ _ (λ t e. apart e) (λ t e. in12))))
+        (λ t e. in10))
+      where
+        P : ℕ → Type 0
+        P k = leb 5 k ≡ true → In k
+
+    -- a symbol of a shared object
+    pub external-fields : (name : Interned) (binding visibility : ℕ) → Fields (externalRowOf name binding visibility)
+    unfolding externalRowOf typeRefusal
+    external-fields name binding visibility = record { shown = judged-shown binding visibility; valued = λ e. apart e; typed = in0 }
+
+    -- ---- values and types: 13, 14, 15, 16
+
+    module _ (in13 : In 13) (in14 : In 14) (in15 : In 15) (in16 : In 16) where
+      judged-valued : (cell : ℕ) (e : ElfSymbol) (empty : Bool) → leb 13 (valueOf cell e empty .kind) ≡ true → In (valueOf cell e empty .kind)
+      unfolding valueOf undefinedOf convertedOf inSection
+      judged-valued cell e empty =
+          pick P (eqb (e .section) 0) _ _ (λ t. pick P (eqb (e .binding) 2) _ _ (λ t e. apart e) (λ t e. apart e))
+          (λ t.
+          pick P (eqb (e .section) 0xfff1) _ _ (λ t e. apart e)
+          (λ t.
+          pick P (eqb (e .section) 0xfff2) _ _ (λ t e. in13)
+          (λ t.
+          pick P (eqb cell 0) _ _ (λ t e. in14)
+          (λ t.
+          pick P (eqb cell 1) _ _ (λ t e. apart e)
+          (λ t. pick P empty _ _ (λ t. pick P (eqb (e .value) 0) _ _ (λ t e. apart e) (λ t e. apart e)) (λ t e. apart e))))))
+        where
+          P : Words → Type 0
+          P w = leb 13 (w .kind) ≡ true → In (w .kind)
+
+      typed-numbers : (k : ℕ) → In (typeRefusal k)
+      unfolding typeRefusal
+      typed-numbers k = pick In (ltb k 4) _ _ (λ t. in0) (λ t. pick In (eqb k 4) _ _ (λ t. in15) (λ t. in16))
+
+      words-valued : (v : SymbolValue) → leb 13 (wordsOf v .kind) ≡ true → In (wordsOf v .kind)
+      words-valued Val.Null e = apart e
+      words-valued (Val.Absolute v) e = apart e
+      words-valued (Val.Section s) e = apart e
+      words-valued (Val.SectionRelative s z) e = apart e
+      words-valued (Val.SectionVirtualAddress s v) e = apart e
+      words-valued Val.SectionNotLoaded e = apart e
+      words-valued Val.ExternallyDefined e = apart e
+      words-valued (Val.Undefined zero) e = apart e
+
+      -- a symbol that is added directly
+      pub upcoming-fields : (conversion : List ℕ) (u : UpcomingSymbol) (empty : Bool) → Fields (rowOf conversion u empty)
+      unfolding elfRowOf
+      upcoming-fields conversion Null empty = record { shown = λ e. apart e; valued = λ e. apart e; typed = typed-numbers 0 }
+      upcoming-fields conversion (GlobalUnknown name) empty = record { shown = λ e. apart e; valued = λ e. apart e; typed = typed-numbers 0 }
+      upcoming-fields conversion (GlobalHidden name value) empty = record { shown = λ e. apart e; valued = words-valued value; typed = typed-numbers 0 }
+      upcoming-fields conversion (Section section) empty = record { shown = λ e. apart e; valued = λ e. apart e; typed = typed-numbers 3 }
+      upcoming-fields conversion (ExternallyDefined name visibility binding) empty = external-fields name binding visibility
+      upcoming-fields conversion (Elf elf name file) empty =
+          record {
+            shown = judged-shown (elf .binding) (elf .visibility);
+            valued = judged-valued (getD conversion (elf .section) 0) elf empty;
+            typed = typed-numbers (elf .kind);
+          }

@@ -1,0 +1,97 @@
+-- The refusals of a walk and of admission.
+-- Assumes nothing.
+use Prim.Native.Nat.{ℕ, _/_}
+use mathlib.Core.Path.{refl}
+use mathlib.Core.Bool.{Bool, true, false}
+use mathlib.Core.List.{List, [], _∷_}
+use lib.Dec.{eqb, ltb}
+use lib.ListN.{length}
+use Rattle.byte_slices.specs.Ways.{pick}
+use Rattle.link.specs.declared.Refusal.{Refusal}
+use Rattle.link.specs.Passed.{judge-gives}
+use Rattle.elf_object.specs.Judge as Elf
+use Rattle.archive_index.specs.declared.Opened.{Opened}
+use Rattle.archive_index.specs.Index.{countOf, cutOf, namesAt}
+use Rattle.archive_index.specs.Open as Open
+use Rattle.archive_index.specs.Open.{offsetsIn, openRowsOf, openNamesOf, openEntriesOf, openOf}
+use Rattle.archive_walk.specs.declared.Walk.{Walk}
+use Rattle.archive_walk.specs.declared.Started.{Started}
+use Rattle.archive_walk.specs.Look.{judgeTable}
+use Rattle.archive_walk.specs.Look as Look
+use Rattle.archive_walk.specs.Walk.{Step, begunNumber, numberOf, begunOf, startOf, offerOf, removedOf, makeOf, searchOf, passOf, walkFits, goOf, nextOf}
+use Rattle.object_requirement.specs.declared.Admission.{Admission}
+use Rattle.object_requirement.specs.Matches as Matches
+use Rattle.object_requirement.specs.Matches.{admission, offeredIn, hasGlobalSymbol, matchesOf}
+use Rattle.archive_walk.specs.Names.{requiredOf}
+use Rattle.merge_laws.specs.ByNumber.{elf-gives}
+use Rattle.link_laws.specs.Among.{Among}
+
+open-numbers : (s l : List ℕ) → Among (20 ∷ 1 ∷ 2 ∷ []) (openOf s l .opened .refusal .number)
+unfolding openOf openEntriesOf openNamesOf openRowsOf
+open-numbers s l =
+    let c : ℕ = countOf s in
+    pick P (eqb (length s) 0) _ _ (λ a. refl)
+    (λ a.
+    pick P (ltb (length s) 4) _ _ (λ a. refl)
+    (λ a.
+    pick P (ltb (offsetsIn (length s)) c) _ _ (λ a. refl)
+    (λ a.
+    pick P (ltb 65535 c) _ _ (λ a. refl)
+    (λ a. pick P (ltb (cutOf s (namesAt c) c 0) c) _ _ (λ a. refl) (λ a. pick P (ltb (length l / 8) c) _ _ (λ a. refl) (λ a. refl))))))
+  where
+    P : Open.Left → Type 0
+    P o = Among (20 ∷ 1 ∷ 2 ∷ []) (o .opened .refusal .number)
+
+begun-numbers : (n : ℕ) (o : Opened) → Among (20 ∷ 1 ∷ 2 ∷ []) (o .refusal .number) → Among (20 ∷ 1 ∷ 2 ∷ []) (begunNumber (begunOf n o .begun))
+unfolding begunOf
+begun-numbers n o e =
+    pick (λ (x : Started). Among (20 ∷ 1 ∷ 2 ∷ []) (begunNumber (x .begun))) (eqb (o .refusal .number) 0) _ _ (λ a. refl) (λ a. e)
+
+pub start-numbers : (s l : List ℕ) → Among (20 ∷ 1 ∷ 2 ∷ []) (begunNumber (startOf s l .started .begun))
+unfolding startOf
+start-numbers s l = begun-numbers (length s) (openOf s l .opened) (open-numbers s l)
+
+offered-numbers : (s l : List ℕ) (w : Walk) → Among (1 ∷ 21 ∷ []) (numberOf (offerOf s l w .moved .offer))
+unfolding offerOf
+offered-numbers s l w =
+    pick (λ (x : Step). Among (1 ∷ 21 ∷ []) (numberOf (x .moved .offer))) (ltb (w .offered) (w .queued)) _ _ (λ a. refl) (λ a. refl)
+
+judged-table : (t : Look.Table) → Among (1 ∷ 21 ∷ []) (judgeTable t .number)
+unfolding judgeTable
+judged-table t = judge-gives (λ (r : Refusal). Among (1 ∷ 21 ∷ []) (r .number)) (λ k. refl) refl (t .link) _
+
+pub next-numbers : (s l : List ℕ) (w : Walk) (t : Look.Table) → Among (1 ∷ 21 ∷ []) (numberOf (nextOf s l w t .moved .offer))
+unfolding nextOf goOf passOf searchOf makeOf
+next-numbers s l w t =
+    pick P (w .done) _ _ (λ a. refl)
+    (λ a.
+    pick P (walkFits s l w) _ _
+    (λ a.
+    pick P (ltb (w .offered) (w .queued)) _ _ (λ a. offers l w)
+    (λ a.
+    pick P (eqb (judgeTable t .number) 0) _ _
+    (λ a. pick P (ltb (removedOf s l t (w .entries) 0) (w .entries)) _ _ (λ a. refl) (λ a. offers _ _)) (λ a. judges)))
+    (λ a. refl))
+  where
+    P : Step → Type 0
+    P x = Among (1 ∷ 21 ∷ []) (numberOf (x .moved .offer))
+
+    offers : (l : List ℕ) (w : Walk) → P (offerOf s l w)
+    offers l w = offered-numbers s l w
+
+    judges : Among (1 ∷ 21 ∷ []) (judgeTable t .number)
+    judges = judged-table t
+
+pub matches-numbers : (headers entries contents file s l : List ℕ) (w : Walk) (e : ℕ) → Among (1 ∷ []) (Matches.numberOf (matchesOf headers entries contents file s l w e))
+unfolding matchesOf
+matches-numbers headers entries contents file s l w e =
+    pick P (eqb (Elf.judgeOf headers entries (length contents) (length file) .number) 0) _ _
+    (λ a. pick P (offeredIn s l w e) _ _ (λ b. either (hasGlobalSymbol headers entries file (requiredOf s l (w .entries) e))) (λ b. refl))
+    (λ a. elf-gives (λ (r : Refusal). Among (1 ∷ []) (r .number)) (λ k. refl) refl headers entries (length contents) (length file))
+  where
+    P : Admission → Type 0
+    P x = Among (1 ∷ []) (Matches.numberOf x)
+
+    either : (b : Bool) → P (admission b)
+    either true = refl
+    either false = refl

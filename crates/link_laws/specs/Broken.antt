@@ -1,0 +1,111 @@
+-- "changing call on a broken link": 22 at place 0, first of all.
+-- Assumes nothing.
+use Prim.Native.Nat.{ℕ}
+use mathlib.Core.Path.{_≡_, ap}
+use mathlib.Core.Bool.{Bool, true, false, cond}
+use mathlib.Core.List.{List}
+use lib.ListN.{length}
+use Rattle.byte_slices.specs.Ways.{apart}
+use Rattle.link.specs.declared.Link.{Link}
+use Rattle.link.specs.declared.Lent.{Lent}
+use Rattle.link.specs.declared.SymbolId.{SymbolId}
+use Rattle.link.specs.Bounds.{notLent}
+use Rattle.link.specs.Judge.{refused, changeOf}
+use Rattle.link.specs.Judge as Link
+use Rattle.link.specs.Counts.{lentOf}
+use Rattle.interner.specs.Calls as Names
+use Rattle.interner.specs.Calls.{internOf}
+use Rattle.upcoming_symbol.specs.declared.UpcomingSymbol.{UpcomingSymbol}
+use Rattle.symbols.specs.Calls as Symbols
+use Rattle.symbols.specs.Add as Add
+use Rattle.symbols.specs.Add.{judgeAddOf, addOf}
+use Rattle.symbols.specs.Remove.{removeOf}
+use Rattle.section_groups.specs.Group as Group
+use Rattle.add_group.specs.AddGroup as AddGroup
+use Rattle.add_group.specs.AddGroup.{addGroupOf}
+use Rattle.merge_stages.specs.Stages as Stages
+use Rattle.merge_elf.specs.Merge as Merge
+use Rattle.library_head.specs.Head as Head
+use Rattle.shared_objects.specs.Load as Shared
+use Rattle.shared_objects.specs.Load.{loadOf}
+use Rattle.gc_sections.specs.declared.EntryPoint.{EntryPoint}
+use Rattle.gc_sections.specs.Run as Collection
+use Rattle.gc_sections.specs.Run.{runOf}
+use Rattle.symbol_laws.specs.History.{store, table}
+use Rattle.merge_laws.specs.ByNumber as ByNumber
+use Rattle.merge_laws.specs.Calls.{Linked, allIn}
+use Rattle.link_laws.specs.Calls.{Call, intern, resolve, add, remove, get, getGlobal, sectionSymbol, addGroup, merge, load, archiveStart, archiveNext, matches, collect, groupIn, callRefusal}
+
+-- the calls that may change a link
+abbrev pub changes : Call → Bool
+changes (intern x) = true
+changes (resolve id) = false
+changes (add conversion u) = true
+changes (remove id) = true
+changes (get id) = false
+changes (getGlobal name) = false
+changes (sectionSymbol section) = false
+changes (addGroup o work n) = true
+changes (merge o work ids) = true
+changes (load o marks) = true
+changes (archiveStart index cells) = false
+changes (archiveNext index cells w) = false
+changes (matches headers entries contents file index cells w e) = false
+changes (collect marks entry work) = true
+
+change-broken : (l : Link) (n : Lent) → l .broken ≡ true → changeOf l n ≡ refused 22 0
+unfolding changeOf
+change-broken l n e = ap (λ (b : Bool). cond b (refused 22 0) (Link.judgeOf l n)) e
+
+module _ (s : Linked) (b : s .table .link .broken ≡ true) where
+  abbrev l : Link
+  l = s .table .link
+
+  intern-broken : (x : List ℕ) → callRefusal (intern x) s ≡ refused 22 0
+  unfolding internOf
+  intern-broken x = simp (change-broken l (Names.lent (store (s .table))) b)
+
+  add-broken : (conversion : List ℕ) (u : UpcomingSymbol) → callRefusal (add conversion u) s ≡ refused 22 0
+  unfolding addOf judgeAddOf
+  add-broken conversion u = simp (change-broken l (Add.lent (table (s .table))) b)
+
+  remove-broken : (id : SymbolId) → callRefusal (remove id) s ≡ refused 22 0
+  unfolding removeOf
+  remove-broken id = simp (change-broken l (Symbols.lentOf notLent (length (s .table .symbols)) (length (s .table .sections))) b)
+
+  group-broken : (o : Group.Object) (work : List ℕ) (n : ℕ) → callRefusal (addGroup o work n) s ≡ refused 22 0
+  unfolding addGroupOf AddGroup.headOf
+  group-broken o work n = simp (change-broken l (AddGroup.lent (groupIn (s .table) work)) b)
+
+  merge-broken : (o : Stages.Object) (work ids : List ℕ) → callRefusal (merge o work ids) s ≡ refused 22 0
+  merge-broken o work ids = ap (λ (x : Merge.Left). x .said) (ByNumber.broken-refused o (allIn s work ids) b)
+
+  load-broken : (o : Shared.Input) (marks : List ℕ) → callRefusal (load o marks) s ≡ refused 22 0
+  unfolding loadOf Head.headOf
+  load-broken o marks =
+      simp
+      (change-broken l
+      (lentOf (length (s .table .names)) (length (s .table .bytes)) (length (s .table .symbols)) (length (s .table .sections)) (length (s .inputs)) (length (s .lists))) b)
+
+  collect-broken : (marks : List ℕ) (entry : EntryPoint) (work : List ℕ) → callRefusal (collect marks entry work) s ≡ refused 22 0
+  unfolding runOf Collection.judgeOf
+  collect-broken marks entry work =
+      simp
+      (change-broken l
+      (Collection.lentOf (length (s .table .bytes)) (length (s .table .names)) (length (s .table .symbols)) (length (s .table .sections)) (length (s .lists))) b)
+
+  pub broken-refused : (k : Call) → changes k ≡ true → callRefusal k s ≡ refused 22 0
+  broken-refused (intern x) c = intern-broken x
+  broken-refused (resolve id) c = absurd (apart c)
+  broken-refused (add conversion u) c = add-broken conversion u
+  broken-refused (remove id) c = remove-broken id
+  broken-refused (get id) c = absurd (apart c)
+  broken-refused (getGlobal name) c = absurd (apart c)
+  broken-refused (sectionSymbol section) c = absurd (apart c)
+  broken-refused (addGroup o work n) c = group-broken o work n
+  broken-refused (merge o work ids) c = merge-broken o work ids
+  broken-refused (load o marks) c = load-broken o marks
+  broken-refused (archiveStart index cells) c = absurd (apart c)
+  broken-refused (archiveNext index cells w) c = absurd (apart c)
+  broken-refused (matches headers entries contents file index cells w e) c = absurd (apart c)
+  broken-refused (collect marks entry work) c = collect-broken marks entry work

@@ -1,0 +1,242 @@
+-- Every call answers a result or one of the refusals that document 01 gives it.
+-- Assumes nothing.
+use Prim.Native.Nat.{ℕ, _/_}
+use mathlib.Core.Path.{_≡_, refl, subst}
+use mathlib.Core.Bool.{Bool, true, cond}
+use mathlib.Core.List.{List, [], _∷_}
+use mathlib.Core.Logic.{_≢_}
+use borrow.Author.Tests.{ne-eqb}
+use lib.Dec.{eqb, ltb, leb}
+use lib.ListN.{length}
+use Rattle.byte_slices.specs.Ways.{pick}
+use Rattle.link.specs.declared.Link.{Link}
+use Rattle.link.specs.declared.Lent.{Lent}
+use Rattle.link.specs.declared.Refusal.{Refusal}
+use Rattle.link.specs.declared.Interned.{Interned}
+use Rattle.link.specs.declared.SymbolId.{SymbolId}
+use Rattle.link.specs.Bounds.{notLent, symbolRows}
+use Rattle.link.specs.Judge.{refused, changeOf}
+use Rattle.link.specs.Judge as Link
+use Rattle.link.specs.Said.{numberIn}
+use Rattle.link.specs.Passed.{judge-gives}
+use Rattle.interner.specs.Names.{Store, findOf, fitsOf}
+use Rattle.interner.specs.Calls as Names
+use Rattle.interner.specs.Calls.{internOf, issueOf, resolveOf}
+use Rattle.symbol.specs.Row.{stateAt}
+use Rattle.symbol.specs.declared.Row.{Row}
+use Rattle.symbol.specs.declared.SttFile.{SttFile}
+use Rattle.upcoming_symbol.specs.declared.UpcomingSymbol.{UpcomingSymbol}
+use Rattle.upcoming_symbol.specs.Judge.{inRange}
+use Rattle.upcoming_symbol.specs.Upcoming.{nameOf, rowOf}
+use Rattle.symbol_rows.specs.declared.Holder.{Holder}
+use Rattle.symbol_rows.specs.declared.Holder.the-variants.{Unissued, Nobody, Removed, Known}
+use Rattle.symbol_rows.specs.declared.Decision.{Decision}
+use Rattle.symbol_rows.specs.Holder.{holderOf}
+use Rattle.symbol_rows.specs.Decide.{refusalOf}
+use Rattle.symbol_rows.specs.Apply.{Table}
+use Rattle.symbols.specs.declared.Found.{Found}
+use Rattle.symbols.specs.Calls as Symbols
+use Rattle.symbols.specs.Calls.{lentOf}
+use Rattle.symbols.specs.Add.{emptyAt, fileOf, directHolderOf, decidedOf, committedOf, addRowOf, judgeAddOf, addOf}
+use Rattle.symbols.specs.Add as Add
+use Rattle.symbols.specs.New.{NewLeft, nullOf, newOf}
+use Rattle.symbols.specs.Remove.{Rows, RemoveLeft, removeOf}
+use Rattle.symbols.specs.Lookup as Lookup
+use Rattle.symbols.specs.Lookup.{foundAt, getOf, heldOf, getGlobalOf}
+use Rattle.section_groups.specs.Group.{go}
+use Rattle.gc_sections.specs.declared.EntryPoint.{EntryPoint}
+use Rattle.gc_sections.specs.declared.Unbuilt.{Unbuilt}
+use Rattle.gc_sections.specs.declared.Unbuilt.the-variants as Unbuilts
+use Rattle.gc_sections.specs.Reach as Reach
+use Rattle.gc_sections.specs.Run as Collection
+use Rattle.gc_sections.specs.Run.{judgeCells, judged, purgeOf, sweepOf, finishOf, finished, collectOf, runOf}
+use Rattle.symbol_laws.specs.History.{store, table}
+use Rattle.merge_laws.specs.Refusals.{oneOf}
+use Rattle.merge_laws.specs.Calls.{Linked, allIn}
+use Rattle.link_laws.specs.Calls.{Call, intern, resolve, add, remove, get, getGlobal, sectionSymbol, addGroup, merge, load, archiveStart, archiveNext, matches, collect, viewIn, libraryIn, listsIn, callNumber}
+use Rattle.link_laws.specs.Table.{refusals, callNumbers, within}
+use Rattle.link_laws.specs.AddNumbers as AddNumbers
+use Rattle.merge_laws.specs.ByNumber.{changed}
+use Rattle.link_laws.specs.Among.{one-within, Among}
+use Rattle.link_laws.specs.GroupNumbers.{group-numbers}
+use Rattle.link_laws.specs.MergeNumbers.{merge-numbers}
+use Rattle.link_laws.specs.LoadNumbers.{load-numbers}
+use Rattle.link_laws.specs.ArchiveNumbers.{start-numbers, next-numbers, matches-numbers}
+
+-- ---- names
+
+intern-numbers : (s : Store) (x : List ℕ) → Among (22 ∷ 1 ∷ 2 ∷ []) (numberIn (internOf s x .said))
+unfolding internOf issueOf
+intern-numbers s x =
+    pick (λ (o : Names.Left). P (numberIn (o .said))) (eqb (changeOf (s .link) (Names.lent s) .number) 0) _ _
+    (λ a.
+    pick (λ (o : Names.Left). P (numberIn (o .said))) (fitsOf s (record { 0 = findOf (s .bytes) (s .names) (s .link .names) x }) (length x)) _ _
+    (λ b. refl) (λ b. refl))
+    (λ a. changed (λ (r : Refusal). P (r .number)) refl (λ k. refl) refl (s .link) (Names.lent s))
+  where
+    P : ℕ → Type 0
+    P = Among (22 ∷ 1 ∷ 2 ∷ [])
+
+resolve-numbers : (s : Store) (id : Interned) → Among (1 ∷ 23 ∷ []) (resolveOf s id .refusal .number)
+unfolding resolveOf
+resolve-numbers s id =
+    pick (λ (o : Names.Resolved). P (o .refusal .number)) (eqb (Link.judgeOf (s .link) (Names.lent s) .number) 0) _ _
+    (λ a. pick (λ (o : Names.Resolved). P (o .refusal .number)) (ltb (id .0) (s .link .names)) _ _ (λ b. refl) (λ b. refl))
+    (λ a. judge-gives (λ (r : Refusal). P (r .number)) (λ k. refl) refl (s .link) (Names.lent s))
+  where
+    P : ℕ → Type 0
+    P = Among (1 ∷ 23 ∷ [])
+
+-- ---- adds
+
+abbrev addNumbers : List ℕ
+addNumbers = 22 ∷ 1 ∷ 10 ∷ 11 ∷ 12 ∷ 21 ∷ 13 ∷ 14 ∷ 15 ∷ 16 ∷ 2 ∷ 17 ∷ []
+
+judge-add-numbers : (l : Link) (n : Lent) (u : UpcomingSymbol) → Among addNumbers (judgeAddOf l n u .number)
+unfolding judgeAddOf
+judge-add-numbers l n u =
+    pick P (eqb (changeOf l n .number) 0) _ _ (λ a. pick P (inRange u) _ _ (λ b. changed P refl (λ k. refl) refl l n) (λ b. refl))
+    (λ a. changed (λ (r : Refusal). P (refused (r .number) 0)) refl (λ k. refl) refl l n)
+  where
+    P : Refusal → Type 0
+    P r = Among addNumbers (r .number)
+
+commit-numbers : (t : Table) (r : Row) (file : SttFile) (d : Decision) → Among addNumbers (refusalOf d) → Among addNumbers (numberIn (committedOf t r file d .said))
+unfolding committedOf
+commit-numbers t r file d e =
+    pick P (eqb (refusalOf d) 21) _ _ (λ a. refl) (λ a. pick P (eqb (refusalOf d) 0) _ _ (λ b. refl) (λ b. e))
+  where
+    P : Symbols.Left → Type 0
+    P o = Among addNumbers (numberIn (o .said))
+
+add-numbers : (t : Table) (conversion : List ℕ) (u : UpcomingSymbol) → Among addNumbers (numberIn (addOf t conversion u .said))
+unfolding addOf addRowOf decidedOf
+add-numbers t conversion u =
+    let r : Row = rowOf conversion u (emptyAt (t .names) (nameOf u)) in
+    let h : Holder = directHolderOf (t .link) (t .names) (t .symbols) (r .name) (fileOf u) in
+    pick (λ (o : Symbols.Left). Among addNumbers (numberIn (o .said))) (eqb (judgeAddOf (t .link) (Add.lent t) u .number) 0) _ _
+    (λ a.
+    commit-numbers t r (fileOf u) (decidedOf t r (fileOf u))
+    (AddNumbers.decide-numbers (Among addNumbers) refl refl refl refl (t .link) (t .symbols) (t .sections) r
+    (AddNumbers.upcoming-fields (Among addNumbers) refl refl refl refl refl refl refl refl refl refl refl conversion u (emptyAt (t .names) (nameOf u))) h))
+    (λ a. judge-add-numbers (t .link) (Add.lent t) u)
+
+-- ---- the table's other calls
+
+remove-numbers : (l : Link) (x : Rows) (id : SymbolId) → Among (22 ∷ 1 ∷ 21 ∷ []) (numberIn (removeOf l x id .said))
+unfolding removeOf
+remove-numbers l x id =
+    pick P (eqb (changeOf l (lentOf notLent (length (x .symbols)) (length (x .sections))) .number) 0) _ _
+    (λ a. pick P (leb (l .symbols) (id .0)) _ _ (λ b. refl) (λ b. refl))
+    (λ a. changed (λ (r : Refusal). Among (22 ∷ 1 ∷ 21 ∷ []) (r .number)) refl (λ k. refl) refl l _)
+  where
+    P : RemoveLeft → Type 0
+    P o = Among (22 ∷ 1 ∷ 21 ∷ []) (numberIn (o .said))
+
+get-numbers : (l : Link) (symbols : List ℕ) (id : SymbolId) → Among (1 ∷ 21 ∷ []) (Lookup.refusalOf (getOf l symbols id) .number)
+unfolding getOf foundAt
+get-numbers l symbols id =
+    pick P (eqb (Link.judgeOf l (lentOf notLent (length symbols) notLent) .number) 0) _ _
+    (λ a. pick P (leb (l .symbols) (id .0)) _ _ (λ b. refl) (λ b. pick P (eqb (stateAt symbols (id .0)) 2) _ _ (λ c. refl) (λ c. refl)))
+    (λ a. judge-gives (λ (r : Refusal). Among (1 ∷ 21 ∷ []) (r .number)) (λ k. refl) refl l _)
+  where
+    P : Found → Type 0
+    P f = Among (1 ∷ 21 ∷ []) (Lookup.refusalOf f .number)
+
+global-numbers : (l : Link) (names symbols : List ℕ) (name : Interned) → Among (1 ∷ 23 ∷ 21 ∷ []) (Lookup.refusalOf (getGlobalOf l names symbols name) .number)
+unfolding getGlobalOf
+global-numbers l names symbols name =
+    pick P (eqb (Link.judgeOf l (lentOf (length names) (length symbols) notLent) .number) 0) _ _
+    (λ a. held (holderOf names symbols (l .names) name))
+    (λ a. judge-gives (λ (r : Refusal). Among (1 ∷ 23 ∷ 21 ∷ []) (r .number)) (λ k. refl) refl l _)
+  where
+    P : Found → Type 0
+    P f = Among (1 ∷ 23 ∷ 21 ∷ []) (Lookup.refusalOf f .number)
+
+    held : (h : Holder) → P (heldOf symbols name h)
+    held Unissued = refl
+    held Nobody = refl
+    held Removed = refl
+    held (Known id) = refl
+
+-- ---- collection
+
+collect-numbers : (l : Link) (x : Collection.Lists) (symbols sections : List ℕ) (entry : EntryPoint) (work : List ℕ)
+    → Among (22 ∷ 1 ∷ 2 ∷ 21 ∷ []) (runOf l x symbols sections entry work .said .number)
+unfolding runOf collectOf finished sweepOf purgeOf Collection.judgeOf judgeCells
+collect-numbers l x symbols sections entry work =
+    pick P (eqb (judged l x symbols sections work .number) 0) _ _ (λ a. go (w .visitor .unbuilt))
+    (λ a.
+    pick Q (eqb (changeOf l lent .number) 0) _ _
+    (λ b.
+    pick Q (ltb (length (x .marks)) (l .symbols)) _ _ (λ c. refl)
+    (λ c. pick Q (ltb (length work / 2) (l .sections)) _ _ (λ d. refl) (λ d. refl)))
+    (λ b. changed Q refl (λ k. refl) refl l lent))
+  where
+    w : Reach.Walk
+    w = Reach.walked l (x .bytes) (x .names) symbols sections (x .lists) (x .marks) entry work
+
+    lent : Lent
+    lent = Collection.lentOf (length (x .bytes)) (length (x .names)) (length symbols) (length sections) (length (x .lists))
+
+    P : Collection.Left → Type 0
+    P o = Among (22 ∷ 1 ∷ 2 ∷ 21 ∷ []) (o .said .number)
+
+    Q : Refusal → Type 0
+    Q r = Among (22 ∷ 1 ∷ 2 ∷ 21 ∷ []) (r .number)
+
+    go : (u : Unbuilt) → P (finishOf l symbols sections (w .work) u)
+    go Unbuilts.None = refl
+    go (Unbuilts.Lowest id) = refl
+
+-- ---- every call
+
+pub numbers : (k : Call) (s : Linked) → oneOf (callNumber k s) (0 ∷ callNumbers k) ≡ true
+numbers (intern x) s = intern-numbers (store (s .table)) x
+numbers (resolve id) s = resolve-numbers (store (s .table)) id
+numbers (add conversion u) s = add-numbers (table (s .table)) conversion u
+numbers (remove id) s = remove-numbers (s .table .link) _ id
+numbers (get id) s = get-numbers (s .table .link) (s .table .symbols) id
+numbers (getGlobal name) s = global-numbers (s .table .link) (s .table .names) (s .table .symbols) name
+numbers (sectionSymbol section) s = refl
+numbers (addGroup o work n) s = group-numbers o (s .table) work n
+numbers (merge o work ids) s = merge-numbers o (allIn s work ids)
+numbers (load o marks) s = load-numbers o (libraryIn s marks)
+numbers (archiveStart index cells) s = start-numbers index cells
+numbers (archiveNext index cells w) s = next-numbers index cells w (viewIn (s .table))
+numbers (matches headers entries contents file index cells w e) s = matches-numbers headers entries contents file index cells w e
+numbers (collect marks entry work) s = collect-numbers (s .table .link) (listsIn s marks) (s .table .symbols) (s .table .sections) entry work
+
+-- all of the refusal table
+pub in-table : (k : Call) → within (callNumbers k) refusals ≡ true
+in-table (intern x) = refl
+in-table (resolve id) = refl
+in-table (add conversion u) = refl
+in-table (remove id) = refl
+in-table (get id) = refl
+in-table (getGlobal name) = refl
+in-table (sectionSymbol section) = refl
+in-table (addGroup o work n) = refl
+in-table (merge o work ids) = refl
+in-table (load o marks) = refl
+in-table (archiveStart index cells) = refl
+in-table (archiveNext index cells w) = refl
+in-table (matches headers entries contents file index cells w e) = refl
+in-table (collect marks entry work) = refl
+
+pub refusals-only : (k : Call) (s : Linked) → callNumber k s ≢ 0 → oneOf (callNumber k s) refusals ≡ true
+refusals-only k s u =
+    one-within (callNumber k s) (callNumbers k) refusals (in-table k)
+    (subst (λ (b : Bool). cond b true (oneOf (callNumber k s) (callNumbers k)) ≡ true) (ne-eqb _ _ u) (numbers k s))
+
+-- ---- a new table
+
+null-numbers : (symbols sections : List ℕ) (s : Store) → Among (2 ∷ []) (numberIn (nullOf symbols sections s .said))
+unfolding nullOf
+null-numbers symbols sections s = pick (λ (x : NewLeft). Among (2 ∷ []) (numberIn (x .said))) (eqb (s .link .names) 0) _ _ (λ a. refl) (λ a. refl)
+
+pub new-numbers : (bytes names symbols sections : List ℕ) → Among (2 ∷ []) (numberIn (newOf bytes names symbols sections .said))
+unfolding newOf
+new-numbers bytes names symbols sections =
+    pick (λ (x : NewLeft). Among (2 ∷ []) (numberIn (x .said))) (eqb (symbolRows (length symbols)) 0) _ _ (λ a. refl)
+    (λ a. null-numbers symbols sections (Names.newOf bytes names .store))

@@ -1,0 +1,335 @@
+-- 22 stands for a broken link alone; it, 20, 23 and 25 come at place 0.
+-- Assumes nothing.
+use Prim.Native.Nat.{ℕ, _/_}
+use mathlib.Core.Path.{_≡_, refl, sym, ap, _∙_}
+use mathlib.Core.Bool.{true, false, false≢true}
+use mathlib.Core.List.{List, [], _∷_}
+use mathlib.Core.Logic.{_≢_}
+use lib.Dec.{eqb, ltb, leb}
+use lib.ListN.{length}
+use borrow.Author.Tests.{eqb-true}
+use Rattle.cells.specs.Split.{by-test}
+use Rattle.byte_slices.specs.Ways.{pick, apart}
+use Rattle.link.specs.declared.Link.{Link}
+use Rattle.link.specs.declared.Lent.{Lent}
+use Rattle.link.specs.declared.SymbolId.{SymbolId}
+use Rattle.link.specs.declared.Refusal.{Refusal}
+use Rattle.link.specs.Bounds.{notLent}
+use Rattle.link.specs.Judge.{changeOf}
+use Rattle.link.specs.Passed.{judge-gives}
+use Rattle.link.specs.Said.{numberIn, placeIn}
+use Rattle.interner.specs.Names.{Store, findOf, fitsOf}
+use Rattle.interner.specs.Calls as Names
+use Rattle.interner.specs.Calls.{internOf, issueOf}
+use Rattle.symbol.specs.declared.Row.{Row}
+use Rattle.upcoming_symbol.specs.declared.UpcomingSymbol.{UpcomingSymbol}
+use Rattle.upcoming_symbol.specs.Judge.{inRange}
+use Rattle.upcoming_symbol.specs.Upcoming.{nameOf, rowOf}
+use Rattle.symbol_rows.specs.declared.Decision.{Decision}
+use Rattle.symbol_rows.specs.Decide.{refusalOf}
+use Rattle.symbol_rows.specs.Apply.{Table}
+use Rattle.symbols.specs.Calls as Symbols
+use Rattle.symbols.specs.Calls.{lentOf}
+use Rattle.symbols.specs.Add as Add
+use Rattle.symbols.specs.Add.{emptyAt, fileOf, directHolderOf, decidedOf, committedOf, addRowOf, judgeAddOf, addOf}
+use Rattle.symbols.specs.Remove.{Rows, RemoveLeft, removeOf}
+use Rattle.elf_object.specs.Rows.{rowsIn, isLoaded}
+use Rattle.elf_object.specs.Judge as Elf
+use Rattle.section_groups.specs.Group as Group
+use Rattle.add_group.specs.AddGroup as AddGroup
+use Rattle.add_group.specs.AddGroup.{addGroupOf}
+use Rattle.merge_stages.specs.Stages as Stages
+use Rattle.merge_elf.specs.Merge as Merge
+use Rattle.merge_elf.specs.Merge.{workRefusal, rowsRefusal, headOf, headIn}
+use Rattle.library_head.specs.Head as Head
+use Rattle.shared_objects.specs.Load as Shared
+use Rattle.shared_laws.specs.Unneeded as Unneeded
+use Rattle.gc_sections.specs.declared.EntryPoint.{EntryPoint}
+use Rattle.gc_sections.specs.declared.Unbuilt.{Unbuilt}
+use Rattle.gc_sections.specs.declared.Unbuilt.the-variants as Unbuilts
+use Rattle.gc_sections.specs.Reach as Reach
+use Rattle.gc_sections.specs.Run as Collection
+use Rattle.gc_sections.specs.Run.{judgeCells, judged, purgeOf, sweepOf, finishOf, finished, collectOf, runOf}
+use Rattle.symbol_laws.specs.History.{State, store, table}
+use Rattle.merge_laws.specs.Refusals.{oneOf}
+use Rattle.merge_laws.specs.ByNumber as ByNumber
+use Rattle.merge_laws.specs.ByNumber.{disjoint, changed, elf-gives}
+use Rattle.merge_laws.specs.Calls.{Linked, allIn}
+use Rattle.link_laws.specs.Calls.{Call, intern, resolve, add, remove, get, getGlobal, sectionSymbol, addGroup, merge, load, archiveStart, archiveNext, matches, collect, libraryIn, listsIn, groupIn, callRefusal, callNumber}
+use Rattle.link_laws.specs.Table.{starred, placeless, callNumbers, within}
+use Rattle.link_laws.specs.Among.{one-within}
+use Rattle.link_laws.specs.AddNumbers as AddNumbers
+use Rattle.link_laws.specs.Numbers.{numbers}
+use Rattle.link_laws.specs.LoadNumbers.{lentIn, rows-give, head-gives}
+use Rattle.link_laws.specs.Leaves.{byElements}
+use Rattle.link_laws.specs.Broken.{changes, broken-refused}
+use Rattle.link_laws.specs.Places.{add-place}
+use Rattle.link_laws.specs.CallPlaces.{differ, intern-place, resolve-place, start-place, global-at, group-of-head}
+use Rattle.link_laws.specs.Starred.{headRefusal, Stopped, at-head, at-element, stopped, some}
+
+-- ---- 22 only on a broken link
+
+change-only : (l : Link) (n : Lent) → changeOf l n .number ≡ 22 → l .broken ≡ true
+unfolding changeOf
+change-only l n =
+    pick P (l .broken) _ _ (λ t e. t) (λ t. judge-gives P (λ k e. differ 1 22 refl e) (λ e. differ 0 22 refl e) l n)
+  where
+    P : Refusal → Type 0
+    P r = r .number ≡ 22 → l .broken ≡ true
+
+intern-only : (s : Store) (x : List ℕ) → numberIn (internOf s x .said) ≡ 22 → s .link .broken ≡ true
+unfolding internOf issueOf
+intern-only s x =
+    pick P (eqb (changeOf (s .link) (Names.lent s) .number) 0) _ _
+    (λ a.
+    pick P (fitsOf s (record { 0 = findOf (s .bytes) (s .names) (s .link .names) x }) (length x)) _ _ (λ b e. differ 0 22 refl e) (λ b e. differ 2 22 refl e))
+    (λ a. change-only (s .link) (Names.lent s))
+  where
+    P : Names.Left → Type 0
+    P o = numberIn (o .said) ≡ 22 → s .link .broken ≡ true
+
+judge-only : (l : Link) (n : Lent) (u : UpcomingSymbol) → judgeAddOf l n u .number ≡ 22 → l .broken ≡ true
+unfolding judgeAddOf
+judge-only l n u =
+    pick P (eqb (changeOf l n .number) 0) _ _ (λ a. pick P (inRange u) _ _ (λ b. change-only l n) (λ b e. differ 1 22 refl e)) (λ a. change-only l n)
+  where
+    P : Refusal → Type 0
+    P r = r .number ≡ 22 → l .broken ≡ true
+
+-- the row's own numbers
+row-only : (t : Table) (conversion : List ℕ) (u : UpcomingSymbol) → numberIn (addRowOf t (rowOf conversion u (emptyAt (t .names) (nameOf u))) (fileOf u) .said) ≢ 22
+unfolding addRowOf committedOf decidedOf
+row-only t conversion u =
+    pick P (eqb (refusalOf d) 21) _ _ (λ a e. differ 21 22 refl e) (λ a. pick P (eqb (refusalOf d) 0) _ _ (λ b e. differ 0 22 refl e) (λ b. other))
+  where
+    r : Row
+    r = rowOf conversion u (emptyAt (t .names) (nameOf u))
+
+    d : Decision
+    d = decidedOf t r (fileOf u)
+
+    P : Symbols.Left → Type 0
+    P x = numberIn (x .said) ≢ 22
+
+    In : ℕ → Type 0
+    In k = k ≢ 22
+
+    other : refusalOf d ≢ 22
+    other =
+        AddNumbers.decide-numbers In (differ 0 22 refl) (differ 2 22 refl) (differ 17 22 refl) (differ 21 22 refl) (t .link) (t .symbols) (t .sections) r
+        (AddNumbers.upcoming-fields In (differ 0 22 refl) (differ 2 22 refl) (differ 17 22 refl) (differ 21 22 refl) (differ 10 22 refl) (differ 11 22 refl)
+        (differ 12 22 refl) (differ 13 22 refl) (differ 14 22 refl) (differ 15 22 refl) (differ 16 22 refl) conversion u (emptyAt (t .names) (nameOf u)))
+        (directHolderOf (t .link) (t .names) (t .symbols) (r .name) (fileOf u))
+
+add-only : (t : Table) (conversion : List ℕ) (u : UpcomingSymbol) → numberIn (addOf t conversion u .said) ≡ 22 → t .link .broken ≡ true
+unfolding addOf
+add-only t conversion u =
+    pick (λ (x : Symbols.Left). numberIn (x .said) ≡ 22 → t .link .broken ≡ true) (eqb (judgeAddOf (t .link) (Add.lent t) u .number) 0) _ _
+    (λ a e. absurd (row-only t conversion u e)) (λ a. judge-only (t .link) (Add.lent t) u)
+
+remove-only : (l : Link) (x : Rows) (id : SymbolId) → numberIn (removeOf l x id .said) ≡ 22 → l .broken ≡ true
+unfolding removeOf
+remove-only l x id =
+    pick P (eqb (changeOf l (lentOf notLent (length (x .symbols)) (length (x .sections))) .number) 0) _ _
+    (λ a. pick P (leb (l .symbols) (id .0)) _ _ (λ b e. differ 21 22 refl e) (λ b e. differ 0 22 refl e)) (λ a. change-only l _)
+  where
+    P : RemoveLeft → Type 0
+    P o = numberIn (o .said) ≡ 22 → l .broken ≡ true
+
+module _ (o : Group.Object) (s : Group.State) (n : ℕ) where
+  abbrev Only : Refusal → Type 0
+  Only r = r .number ≡ 22 → s .link .broken ≡ true
+
+  group-head-only : Only (AddGroup.headIn o s n)
+  unfolding AddGroup.headOf AddGroup.rowsRefusal AddGroup.marksRefusal
+  group-head-only =
+      pick Only (eqb (changeOf (s .link) (AddGroup.lent s) .number) 0) _ _
+      (λ a.
+      pick Only (eqb (Elf.judgeOf (o .headers) (o .entries) (length (o .contents)) (length (o .file)) .number) 0) _ _
+      (λ b.
+      pick Only (isLoaded (o .headers) n 7) _ _
+      (λ c. pick Only (ltb (length (s .work) / 8) (rowsIn (o .headers))) _ _ (λ d e. differ 2 22 refl e) (λ d e. differ 0 22 refl e))
+      (λ c e. differ 1 22 refl e))
+      (λ b.
+      elf-gives Only (λ k e. differ 1 22 refl e) (λ e. differ 0 22 refl e) (o .headers) (o .entries) (length (o .contents)) (length (o .file))))
+      (λ a. change-only (s .link) (AddGroup.lent s))
+
+merge-head-only : (o : Stages.Object) (a : Stages.All) → headIn o a .number ≡ 22 → a .stage .link .broken ≡ true
+unfolding headOf rowsRefusal workRefusal
+merge-head-only o a =
+    pick P (eqb (changeOf (a .stage .link) (Merge.lent a) .number) 0) _ _
+    (λ b.
+    pick P (eqb (Elf.judgeOf (o .headers) (o .entries) (length (o .contents)) (length (o .file)) .number) 0) _ _
+    (λ c.
+    pick P (ltb (length (a .work) / 8) (rowsIn (o .headers))) _ _ (λ d e. differ 2 22 refl e)
+    (λ d. pick P (ltb (length (a .ids)) (rowsIn (o .entries))) _ _ (λ f e. differ 2 22 refl e) (λ f e. differ 0 22 refl e)))
+    (λ c. elf-gives P (λ k e. differ 1 22 refl e) (λ e. differ 0 22 refl e) (o .headers) (o .entries) (length (o .contents)) (length (o .file))))
+    (λ b. change-only (a .stage .link) (Merge.lent a))
+  where
+    P : Refusal → Type 0
+    P r = r .number ≡ 22 → a .stage .link .broken ≡ true
+
+collect-only : (l : Link) (x : Collection.Lists) (symbols sections : List ℕ) (entry : EntryPoint) (work : List ℕ)
+    → runOf l x symbols sections entry work .said .number ≡ 22 → l .broken ≡ true
+unfolding runOf collectOf finished sweepOf purgeOf Collection.judgeOf judgeCells
+collect-only l x symbols sections entry work =
+    pick P (eqb (judged l x symbols sections work .number) 0) _ _ (λ a. end (w .visitor .unbuilt))
+    (λ a.
+    pick Q (eqb (changeOf l lent .number) 0) _ _
+    (λ b.
+    pick Q (ltb (length (x .marks)) (l .symbols)) _ _ (λ c e. differ 1 22 refl e)
+    (λ c. pick Q (ltb (length work / 2) (l .sections)) _ _ (λ d e. differ 2 22 refl e) (λ d e. differ 0 22 refl e)))
+    (λ b. change-only l lent))
+  where
+    w : Reach.Walk
+    w = Reach.walked l (x .bytes) (x .names) symbols sections (x .lists) (x .marks) entry work
+
+    lent : Lent
+    lent = Collection.lentOf (length (x .bytes)) (length (x .names)) (length symbols) (length sections) (length (x .lists))
+
+    P : Collection.Left → Type 0
+    P o = o .said .number ≡ 22 → l .broken ≡ true
+
+    Q : Refusal → Type 0
+    Q r = r .number ≡ 22 → l .broken ≡ true
+
+    end : (u : Unbuilt) → P (finishOf l symbols sections (w .work) u)
+    end Unbuilts.None e = differ 0 22 refl e
+    end (Unbuilts.Lowest id) e = differ 21 22 refl e
+
+load-head-only : (o : Shared.Input) (a : Shared.All) → Shared.headIn o a .number ≡ 22 → a .link .broken ≡ true
+unfolding Head.headOf Head.afterRows Head.nameRefusal
+load-head-only o a =
+    pick P (eqb (changeOf (a .link) (lentIn a) .number) 0) _ _
+    (λ t.
+    pick P (eqb (Head.rowsOf (o .entries) (o .file) (o .needs) (o .sonamed) (o .soname) .number) 0) _ _
+    (λ b.
+    pick P (Head.unnamedOf (o .archived) (o .sonamed)) _ _ (λ c e. differ 25 22 refl e)
+    (λ c. pick P (Head.marksShort (o .asneeded) (length (a .marks)) (a .link .names)) _ _ (λ d e. differ 2 22 refl e) (λ d e. differ 0 22 refl e)))
+    (λ b. rows-give P (λ k e. differ 1 22 refl e) (λ e. differ 0 22 refl e) (o .entries) (o .file) (o .needs) (o .sonamed) (o .soname)))
+    (λ t. change-only (a .link) (lentIn a))
+  where
+    P : Refusal → Type 0
+    P r = r .number ≡ 22 → a .link .broken ≡ true
+
+module _ (o : Group.Object) (t : State) (work : List ℕ) (n : ℕ) where
+  abbrev at : Group.State
+  at = groupIn t work
+
+  group-only : addGroupOf o at n .said .number ≡ 22 → t .link .broken ≡ true
+  group-only e = group-head-only o at n (sym (ap (λ (r : Refusal). r .number) (group-of-head o t work n 22 refl e)) ∙ e)
+
+stopped-only : (k : Call) (s : Linked) → byElements k ≡ true → (headRefusal k s .number ≡ 22 → s .table .link .broken ≡ true) → callNumber k s ≡ 22 → s .table .link .broken ≡ true
+stopped-only k s g h e = split (stopped k s g (λ z. differ 0 22 refl (sym z ∙ e)))
+  where
+    split : Stopped k s → s .table .link .broken ≡ true
+    split (at-head r n q) = h (sym (ap (λ (x : Refusal). x .number) r) ∙ e)
+    split (at-element n q) = absurd (false≢true (ap (λ (m : ℕ). oneOf m (2 ∷ starred)) (sym e) ∙ n))
+
+-- a number that the call doesn't give
+never : {P : Type 0} (k : Call) (s : Linked) (m : ℕ) → oneOf m (0 ∷ callNumbers k) ≡ false → callNumber k s ≡ m → P
+never k s m d e = absurd (false≢true (sym d ∙ ap (λ (n : ℕ). oneOf n (0 ∷ callNumbers k)) (sym e) ∙ numbers k s))
+
+pub broken-only : (k : Call) (s : Linked) → callNumber k s ≡ 22 → (changes k ≡ true) × (s .table .link .broken ≡ true)
+broken-only (intern x) s e = (refl, intern-only (store (s .table)) x e)
+broken-only (resolve id) s e = never (resolve id) s 22 refl e
+broken-only (add conversion u) s e = (refl, add-only (table (s .table)) conversion u e)
+broken-only (remove id) s e = (refl, remove-only (s .table .link) _ id e)
+broken-only (get id) s e = never (get id) s 22 refl e
+broken-only (getGlobal name) s e = never (getGlobal name) s 22 refl e
+broken-only (sectionSymbol section) s e = differ 0 22 refl e
+broken-only (addGroup o work n) s e = (refl, group-only o (s .table) work n e)
+broken-only (merge o work ids) s e = (refl, stopped-only (merge o work ids) s refl (merge-head-only o (allIn s work ids)) e)
+broken-only (load o marks) s e = (refl, stopped-only (load o marks) s refl (load-head-only o (libraryIn s marks)) e)
+broken-only (archiveStart index cells) s e = never (archiveStart index cells) s 22 refl e
+broken-only (archiveNext index cells w) s e = never (archiveNext index cells w) s 22 refl e
+broken-only (matches headers entries contents file index cells w x) s e = never (matches headers entries contents file index cells w x) s 22 refl e
+broken-only (collect marks entry work) s e =
+    (refl, collect-only (s .table .link) (listsIn s marks) (s .table .symbols) (s .table .sections) entry work e)
+
+-- ---- 20, 22, 23, 25 at 0
+
+twenty-two-at : (k : Call) (s : Linked) → callNumber k s ≡ 22 → callRefusal k s .place ≡ 0
+twenty-two-at k s e = let b = broken-only k s e in ap (λ (r : Refusal). r .place) (broken-refused s (b .1) k (b .0))
+
+-- of a call's numbers only m has no place
+sole : (n m : ℕ) (xs : List ℕ) → disjoint xs placeless ≡ true → oneOf n (m ∷ xs) ≡ true → oneOf n placeless ≡ true → n ≡ m
+sole n m xs d h p =
+    by-test (eqb n m) (λ a. eqb-true _ _ a) (λ a. absurd (ByNumber.apart n xs placeless d (rw a at h) p))
+
+other : (n m : ℕ) → oneOf m placeless ≡ false → oneOf n placeless ≡ true → n ≢ m
+other n m d p e = false≢true (sym d ∙ ap (λ (k : ℕ). oneOf k placeless) (sym e) ∙ p)
+
+none-of : {P : Type 0} (k : Call) (s : Linked) → disjoint (0 ∷ callNumbers k) placeless ≡ true → oneOf (callNumber k s) placeless ≡ true → P
+none-of k s d p = absurd (ByNumber.apart (callNumber k s) (0 ∷ callNumbers k) placeless d (numbers k s) p)
+
+only-22 : (k : Call) (s : Linked) (xs : List ℕ) → disjoint xs placeless ≡ true → within (0 ∷ callNumbers k) (22 ∷ xs) ≡ true → oneOf (callNumber k s) placeless ≡ true
+    → callRefusal k s .place ≡ 0
+only-22 k s xs d w p =
+    twenty-two-at k s (sole (callNumber k s) 22 xs d (one-within (callNumber k s) (0 ∷ callNumbers k) (22 ∷ xs) w (numbers k s)) p)
+
+load-at : (o : Shared.Input) (marks : List ℕ) (s : Linked) → oneOf (callNumber (load o marks) s) placeless ≡ true → callRefusal (load o marks) s .place ≡ 0
+load-at o marks s p = split (stopped (load o marks) s refl (some (callNumber (load o marks) s) placeless refl p))
+  where
+    split : Stopped (load o marks) s → callRefusal (load o marks) s .place ≡ 0
+    split (at-head r n q) =
+        ap (λ (x : Refusal). x .place) r
+        ∙ head-gives (λ (x : Refusal). oneOf (x .number) placeless ≡ true → x .place ≡ 0) (λ k e. absurd (false≢true e)) (λ e. refl) (λ e. refl) (λ e. refl)
+        (λ e. refl) o (libraryIn s marks) (sym (ap (λ (x : Refusal). oneOf (x .number) placeless) r) ∙ p)
+    split (at-element n q) = absurd (ByNumber.apart (callNumber (load o marks) s) (2 ∷ starred) placeless refl n p)
+
+pub zero-places : (k : Call) (s : Linked) → oneOf (callNumber k s) placeless ≡ true → callRefusal k s .place ≡ 0
+zero-places (intern x) s p = intern-place x s (other (callNumber (intern x) s) 1 refl p)
+zero-places (resolve id) s p = resolve-place id s (other (callNumber (resolve id) s) 1 refl p)
+zero-places (add conversion u) s p = add-place conversion u s (other (callNumber (add conversion u) s) 21 refl p)
+zero-places (remove id) s p = only-22 (remove id) s (0 ∷ 1 ∷ 21 ∷ []) refl refl p
+zero-places (get id) s p = none-of (get id) s refl p
+zero-places (getGlobal name) s p =
+    global-at (s .table .link) (s .table .names) (s .table .symbols) name .1
+    (sole (callNumber (getGlobal name) s) 23 (0 ∷ 1 ∷ 21 ∷ []) refl
+    (one-within (callNumber (getGlobal name) s) (0 ∷ callNumbers (getGlobal name)) (23 ∷ 0 ∷ 1 ∷ 21 ∷ []) refl (numbers (getGlobal name) s)) p)
+zero-places (sectionSymbol section) s p = refl
+zero-places (addGroup o work n) s p = only-22 (addGroup o work n) s (0 ∷ 1 ∷ 2 ∷ 4 ∷ 5 ∷ 6 ∷ 7 ∷ []) refl refl p
+zero-places (merge o work ids) s p = only-22 (merge o work ids) s (0 ∷ 1 ∷ 2 ∷ starred) refl refl p
+zero-places (load o marks) s p = load-at o marks s p
+zero-places (archiveStart index cells) s p = start-place index cells s (other (callNumber (archiveStart index cells) s) 1 refl p)
+zero-places (archiveNext index cells w) s p = none-of (archiveNext index cells w) s refl p
+zero-places (matches headers entries contents file index cells w e) s p = none-of (matches headers entries contents file index cells w e) s refl p
+zero-places (collect marks entry work) s p = only-22 (collect marks entry work) s (0 ∷ 1 ∷ 2 ∷ 21 ∷ []) refl refl p
+
+-- ---- 2 of a head at 0: no element is met
+
+merge-head-two : (o : Stages.Object) (a : Stages.All) → headIn o a .number ≡ 2 → headIn o a .place ≡ 0
+unfolding headOf rowsRefusal workRefusal
+merge-head-two o a =
+    pick P (eqb (changeOf (a .stage .link) (Merge.lent a) .number) 0) _ _
+    (λ b.
+    pick P (eqb (Elf.judgeOf (o .headers) (o .entries) (length (o .contents)) (length (o .file)) .number) 0) _ _
+    (λ c.
+    pick P (ltb (length (a .work) / 8) (rowsIn (o .headers))) _ _ (λ d e. refl)
+    (λ d. pick P (ltb (length (a .ids)) (rowsIn (o .entries))) _ _ (λ f e. refl) (λ f e. refl)))
+    (λ c. elf-gives P (λ k e. differ 1 2 refl e) (λ e. refl) (o .headers) (o .entries) (length (o .contents)) (length (o .file))))
+    (λ b. changed P (λ e. refl) (λ k e. differ 1 2 refl e) (λ e. refl) (a .stage .link) (Merge.lent a))
+  where
+    P : Refusal → Type 0
+    P r = r .number ≡ 2 → r .place ≡ 0
+
+pub head-two-place : (k : Call) (s : Linked) → headRefusal k s .number ≡ 2 → callRefusal k s .place ≡ 0
+head-two-place (intern x) s e = differ 0 2 refl e
+head-two-place (resolve id) s e = differ 0 2 refl e
+head-two-place (add conversion u) s e = differ 0 2 refl e
+head-two-place (remove id) s e = differ 0 2 refl e
+head-two-place (get id) s e = differ 0 2 refl e
+head-two-place (getGlobal name) s e = differ 0 2 refl e
+head-two-place (sectionSymbol section) s e = differ 0 2 refl e
+head-two-place (addGroup o work n) s e = differ 0 2 refl e
+head-two-place (merge o work ids) s e =
+    let a : Stages.All = allIn s work ids in
+    ap (λ (x : Merge.Left). x .said .place) (ByNumber.head-leaves o a (λ z. differ 0 2 refl (sym z ∙ e)) .all) ∙ merge-head-two o a e
+head-two-place (load o marks) s e =
+    ap (λ (x : Shared.Left). placeIn (x .said)) (Unneeded.head-leaves o (libraryIn s marks) (λ z. differ 0 2 refl (sym z ∙ e)))
+    ∙ head-gives (λ (r : Refusal). r .number ≡ 2 → r .place ≡ 0) (λ k q. differ 1 2 refl q) (λ q. refl) (λ q. refl) (λ q. refl) (λ q. refl) o (libraryIn s marks) e
+head-two-place (archiveStart index cells) s e = differ 0 2 refl e
+head-two-place (archiveNext index cells w) s e = differ 0 2 refl e
+head-two-place (matches headers entries contents file index cells w x) s e = differ 0 2 refl e
+head-two-place (collect marks entry work) s e = differ 0 2 refl e

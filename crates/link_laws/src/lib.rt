@@ -1,0 +1,1 @@
+// Theorems about links of all calls: specs/Terms.antt has the statements.

@@ -1,0 +1,12 @@
+pub mod Terms
+pub mod LoadSteps
+pub mod Whole
+pub mod Refusals
+pub mod Stops
+pub mod SymbolDuplicates
+pub mod Unbroken
+pub mod Sections
+pub mod Unmarked
+pub mod Accepted
+pub mod Lists
+pub mod Counts

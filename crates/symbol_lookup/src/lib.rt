@@ -1,0 +1,99 @@
+// Lookups in a symbol table: by id, by global name, by section.
+ghost use mathlib.Core.Path.{_≡_};
+ghost use Rattle.symbols.specs.Lookup.{notFound, foundAt, getOf, heldOf, getGlobalOf, sectionSymbolOf};
+use link::Interned;
+use link::Refusal;
+use link::SectionId;
+use link::SymbolId;
+use symbol_rows::Holder;
+use symbols::Found;
+use symbols::SectionSymbol;
+use symbols::Symbols;
+
+fn not_found(number: u64, place: usize) -> Found
+    ensures { λ r. ⌜ r ≡ notFound number place ⌝ }
+{
+    Found::Refused {
+        refusal: Refusal {
+            number: number,
+            place: place as u64,
+        },
+    }
+}
+
+fn found_at(symbols: &[u64], id: SymbolId) -> Found
+    ensures { λ r. ⌜ r ≡ foundAt (now (symbols .entry)) id ⌝ }
+{
+    if cells::row_get(symbols, id.0, 0) == 2 {
+        return not_found(21, id.0);
+    }
+    Found::Row {
+        symbol: symbol_read::symbol_at(symbols, id),
+    }
+}
+
+fn held_at(symbols: &[u64], name: Interned, holder: Holder) -> Found
+    ensures { λ r. ⌜ r ≡ heldOf (now (symbols .entry)) name holder ⌝ }
+{
+    match holder {
+        Holder::Unissued => not_found(23, 0),
+        Holder::Nobody => not_found(23, 0),
+        Holder::Removed => not_found(21, name.0),
+        Holder::Known { id } => Found::Row {
+            symbol: symbol_read::symbol_at(symbols, id),
+        },
+    }
+}
+
+pub fn get(table: Symbols, symbols: &[u64], id: SymbolId) -> Found
+    ensures { λ r. ⌜ r ≡ getOf (table .link) (now (symbols .entry)) id ⌝ }
+{
+    let l = table.link;
+    let head = link_judge::judge(
+        l,
+        symbols::lent_rows(link::NOT_LENT, symbols.len(), link::NOT_LENT),
+    );
+    if head.number != 0 {
+        return Found::Refused { refusal: head };
+    }
+    if l.symbols <= id.0 {
+        return not_found(21, id.0);
+    }
+    found_at(symbols, id)
+}
+
+pub fn get_global(table: Symbols, names: &[u64], symbols: &[u64], name: Interned) -> Found
+    ensures { λ r. ⌜ r ≡ getGlobalOf (table .link) (now (names .entry)) (now (symbols .entry)) name ⌝ }
+{
+    let l = table.link;
+    let head = link_judge::judge(
+        l,
+        symbols::lent_rows(names.len(), symbols.len(), link::NOT_LENT),
+    );
+    if head.number != 0 {
+        return Found::Refused { refusal: head };
+    }
+    let holder = symbol_rows::holder_of(names, symbols, l.names, name);
+    held_at(symbols, name, holder)
+}
+
+// Any section may be asked, whether it is built or not.
+pub fn section_symbol_id(table: Symbols, sections: &[u64], section: SectionId) -> SectionSymbol
+    ensures { λ r. ⌜ r ≡ sectionSymbolOf (table .link) (now (sections .entry)) section ⌝ }
+{
+    let l = table.link;
+    let slots = l.slots;
+    if symbol_rows::section_cells(sections.len()) < slots {
+        return SectionSymbol::None;
+    }
+    if slots <= section.0 {
+        return SectionSymbol::None;
+    }
+    let id = cells::get(sections, slots * 8 + section.0);
+    if id == 0 {
+        return SectionSymbol::None;
+    }
+    SectionSymbol::Symbol {
+        id: SymbolId(id as usize),
+    }
+}

@@ -1,0 +1,52 @@
+// Removal of a symbol from a symbol table; what else its row holds stays.
+ghost use mathlib.Core.Path.{_≡_};
+ghost use Rattle.symbols.specs.Remove.{rowsOf, dropSection, removeRowOf, removeOf, removeOutcome};
+use link::SymbolId;
+use symbols::Answer;
+use symbols::Outcome;
+use symbols::Symbols;
+
+// A removed section symbol leaves its section without one.
+fn drop_section(sections: &mut [u64], kind: u64, section: u64)
+    ensures { λ _. ⌜ now (sections .exit) ≡ dropSection (now (sections .entry)) kind section ⌝ }
+{
+    if kind == 2 {
+        symbol_rows::set_section_symbol(sections, section as usize, 0);
+    }
+}
+
+// The row's state becomes removed, and every other cell of it stays.
+pub fn remove_row(symbols: &mut [u64], sections: &mut [u64], id: SymbolId)
+    ensures { λ _. ⌜ rowsOf (now (symbols .exit)) (now (sections .exit)) ≡ removeRowOf (rowsOf (now (symbols .entry)) (now (sections .entry))) id ⌝ }
+{
+    let i = id.0;
+    if cells::row_get(symbols, i, 0) == 2 {
+        return;
+    }
+    let kind = cells::row_get(symbols, i, 5);
+    let section = cells::row_get(symbols, i, 6);
+    cells::row_put(symbols, i, 0, 2);
+    drop_section(sections, kind, section);
+}
+
+// A global name is never forgotten; a removed id is accepted and changes nothing.
+pub fn remove(table: Symbols, symbols: &mut [u64], sections: &mut [u64], id: SymbolId) -> Outcome
+    ensures { λ r. ⌜ removeOutcome (now (symbols .exit)) (now (sections .exit)) r ≡ removeOf (table .link) (rowsOf (now (symbols .entry)) (now (sections .entry))) id ⌝ }
+{
+    let l = table.link;
+    let head = link_judge::judge_change(
+        l,
+        symbols::lent_rows(link::NOT_LENT, symbols.len(), sections.len()),
+    );
+    if head.number != 0 {
+        return symbols::refused(l, head.number, head.place);
+    }
+    if l.symbols <= id.0 {
+        return symbols::refused(l, 21, id.0 as u64);
+    }
+    remove_row(symbols, sections, id);
+    Outcome {
+        table: table,
+        answer: Answer::Symbol { id: id },
+    }
+}

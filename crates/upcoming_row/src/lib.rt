@@ -1,0 +1,226 @@
+// The row that an upcoming symbol would become: its name, binding and visibility, value.
+ghost use mathlib.Core.Path.{_≡_};
+ghost use Rattle.upcoming_symbol.specs.Judge.{judgeOf};
+ghost use Rattle.upcoming_symbol.specs.Upcoming.{nameOf, inSection, convertedOf, valueOf, rowAre, elfRowOf, externalRowOf, rowOf};
+use link::Interned;
+use symbol::Row;
+use symbol::Words;
+use upcoming_symbol::ElfSymbol;
+use upcoming_symbol::UpcomingSymbol;
+
+// A row for each binding, a column for each visibility: the visibility of the symbol's row, or the number of the refusal. Of bytes, since it is
+// laid on the stack at each use.
+const JUDGED: [u8; 64] = [
+    0,
+    10,
+    11,
+    10,
+    1,
+    10,
+    2,
+    10,
+    3,
+    10,
+    4,
+    10,
+    12,
+    10,
+    12,
+    10,
+    12,
+    10,
+    12,
+    10,
+    12,
+    10,
+    12,
+    10,
+    12,
+    10,
+    12,
+    10,
+    12,
+    10,
+    12,
+    10,
+    12,
+    10,
+    12,
+    10,
+    12,
+    10,
+    12,
+    10,
+    12,
+    10,
+    12,
+    10,
+    12,
+    10,
+    12,
+    10,
+    12,
+    10,
+    12,
+    10,
+    12,
+    10,
+    12,
+    10,
+    12,
+    10,
+    12,
+    10,
+    12,
+    10,
+    12,
+    10,
+];
+
+fn wide(x: u8) -> u64
+    ensures { λ r. ⌜ r ≡ x ⌝ }
+{
+    x as u64
+}
+
+fn judge(binding: u64, visibility: u64) -> u64
+    ensures { λ r. ⌜ r ≡ judgeOf binding visibility ⌝ }
+{
+    if 4 <= visibility {
+        return 10;
+    }
+    if binding < 16 {
+        return wide(JUDGED[(binding * 4 + visibility) as usize]);
+    }
+    wide(JUDGED[(60 + visibility) as usize])
+}
+
+fn in_section(section: u64, empty: bool, value: u64) -> Words
+    ensures { λ r. ⌜ r ≡ inSection section empty value ⌝ }
+{
+    if empty {
+        if value == 0 {
+            return symbol::words_at(2, section, 0);
+        }
+        return symbol::words_at(3, section, value);
+    }
+    symbol::words_at(3, section, value)
+}
+
+// By a cell of the conversion: 0 nothing, 1 not loaded, else the section's id and 2.
+fn converted(cell: u64, empty: bool, value: u64) -> Words
+    ensures { λ r. ⌜ r ≡ convertedOf cell empty value ⌝ }
+{
+    if cell == 0 {
+        return symbol::words_at(14, 0, 0);
+    }
+    if cell == 1 {
+        return symbol::words_at(5, 0, 0);
+    }
+    in_section(cell - 2, empty, value)
+}
+
+fn value_of(cell: u64, e: ElfSymbol, empty: bool) -> Words
+    ensures { λ r. ⌜ r ≡ valueOf cell e empty ⌝ }
+{
+    let section = e.section;
+    if section == 0 {
+        if e.binding == 2 {
+            return symbol::words_at(7, 1, 0);
+        }
+        return symbol::words_at(7, 0, 0);
+    }
+    if section == 0xfff1 {
+        return symbol::words_at(1, e.value, 0);
+    }
+    if section == 0xfff2 {
+        return symbol::words_at(13, 0, 0);
+    }
+    converted(cell, empty, e.value)
+}
+
+fn row_at(name: Interned, kind: u64, file: u64, visibility: u64, value: Words) -> Row
+    ensures { λ r. ⌜ r ≡ rowAre name kind file visibility value ⌝ }
+{
+    Row {
+        name: name,
+        kind: kind,
+        file: file,
+        visibility: visibility,
+        value: value,
+    }
+}
+
+// Of an ELF symbol, by its section's cell of the conversion, under a name that has or would get this id.
+pub fn elf_row(cell: u64, e: ElfSymbol, name: Interned, empty: bool, file: u64) -> Row
+    ensures { λ r. ⌜ r ≡ elfRowOf cell e name empty file ⌝ }
+{
+    let visibility = judge(e.binding, e.visibility);
+    let value = value_of(cell, e, empty);
+    row_at(name, e.kind, file, visibility, value)
+}
+
+// Of a symbol that a shared object defines.
+pub fn external_row(name: Interned, binding: u64, visibility: u64) -> Row
+    ensures { λ r. ⌜ r ≡ externalRowOf name binding visibility ⌝ }
+{
+    row_at(
+        name,
+        0,
+        0,
+        judge(binding, visibility),
+        symbol::words_at(6, 0, 0),
+    )
+}
+
+// The null symbol's and a section symbol's name is the empty one, issued by a new table as id 0.
+pub fn name_of(u: UpcomingSymbol) -> Interned
+    ensures { λ r. ⌜ r ≡ nameOf u ⌝ }
+{
+    match u {
+        UpcomingSymbol::Null => Interned(0),
+        UpcomingSymbol::GlobalUnknown { name } => name,
+        UpcomingSymbol::GlobalHidden { name, value: _ } => name,
+        UpcomingSymbol::Section { section: _ } => Interned(0),
+        UpcomingSymbol::ExternallyDefined {
+            name,
+            visibility: _,
+            binding: _,
+        } => name,
+        UpcomingSymbol::Elf {
+            elf: _,
+            name,
+            file: _,
+        } => name,
+    }
+}
+
+pub fn row_of(conversion: &[u64], u: UpcomingSymbol, empty: bool) -> Row
+    ensures { λ r. ⌜ r ≡ rowOf (now (conversion .entry)) u empty ⌝ }
+{
+    match u {
+        UpcomingSymbol::Null => row_at(Interned(0), 0, 0, 0, symbol::words_at(0, 0, 0)),
+        UpcomingSymbol::GlobalUnknown { name } => row_at(name, 0, 0, 1, symbol::words_at(7, 0, 0)),
+        UpcomingSymbol::GlobalHidden { name, value } => {
+            row_at(name, 0, 0, 2, symbol::words_of(value))
+        }
+        UpcomingSymbol::Section { section } => {
+            row_at(
+                Interned(0),
+                3,
+                0,
+                0,
+                symbol::words_at(2, section.0 as u64, 0),
+            )
+        }
+        UpcomingSymbol::ExternallyDefined {
+            name,
+            visibility,
+            binding,
+        } => external_row(name, binding, visibility),
+        UpcomingSymbol::Elf { elf, name, file } => {
+            let cell = cells::get(conversion, elf.section as usize);
+            elf_row(cell, elf, name, empty, symbol::file_cell(file))
+        }
+    }
+}

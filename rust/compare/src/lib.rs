@@ -1,0 +1,122 @@
+//! The oracle (the Rust of cuddld) and this port, run on the same links in one process.
+pub mod minimise;
+pub mod ours;
+pub mod rows;
+
+use ours::Ours;
+
+/// Whether an answer of ours is the Rust's. A place of `?` isn't compared (oracle/README.md).
+pub fn same_answer(rust: &str, ours: &str) -> bool {
+    match rust.strip_suffix(" ?") {
+        Some(rust) => ours.rsplit_once(' ').is_some_and(|(ours, _)| ours == rust),
+        None => rust == ours,
+    }
+}
+
+pub fn same_answers(rust: &[String], ours: &[String]) -> bool {
+    rust.len() == ours.len() && rust.iter().zip(ours).all(|(rust, ours)| same_answer(rust, ours))
+}
+
+/// What docs/DIFFERENCES.md leaves out of the comparison, by rule; and whether the link is broken,
+/// which the Rust doesn't know. A changing call on a broken link is compared with the oracle's 22,
+/// for which the Rust isn't asked.
+#[derive(Default)]
+pub struct Domain {
+    broken: bool,
+    left: bool,
+}
+
+impl Domain {
+    /// Whether the answers to this line are compared. After one that isn't, no later line of the link
+    /// is: the two links may differ from there on.
+    pub fn compares(&mut self, line: &str, rust: &[String]) -> bool {
+        let keyword = line.split(' ').next().unwrap_or_default();
+        match keyword {
+            "link" => *self = Domain::default(),
+            // Its merges would meet 22 on one side alone.
+            "walk" if self.broken => self.left = true,
+            // The Rust reads all names of a library before it judges anything.
+            "load" if rust.iter().any(|answer| answer == "refused 9 ?") => self.left = true,
+            _ => {}
+        }
+        self.broken |= oracle::breaks(line, rust);
+        !self.left
+    }
+}
+
+/// This port beside the Rust's answers, line by line.
+#[derive(Default)]
+pub struct Sides {
+    ours: Ours,
+    domain: Domain,
+}
+
+pub enum Outcome {
+    Same,
+    LeftOut,
+    /// Answers of the Rust and of ours.
+    Differs(Vec<String>, Vec<String>),
+}
+
+impl Sides {
+    pub fn line(&mut self, line: &str, rust: &[String]) -> Outcome {
+        if !self.domain.compares(line, rust) {
+            // It outlives the link.
+            if line.starts_with("conversion") {
+                self.ours.line(line);
+            }
+            return Outcome::LeftOut;
+        }
+        let (mut rust, mut ours) = (rust.to_vec(), self.ours.line(line));
+        let broken = (self.domain.broken, self.ours.is_broken());
+        if same_answers(&rust, &ours) && broken.0 == broken.1 {
+            return Outcome::Same;
+        }
+        if broken.0 != broken.1 {
+            rust.push(format!("broken, by document 01: {}", broken.0));
+            ours.push(format!("broken, as it says: {}", broken.1));
+        }
+        Outcome::Differs(rust, ours)
+    }
+}
+
+#[cfg(test)]
+mod tests {
+    use super::*;
+
+    fn run(lines: &[&str]) -> Vec<Outcome> {
+        oracle::silence_panics();
+        let (mut machine, mut sides) = (oracle::Machine::new(), Sides::default());
+        lines.iter().map(|line| sides.line(line, &machine.line(line).unwrap())).collect()
+    }
+
+    #[test]
+    fn a_conversion_outlives_what_is_left_out() {
+        let missing =
+            ["link", "library 0 0 - 1 l.so 1 0", "strings -", "symbol 9 1 0 0 1 0", "load"];
+        let later = ["conversion none 3", "link", "add elf a 1 0 0 1 4 0 -", "dump"];
+        let outcomes = run(&[&missing[..], &later[..]].concat());
+        assert!(matches!(outcomes[4], Outcome::LeftOut));
+        assert!(outcomes[6..].iter().all(|outcome| matches!(outcome, Outcome::Same)));
+    }
+
+    #[test]
+    fn an_admission_after_done_is_answered() {
+        let walk = ["link", "add unknown a", "archive 1 1", "entry 8 a", "start", "next", "next"];
+        let outcomes = run(&[&walk[..], &["object 0 0 0", "admit", "dump"]].concat());
+        assert!(outcomes.iter().all(|outcome| matches!(outcome, Outcome::Same)));
+    }
+
+    #[test]
+    fn a_broken_link_answers_22_and_keeps_its_rows() {
+        let object = ["link", "object 1 0 0", "section 13 0 0 0 0 0 0 0 - 0", "merge"];
+        let calls = ["add unknown a", "remove 0", "merge", "load", "collect 0 0 00", "dump"];
+        let outcomes = run(&[&object[..], &calls[..]].concat());
+        assert!(outcomes.iter().all(|outcome| matches!(outcome, Outcome::Same)));
+    }
+
+    #[test]
+    fn a_panic_is_an_answer() {
+        assert_eq!(Ours::new().line("next"), ["panicked: a walk"]);
+    }
+}

@@ -1,0 +1,356 @@
+//! The link: its storage and its calls.
+use crate::ffi::{self, Header, VALUE};
+use crate::{
+    GroupMarks, Interned, LibraryName, Load, Merged, Object, Refusal, SectionId, SharedObject,
+    Symbol, SymbolId, UpcomingSymbol,
+};
+use std::fmt;
+
+/// How much a link can hold. A call that needs more is refused with 2. What is above a bound is cut
+/// to it.
+///
+/// Memory is taken by the system page by page as it is first used, so that little of a large
+/// capacity is in memory until it is filled. Making and clearing a link write the head of each hash
+/// chain and the cell of each section's symbol: at all bounds they took about 1.2 ms, most of it
+/// for pages that are new, and 17 µs.
+#[derive(Clone, Copy, Debug, PartialEq, Eq)]
+pub struct Capacity {
+    /// Names. Document 01 bounds their bytes alone, so that more than 1,048,577 are of no use and
+    /// cut. As many hash chains are made; a number near that of the names that will come keeps
+    /// them in the processor's caches, a prime one spreads names best.
+    pub names: usize,
+    /// Bytes of all names together, at most 1,048,576.
+    pub name_bytes: usize,
+    /// Symbols with the null symbol, at most 65,535.
+    pub symbols: usize,
+    /// Sections, at most 65,535. A section symbol's section must be below this too.
+    pub sections: usize,
+    /// Inputs, at most 4,095.
+    pub inputs: usize,
+}
+
+impl Capacity {
+    /// Document 01's bounds; and 140,009 names, which have none there: as many as symbols and
+    /// sections can have, and some.
+    pub const BOUNDS: Capacity = Capacity {
+        names: 140_009,
+        name_bytes: 1_048_576,
+        symbols: 65_535,
+        sections: 65_535,
+        inputs: 4_095,
+    };
+}
+
+impl Default for Capacity {
+    fn default() -> Self {
+        Capacity::BOUNDS
+    }
+}
+
+/// The most sections that an object can have.
+pub(crate) const OBJECT_SECTIONS: usize = 65_280;
+
+/// The symbol half of a link: names, symbols, sections, groups and inputs.
+///
+/// A clone copies all storage, used or not.
+#[derive(Clone)]
+pub struct Link {
+    pub(crate) header: Header,
+    pub(crate) bytes: Vec<u8>,
+    pub(crate) names: Vec<u64>,
+    pub(crate) symbols: Vec<u64>,
+    pub(crate) sections: Vec<u64>,
+    pub(crate) inputs: Vec<u64>,
+    pub(crate) lists: Vec<u64>,
+    /// For a merge: a row for each section that an object can have. For a collection: two cells for
+    /// each section of the link, which are fewer.
+    pub(crate) work: Vec<u64>,
+    /// For a merge: what each symbol of the object became.
+    pub(crate) ids: Vec<u64>,
+    /// For a load: a mark for each name.
+    marks: Vec<u64>,
+}
+
+/// What a collection did.
+#[derive(Clone, Debug, PartialEq, Eq)]
+pub struct Collected {
+    /// The sections that it dropped, by ascending id.
+    pub sections: Vec<SectionId>,
+    /// How many symbols it removed with them.
+    pub symbols: usize,
+}
+
+impl Link {
+    /// An empty link of `Capacity::BOUNDS`.
+    pub fn new() -> Self {
+        Link::with_capacity(Capacity::BOUNDS).expect("there is room for the null symbol")
+    }
+
+    /// An empty link: the null symbol and the empty name. 2 if there is no room for these. What is
+    /// above a bound is cut to it.
+    pub fn with_capacity(capacity: Capacity) -> Result<Self, Refusal> {
+        // Each has a byte of its own, but for the empty one.
+        let names = capacity.names.min(Capacity::BOUNDS.name_bytes + 1);
+        let mut link = Link {
+            header: [0; 16],
+            bytes: vec![0; capacity.name_bytes.min(Capacity::BOUNDS.name_bytes)],
+            names: vec![0; names * 9],
+            symbols: vec![0; capacity.symbols.min(Capacity::BOUNDS.symbols) * 8],
+            sections: vec![0; capacity.sections.min(Capacity::BOUNDS.sections) * 9],
+            inputs: vec![0; capacity.inputs.min(Capacity::BOUNDS.inputs) * 8],
+            lists: Vec::new(),
+            work: vec![0; OBJECT_SECTIONS * 8],
+            ids: Vec::new(),
+            marks: vec![0; names],
+        };
+        link.start()?;
+        Ok(link)
+    }
+
+    /// Makes this an empty link again, in the same storage. It takes time by the capacity, not by
+    /// what the link holds.
+    pub fn clear(&mut self) {
+        self.start().expect("the same storage had room for a link before");
+    }
+
+    fn start(&mut self) -> Result<(), Refusal> {
+        let Link { header, bytes, names, symbols, sections, .. } = self;
+        ffi::new(header, bytes, names, symbols, sections)
+    }
+
+    /// Whether a refusal inside a merge or a load broke the link (`Refusal` tells which do): no call
+    /// but `clear` changes it any more (22).
+    pub fn is_broken(&self) -> bool {
+        self.header[8] != 0
+    }
+
+    /// How many names were issued.
+    pub fn name_count(&self) -> usize {
+        self.header[0] as usize
+    }
+
+    /// How many bytes the names have together.
+    pub fn name_byte_count(&self) -> usize {
+        self.header[1] as usize
+    }
+
+    /// How many symbols there are, the null symbol and removed ones too.
+    pub fn symbol_count(&self) -> usize {
+        self.header[2] as usize
+    }
+
+    /// How many sections there are, reserved and dropped ones too.
+    pub fn section_count(&self) -> usize {
+        self.header[3] as usize
+    }
+
+    /// How many inputs there are.
+    pub fn input_count(&self) -> usize {
+        self.header[4] as usize
+    }
+
+    // ---- names
+
+    /// The id of a name: the same for equal bytes.
+    pub fn intern(&mut self, name: &[u8]) -> Result<Interned, Refusal> {
+        let Link { header, bytes, names, .. } = self;
+        ffi::intern(header, bytes, names, name)?;
+        Ok(Interned::of_cell(header[VALUE]))
+    }
+
+    /// The id of a name if it was issued. Nothing changes, and a broken link answers too.
+    pub fn find(&self, name: &[u8]) -> Option<Interned> {
+        let mut header = self.header;
+        // It refuses counts that the lent rows don't have, which a link never has.
+        ffi::find(&mut header, &self.bytes, &self.names, name).ok()?;
+        (header[VALUE] == 1).then(|| Interned::of_cell(header[VALUE + 1]))
+    }
+
+    /// A name's bytes; 23 for an id that was never issued.
+    pub fn resolve(&self, name: Interned) -> Result<&[u8], Refusal> {
+        let mut header = self.header;
+        ffi::resolve(&mut header, &self.bytes, &self.names, name.0)?;
+        let [start, len] = [VALUE, VALUE + 1].map(|cell| header[cell] as usize);
+        Ok(&self.bytes[start..start + len])
+    }
+
+    // ---- symbols
+
+    /// Adds a symbol, or lets it meet the one that holds its name, and answers the id under which
+    /// it is known.
+    pub fn add(&mut self, symbol: UpcomingSymbol<'_>) -> Result<SymbolId, Refusal> {
+        let Link { header, names, symbols, sections, .. } = self;
+        ffi::add(header, names, symbols, sections, symbol.conversion(), &symbol.cells())?;
+        Ok(SymbolId::of_cell(header[VALUE]))
+    }
+
+    /// The symbol of that id; 21 if it is absent or removed.
+    pub fn get(&self, id: SymbolId) -> Result<Symbol, Refusal> {
+        let (mut header, mut out) = (self.header, [0; 9]);
+        ffi::get(&mut header, &self.symbols, id.0, &mut out)?;
+        Ok(found(&out))
+    }
+
+    /// The symbol that holds a name; 23 if there is none, 21 if it was removed.
+    pub fn get_global(&self, name: Interned) -> Result<Symbol, Refusal> {
+        let (mut header, mut out) = (self.header, [0; 9]);
+        ffi::get_global(&mut header, &self.names, &self.symbols, name.0, &mut out)?;
+        Ok(found(&out))
+    }
+
+    /// The symbol of a section, if it has one.
+    pub fn section_symbol_id(&self, section: SectionId) -> Option<SymbolId> {
+        let mut header = self.header;
+        // It refuses nothing.
+        ffi::section_symbol_id(&mut header, &self.sections, section.0).ok()?;
+        (header[VALUE] == 1).then(|| SymbolId::of_cell(header[VALUE + 1]))
+    }
+
+    /// Removes a symbol: 21 for an absent id; a removed one is accepted. Its id is never used again.
+    /// A global symbol's name is never given up: a later global symbol of that name is refused with
+    /// 21.
+    pub fn remove(&mut self, id: SymbolId) -> Result<(), Refusal> {
+        let Link { header, symbols, sections, .. } = self;
+        ffi::remove(header, symbols, sections, id.0)
+    }
+
+    // ---- inputs
+
+    /// Merges an object, and answers which ids its sections and symbols have. A refusal breaks the
+    /// link; what was merged before it stays. (1 and 22 change nothing.)
+    pub fn merge_elf(&mut self, object: &Object<'_>) -> Result<Merged<'_>, Refusal> {
+        self.make_room(object.contents.len());
+        if self.ids.len() < object.symbol_count() {
+            self.ids.resize(object.symbol_count(), 0);
+        }
+        ffi::merge_elf(
+            &mut self.header,
+            &mut self.bytes,
+            &mut self.names,
+            &mut self.symbols,
+            &mut self.sections,
+            &mut self.inputs,
+            &mut self.lists,
+            &mut self.work,
+            &mut self.ids,
+            &object.headers,
+            &object.entries,
+            &object.contents,
+            &object.file,
+            object.names,
+        )?;
+        Ok(Merged::new(self, object))
+    }
+
+    /// Adds one section group of an object outside of a merge. `section` is the group; `marks` has
+    /// the object and its symbol table. A signature in another table, or in a section that is no
+    /// table, gives 6; a section that is no group, or is excluded, 1. Of the object's symbols only
+    /// the table's are judged, by their numbers there. A refusal breaks nothing.
+    pub fn add_group(&mut self, marks: &mut GroupMarks<'_>, section: usize) -> Result<(), Refusal> {
+        ffi::add_group(
+            &mut self.header,
+            &mut self.bytes,
+            &mut self.names,
+            &mut marks.work,
+            &marks.headers,
+            marks.entries,
+            &marks.object.contents,
+            &marks.object.file,
+            marks.table,
+            section,
+        )
+    }
+
+    /// Loads a shared object, if it is needed or as-needed wasn't asked for. A refusal breaks the
+    /// link, but for 1, 22 and 25.
+    pub fn load_shared_object(&mut self, library: &SharedObject<'_>) -> Result<Load, Refusal> {
+        self.make_room(library.entries.len() / 8 + library.needs.len());
+        let (path, archived): (&[u8], bool) = match library.name {
+            LibraryName::Known(name) => (name, false),
+            LibraryName::InsideArchive => (&[], true),
+        };
+        ffi::load_shared_object(
+            &mut self.header,
+            &mut self.bytes,
+            &mut self.names,
+            &mut self.symbols,
+            &mut self.sections,
+            &mut self.inputs,
+            &mut self.lists,
+            &mut self.marks,
+            &library.entries,
+            &library.strings,
+            &library.needs,
+            path,
+            archived,
+            library.soname.is_some(),
+            library.soname.unwrap_or(0),
+            library.as_needed,
+        )?;
+        Ok(if self.header[VALUE] == 1 { Load::Loaded } else { Load::NotNeeded })
+    }
+
+    // ---- collection
+
+    /// Drops every section that no relocation reaches from the roots, and removes its symbols.
+    /// Roots: symbols whose mark isn't 0 (a mark for each symbol, by id), the entry symbol,
+    /// retained sections, `.eh_frame`, and sections that aren't readable. Symbols that are removed
+    /// or absent lead nowhere, the entry symbol too. 21 at the lowest section that is reached but
+    /// not built; fewer marks than symbols give 1 at their number, more are accepted.
+    pub fn gc_sections(
+        &mut self,
+        marks: &[u8],
+        entry: Option<SymbolId>,
+    ) -> Result<Collected, Refusal> {
+        ffi::gc_run(
+            &mut self.header,
+            &self.bytes,
+            &self.names,
+            &mut self.symbols,
+            &mut self.sections,
+            &self.lists,
+            marks,
+            entry.is_some(),
+            entry.map_or(0, SymbolId::number),
+            &mut self.work,
+        )?;
+        let reached = &self.work[..self.section_count()];
+        let mut sections = Vec::with_capacity(self.header[VALUE] as usize);
+        sections.extend((0..reached.len()).filter(|id| reached[*id] == 2).map(SectionId));
+        Ok(Collected { sections, symbols: self.header[VALUE + 1] as usize })
+    }
+
+    /// Room for so many more ids in the lists.
+    fn make_room(&mut self, more: usize) {
+        let needed = self.header[5] as usize + more;
+        if self.lists.len() < needed {
+            self.lists.resize(needed.max(2 * self.lists.len()), 0);
+        }
+    }
+}
+
+impl fmt::Debug for Link {
+    /// The counts alone: storage is large.
+    fn fmt(&self, f: &mut fmt::Formatter<'_>) -> fmt::Result {
+        f.debug_struct("Link")
+            .field("names", &self.name_count())
+            .field("name_bytes", &self.name_byte_count())
+            .field("symbols", &self.symbol_count())
+            .field("sections", &self.section_count())
+            .field("inputs", &self.input_count())
+            .field("broken", &self.is_broken())
+            .finish_non_exhaustive()
+    }
+}
+
+impl Default for Link {
+    fn default() -> Self {
+        Link::new()
+    }
+}
+
+/// A symbol from the cells of an answer: its id, then its row.
+fn found(out: &[u64; 9]) -> Symbol {
+    let [id, row @ ..] = out;
+    Symbol::of_row(SymbolId::of_cell(*id), row)
+}
