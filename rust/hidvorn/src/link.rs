@@ -11,13 +11,13 @@ use std::fmt;
 ///
 /// Memory is taken by the system page by page as it is first used, so that little of a large
 /// capacity is in memory until it is filled. Making and clearing a link write the head of each hash
-/// chain and the cell of each section's symbol: at all bounds they took about 1.2 ms, most of it
-/// for pages that are new, and 17 µs.
+/// chain and the cell of each section's symbol: at all bounds that is about a millisecond, most of
+/// it for pages that are new, and some 30 µs.
 #[derive(Clone, Copy, Debug, PartialEq, Eq)]
 pub struct Capacity {
     /// Names. Document 01 bounds their bytes alone, so that more than 1,048,577 are of no use and
     /// cut. As many hash chains are made; a number near that of the names that will come keeps
-    /// them in the processor's caches, a prime one spreads names best.
+    /// them in the processor's caches.
     pub names: usize,
     /// Bytes of all names together, at most 1,048,576.
     pub name_bytes: usize,
