@@ -3,18 +3,18 @@
 -- Assumes nothing.
 use Prim.Native.Nat.{ℕ, _/_}
 use mathlib.Core.Bool.{cond}
-use mathlib.Core.List.{List}
+use mathlib.Core.List.{List, []}
 use lib.Dec.{eqb, ltb}
 use lib.ListN.{length}
 use Rattle.link.specs.declared.Link.{Link}
 use Rattle.link.specs.declared.Lent.{Lent}
 use Rattle.link.specs.declared.Refusal.{Refusal}
 use Rattle.link.specs.declared.Stage.{Stage}
-use Rattle.link.specs.Bounds.{notLent}
+use Rattle.link.specs.Bounds.{notLent, nameRows}
 use Rattle.link.specs.Judge as Link
 use Rattle.elf_object.specs.Rows.{rowsIn, isLoaded}
 use Rattle.elf_object.specs.Judge as Elf
-use Rattle.section_groups.specs.Group.{Object, Step, groupOf}
+use Rattle.section_groups.specs.Group.{Object, objectOf, Step, groupOf}
 use Rattle.section_groups.specs.Group as Group
 use Rattle.add_group.specs.declared.Answer.{Answer}
 use Rattle.add_group.specs.declared.Answer.the-variants.{Added, Refused}
@@ -62,10 +62,10 @@ answered g = leftOf (g .bytes) (g .names) (g .work) (answerOf (g .stage))
 abbrev pub lent : Group.State → Lent
 lent s =
     record {
-      names = length (s .names);
+      names = nameRows (length (s .names));
       bytes = length (s .bytes);
       symbols = notLent;
-      sections = notLent;
+      sections = s .link .slots;
       inputs = notLent;
       lists = notLent;
     }
@@ -74,7 +74,14 @@ abbrev pub headIn : Object → Group.State → ℕ → Refusal
 headIn o s n =
     headOf (s .link) (lent s) (o .headers) (o .entries) (length (o .contents)) (length (o .file)) (length (s .work)) n
 
+-- "Excluded sections vanish first": as in a merge, the entries are there only if their table's section is of kind 3 and not excluded
+unfoldable pub tableIn : List ℕ → List ℕ → ℕ → List ℕ
+tableIn headers entries t = cond (isLoaded headers t 3) entries []
+
+abbrev pub loadedIn : Object → Object
+loadedIn o = objectOf (o .headers) (tableIn (o .headers) (o .entries) (o .table)) (o .contents) (o .file) (o .table)
+
 unfoldable pub addGroupOf : Object → Group.State → ℕ → Left
 addGroupOf o s n =
-    cond (eqb (headIn o s n .number) 0) (answered (groupOf o s n))
+    cond (eqb (headIn o s n .number) 0) (answered (groupOf (loadedIn o) s n))
     (leftOf (s .bytes) (s .names) (s .work) (record { link = s .link; answer = Refused (headIn o s n) }))

@@ -3,7 +3,7 @@
 use Prim.Native.Nat.{ℕ, _/_, _<_, _≤_}
 use mathlib.Core.Path.{_≡_, _∙_, ap}
 use mathlib.Core.Bool.{Bool, true, false}
-use mathlib.Core.List.{List}
+use mathlib.Core.List.{List, []}
 use borrow.Author.Tests.{eq-eqb, ne-eqb, lt-ltb, le-ltb}
 use Rattle.link.specs.declared.Link.{Link}
 use Rattle.link.specs.declared.Lent.{Lent}
@@ -12,11 +12,11 @@ use Rattle.link.specs.declared.Stage.{Stage}
 use Rattle.link.specs.Judge as Link
 use Rattle.elf_object.specs.Rows.{rowsIn, isLoaded}
 use Rattle.elf_object.specs.Judge as Elf
-use Rattle.section_groups.specs.Group.{Object, Step, groupOf}
+use Rattle.section_groups.specs.Group.{Object, objectOf, Step, groupOf}
 use Rattle.section_groups.specs.Group as Group
 use Rattle.add_group.specs.declared.Answer.the-variants.{Added, Refused}
 use Rattle.add_group.specs.declared.Outcome.{Outcome}
-use Rattle.add_group.specs.AddGroup.{marksRefusal, rowsRefusal, headOf, Left, leftOf, answerOf, answered, headIn, addGroupOf}
+use Rattle.add_group.specs.AddGroup.{marksRefusal, rowsRefusal, headOf, Left, leftOf, answerOf, answered, headIn, tableIn, addGroupOf}
 
 module _ (l : Link) (lent : Lent) (headers entries : List ℕ) (contents file work n : ℕ) (t c : Refusal) where
   pub head-counts : c ≡ Link.changeOf l lent → (c .number ≡ 0 → ⊥) → t ≡ c → t ≡ headOf l lent headers entries contents file work n
@@ -54,12 +54,25 @@ module _ (s : Stage) (t : Outcome) where
   unfolding answerOf
   answer-refused n q = simp (q, ne-eqb _ _ n)
 
+module _ (headers entries : List ℕ) (table : ℕ) (t : List ℕ) (b : Bool) where
+  pub table-loaded : b ≡ isLoaded headers table 3 → b ≡ true → t ≡ entries → t ≡ tableIn headers entries table
+  unfolding tableIn
+  table-loaded e f q = simp (q, ← e, f)
+
+  pub table-none : b ≡ isLoaded headers table 3 → b ≡ false → t ≡ [] → t ≡ tableIn headers entries table
+  unfolding tableIn
+  table-none e f q = simp (q, ← e, f)
+
 module _ (o : Object) (s : Group.State) (n : ℕ) (t : Left) (h : Refusal) where
   pub add-refused : h ≡ headIn o s n → (h .number ≡ 0 → ⊥) → t ≡ leftOf (s .bytes) (s .names) (s .work) (record { link = s .link; answer = Refused h }) → t ≡ addGroupOf o s n
   unfolding addGroupOf
   add-refused e k q = simp (q, ← e, ne-eqb _ _ k)
 
-  pub add-judged : (g : Step) (r : Outcome) → h ≡ headIn o s n → h .number ≡ 0 → g ≡ groupOf o s n → r ≡ answerOf (g .stage)
+  pub add-judged : (x : List ℕ) (g : Step) (r : Outcome) → h ≡ headIn o s n → h .number ≡ 0 → x ≡ tableIn (o .headers) (o .entries) (o .table)
+      → g ≡ groupOf (objectOf (o .headers) x (o .contents) (o .file) (o .table)) s n → r ≡ answerOf (g .stage)
       → t ≡ leftOf (g .bytes) (g .names) (g .work) r → t ≡ addGroupOf o s n
   unfolding addGroupOf
-  add-judged g r e z f i q = q ∙ ap (leftOf (g .bytes) (g .names) (g .work)) i ∙ ap answered f ∙ simp (← e, eq-eqb _ _ z)
+  add-judged x g r e z k f i q =
+      q ∙ ap (leftOf (g .bytes) (g .names) (g .work)) i
+      ∙ ap answered (f ∙ ap (λ (y : List ℕ). groupOf (objectOf (o .headers) y (o .contents) (o .file) (o .table)) s n) k)
+      ∙ simp (← e, eq-eqb _ _ z)

@@ -2,7 +2,7 @@
 // cleared ones.
 ghost use mathlib.Core.Path.{_≡_};
 ghost use Rattle.section_groups.specs.Group.{objectOf};
-ghost use Rattle.add_group.specs.AddGroup.{headOf, answerOf, leftOf, stateOf, addGroupOf};
+ghost use Rattle.add_group.specs.AddGroup.{headOf, answerOf, leftOf, stateOf, tableIn, addGroupOf};
 use link::Lent;
 use link::Link;
 use link::Refusal;
@@ -78,6 +78,16 @@ fn answered(s: Stage) -> Outcome
     }
 }
 
+// The entries of section t, none unless it is a symbol table and not excluded.
+fn symbols_of<'a>(headers: &[u64], entries: &'a [u64], t: usize) -> &'a [u64]
+    ensures { λ r. ⌜ now r ≡ tableIn (now (headers .entry)) (now (entries .entry)) t ⌝ }
+{
+    if elf_object::is_loaded(headers, t, 3) {
+        return entries;
+    }
+    &entries[..0]
+}
+
 // The group of section n. The entries are those of the object's symbol table, which is of section t.
 pub fn add_group(
     l: Link,
@@ -96,10 +106,10 @@ pub fn add_group(
         (stateOf (now (bytes .entry)) (now (names .entry)) (now (work .entry)) l) n ⌝ }
 {
     let lent = Lent {
-        names: names.len(),
+        names: names.len() / link::NAME_CELLS,
         bytes: bytes.len(),
         symbols: link::NOT_LENT,
-        sections: link::NOT_LENT,
+        sections: l.slots,
         inputs: link::NOT_LENT,
         lists: link::NOT_LENT,
     };
@@ -119,13 +129,14 @@ pub fn add_group(
             answer: Answer::Refused { refusal: refusal },
         };
     }
+    let symbols = symbols_of(headers, entries, t);
     answered(section_groups::take_group(
         l,
         bytes,
         names,
         work,
         headers,
-        entries,
+        symbols,
         contents,
         file,
         t,

@@ -409,7 +409,7 @@ fn first_line(buf: &mut [u8], table: Symbols) -> Sheet {
 // ---- printing
 
 fn put_name(buf: &mut [u8], n: usize, bytes: &[u8], names: &[u64], id: Interned) -> usize {
-    let name = interner::name_of(bytes, names, id.0);
+    let name = interner::name_of(bytes, names, id);
     if name.len() == 0 {
         return text_out::put(buf, n, b"-");
     }
@@ -561,7 +561,7 @@ fn run(
     sections: &mut [u64],
     refusals: &mut [u64],
 ) {
-    let o = Symbols::new(bytes, names, symbols, sections);
+    let o = Symbols::new(0, bytes, names, symbols, sections);
     read_and_print(o.table, buf, bytes, names, symbols, sections, refusals);
 }
 

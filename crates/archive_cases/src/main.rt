@@ -111,7 +111,7 @@ fn removed(l: Link, symbols: &mut [u64], sections: &mut [u64], id: usize) -> Lin
 }
 
 fn empty(bytes: &mut [u8], names: &mut [u64], symbols: &mut [u64], sections: &mut [u64]) -> Link {
-    let o = Symbols::new(bytes, names, symbols, sections);
+    let o = Symbols::new(0, bytes, names, symbols, sections);
     let table = o.table;
     table.link
 }
@@ -158,7 +158,7 @@ fn table(bytes: &mut [u8], names: &mut [u64], symbols: &mut [u64], sections: &mu
 // ---- the start
 
 fn start(index: &[u8], cells: &mut [u64]) -> Walk {
-    let s = archive_walk::start(index, cells);
+    let s = archive_walk::start(0, index, cells);
     let begun = s.begun;
     match begun {
         Begun::Ready { entries } => print_passes(b"ready, entries ", entries),
@@ -313,6 +313,7 @@ fn admit(
     let entries = [name, binding, 0, 0, section, 0, 0, 0];
     let contents = [0u64; 1];
     let w = Walk {
+        key: 0,
         entries: 3,
         length: index.len(),
         passes: 1,

@@ -1,14 +1,21 @@
--- An entry's row of 8 lent cells: 1 where its name is required of its member; the member's representative, which is its first entry; the next
--- representative of the hash chain and the head of chain k (entry and 1, 0 for none), free for another use once all entries are entered; where its name
--- starts and how long it is; for a representative the pass that queued its member (0 for none); the k-th entry of the queue.
+-- An entry's row of 8 lent cells:
+-- 0: 1 where its name is required of its member;
+-- 1: the member's representative, which is its first entry;
+-- 2 and 3: while the index is opened, a representative's two children in the tree of members (entry and 1, 0 for none); from then on the entry's link in a
+-- chain of required names, and the head of the chain that has the entry's number;
+-- 4 and 5: where its name starts and how long it is;
+-- 6: for a representative the pass that queued its member (0 for none);
+-- 7: of entry k the k-th entry of the queue.
 -- Assumes nothing.
-use Prim.Native.Nat.{ℕ, zero, suc, _+_, _*_, _-_, _%_}
+use Prim.Native.Nat.{ℕ, zero, suc, _+_, _*_, _-_, _/_, _%_}
 use mathlib.Core.Bool.{cond}
 use mathlib.Core.List.{List, [], _∷_}
 use lib.Dec.{eqb}
 use lib.ListN.{getD, set}
 use Rattle.cells.specs.Rows.{putRow}
 use Rattle.byte_slices.specs.Bytes.{part}
+use Rattle.archive_index.specs.declared.Spot.{Spot}
+use Rattle.archive_index.specs.declared.Spot.the-variants.{Known, Free}
 use Rattle.archive_index.specs.Index.{offsetOf, afterOf}
 
 abbrev pub requiredAt : List ℕ → ℕ → ℕ
@@ -17,6 +24,7 @@ requiredAt l k = getD l (k * 8 + 0) 0
 abbrev pub memberAt : List ℕ → ℕ → ℕ
 memberAt l k = getD l (k * 8 + 1) 0
 
+-- once the index is opened: the next entry of a chain of names, and the head of chain k
 abbrev pub nextAt : List ℕ → ℕ → ℕ
 nextAt l k = getD l (k * 8 + 2) 0
 
@@ -33,40 +41,52 @@ queueAt l k = getD l (k * 8 + 7) 0
 abbrev pub storedName : List ℕ → List ℕ → ℕ → List ℕ
 storedName s l k = part s (getD l (k * 8 + 4) 0) (getD l (k * 8 + 5) 0)
 
--- the chain of entry k's member, among c chains
-unfoldable pub chainOf : List ℕ → ℕ → ℕ → ℕ
-chainOf s c k = cond (eqb c 0) 0 (offsetOf s k % c)
+-- the tree of members, a digital search tree: the root is entry 0; the lowest bit of a member's offset says on which side of the root its representative
+-- lies, the next bit on which side of the one met there, and so on. Offsets have 32 bits, so whoever chose them, 33 steps find a member (archive_laws, Depth)
 
--- along the chain from at, at most n representatives: the one of the member at offset o, else k
-unfoldable pub chase : List ℕ → List ℕ → ℕ → ℕ → ℕ → ℕ → ℕ
-chase s l o k at zero = k
-chase s l o k at (suc n) = cond (eqb at 0) k (cond (eqb (offsetOf s (at - 1)) o) (at - 1) (chase s l o k (nextAt l (at - 1)) n))
+abbrev pub childAt : List ℕ → ℕ → ℕ → ℕ
+childAt l k f = getD l (k * 8 + f) 0
 
--- entry k's representative: itself where no earlier entry is of its member
-unfoldable pub representativeOf : List ℕ → List ℕ → ℕ → ℕ → ℕ
-representativeOf s l b k = chase s l (offsetOf s k) k (headAt l b) k
+-- the field of the child on the side of the key's lowest bit
+abbrev pub sideOf : ℕ → ℕ
+sideOf q = 2 + q % 2
 
-abbrev pub rowOf : List ℕ → ℕ → ℕ → ℕ → ℕ → ℕ → List ℕ
-rowOf l k r next p n = putRow l k (0 ∷ r ∷ next ∷ headAt l k ∷ p ∷ n ∷ 0 ∷ 0 ∷ [])
+-- from entry at on, at most n steps down by what is left of the offset, q: the representative of the member at offset o, else the empty cell of a child;
+-- k where the steps end, which they don't
+unfoldable pub descend : List ℕ → List ℕ → ℕ → ℕ → ℕ → ℕ → ℕ → Spot
+descend s l o k at q zero = Known k
+descend s l o k at q (suc n) =
+    cond (eqb (offsetOf s at) o) (Known at)
+    (cond (eqb (childAt l at (sideOf q)) 0) (Free at (sideOf q)) (descend s l o k (childAt l at (sideOf q) - 1) (q / 2) n))
 
--- entry k of chain b, represented by r, its name the n bytes from p on
-unfoldable pub entered : List ℕ → ℕ → ℕ → ℕ → ℕ → ℕ → List ℕ
-entered l b k r p n = cond (eqb r k) (set (rowOf l k r (headAt l b) p n) (b * 8 + 3) (k + 1)) (rowOf l k r 0 p n)
+-- entry k's: a member's entries mostly stand together, so the one before is asked first; a child is later than its parent, so k steps suffice
+unfoldable pub spotOf : List ℕ → List ℕ → ℕ → Spot
+spotOf s l k =
+    cond (eqb k 0) (Known k)
+    (cond (eqb (offsetOf s (k - 1)) (offsetOf s k)) (Known (memberAt l (k - 1))) (descend s l (offsetOf s k) k 0 (offsetOf s k) k))
 
--- entry k of c, its name from place p up to the zero byte before e
-unfoldable pub enterOf : List ℕ → ℕ → List ℕ → ℕ → ℕ → ℕ → List ℕ
-enterOf s c l k p e = entered l (chainOf s c k) k (representativeOf s l (chainOf s c k) k) p (e - (p + 1))
+abbrev pub rowOf : List ℕ → ℕ → ℕ → ℕ → ℕ → List ℕ
+rowOf l k r p n = putRow l k (0 ∷ r ∷ 0 ∷ 0 ∷ p ∷ n ∷ 0 ∷ 0 ∷ [])
+
+-- entry k, its name the n bytes from p on; itself its member's representative where that has none
+abbrev pub entered : List ℕ → ℕ → Spot → ℕ → ℕ → List ℕ
+entered l k (Known r) p n = rowOf l k r p n
+entered l k (Free a f) p n = rowOf (set l (a * 8 + f) (k + 1)) k k p n
+
+-- entry k, its name from place p up to the zero byte before e
+unfoldable pub enterOf : List ℕ → List ℕ → ℕ → ℕ → ℕ → List ℕ
+enterOf s l k p e = entered l k (spotOf s l k) p (e - (p + 1))
 
 -- the n entries from k on
-unfoldable pub enterAll : List ℕ → ℕ → ℕ → ℕ → ℕ → List ℕ → List ℕ
-enterAll s c zero k p l = l
-enterAll s c (suc n) k p l = enterAll s c n (k + 1) (afterOf s p) (enterOf s c l k p (afterOf s p))
-
--- no chain has a representative
-unfoldable pub noHeads : ℕ → List ℕ → List ℕ
-noHeads zero l = l
-noHeads (suc n) l = set (noHeads n l) (n * 8 + 3) 0
+unfoldable pub enterAll : List ℕ → ℕ → ℕ → ℕ → List ℕ → List ℕ
+enterAll s zero k p l = l
+enterAll s (suc n) k p l = enterAll s n (k + 1) (afterOf s p) (enterOf s l k p (afterOf s p))
 
 -- the rows of c entries whose names start at place p, whatever the cells held before
 unfoldable pub rowsOf : List ℕ → ℕ → ℕ → List ℕ → List ℕ
-rowsOf s c p l = enterAll s c c 0 p (noHeads c l)
+rowsOf s c p l = enterAll s c 0 p l
+
+-- no chain of names has a head
+unfoldable pub noHeads : ℕ → List ℕ → List ℕ
+noHeads zero l = l
+noHeads (suc n) l = set (noHeads n l) (n * 8 + 3) 0

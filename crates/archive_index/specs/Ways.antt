@@ -1,6 +1,6 @@
 -- The ways through the functions.
 -- Assumes nothing.
-use Prim.Native.Nat.{ℕ, suc, _+_, _*_, _-_, _/_, _%_, _<_, _≤_}
+use Prim.Native.Nat.{ℕ, suc, _+_, _*_, _-_, _/_, _<_, _≤_}
 use native.Mathlib.Numerals.{add-one}
 use native.Mathlib.Omega.{arith}
 use native.Mathlib.Nat.{sub-eq-zero-of-le}
@@ -16,7 +16,9 @@ use Rattle.cells.specs.Rows.{putRow}
 use Rattle.link.specs.Bounds.{lesser}
 use Rattle.archive_index.specs.declared.Opened.{Opened}
 use Rattle.archive_index.specs.Index.{wordAt, countOf, offsetOf, afterOf, namesAt, cutOf}
-use Rattle.archive_index.specs.Rows.{nextAt, headAt, chainOf, chase, representativeOf, entered, enterOf, enterAll, noHeads, rowsOf}
+use Rattle.archive_index.specs.declared.Spot.{Spot}
+use Rattle.archive_index.specs.declared.Spot.the-variants.{Known, Free}
+use Rattle.archive_index.specs.Rows.{memberAt, childAt, sideOf, descend, spotOf, entered, enterOf, enterAll, noHeads, rowsOf}
 use Rattle.archive_index.specs.Open.{Left, left, openedAs, offsetsIn, openRowsOf, openNamesOf, openEntriesOf, openOf}
 
 -- ---- numbers
@@ -77,68 +79,70 @@ module _ (s : List ℕ) (c k p e w : ℕ) where
 
 -- ---- rows
 
-module _ (s : List ℕ) (c k t : ℕ) where
-  pub chain-none : c ≡ 0 → t ≡ 0 → t ≡ chainOf s c k
-  unfolding chainOf
-  chain-none z q = simp (q, eq-eqb _ _ z)
-
-  pub chain-some : (o : ℕ) → (c ≡ 0 → ⊥) → o ≡ offsetOf s k → t ≡ o % c → t ≡ chainOf s c k
-  unfolding chainOf
-  chain-some o z e q = simp (q, ne-eqb _ _ z, e)
-
 pub of-is : (s : List ℕ) (k o x : ℕ) (t : Bool) → x ≡ offsetOf s k → t ≡ eqb x o → t ≡ eqb (offsetOf s k) o
 of-is s k o x t e q = q ∙ rw e
 
-module _ (s l : List ℕ) (b k o at : ℕ) where
-  pub seek-start : o ≡ offsetOf s k → at ≡ headAt l b → representativeOf s l b k ≡ chase s l o k at k
-  unfolding representativeOf
-  seek-start e f = rw (e, f)
-
-module _ (s l : List ℕ) (o k at n w : ℕ) where
+module _ (s l : List ℕ) (o k at q n : ℕ) (w : Spot) where
   one-less : 0 < n → n ≡ suc (n - 1)
   one-less h = omega arith
 
-  pub chase-out : n ≤ 0 → w ≡ chase s l o k at n → k ≡ w
-  unfolding chase
-  chase-out h q = let e : n ≡ 0 = omega arith in sym (q ∙ rw e)
-
-  pub chase-end : 0 < n → at ≡ 0 → w ≡ chase s l o k at n → k ≡ w
-  unfolding chase
-  chase-end h e q = sym (q ∙ rw (one-less h) (simp (eq-eqb _ _ e)))
+  pub descend-out : (t : Spot) → n ≤ 0 → t ≡ Known k → w ≡ descend s l o k at q n → t ≡ w
+  unfolding descend
+  descend-out t h p e = let z : n ≡ 0 = omega arith in p ∙ sym (e ∙ rw z)
 
   module _ (b : Bool) where
-    pub chase-hit : 0 < n → (at ≡ 0 → ⊥) → b ≡ eqb (offsetOf s (at - 1)) o → b ≡ true → w ≡ chase s l o k at n → at - 1 ≡ w
-    unfolding chase
-    chase-hit h e f g q = sym (q ∙ rw (one-less h) (simp (ne-eqb _ _ e, ← f, g)))
+    pub descend-hit : (t : Spot) → 0 < n → b ≡ eqb (offsetOf s at) o → b ≡ true → t ≡ Known at → w ≡ descend s l o k at q n → t ≡ w
+    unfolding descend
+    descend-hit t h f g p e = p ∙ sym (e ∙ rw (one-less h) (simp (← f, g)))
 
-    pub chase-on : (m : ℕ) → 0 < n → (at ≡ 0 → ⊥) → b ≡ eqb (offsetOf s (at - 1)) o → b ≡ false → m ≡ nextAt l (at - 1) → w ≡ chase s l o k at n
-        → w ≡ chase s l o k m (n - 1)
-    unfolding chase
-    chase-on m h e f g i q =
-        q ∙ subst (λ (j : ℕ). chase s l o k at j ≡ chase s l o k m (n - 1)) (sym (one-less h)) (simp (ne-eqb _ _ e, ← f, g, i))
+    pub descend-free : (t : Spot) (x y : ℕ) → 0 < n → b ≡ eqb (offsetOf s at) o → b ≡ false → x ≡ sideOf q → y ≡ childAt l at x → y ≡ 0 → t ≡ Free at x
+        → w ≡ descend s l o k at q n → t ≡ w
+    unfolding descend
+    descend-free t x y h f g i j z p e = p ∙ sym (e ∙ rw (one-less h) (simp (← f, g, ← i, ← j, eq-eqb _ _ z)))
 
-module _ (l t : List ℕ) (b k r p n own : ℕ) where
-  pub enter-new : (next : ℕ) (m : List ℕ) → own ≡ headAt l k → r ≡ k → next ≡ headAt l b → m ≡ putRow l k (0 ∷ r ∷ next ∷ own ∷ p ∷ n ∷ 0 ∷ 0 ∷ [])
-      → t ≡ set m (b * 8 + 3) (k + 1) → t ≡ entered l b k r p n
-  unfolding entered
-  enter-new next m e f g h q = q ∙ rw (h, g, e) (sym (rw (eq-eqb _ _ f)))
+    pub descend-on : (x y : ℕ) → 0 < n → b ≡ eqb (offsetOf s at) o → b ≡ false → x ≡ sideOf q → y ≡ childAt l at x → (y ≡ 0 → ⊥)
+        → w ≡ descend s l o k at q n → w ≡ descend s l o k (y - 1) (q / 2) (n - 1)
+    unfolding descend
+    descend-on x y h f g i j z e =
+        e
+        ∙ subst (λ (m : ℕ). descend s l o k at q m ≡ descend s l o k (y - 1) (q / 2) (n - 1)) (sym (one-less h))
+        (simp (← f, g, ← i, ← j, ne-eqb _ _ z))
 
-  pub enter-known : own ≡ headAt l k → (r ≡ k → ⊥) → t ≡ putRow l k (0 ∷ r ∷ 0 ∷ own ∷ p ∷ n ∷ 0 ∷ 0 ∷ []) → t ≡ entered l b k r p n
-  unfolding entered
-  enter-known e f q = q ∙ rw e (sym (rw (ne-eqb _ _ f)))
+module _ (s l : List ℕ) (k : ℕ) (t : Spot) where
+  pub spot-root : k ≡ 0 → t ≡ Known k → t ≡ spotOf s l k
+  unfolding spotOf
+  spot-root z q = q ∙ sym (rw (eq-eqb _ _ z))
 
-module _ (s : List ℕ) (c : ℕ) (l : List ℕ) (k p : ℕ) where
-  pub enter-is : (t : List ℕ) (e b r n : ℕ) → b ≡ chainOf s c k → r ≡ representativeOf s l b k → n ≡ e - (p + 1) → t ≡ entered l b k r p n → t ≡ enterOf s c l k p e
+  module _ (o : ℕ) (b : Bool) where
+    pub spot-near : (x : ℕ) → (k ≡ 0 → ⊥) → o ≡ offsetOf s k → b ≡ eqb (offsetOf s (k - 1)) o → b ≡ true → x ≡ memberAt l (k - 1) → t ≡ Known x
+        → t ≡ spotOf s l k
+    unfolding spotOf
+    spot-near x n e f g i q = q ∙ sym (simp (ne-eqb _ _ n, ← e, ← f, g, ← i))
+
+    pub spot-far : (k ≡ 0 → ⊥) → o ≡ offsetOf s k → b ≡ eqb (offsetOf s (k - 1)) o → b ≡ false → t ≡ descend s l o k 0 o k → t ≡ spotOf s l k
+    unfolding spotOf
+    spot-far n e f g q = q ∙ sym (simp (ne-eqb _ _ n, ← e, ← f, g))
+
+module _ (l t : List ℕ) (k : ℕ) (x : Spot) (p n : ℕ) where
+  pub enter-known : (r : ℕ) → x ≡ Known r → t ≡ putRow l k (0 ∷ r ∷ 0 ∷ 0 ∷ p ∷ n ∷ 0 ∷ 0 ∷ []) → t ≡ entered l k x p n
+  enter-known r e q = q ∙ sym (rw e)
+
+  pub enter-new : (a f : ℕ) (m : List ℕ) → x ≡ Free a f → m ≡ set l (a * 8 + f) (k + 1) → t ≡ putRow m k (0 ∷ k ∷ 0 ∷ 0 ∷ p ∷ n ∷ 0 ∷ 0 ∷ [])
+      → t ≡ entered l k x p n
+  enter-new a f m e h q = q ∙ rw (h, e)
+
+module _ (s l : List ℕ) (k p : ℕ) where
+  pub enter-is : (t : List ℕ) (e n : ℕ) (x : Spot) → x ≡ spotOf s l k → n ≡ e - (p + 1) → t ≡ entered l k x p n → t ≡ enterOf s l k p e
   unfolding enterOf
-  enter-is t e b r n g h i q = q ∙ rw (h, i, g)
+  enter-is t e n x h i q = q ∙ rw (h, i)
 
-  module _ (w : List ℕ) where
-    pub all-on : (e : ℕ) (m : List ℕ) → k < c → (e ≡ afterOf s p) × (m ≡ enterOf s c l k p e) → w ≡ enterAll s c (c - k) k p l
-        → w ≡ enterAll s c (c - (k + 1)) (k + 1) e m
+  module _ (c : ℕ) (w : List ℕ) where
+    pub all-on : (e : ℕ) (m : List ℕ) → k < c → (e ≡ afterOf s p) × (m ≡ enterOf s l k p e) → w ≡ enterAll s (c - k) k p l
+        → w ≡ enterAll s (c - (k + 1)) (k + 1) e m
     unfolding enterAll
     all-on e m h f q = q ∙ rw (one-more c k h) (rw (f .1, f .0) refl)
 
-    pub all-end : c ≤ k → w ≡ enterAll s c (c - k) k p l → l ≡ w
+    pub all-end : c ≤ k → w ≡ enterAll s (c - k) k p l → l ≡ w
     unfolding enterAll
     all-end h q = sym (q ∙ rw (sub-eq-zero-of-le h))
 
@@ -165,10 +169,10 @@ module _ (s l : List ℕ) (c p : ℕ) (t : Left) (x : ℕ) where
   unfolding openNamesOf openRowsOf
   open-full o e h g f q = q ∙ rw (f, ← e, le-ltb _ _ h, lt-ltb _ _ g)
 
-  pub open-rows : (o : Opened) (m n : List ℕ) → x ≡ cutOf s p c 0 → c ≤ x → c ≤ length l / 8 → m ≡ noHeads c l → n ≡ enterAll s c c 0 p m
-      → o ≡ openedAs c 0 0 → t ≡ left n o → t ≡ openNamesOf s l c p
+  pub open-rows : (o : Opened) (m : List ℕ) → x ≡ cutOf s p c 0 → c ≤ x → c ≤ length l / 8 → m ≡ enterAll s c 0 p l → o ≡ openedAs c 0 0 → t ≡ left m o
+      → t ≡ openNamesOf s l c p
   unfolding openNamesOf openRowsOf rowsOf
-  open-rows o m n e h g a b f q = q ∙ rw (f, b, a, ← e, le-ltb _ _ h, le-ltb _ _ g)
+  open-rows o m e h g b f q = q ∙ rw (f, b, ← e, le-ltb _ _ h, le-ltb _ _ g)
 
 module _ (s l : List ℕ) (t : Left) where
   pub open-empty : (o : Opened) → length s ≡ 0 → o ≡ openedAs 0 20 0 → t ≡ left l o → t ≡ openOf s l

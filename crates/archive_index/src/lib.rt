@@ -12,6 +12,12 @@ pub struct Opened {
     pub refusal: Refusal,
 }
 
+// Where the search for an entry's member ends in the tree of members: at the member's representative, or at the empty cell of a child.
+pub enum Spot {
+    Known { entry: usize },
+    Free { parent: usize, field: usize },
+}
+
 fn wide(x: u8) -> u64
     ensures { λ r. ⌜ r ≡ x ⌝ }
 {
@@ -77,7 +83,7 @@ pub fn name<'a>(index: &'a [u8], cells: &[u64], k: usize) -> &'a [u8]
 
 // ---- an entry's row
 
-// No chain has an entry.
+// No chain of names has an entry.
 pub fn clear_heads(cells: &mut [u64], entries: usize)
     ensures { λ _. ⌜ now (cells .exit) ≡ noHeads entries (now (cells .entry)) ⌝ }
 {

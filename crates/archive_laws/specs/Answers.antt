@@ -61,7 +61,7 @@ module _ (s : List ℕ) where
     right t = go (w .done) (walkFits s l w) (ltb (w .offered) (w .queued)) (eqb (judgeTable t .number) 0) (ltb (removedOf s l t (w .entries) 0) (w .entries)) refl
       where
         u : Queue
-        u = tieAll s t (w .passes + 1) (w .entries) 0 (queueOf l (w .queued))
+        u = tieAll (w .key) (w .entries) s t (w .passes + 1) (w .entries) 0 (queueOf l (w .queued))
 
         go : (d f g j x : Bool) → w .done ≡ d
             → Right l w

@@ -1,6 +1,7 @@
 -- A name is required of a member just if an entry of that member bears it and is marked.
 -- Assumes nothing.
 use Prim.Native.Nat.{ℕ, _<_}
+use native.Mathlib.Omega.{arith}
 use native.Mathlib.Decide.{ℕ-discrete}
 use mathlib.Core.Path.{_≡_, refl, sym, ap, _∙_}
 use mathlib.Core.Bool.{Bool, true, false, cond}
@@ -11,15 +12,16 @@ use Rattle.byte_slices.specs.Bytes.{same}
 use Rattle.byte_slices.specs.Ways.{same-true, same-refl}
 use Rattle.archive_index.specs.Index.{offsetOf, nameOf}
 use Rattle.archive_index.specs.Rows.{requiredAt, memberAt, storedName}
+use Rattle.archive_walk.specs.declared.Walk.{Walk}
 use Rattle.archive_walk.specs.Look.{Table, undefinedName}
 use Rattle.archive_walk.specs.Names.{bearsOf, requiredOf}
 use Rattle.archive_laws.specs.Rounds.{Same, anyBelow}
 use Rattle.archive_laws.specs.Counts.{clash, any-in, any-out, any-none, first-one}
-use Rattle.archive_laws.specs.Chains.{any-same, required-is}
+use Rattle.archive_laws.specs.Chains.{any-same, chained-is}
 use Rattle.archive_laws.specs.Pass.{Rows}
 use Rattle.archive_laws.specs.Walked.{asks, inIndex}
 
-module _ (s : List ℕ) (c : ℕ) (l : List ℕ) (y : Rows s c l) (e : ℕ) (h : e < c) (x : List ℕ) where
+module _ (key : ℕ) (s : List ℕ) (c : ℕ) (l : List ℕ) (y : Rows key s c l) (w : Walk) (keyed : w .key ≡ key) (entries : w .entries ≡ c) (e : ℕ) (h : e < c) (x : List ℕ) where
   pub record Asked (j : ℕ) : Type 0 where
     pub low : j < c
     pub mark : requiredAt l j ≡ 1
@@ -28,6 +30,11 @@ module _ (s : List ℕ) (c : ℕ) (l : List ℕ) (y : Rows s c l) (e : ℕ) (h :
 
   abbrev r : ℕ
   r = memberAt l e
+
+  -- just if some entry bears it
+  required-is : requiredOf s l w e x ≡ anyBelow (bearsOf s l r x) c
+  unfolding requiredOf
+  required-is = rw (keyed, entries) (chained-is key s c l (y .linked) (y .room) (omega arith) r x)
 
   -- one entry
   bears-out : (j : ℕ) → j < c → bearsOf s l r x j ≡ true → Asked j
@@ -56,14 +63,14 @@ module _ (s : List ℕ) (c : ℕ) (l : List ℕ) (y : Rows s c l) (e : ℕ) (h :
       let word : storedName s l j ≡ x = y .name j (a .low) ∙ a .name in
       rw (eq-eqb (requiredAt l j) 1 (a .mark), eq-eqb (memberAt l j) r rep, word, same-refl x)
 
-  pub asked-out : requiredOf s l c e x ≡ true → (j : ℕ) × Asked j
-  asked-out z = go (any-out (bearsOf s l r x) c (sym (required-is s c l (y .linked) e h x) ∙ z))
+  pub asked-out : requiredOf s l w e x ≡ true → (j : ℕ) × Asked j
+  asked-out z = go (any-out (bearsOf s l r x) c (sym (required-is) ∙ z))
     where
       go : ((j : ℕ) × (j < c) × (bearsOf s l r x j ≡ true)) → (j : ℕ) × Asked j
       go (j, g, b) = (j, bears-out j g b)
 
-  pub asked-in : (j : ℕ) → Asked j → requiredOf s l c e x ≡ true
-  asked-in j a = required-is s c l (y .linked) e h x ∙ any-in (bearsOf s l r x) c j (a .low) (bears-in j a)
+  pub asked-in : (j : ℕ) → Asked j → requiredOf s l w e x ≡ true
+  asked-in j a = required-is ∙ any-in (bearsOf s l r x) c j (a .low) (bears-in j a)
 
   -- by the index's offsets and names
   by-offset : (j : ℕ) → j < c → eqb (memberAt l j) r ≡ eqb (offsetOf s j) (offsetOf s e)
@@ -79,8 +86,8 @@ module _ (s : List ℕ) (c : ℕ) (l : List ℕ) (y : Rows s c l) (e : ℕ) (h :
   unfolding bearsOf
   bears-asks j g = rw (y .name j g, by-offset j g)
 
-  pub asked-is : requiredOf s l c e x ≡ anyBelow (asks s c l e x) c
-  asked-is = required-is s c l (y .linked) e h x ∙ any-same (bearsOf s l r x) (asks s c l e x) c bears-asks
+  pub asked-is : requiredOf s l w e x ≡ anyBelow (asks s c l e x) c
+  asked-is = required-is ∙ any-same (bearsOf s l r x) (asks s c l e x) c bears-asks
 
   -- right after a pass over t that queued the member, or found none of its names undefined
   module _ (t : Table) (mark : (j : ℕ) → j < c → Same s j e → requiredAt l j ≡ cond (undefinedName t (nameOf s c j)) 1 0) where
@@ -117,7 +124,7 @@ module _ (s : List ℕ) (c : ℕ) (l : List ℕ) (y : Rows s c l) (e : ℕ) (h :
     outside true = refl
     outside false = any-none (λ j. false) c (λ j g. refl)
 
-    pub asked-then : requiredOf s l c e x ≡ cond (undefinedName t x) (inIndex s c e x) false
+    pub asked-then : requiredOf s l w e x ≡ cond (undefinedName t x) (inIndex s c e x) false
     unfolding inIndex
     asked-then =
         asked-is ∙ any-same (asks s c l e x) (λ j. cond (undefinedName t x) (ties j) false) c (λ j g. asks-tied j g ∙ tied-name j)

@@ -63,7 +63,7 @@ cnt-le f (suc n) = go (f n) (cnt-le f n)
     go true h = omega arith
     go false h = omega arith
 
-cnt-mono : (f g : ℕ → Bool) (n : ℕ) → ((k : ℕ) → k < n → f k ≡ true → g k ≡ true) → cnt f n ≤ cnt g n
+pub cnt-mono : (f g : ℕ → Bool) (n : ℕ) → ((k : ℕ) → k < n → f k ≡ true → g k ≡ true) → cnt f n ≤ cnt g n
 unfolding cnt
 cnt-mono f g zero h = omega arith
 cnt-mono f g (suc n) h = go (f n) (g n) (λ e. h n (omega arith) e) (cnt-mono f g n (λ k l e. h k (omega arith) e))
@@ -74,7 +74,7 @@ cnt-mono f g (suc n) h = go (f n) (g n) (λ e. h n (omega arith) e) (cnt-mono f 
     go false true i l = omega arith
     go false false i l = l
 
-cnt-less : (f g : ℕ → Bool) (n r : ℕ) → ((k : ℕ) → k < n → f k ≡ true → g k ≡ true) → r < n → f r ≡ false → g r ≡ true → suc (cnt f n) ≤ cnt g n
+pub cnt-less : (f g : ℕ → Bool) (n r : ℕ) → ((k : ℕ) → k < n → f k ≡ true → g k ≡ true) → r < n → f r ≡ false → g r ≡ true → suc (cnt f n) ≤ cnt g n
 unfolding cnt
 cnt-less f g zero r h l a b = absurd (not-suc-le-zero l)
 cnt-less f g (suc n) r h l a b =

@@ -1,122 +1,206 @@
--- The rows that the start makes say what the index says: each entry's name, and the first entry of its member, found along a hash chain.
+-- The rows that the start makes say what the index says: each entry's name, and the first entry of its member, found in a tree of first entries.
 -- Assumes nothing.
-use Prim.Native.Nat.{ℕ, zero, suc, _+_, _*_, _-_, _<_, _≤_}
+use Prim.Native.Nat.{ℕ, zero, suc, _+_, _*_, _-_, _/_, _%_, _<_, _≤_}
 use native.Mathlib.Nat.{not-suc-le-zero, mod-lt}
 use native.Mathlib.Numerals.{add-one}
 use native.Mathlib.Decide.{ℕ-discrete}
 use native.Mathlib.Omega.{arith}
 use mathlib.Core.Path.{_≡_, refl, sym, ap, subst, _∙_}
-use mathlib.Core.Bool.{Bool, true, false, cond}
+use mathlib.Core.Bool.{Bool, true, false, cond, not}
 use mathlib.Core.List.{List, [], _∷_}
-use lib.Dec.{eqb, ltb}
+use lib.Dec.{eqb}
 use lib.ListN.{getD, set, length, length-set}
 use lib.Seq.{getD-set-same, getD-set-other}
-use borrow.Author.Tests.{eq-eqb, ne-eqb, ltb-true, ltb-false}
+use borrow.Author.Tests.{eq-eqb, ne-eqb}
 use Rattle.gabi.specs.StringTable.{hasName, nameAt, name-part}
 use Rattle.cells.specs.Rows.{length-putRow, row-same, row-other}
+use Rattle.archive_index.specs.declared.Spot.{Spot}
+use Rattle.archive_index.specs.declared.Spot.the-variants.{Known, Free}
 use Rattle.archive_index.specs.Index.{offsetOf, afterOf, namesAt, placeOf, nameOf, cutOf}
-use Rattle.archive_index.specs.Rows.{requiredAt, memberAt, nextAt, headAt, passAt, storedName, chainOf, chase, representativeOf, rowOf, entered, enterOf, enterAll, noHeads, rowsOf}
-use Rattle.archive_laws.specs.Rounds.{Same, isFirst}
-use Rattle.archive_laws.specs.Counts.{First, first-of, first-one}
-use Rattle.archive_laws.specs.Chains.{heads-length, heads-none}
+use Rattle.archive_index.specs.Rows.{requiredAt, memberAt, childAt, passAt, storedName, sideOf, descend, spotOf, rowOf, entered, enterOf, enterAll, rowsOf}
+use Rattle.archive_laws.specs.Rounds.{Same, anyBelow, isFirst}
+use Rattle.archive_laws.specs.Counts.{clash, any-in, First, first-of}
+
+-- ---- where a search ends
+
+abbrev isKnown : Spot → Bool
+isKnown (Known r) = true
+isKnown (Free a f) = false
+
+abbrev parentOf : Spot → ℕ
+parentOf (Known r) = r
+parentOf (Free a f) = a
+
+abbrev fieldOf : Spot → ℕ
+fieldOf (Known r) = 0
+fieldOf (Free a f) = f
+
+apart : {P : Type 0} (r a f : ℕ) → Free a f ≡ Known r → P
+apart r a f e = clash true refl (sym (ap isKnown e))
+
+pub low-side : (q : ℕ) → sideOf q < 4
+low-side q = let h : q % 2 < 2 = mod-lt q (omega arith) in omega arith
+
+-- a child's cell is as it was, or it was empty and entry k stands there now
+data Child (k x y : ℕ) : Type 0 where
+  kept : y ≡ x → Child k x y
+  grown : x ≡ 0 → y ≡ k + 1 → Child k x y
 
 module _ (s : List ℕ) (c : ℕ) where
-  -- entry h is the first of its member, which is in chain b
-  pub record Owns (b h : ℕ) : Type 0 where
-    pub first : isFirst s h ≡ true
-    pub chain : chainOf s c h ≡ b
-
-  -- a link of chain b from below a bound: none where nobody below owns; else the next owner down, with nobody between
-  pub record Down (b bound at : ℕ) : Type 0 where
-    pub none : at ≡ 0 → (h : ℕ) → h < bound → Owns b h → ⊥
-    pub some : (at ≡ 0 → ⊥) → at - 1 < bound
-    pub owner : (at ≡ 0 → ⊥) → Owns b (at - 1)
-    pub between : (at ≡ 0 → ⊥) → (h : ℕ) → at - 1 < h → h < bound → Owns b h → ⊥
-
-  -- one more entry, which isn't the chain's owner
-  down-more : (b k at : ℕ) → (Owns b k → ⊥) → Down b k at → Down b (k + 1) at
-  down-more b k at n d = record {
-    none = λ z h l o. by h o (ℕ-discrete h k) (λ e. d .none z h (omega arith) o);
-    some = λ z. omega (arith, d .some z);
-    owner = d .owner;
-    between = λ z h g l o. by h o (ℕ-discrete h k) (λ e. d .between z h g (omega arith) o);
-  }
-    where
-      by : (h : ℕ) → Owns b h → Dec (h ≡ k) → ((h ≡ k → ⊥) → ⊥) → ⊥
-      by h o (yes e) f = n (rw e at o)
-      by h o (no e) f = f e
-
-  chain-same : (j k : ℕ) → Same s j k → chainOf s c j ≡ chainOf s c k
-  unfolding chainOf
-  chain-same j k e = rw e
-
-  -- the rows of the first k entries
+  -- the rows of the first k entries; a child is later than its parent, and the search for a first entry's member ends at that entry
   pub record Entered (k : ℕ) (l : List ℕ) : Type 0 where
     pub room : c * 8 ≤ length l
     pub name : (j : ℕ) → j < k → storedName s l j ≡ nameOf s c j
     pub member : (j : ℕ) → j < k → First s j (memberAt l j)
     pub unqueued : (j : ℕ) → j < k → passAt l j ≡ 0
     pub unmarked : (j : ℕ) → j < k → requiredAt l j ≡ 0
-    pub heads : (b : ℕ) → b < c → Down b k (headAt l b)
-    pub links : (h : ℕ) → h < k → isFirst s h ≡ true → Down (chainOf s c h) h (nextAt l h)
+    pub below : (j f : ℕ) → j < k → 2 ≤ f → f < 4 → childAt l j f ≤ k
+    pub later : (j f : ℕ) → j < k → 2 ≤ f → f < 4 → (childAt l j f ≡ 0 → ⊥) → j + 1 < childAt l j f
+    pub met : (h : ℕ) → h < k → isFirst s h ≡ true → (d n : ℕ) → k ≤ n → descend s l (offsetOf s h) d 0 (offsetOf s h) n ≡ Known h
 
-  -- nobody before k is of its member
-  alone : (k : ℕ) → ((h : ℕ) → h < k → isFirst s h ≡ true → Same s h k → ⊥) → First s k k
-  alone k n = go (first-of s (k + 1) k (omega arith))
-    where
-      go : ((h : ℕ) × First s k h) → First s k k
-      go (h, f) = by (ℕ-discrete h k)
-        where
-          by : Dec (h ≡ k) → First s k k
-          by (yes e) = rw e at f
-          by (no e) = absurd (n h (omega (arith, f .low)) (f .first) (f .same))
+  -- no entry before a first one is of its member
+  none-before : (j k : ℕ) → isFirst s k ≡ true → j < k → Same s j k → ⊥
+  unfolding isFirst
+  none-before j k i h e =
+      let some : anyBelow (λ x. eqb (offsetOf s x) (offsetOf s k)) k ≡ true = any-in (λ x. eqb (offsetOf s x) (offsetOf s k)) k j h (eq-eqb (offsetOf s j) (offsetOf s k) e) in
+      clash true refl (sym i ∙ ap not some)
 
-  -- along the chain
   module _ (k : ℕ) (l : List ℕ) (y : Entered k l) where
-    abbrev b : ℕ
-    b = chainOf s c k
+    -- ---- the search
 
-    -- no owner from the bound up to k is of k's member
-    abbrev Clear : ℕ → Type 0
-    Clear bound = (h : ℕ) → bound ≤ h → h < k → isFirst s h ≡ true → Same s h k → ⊥
+    abbrev Ends : ℕ → Spot → Type 0
+    Ends o (Known r) = (r < k) × (offsetOf s r ≡ o)
+    Ends o (Free a f) = (a < k) × (2 ≤ f) × (f < 4) × (childAt l a f ≡ 0)
 
-    nobody : (bound : ℕ) → ((h : ℕ) → h < bound → Owns b h → ⊥) → Clear bound → First s k k
-    nobody bound n g = alone k (λ h l f e. by h l f e (ltb h bound) refl)
+    ends : (o d n at q : ℕ) → at < k → k ≤ at + n → Ends o (descend s l o d at q n)
+    unfolding descend
+    ends o d zero at q h g = absurd (omega arith)
+    ends o d (suc n) at q h g = go (ℕ-discrete (offsetOf s at) o) (ℕ-discrete (childAt l at f) 0) (λ i j. ends o d n (childAt l at f - 1) (q / 2) i j)
       where
-        by : (h : ℕ) → h < k → isFirst s h ≡ true → Same s h k → (t : Bool) → ltb h bound ≡ t → ⊥
-        by h l f e true t = n h (ltb-true h bound t) (record { first = f; chain = chain-same h k e })
-        by h l f e false t = g h (ltb-false h bound t) l f e
+        f : ℕ
+        f = sideOf q
 
-    found : (n bound at : ℕ) → bound ≤ n → bound ≤ k → Down b bound at → Clear bound → First s k (chase s l (offsetOf s k) k at n)
-    unfolding chase
-    found zero bound at i j d g = nobody bound (λ h l o. not-suc-le-zero (low h l)) g
+        go : Dec (offsetOf s at ≡ o) → Dec (childAt l at f ≡ 0)
+            → (childAt l at f - 1 < k → k ≤ childAt l at f - 1 + n → Ends o (descend s l o d (childAt l at f - 1) (q / 2) n))
+            → Ends o (cond (eqb (offsetOf s at) o) (Known at) (cond (eqb (childAt l at f) 0) (Free at f) (descend s l o d (childAt l at f - 1) (q / 2) n)))
+        go (yes e) t r = rw (eq-eqb (offsetOf s at) o e) (h, e)
+        go (no e) (yes z) r = rw (ne-eqb (offsetOf s at) o e, eq-eqb (childAt l at f) 0 z) (h, omega arith, low-side q, z)
+        go (no e) (no z) r =
+            let up = y .later at f h (omega arith) (low-side q) z in
+            let down = y .below at f h (omega arith) (low-side q) in
+            rw (ne-eqb (offsetOf s at) o e, ne-eqb (childAt l at f) 0 z) (r (omega arith) (omega arith))
+
+    -- what is known of entry k where its search ended
+    abbrev pub Seen : Spot → Type 0
+    Seen (Known r) = First s k r × (isFirst s k ≡ true → k ≡ 0)
+    Seen (Free a f) = First s k k × (a < k) × (2 ≤ f) × (f < 4) × (childAt l a f ≡ 0) × (descend s l (offsetOf s k) k 0 (offsetOf s k) k ≡ Free a f)
+
+    -- an earlier entry of the member
+    earlier : (r : ℕ) → First s k r → r < k → Seen (Known r)
+    earlier r f h = (f, λ i. absurd (none-before r k i h (f .same)))
+
+    searched : 0 < k → Seen (descend s l (offsetOf s k) k 0 (offsetOf s k) k)
+    searched h = go (first-of s (k + 1) k (omega arith))
       where
-        low : (h : ℕ) → h < bound → suc h ≤ 0
-        low h l = omega arith
-    found (suc n) bound at i j d g =
-        go (ℕ-discrete at 0) (ℕ-discrete (offsetOf s (at - 1)) (offsetOf s k)) (λ a b′ d′ g′. found n (at - 1) (nextAt l (at - 1)) a b′ d′ g′)
-      where
-        go : Dec (at ≡ 0) → Dec (offsetOf s (at - 1) ≡ offsetOf s k)
-            → (at - 1 ≤ n → at - 1 ≤ k → Down b (at - 1) (nextAt l (at - 1)) → Clear (at - 1) → First s k (chase s l (offsetOf s k) k (nextAt l (at - 1)) n))
-            → First s k (cond (eqb at 0) k (cond (eqb (offsetOf s (at - 1)) (offsetOf s k)) (at - 1) (chase s l (offsetOf s k) k (nextAt l (at - 1)) n)))
-        go (yes e) t r = rw (eq-eqb at 0 e) (nobody bound (d .none e) g)
-        go (no e) (yes f) r =
-            rw (ne-eqb at 0 e, eq-eqb (offsetOf s (at - 1)) (offsetOf s k) f)
-            (record { low = omega (arith, d .some e); same = f; first = d .owner e .first })
-        go (no e) (no f) r =
-            rw (ne-eqb at 0 e, ne-eqb (offsetOf s (at - 1)) (offsetOf s k) f)
-            (r (omega (arith, d .some e)) (omega (arith, d .some e))
-            (subst (λ (x : ℕ). Down x (at - 1) (nextAt l (at - 1))) (d .owner e .chain) (y .links (at - 1) (omega (arith, d .some e)) (d .owner e .first)))
-            (λ h a w i′ m. clear h a w i′ m (ℕ-discrete h (at - 1)) (ltb h bound) refl))
+        o : ℕ
+        o = offsetOf s k
+
+        new : First s k k → (x : Spot) → descend s l o k 0 o k ≡ x → Ends o x → Seen x
+        new f (Known r) e i = absurd (none-before r k (f .first) (i .0) (i .1))
+        new f (Free a g) e i = (f, i .0, i .1, i .2, i .3, e)
+
+        go : ((r : ℕ) × First s k r) → Seen (descend s l o k 0 o k)
+        go (r, f) = by (ℕ-discrete r k)
           where
-            clear : (h : ℕ) → at - 1 ≤ h → h < k → isFirst s h ≡ true → Same s h k → Dec (h ≡ at - 1) → (t : Bool) → ltb h bound ≡ t → ⊥
-            clear h a w i′ m (yes q) t z = f (ap (offsetOf s) (sym q) ∙ m)
-            clear h a w i′ m (no q) true z = d .between e h (omega arith) (ltb-true h bound z) (record { first = i′; chain = chain-same h k m })
-            clear h a w i′ m (no q) false z = g h (ltb-false h bound z) w i′ m
+            by : Dec (r ≡ k) → Seen (descend s l o k 0 o k)
+            by (yes e) = new (rw e at f) (descend s l o k 0 o k) refl (ends o k k 0 o h (omega arith))
+            by (no e) =
+                let low : r < k = omega (arith, f .low) in
+                let hit : descend s l o k 0 o k ≡ Known r = subst (λ (x : ℕ). descend s l x k 0 x k ≡ Known r) (f .same) (y .met r low (f .first) k k (omega arith)) in
+                subst Seen (sym hit) (earlier r f low)
 
-    pub represented : b < c → First s k (representativeOf s l b k)
-    unfolding representativeOf
-    represented h = found k k (headAt l b) (omega arith) (omega arith) (y .heads b h) (λ j a w i m. absurd (omega arith))
+    pub seen : Seen (spotOf s l k)
+    unfolding spotOf
+    seen = go (ℕ-discrete k 0) (ℕ-discrete (offsetOf s (k - 1)) (offsetOf s k))
+      where
+        root : k ≡ 0 → First s k k
+        root z = go (first-of s (k + 1) k (omega arith))
+          where
+            go : ((r : ℕ) × First s k r) → First s k k
+            go (r, f) = let e : r ≡ k = omega (arith, f .low) in rw e at f
+
+        go : Dec (k ≡ 0) → Dec (offsetOf s (k - 1) ≡ offsetOf s k)
+            → Seen (cond (eqb k 0) (Known k) (cond (eqb (offsetOf s (k - 1)) (offsetOf s k)) (Known (memberAt l (k - 1))) (descend s l (offsetOf s k) k 0 (offsetOf s k) k)))
+        go (yes z) t = rw (eq-eqb k 0 z) (root z, λ i. z)
+        go (no z) (yes e) =
+            let f = y .member (k - 1) (omega arith) in
+            rw (ne-eqb k 0 z, eq-eqb (offsetOf s (k - 1)) (offsetOf s k) e)
+            (earlier (memberAt l (k - 1)) (record { low = omega (arith, f .low); same = f .same ∙ e; first = f .first }) (omega (arith, f .low)))
+        go (no z) (no e) = rw (ne-eqb k 0 z, ne-eqb (offsetOf s (k - 1)) (offsetOf s k) e) (searched (omega arith))
+
+    -- ---- the search in later rows, in which no child of an earlier entry was replaced
+
+    module _ (m : List ℕ) (children : (j f : ℕ) → j < k → 2 ≤ f → f < 4 → Child k (childAt l j f) (childAt m j f)) where
+      still : (j f : ℕ) → j < k → 2 ≤ f → f < 4 → (childAt l j f ≡ 0 → ⊥) → childAt m j f ≡ childAt l j f
+      still j f h a b z = go (children j f h a b)
+        where
+          go : Child k (childAt l j f) (childAt m j f) → childAt m j f ≡ childAt l j f
+          go (kept e) = e
+          go (grown e q) = absurd (z e)
+
+      -- who was met is met
+      met-still : (o d r n at q : ℕ) → at < k → descend s l o d at q n ≡ Known r → descend s m o d at q n ≡ Known r
+      unfolding descend
+      met-still o d r zero at q h e = e
+      met-still o d r (suc n) at q h e =
+          go (ℕ-discrete (offsetOf s at) o) (ℕ-discrete (childAt l at f) 0) e (λ i g. met-still o d r n (childAt l at f - 1) (q / 2) i g)
+        where
+          f : ℕ
+          f = sideOf q
+
+          go : Dec (offsetOf s at ≡ o) → Dec (childAt l at f ≡ 0)
+              → cond (eqb (offsetOf s at) o) (Known at) (cond (eqb (childAt l at f) 0) (Free at f) (descend s l o d (childAt l at f - 1) (q / 2) n)) ≡ Known r
+              → (childAt l at f - 1 < k → descend s l o d (childAt l at f - 1) (q / 2) n ≡ Known r → descend s m o d (childAt l at f - 1) (q / 2) n ≡ Known r)
+              → cond (eqb (offsetOf s at) o) (Known at) (cond (eqb (childAt m at f) 0) (Free at f) (descend s m o d (childAt m at f - 1) (q / 2) n)) ≡ Known r
+          go (yes t) z g i = rw (eq-eqb (offsetOf s at) o t) (rw (eq-eqb (offsetOf s at) o t) at g)
+          go (no t) (yes z) g i = apart r at f (rw (ne-eqb (offsetOf s at) o t, eq-eqb (childAt l at f) 0 z) at g)
+          go (no t) (no z) g i =
+              let down = y .below at f h (omega arith) (low-side q) in
+              rw (still at f h (omega arith) (low-side q) z, ne-eqb (offsetOf s at) o t, ne-eqb (childAt l at f) 0 z)
+              (i (omega arith) (rw (ne-eqb (offsetOf s at) o t, ne-eqb (childAt l at f) 0 z) at g))
+
+      -- where an empty cell was met, entry k is met now
+      met-new : (a f : ℕ) → childAt m a f ≡ k + 1 → (d e n : ℕ) (at q i : ℕ) → at < k → n < i → descend s l (offsetOf s k) d at q n ≡ Free a f
+          → descend s m (offsetOf s k) e at q i ≡ Known k
+      unfolding descend
+      met-new a f w d e n at q zero h g r = absurd (not-suc-le-zero g)
+      met-new a f w d e zero at q (suc i) h g r = apart d a f (sym r)
+      met-new a f w d e (suc n) at q (suc i) h g r =
+          go (ℕ-discrete (offsetOf s at) (offsetOf s k)) (ℕ-discrete (childAt l at x) 0) r (λ u v. met-new a f w d e n (childAt l at x - 1) (q / 2) i u (omega arith) v)
+        where
+          x : ℕ
+          x = sideOf q
+
+          here : (j : ℕ) → 0 < j → descend s m (offsetOf s k) e (k + 1 - 1) (q / 2) j ≡ Known k
+          here zero u = absurd (omega arith)
+          here (suc j) u = let back : k + 1 - 1 ≡ k = omega arith in rw (back, eq-eqb (offsetOf s k) (offsetOf s k) refl)
+
+          go : Dec (offsetOf s at ≡ offsetOf s k) → Dec (childAt l at x ≡ 0)
+              → cond (eqb (offsetOf s at) (offsetOf s k)) (Known at)
+              (cond (eqb (childAt l at x) 0) (Free at x) (descend s l (offsetOf s k) d (childAt l at x - 1) (q / 2) n)) ≡ Free a f
+              → (childAt l at x - 1 < k → descend s l (offsetOf s k) d (childAt l at x - 1) (q / 2) n ≡ Free a f
+              → descend s m (offsetOf s k) e (childAt l at x - 1) (q / 2) i ≡ Known k)
+              → cond (eqb (offsetOf s at) (offsetOf s k)) (Known at)
+              (cond (eqb (childAt m at x) 0) (Free at x) (descend s m (offsetOf s k) e (childAt m at x - 1) (q / 2) i)) ≡ Known k
+          go (yes t) z u v = apart at a f (sym (rw (eq-eqb (offsetOf s at) (offsetOf s k) t) at u))
+          go (no t) (yes z) u v =
+              let found : Free at x ≡ Free a f = rw (ne-eqb (offsetOf s at) (offsetOf s k) t, eq-eqb (childAt l at x) 0 z) at u in
+              let own : childAt m at x ≡ k + 1 = ap (λ (j : ℕ). childAt m j x) (ap parentOf found) ∙ ap (λ (j : ℕ). childAt m a j) (ap fieldOf found) ∙ w in
+              rw (ne-eqb (offsetOf s at) (offsetOf s k) t, own, ne-eqb (k + 1) 0 (λ j. omega arith)) (here i (omega arith))
+          go (no t) (no z) u v =
+              let down = y .below at x h (omega arith) (low-side q) in
+              rw (still at x h (omega arith) (low-side q) z, ne-eqb (offsetOf s at) (offsetOf s k) t, ne-eqb (childAt l at x) 0 z)
+              (v (omega arith) (rw (ne-eqb (offsetOf s at) (offsetOf s k) t, ne-eqb (childAt l at x) 0 z) at u))
 
     -- ---- entry k is entered
 
@@ -125,144 +209,136 @@ module _ (s : List ℕ) (c : ℕ) where
       unfolding afterOf
       size = rw has (omega arith)
 
-      -- the row has the name, the representative and no pass, and the rows before are as they were
-      module _ (m : List ℕ) (r : ℕ) (f : First s k r) (room : length m ≡ length l)
-          (own-member : memberAt m k ≡ r) (own-start : getD m (k * 8 + 4) 0 ≡ p) (own-size : getD m (k * 8 + 5) 0 ≡ afterOf s p - (p + 1)) (own-pass : passAt m k ≡ 0) (own-mark : requiredAt m k ≡ 0)
-          (rest : (j g : ℕ) → (j ≡ k → ⊥) → g < 8 → (g ≡ 3 → ⊥) → getD m (j * 8 + g) 0 ≡ getD l (j * 8 + g) 0)
-          (heads : (d : ℕ) → d < c → Down d (k + 1) (headAt m d)) (own-link : isFirst s k ≡ true → Down b k (nextAt m k)) where
-        name-k : storedName s m k ≡ nameOf s c k
-        unfolding nameOf
-        name-k = rw (own-start, own-size, size, at-p) (sym (name-part s p has))
-
-        next-entered : Entered (k + 1) m
-        next-entered = record {
-          room = omega (arith, y .room);
-          name = λ j g. name j g (ℕ-discrete j k);
-          member = λ j g. member j g (ℕ-discrete j k);
-          unqueued = λ j g. unqueued j g (ℕ-discrete j k);
-          unmarked = λ j g. unmarked j g (ℕ-discrete j k);
-          heads = heads;
-          links = λ j g i. link j g i (ℕ-discrete j k);
-        }
-          where
-            name : (j : ℕ) → j < k + 1 → Dec (j ≡ k) → storedName s m j ≡ nameOf s c j
-            name j g (yes e) = rw e name-k
-            name j g (no e) = rw (rest j 4 e (omega arith) (λ z. omega arith), rest j 5 e (omega arith) (λ z. omega arith)) (y .name j (omega arith))
-
-            member : (j : ℕ) → j < k + 1 → Dec (j ≡ k) → First s j (memberAt m j)
-            member j g (yes e) = rw (e, own-member) f
-            member j g (no e) = rw (rest j 1 e (omega arith) (λ z. omega arith)) (y .member j (omega arith))
-
-            unqueued : (j : ℕ) → j < k + 1 → Dec (j ≡ k) → passAt m j ≡ 0
-            unqueued j g (yes e) = rw e own-pass
-            unqueued j g (no e) = rest j 6 e (omega arith) (λ z. omega arith) ∙ y .unqueued j (omega arith)
-
-            unmarked : (j : ℕ) → j < k + 1 → Dec (j ≡ k) → requiredAt m j ≡ 0
-            unmarked j g (yes e) = rw e own-mark
-            unmarked j g (no e) = rest j 0 e (omega arith) (λ z. omega arith) ∙ y .unmarked j (omega arith)
-
-            link : (j : ℕ) → j < k + 1 → isFirst s j ≡ true → Dec (j ≡ k) → Down (chainOf s c j) j (nextAt m j)
-            link j g i (yes e) = subst (λ (x : ℕ). Down (chainOf s c x) x (nextAt m x)) (sym e) (own-link (rw e at i))
-            link j g i (no e) = rw (rest j 2 e (omega arith) (λ z. omega arith)) (y .links j (omega arith) i)
-
-      -- the row itself
-      module _ (r next n : ℕ) where
-        abbrev x : List ℕ
-        x = rowOf l k r next p n
-
-        x-own : (g : ℕ) → g < 8 → getD x (k * 8 + g) 0 ≡ getD (0 ∷ r ∷ next ∷ headAt l k ∷ p ∷ n ∷ 0 ∷ 0 ∷ []) g 0
-        x-own g i = row-same l k (0 ∷ r ∷ next ∷ headAt l k ∷ p ∷ n ∷ 0 ∷ 0 ∷ []) g refl i (omega (arith, y .room))
-
-        x-rest : (j g : ℕ) → (j ≡ k → ⊥) → g < 8 → getD x (j * 8 + g) 0 ≡ getD l (j * 8 + g) 0
-        x-rest j g e i = row-other l k (0 ∷ r ∷ next ∷ headAt l k ∷ p ∷ n ∷ 0 ∷ 0 ∷ []) j g refl i e
-
-        x-length : length x ≡ length l
-        x-length = length-putRow l k (0 ∷ r ∷ next ∷ headAt l k ∷ p ∷ n ∷ 0 ∷ 0 ∷ [])
-
-        x-head : (d : ℕ) → headAt x d ≡ headAt l d
-        x-head d = go (ℕ-discrete d k)
-          where
-            go : Dec (d ≡ k) → headAt x d ≡ headAt l d
-            go (yes e) = rw e (x-own 3 (omega arith))
-            go (no e) = x-rest d 3 e (omega arith)
-
-        -- the head of chain b is set
-        abbrev w : List ℕ
-        w = set x (b * 8 + 3) (k + 1)
-
-        w-keeps : (j g : ℕ) → g < 8 → (g ≡ 3 → ⊥) → getD w (j * 8 + g) 0 ≡ getD x (j * 8 + g) 0
-        w-keeps j g i e = getD-set-other x (b * 8 + 3) (j * 8 + g) (k + 1) 0 (λ z. e (omega arith))
-
       abbrev n₀ : ℕ
       n₀ = afterOf s p - (p + 1)
 
-      old-entered : (r : ℕ) → First s k r → (r ≡ k → ⊥) → Entered (k + 1) (rowOf l k r 0 p n₀)
-      old-entered r f e =
-          next-entered (rowOf l k r 0 p n₀) r f (x-length r 0 n₀) (x-own r 0 n₀ 1 (omega arith)) (x-own r 0 n₀ 4 (omega arith)) (x-own r 0 n₀ 5 (omega arith))
-          (x-own r 0 n₀ 6 (omega arith)) (x-own r 0 n₀ 0 (omega arith)) (λ j g a i z. x-rest r 0 n₀ j g a i)
-          (λ d g. rw (x-head r 0 n₀ d) (down-more d k (headAt l d) (λ o. later (o .first)) (y .heads d g))) (λ i. absurd (later i))
+      -- its row is written over cells m, which differ from the rows so far in a child at most
+      module _ (m : List ℕ) (r : ℕ) (f : First s k r) (room : length m ≡ length l) (rest : (j g : ℕ) → g < 8 → (2 ≤ g → g < 4 → ⊥) → getD m (j * 8 + g) 0 ≡ getD l (j * 8 + g) 0)
+          (children : (j g : ℕ) → j < k → 2 ≤ g → g < 4 → Child k (childAt l j g) (childAt m j g)) where
+        abbrev row : List ℕ
+        row = 0 ∷ r ∷ 0 ∷ 0 ∷ p ∷ n₀ ∷ 0 ∷ 0 ∷ []
+
+        abbrev t : List ℕ
+        t = rowOf m k r p n₀
+
+        own : (g : ℕ) → g < 8 → getD t (k * 8 + g) 0 ≡ getD row g 0
+        own g i = row-same m k row g refl i (omega (arith, y .room))
+
+        other : (j g : ℕ) → (j ≡ k → ⊥) → g < 8 → getD t (j * 8 + g) 0 ≡ getD m (j * 8 + g) 0
+        other j g e i = row-other m k row j g refl i e
+
+        as-was : (j g : ℕ) → (j ≡ k → ⊥) → g < 8 → (2 ≤ g → g < 4 → ⊥) → getD t (j * 8 + g) 0 ≡ getD l (j * 8 + g) 0
+        as-was j g e i q = other j g e i ∙ rest j g i q
+
+        childless : (g : ℕ) → 2 ≤ g → g < 4 → childAt t k g ≡ 0
+        childless g a b = go (ℕ-discrete g 2)
+          where
+            go : Dec (g ≡ 2) → childAt t k g ≡ 0
+            go (yes e) = rw e (own 2 (omega arith))
+            go (no e) = let q : g ≡ 3 = omega arith in rw q (own 3 (omega arith))
+
+        family : (j g : ℕ) → j < k → 2 ≤ g → g < 4 → Child k (childAt l j g) (childAt t j g)
+        family j g i a b = subst (Child k (childAt l j g)) (sym (other j g (λ e. omega arith) (omega arith))) (children j g i a b)
+
+        module _ (own-met : isFirst s k ≡ true → (d n : ℕ) → k + 1 ≤ n → descend s t (offsetOf s k) d 0 (offsetOf s k) n ≡ Known k) where
+          name-k : storedName s t k ≡ nameOf s c k
+          unfolding nameOf
+          name-k = rw (own 4 (omega arith), own 5 (omega arith), size, at-p) (sym (name-part s p has))
+
+          row-entered : Entered (k + 1) t
+          row-entered = record {
+            room = omega (arith, y .room, length-putRow m k row);
+            name = λ j g. name j g (ℕ-discrete j k);
+            member = λ j g. member j g (ℕ-discrete j k);
+            unqueued = λ j g. unqueued j g (ℕ-discrete j k);
+            unmarked = λ j g. unmarked j g (ℕ-discrete j k);
+            below = λ j g i a b. below j g i a b (ℕ-discrete j k);
+            later = λ j g i a b z. later j g i a b z (ℕ-discrete j k);
+            met = λ j g i d n q. met j g i d n q (ℕ-discrete j k);
+          }
+            where
+              name : (j : ℕ) → j < k + 1 → Dec (j ≡ k) → storedName s t j ≡ nameOf s c j
+              name j g (yes e) = rw e name-k
+              name j g (no e) = rw (as-was j 4 e (omega arith) (λ u v. omega arith), as-was j 5 e (omega arith) (λ u v. omega arith)) (y .name j (omega arith))
+
+              member : (j : ℕ) → j < k + 1 → Dec (j ≡ k) → First s j (memberAt t j)
+              member j g (yes e) = rw (e, own 1 (omega arith)) f
+              member j g (no e) = rw (as-was j 1 e (omega arith) (λ u v. omega arith)) (y .member j (omega arith))
+
+              unqueued : (j : ℕ) → j < k + 1 → Dec (j ≡ k) → passAt t j ≡ 0
+              unqueued j g (yes e) = rw e (own 6 (omega arith))
+              unqueued j g (no e) = as-was j 6 e (omega arith) (λ u v. omega arith) ∙ y .unqueued j (omega arith)
+
+              unmarked : (j : ℕ) → j < k + 1 → Dec (j ≡ k) → requiredAt t j ≡ 0
+              unmarked j g (yes e) = rw e (own 0 (omega arith))
+              unmarked j g (no e) = as-was j 0 e (omega arith) (λ u v. omega arith) ∙ y .unmarked j (omega arith)
+
+              below : (j g : ℕ) → j < k + 1 → 2 ≤ g → g < 4 → Dec (j ≡ k) → childAt t j g ≤ k + 1
+              below j g i a b (yes e) = let z : childAt t j g ≡ 0 = rw e (childless g a b) in omega arith
+              below j g i a b (no e) = go (family j g (omega arith) a b)
+                where
+                  go : Child k (childAt l j g) (childAt t j g) → childAt t j g ≤ k + 1
+                  go (kept q) = let u = y .below j g (omega arith) a b in omega arith
+                  go (grown q v) = omega arith
+
+              later : (j g : ℕ) → j < k + 1 → 2 ≤ g → g < 4 → (childAt t j g ≡ 0 → ⊥) → Dec (j ≡ k) → j + 1 < childAt t j g
+              later j g i a b z (yes e) = absurd (z (rw e (childless g a b)))
+              later j g i a b z (no e) = go (family j g (omega arith) a b)
+                where
+                  go : Child k (childAt l j g) (childAt t j g) → j + 1 < childAt t j g
+                  go (kept q) = let u = y .later j g (omega arith) a b (λ w. z (q ∙ w)) in omega arith
+                  go (grown q v) = omega arith
+
+              met : (j : ℕ) → j < k + 1 → isFirst s j ≡ true → (d n : ℕ) → k + 1 ≤ n → Dec (j ≡ k)
+                  → descend s t (offsetOf s j) d 0 (offsetOf s j) n ≡ Known j
+              met j g i d n q (yes e) =
+                  subst (λ (x : ℕ). descend s t (offsetOf s x) d 0 (offsetOf s x) n ≡ Known x) (sym e) (own-met (rw e at i) d n q)
+              met j g i d n q (no e) =
+                  met-still t family (offsetOf s j) d j n 0 (offsetOf s j) (omega arith) (y .met j (omega arith) i d n (omega arith))
+
+      known-entered : (r : ℕ) → Seen (Known r) → Entered (k + 1) (rowOf l k r p n₀)
+      unfolding descend
+      known-entered r (f, i) = row-entered l r f refl (λ j g a b. refl) (λ j g a b q. kept refl) own-met
         where
-          later : isFirst s k ≡ true → ⊥
-          later i = e (first-one s r k (f .first) i (f .same))
+          own-met : isFirst s k ≡ true → (d n : ℕ) → k + 1 ≤ n → descend s (rowOf l k r p n₀) (offsetOf s k) d 0 (offsetOf s k) n ≡ Known k
+          own-met a d zero b = absurd (omega arith)
+          own-met a d (suc n) b = let z = i a in rw (z, eq-eqb (offsetOf s 0) (offsetOf s 0) refl)
 
-      new-entered : (r : ℕ) → First s k r → r ≡ k → b < c → Entered (k + 1) (set (rowOf l k r (headAt l b) p n₀) (b * 8 + 3) (k + 1))
-      new-entered r f e i =
-          next-entered (w r q n₀) r f (length-set (x r q n₀) (b * 8 + 3) (k + 1) ∙ x-length r q n₀)
-          (own 1 (omega arith) (λ z. omega arith)) (own 4 (omega arith) (λ z. omega arith)) (own 5 (omega arith) (λ z. omega arith)) (own 6 (omega arith) (λ z. omega arith)) (own 0 (omega arith) (λ z. omega arith))
-          (λ j g a u z. w-keeps r q n₀ j g u z ∙ x-rest r q n₀ j g a u) (λ d g. head d g (ℕ-discrete d b))
-          (λ z. rw (own 2 (omega arith) (λ z′. omega arith)) (y .heads b i))
+      free-entered : (a f : ℕ) → Seen (Free a f) → Entered (k + 1) (rowOf (set l (a * 8 + f) (k + 1)) k k p n₀)
+      free-entered a f (i, low, u, v, z, e) =
+          row-entered m k i (length-set l (a * 8 + f) (k + 1)) rest children
+          (λ w d n g. met-new (rowOf m k k p n₀) (family m k i (length-set l (a * 8 + f) (k + 1)) rest children) a f hung k d k 0 (offsetOf s k) n (omega arith) (omega arith) e)
         where
-          q : ℕ
-          q = headAt l b
+          m : List ℕ
+          m = set l (a * 8 + f) (k + 1)
 
-          own : (g : ℕ) → g < 8 → (g ≡ 3 → ⊥) → getD (w r q n₀) (k * 8 + g) 0 ≡ getD (0 ∷ r ∷ q ∷ headAt l k ∷ p ∷ n₀ ∷ 0 ∷ 0 ∷ []) g 0
-          own g u z = w-keeps r q n₀ k g u z ∙ x-own r q n₀ g u
+          rest : (j g : ℕ) → g < 8 → (2 ≤ g → g < 4 → ⊥) → getD m (j * 8 + g) 0 ≡ getD l (j * 8 + g) 0
+          rest j g b n = getD-set-other l (a * 8 + f) (j * 8 + g) (k + 1) 0 (λ q. n (omega arith) (omega arith))
 
-          owns : Owns b k
-          owns = record { first = rw e at (f .first); chain = refl }
+          children : (j g : ℕ) → j < k → 2 ≤ g → g < 4 → Child k (childAt l j g) (childAt m j g)
+          children j g b x w = go (ℕ-discrete (j * 8 + g) (a * 8 + f))
+            where
+              go : Dec (j * 8 + g ≡ a * 8 + f) → Child k (childAt l j g) (childAt m j g)
+              go (yes q) =
+                  grown (ap (λ (n : ℕ). getD l n 0) q ∙ z) (ap (λ (n : ℕ). getD m n 0) q ∙ getD-set-same l (a * 8 + f) (k + 1) 0 (omega (arith, y .room)))
+              go (no q) = kept (getD-set-other l (a * 8 + f) (j * 8 + g) (k + 1) 0 q)
 
-          top : Down b (k + 1) (k + 1)
-          top =
-              let back : k + 1 - 1 ≡ k = omega arith in
-              record {
-                none = λ z. absurd (omega arith);
-                some = λ z. omega arith;
-                owner = λ z. rw back owns;
-                between = λ z j u v o. omega arith;
-              }
+          hung : childAt (rowOf m k k p n₀) a f ≡ k + 1
+          hung =
+              row-other m k (0 ∷ k ∷ 0 ∷ 0 ∷ p ∷ n₀ ∷ 0 ∷ 0 ∷ []) a f refl (omega arith) (λ q. omega arith)
+              ∙ getD-set-same l (a * 8 + f) (k + 1) 0 (omega (arith, y .room))
 
-          head : (d : ℕ) → d < c → Dec (d ≡ b) → Down d (k + 1) (headAt (w r q n₀) d)
-          head d g (yes u) =
-              let inside : b * 8 + 3 < length (x r q n₀) = omega (arith, x-length r q n₀, y .room) in
-              rw u (rw (getD-set-same (x r q n₀) (b * 8 + 3) (k + 1) 0 inside) top)
-          head d g (no u) =
-              let here : headAt (w r q n₀) d ≡ headAt l d = getD-set-other (x r q n₀) (b * 8 + 3) (d * 8 + 3) (k + 1) 0 (λ z. u (omega arith)) ∙ x-head r q n₀ d in
-              rw here (down-more d k (headAt l d) (λ o. u (sym (o .chain))) (y .heads d g))
-
-      pub enter-entered : b < c → Entered (k + 1) (enterOf s c l k p (afterOf s p))
-      unfolding enterOf entered
-      enter-entered i = go (ℕ-discrete (representativeOf s l b k) k)
+      pub enter-entered : Entered (k + 1) (enterOf s l k p (afterOf s p))
+      unfolding enterOf
+      enter-entered = go (spotOf s l k) seen
         where
-          f : First s k (representativeOf s l b k)
-          f = represented i
-
-          go : Dec (representativeOf s l b k ≡ k)
-              → Entered (k + 1)
-              (cond (eqb (representativeOf s l b k) k) (set (rowOf l k (representativeOf s l b k) (headAt l b) p n₀) (b * 8 + 3) (k + 1))
-              (rowOf l k (representativeOf s l b k) 0 p n₀))
-          go (yes e) = rw (eq-eqb (representativeOf s l b k) k e) (new-entered (representativeOf s l b k) f e i)
-          go (no e) = rw (ne-eqb (representativeOf s l b k) k e) (old-entered (representativeOf s l b k) f e)
+          go : (x : Spot) → Seen x → Entered (k + 1) (entered l k x p n₀)
+          go (Known r) i = known-entered r i
+          go (Free a f) i = free-entered a f i
 
   -- ---- all entries
 
-  chain-low : (k : ℕ) → k < c → chainOf s c k < c
-  unfolding chainOf
-  chain-low k h =
-      let some : 0 < c = omega arith in
-      let apart : c ≡ 0 → ⊥ = λ e. omega arith in
-      rw (ne-eqb c 0 apart) (mod-lt (offsetOf s k) some)
-
-  has-name : (p : ℕ) → (afterOf s p ≡ 0 → ⊥) → hasName s p ≡ true
+  pub has-name : (p : ℕ) → (afterOf s p ≡ 0 → ⊥) → hasName s p ≡ true
   unfolding afterOf
   has-name p n = go (hasName s p) n
     where
@@ -270,15 +346,15 @@ module _ (s : List ℕ) (c : ℕ) where
       go true f = refl
       go false f = absurd (f refl)
 
-  placed : (k p : ℕ) → placeOf s c k ≡ p → placeOf s c (k + 1) ≡ afterOf s p
+  pub placed : (k p : ℕ) → placeOf s c k ≡ p → placeOf s c (k + 1) ≡ afterOf s p
   unfolding placeOf
   placed k p q = ap (λ (i : ℕ). placeOf s c i) (add-one k) ∙ ap (afterOf s) q
 
-  all-entered : (n k p : ℕ) (l : List ℕ) → k + n ≡ c → placeOf s c k ≡ p → c ≤ cutOf s p n k → Entered k l → Entered c (enterAll s c n k p l)
+  all-entered : (n k p : ℕ) (l : List ℕ) → k + n ≡ c → placeOf s c k ≡ p → c ≤ cutOf s p n k → Entered k l → Entered c (enterAll s n k p l)
   unfolding enterAll cutOf
   all-entered zero k p l e q g y = let f : k ≡ c = omega arith in subst (λ (x : ℕ). Entered x l) f y
   all-entered (suc n) k p l e q g y =
-      go (ℕ-discrete (afterOf s p) 0) (λ g′ y′. all-entered n (k + 1) (afterOf s p) (enterOf s c l k p (afterOf s p)) (omega arith) after-p g′ y′)
+      go (ℕ-discrete (afterOf s p) 0) (λ g′ y′. all-entered n (k + 1) (afterOf s p) (enterOf s l k p (afterOf s p)) (omega arith) after-p g′ y′)
     where
       h : k < c
       h = omega arith
@@ -287,26 +363,25 @@ module _ (s : List ℕ) (c : ℕ) where
       after-p = placed k p q
 
       go : Dec (afterOf s p ≡ 0)
-          → (c ≤ cutOf s (afterOf s p) n (k + 1) → Entered (k + 1) (enterOf s c l k p (afterOf s p))
-          → Entered c (enterAll s c n (k + 1) (afterOf s p) (enterOf s c l k p (afterOf s p))))
-          → Entered c (enterAll s c n (k + 1) (afterOf s p) (enterOf s c l k p (afterOf s p)))
+          → (c ≤ cutOf s (afterOf s p) n (k + 1) → Entered (k + 1) (enterOf s l k p (afterOf s p))
+          → Entered c (enterAll s n (k + 1) (afterOf s p) (enterOf s l k p (afterOf s p))))
+          → Entered c (enterAll s n (k + 1) (afterOf s p) (enterOf s l k p (afterOf s p)))
       go (yes z) r = absurd (omega (arith, rw (eq-eqb (afterOf s p) 0 z) at g))
-      go (no z) r = r (rw (ne-eqb (afterOf s p) 0 z) at g) (enter-entered k l y p q (has-name p z) h (chain-low k h))
+      go (no z) r = r (rw (ne-eqb (afterOf s p) 0 z) at g) (enter-entered k l y p q (has-name p z) h)
 
-  -- ---- no heads at first
-
-  no-entries : (l : List ℕ) → c * 8 ≤ length l → Entered 0 (noHeads c l)
+  pub no-entries : (l : List ℕ) → c * 8 ≤ length l → Entered 0 l
   no-entries l r = record {
-    room = omega (arith, heads-length s c c l);
+    room = r;
     name = λ j h. absurd (not-suc-le-zero h);
     member = λ j h. absurd (not-suc-le-zero h);
     unqueued = λ j h. absurd (not-suc-le-zero h);
     unmarked = λ j h. absurd (not-suc-le-zero h);
-    heads = λ b h. rw (heads-none s c c l r b h) (record { none = λ z j g o. not-suc-le-zero g; some = λ z. absurd (z refl); owner = λ z. absurd (z refl); between = λ z j g i o. z refl });
-    links = λ j h i. absurd (not-suc-le-zero h);
+    below = λ j f h a b. absurd (not-suc-le-zero h);
+    later = λ j f h a b z. absurd (not-suc-le-zero h);
+    met = λ j h i d n q. absurd (not-suc-le-zero h);
   }
 
   -- the rows of an index whose names are whole
   pub rows-entered : (l : List ℕ) → c * 8 ≤ length l → c ≤ cutOf s (namesAt c) c 0 → Entered c (rowsOf s c (namesAt c) l)
   unfolding rowsOf placeOf
-  rows-entered l r g = all-entered c 0 (namesAt c) (noHeads c l) (omega arith) refl g (no-entries l r)
+  rows-entered l r g = all-entered c 0 (namesAt c) l (omega arith) refl g (no-entries l r)

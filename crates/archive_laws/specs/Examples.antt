@@ -7,25 +7,26 @@ use mathlib.Core.List.{List, [], _∷_}
 use lib.ListN.{replicate}
 use Rattle.gabi.specs.StringTable.{beforeZero, hasName, nameAt}
 use Rattle.cells.specs.Rows.{putRow}
-use Rattle.byte_slices.specs.Bytes.{same}
+use Rattle.byte_slices.specs.Bytes.{wordAt, same}
 use Rattle.link.specs.Bounds.{lesser}
-use Rattle.link.specs.Judge.{otherLength, judgeSections, judgeNames, judgeLists, afterSymbols, afterSections, judgeOf}
-use Rattle.interner.specs.Hash.{mixed, hashFrom, spread, headCell}
-use Rattle.interner.specs.Names.{chase, seekOf, findOf}
+use Rattle.link.specs.Judge.{judgeSections, judgeNames, judgeLists, afterSymbols, afterSections, judgeOf}
+use Rattle.keyed_hash.specs.Keyed as Keyed
+use Rattle.interner.specs.Hash.{spread, headCell}
+use Rattle.interner.specs.Names.{chase, seekOf, findFrom, findOf}
 use Rattle.symbol_rows.specs.Holder.{heldBy, holderOf}
 use Rattle.archive_index.specs.Index.{countOf, offsetOf, afterOf, cutOf}
 use Rattle.archive_index.specs.Rows as Rows
 use Rattle.archive_index.specs.Open.{openRowsOf, openNamesOf, openEntriesOf, openOf}
 use Rattle.archive_walk.specs.Look.{Table, tableOf, judgeTable, nameHolder, removedName, undefinedName}
-use Rattle.archive_walk.specs.Names.{nameChain, linkedOf, linkAll, chainNames}
+use Rattle.archive_walk.specs.Names.{nameChain, along, bearsOf, borneFrom, chained, headedOf, notedOf}
 use Rattle.archive_walk.specs.Walk.{begunOf, startOf, offerOf, marked, enqueue, tieOf, tieAll, removedOf, makeOf, searchOf, passOf, walkFits, goOf, nextOf}
 use Rattle.archive_laws.specs.Runs.{Run, stepRun, history, startRun}
 
 -- a table with the names b and c, whose rows 1 and 2 have this state and kind of value
 abbrev twoNames : ℕ → ℕ → ℕ → ℕ → Table
 twoNames bs bk cs ck =
-    tableOf (record { names = 2; bytes = 2; symbols = 3; sections = 0; inputs = 0; lists = 0; chains = 2; slots = 0; broken = false }) (98 ∷ 99 ∷ [])
-    (0 ∷ 1 ∷ 0 ∷ 1 ∷ 0 ∷ 0 ∷ 0 ∷ 0 ∷ 1 ∷ 1 ∷ 0 ∷ 2 ∷ 0 ∷ 0 ∷ 0 ∷ 0 ∷ 1 ∷ 2 ∷ [])
+    tableOf (record { names = 2; bytes = 2; symbols = 3; sections = 0; inputs = 0; lists = 0; chains = 2; slots = 0; key = 0; broken = false }) (98 ∷ 99 ∷ [])
+    (0 ∷ 1 ∷ 0 ∷ 1 ∷ 0 ∷ 0 ∷ 0 ∷ 0 ∷ 1 ∷ 1 ∷ 1 ∷ 2 ∷ 0 ∷ 0 ∷ 0 ∷ 0 ∷ 0 ∷ 2 ∷ [])
     (1 ∷ 0 ∷ 0 ∷ 0 ∷ 0 ∷ 0 ∷ 0 ∷ 0 ∷ bs ∷ 0 ∷ 0 ∷ 0 ∷ 1 ∷ bk ∷ 0 ∷ 0 ∷ cs ∷ 1 ∷ 0 ∷ 0 ∷ 1 ∷ ck ∷ 0 ∷ 0 ∷ [])
 
 -- both undefined; both defined since; c removed
@@ -87,7 +88,7 @@ abbrev pub nothing : Example
 nothing = exampleOf three (definedTable ∷ undefinedTable ∷ []) [] 1 true
 
 abbrev pub ranExample : Example → Run
-ranExample e = history (e .index) (e .tables) (startRun (e .index) (e .cells))
+ranExample e = history (e .index) (e .tables) (startRun 0 (e .index) (e .cells))
 
 abbrev pub Right : Example → Type 0
 Right e = (ranExample e .offers ≡ e .offers) × (ranExample e .walk .passes ≡ e .passes) × (ranExample e .walk .done ≡ e .done)
@@ -97,7 +98,7 @@ All [] = Unit {0}
 All (e ∷ es) = Right e × All es
 
 pub examples : All (p10 ∷ p11 ∷ firstTied ∷ removedLater ∷ nothing ∷ [])
-unfolding beforeZero hasName nameAt putRow same lesser otherLength judgeSections judgeNames judgeLists afterSymbols afterSections judgeOf mixed hashFrom spread headCell chase seekOf findOf heldBy holderOf countOf offsetOf afterOf cutOf Rows.chainOf Rows.chase Rows.representativeOf Rows.entered Rows.enterOf Rows.enterAll Rows.noHeads Rows.rowsOf openRowsOf openNamesOf openEntriesOf openOf nameChain linkedOf linkAll chainNames judgeTable nameHolder removedName undefinedName begunOf startOf offerOf marked enqueue tieOf tieAll removedOf makeOf searchOf passOf walkFits goOf nextOf stepRun history startRun
+unfolding beforeZero hasName nameAt putRow same lesser judgeSections judgeNames judgeLists afterSymbols afterSections judgeOf wordAt Keyed.folded Keyed.mixed Keyed.hashFrom Keyed.pointOf Keyed.hashOf spread headCell chase seekOf findFrom findOf heldBy holderOf countOf offsetOf afterOf cutOf Rows.descend Rows.spotOf Rows.enterOf Rows.enterAll Rows.noHeads Rows.rowsOf openRowsOf openNamesOf openEntriesOf openOf nameChain along bearsOf borneFrom chained headedOf notedOf judgeTable nameHolder removedName undefinedName begunOf startOf offerOf marked enqueue tieOf tieAll removedOf makeOf searchOf passOf walkFits goOf nextOf stepRun history startRun
 examples =
     ((refl, refl, refl), ((refl, refl, refl), ((refl, refl, refl), ((refl, refl, refl), ((refl, refl, refl), tt)))))
 

@@ -4,11 +4,16 @@ pub mod RoundLaws
 pub mod Chains
 pub mod Runs
 pub mod Pass
+pub mod Bits
 pub mod Entries
+pub mod Depth
 pub mod Steps
 pub mod Walked
 pub mod Required
 pub mod Asked
 pub mod WalkLaws
+pub mod AnyKey
+pub mod Again
 pub mod Answers
 pub mod Examples
+pub mod PassList

@@ -15,10 +15,11 @@ use borrow.Author.Tests.{ne-eqb, ltb-true, ltb-false}
 use Rattle.archive_index.specs.Index.{offsetOf, nameOf}
 use Rattle.archive_index.specs.Rows.{requiredAt, memberAt, passAt, queueAt, storedName}
 use Rattle.archive_walk.specs.Look.{Table, removedName, undefinedName}
+use Rattle.archive_walk.specs.Names.{notedOf}
 use Rattle.archive_walk.specs.Walk.{Queue, queueOf, marked, enqueue, tieOf, tieAll, removedOf}
 use Rattle.archive_laws.specs.Rounds.{among, Once, none, more, isFirst, anyBelow, pullAt, pull}
 use Rattle.archive_laws.specs.Counts.{clash, any-in, any-none, cnt-le, First, first-one, among-here, among-there, Below, one-more, once-members}
-use Rattle.archive_laws.specs.Chains.{Linked, linked-kept}
+use Rattle.archive_laws.specs.Chains.{Linked, linked-kept, noted-field, noted-length, noted-there, noted-here, noted-linked}
 use Rattle.archive_laws.specs.Runs.{queueList}
 
 -- ---- the queue in the cells
@@ -33,13 +34,13 @@ unfolding queueList
 queue-same l m zero h = refl
 queue-same l m (suc n) h = rw (h n (omega arith), queue-same l m n (λ i e. h i (omega arith)))
 
-module _ (s : List ℕ) (c : ℕ) where
+module _ (key : ℕ) (s : List ℕ) (c : ℕ) where
   -- the rows say what the index says
   pub record Rows (l : List ℕ) : Type 0 where
     pub room : c * 8 ≤ length l
     pub name : (k : ℕ) → k < c → storedName s l k ≡ nameOf s c k
     pub member : (k : ℕ) → k < c → First s k (memberAt l k)
-    pub linked : Linked s c c l
+    pub linked : Linked key s c l
 
   -- a representative has a pass just where its member is in the queue
   pub record Marks (l : List ℕ) (n : ℕ) : Type 0 where
@@ -63,42 +64,57 @@ module _ (s : List ℕ) (c : ℕ) where
     kept-queue : (n : ℕ) → ((i : ℕ) → i < n → i * 8 + 7 ≡ a → ⊥) → queueList (set l a v) n ≡ queueList l n
     kept-queue n h = queue-same l (set l a v) n (λ i e. kept-field i 7 (h i e))
 
-    kept-rows : ((j f : ℕ) → 0 < f → f < 6 → j * 8 + f ≡ a → ⊥) → Rows l → Rows (set l a v)
+    pub kept-rows : ((j f : ℕ) → f < 6 → j * 8 + f ≡ a → ⊥) → Rows l → Rows (set l a v)
     kept-rows h y = record {
       room = omega (arith, length-set l a v, y .room);
-      name = λ j e. rw (kept-field j 4 (h j 4 (omega arith) (omega arith)), kept-field j 5 (h j 5 (omega arith) (omega arith))) (y .name j e);
-      member = λ j e. rw (kept-field j 1 (h j 1 (omega arith) (omega arith))) (y .member j e);
-      linked = linked-kept s c c l (set l a v) (λ j f p q. kept-field j f (h j f p q)) (y .linked);
+      name = λ j e. rw (kept-field j 4 (h j 4 (omega arith)), kept-field j 5 (h j 5 (omega arith))) (y .name j e);
+      member = λ j e. rw (kept-field j 1 (h j 1 (omega arith))) (y .member j e);
+      linked = linked-kept key s c l (set l a v) (λ j f q. kept-field j f (h j f q)) (y .linked);
     }
 
-  other-field : (j f k g : ℕ) → 0 < f → f < 6 → (g ≡ 0) ⊎ ((g ≡ 6) ⊎ (g ≡ 7)) → j * 8 + f ≡ k * 8 + g → ⊥
-  other-field j f k g p q (inl b) e = omega arith
-  other-field j f k g p q (inr (inl b)) e = omega arith
-  other-field j f k g p q (inr (inr b)) e = omega arith
+  pub other-field : (j f k g : ℕ) → f < 6 → (g ≡ 6) ⊎ (g ≡ 7) → j * 8 + f ≡ k * 8 + g → ⊥
+  other-field j f k g q (inl b) e = omega arith
+  other-field j f k g q (inr b) e = omega arith
 
-  -- an entry's name is required: nothing else is touched
-  module _ (l : List ℕ) (k n : ℕ) (y : Sound l n) where
-    pub noted-queue : queueList (set l (k * 8 + 0) 1) n ≡ queueList l n
-    noted-queue = kept-queue l (k * 8 + 0) 1 n (λ i h e. omega arith)
+  -- an entry's name is required: its mark is set, and its name is in a chain
+  module _ (l : List ℕ) (k : ℕ) where
+    abbrev noted : List ℕ
+    noted = notedOf key c s l k
 
-    pub noted-rows : Rows (set l (k * 8 + 0) 1)
-    noted-rows = kept-rows l (k * 8 + 0) 1 (λ j f a b. other-field j f k 0 a b (inl refl)) (y .rows)
+    pub noted-member : (j : ℕ) → memberAt noted j ≡ memberAt l j
+    noted-member j = noted-field key s c k l j 1 (omega arith) (λ e. omega arith) (λ e. omega arith) (λ e. omega arith)
 
-    noted-marks : among s k (queueList l n) ≡ true → Marks (set l (k * 8 + 0) 1) n
-    noted-marks queued = record {
-      mark = λ j h.
-          rw (noted-queue, kept-field l (k * 8 + 0) 1 j 1 (λ e. omega arith), kept-field l (k * 8 + 0) 1 (memberAt l j) 6 (λ e. omega arith)) (y .marks .mark j h);
-      once = rw noted-queue (y .marks .once);
-      below = rw noted-queue (y .marks .below);
-      unmarked = λ j h f. other j h (rw noted-queue at f);
+    pub noted-pass : (j : ℕ) → passAt noted j ≡ passAt l j
+    noted-pass j = noted-field key s c k l j 6 (omega arith) (λ e. omega arith) (λ e. omega arith) (λ e. omega arith)
+
+    pub noted-queue : (n : ℕ) → queueList noted n ≡ queueList l n
+    noted-queue n = queue-same l noted n (λ i e. noted-field key s c k l i 7 (omega arith) (λ z. omega arith) (λ z. omega arith) (λ z. omega arith))
+
+    pub noted-rows : k < c → Rows l → Rows noted
+    noted-rows h y = record {
+      room = omega (arith, noted-length key s c k l, y .room);
+      name = λ j e. rw (keep j 4 (omega arith) (λ z. omega arith) (λ z. omega arith) (λ z. omega arith), keep j 5 (omega arith) (λ z. omega arith) (λ z. omega arith) (λ z. omega arith)) (y .name j e);
+      member = λ j e. rw (noted-member j) (y .member j e);
+      linked = noted-linked key s c k l (y .room) h (y .linked);
     }
       where
-        other : (j : ℕ) → j < c → among s j (queueList l n) ≡ false → requiredAt (set l (k * 8 + 0) 1) j ≡ 0
-        other j h f =
-            kept-field l (k * 8 + 0) 1 j 0 (λ e. let d : j ≡ k = omega arith in clash (among s k (queueList l n)) queued (rw d at f)) ∙ y .marks .unmarked j h f
+        keep : (j g : ℕ) → g < 8 → (g ≡ 0 → ⊥) → (g ≡ 2 → ⊥) → (g ≡ 3 → ⊥) → getD noted (j * 8 + g) 0 ≡ getD l (j * 8 + g) 0
+        keep j g h p q z = noted-field key s c k l j g h p q z
 
-    pub noted-sound : among s k (queueList l n) ≡ true → Sound (set l (k * 8 + 0) 1) n
-    noted-sound queued = record { rows = noted-rows; marks = noted-marks queued }
+    module _ (n : ℕ) (y : Sound l n) where
+      noted-marks : among s k (queueList l n) ≡ true → Marks noted n
+      noted-marks queued = record {
+        mark = λ j h. rw (noted-queue n, noted-member j, noted-pass (memberAt l j)) (y .marks .mark j h);
+        once = rw (noted-queue n) (y .marks .once);
+        below = rw (noted-queue n) (y .marks .below);
+        unmarked = λ j h f. other j h (rw (noted-queue n) at f);
+      }
+        where
+          other : (j : ℕ) → j < c → among s j (queueList l n) ≡ false → requiredAt noted j ≡ 0
+          other j h f = noted-there key s c k l j (λ d. clash (among s k (queueList l n)) queued (rw d at f)) ∙ y .marks .unmarked j h f
+
+      pub noted-sound : k < c → among s k (queueList l n) ≡ true → Sound noted n
+      noted-sound h queued = record { rows = noted-rows h (y .rows); marks = noted-marks queued }
 
   -- entry k goes to the end of the queue
   module _ (p k : ℕ) (l : List ℕ) (n : ℕ) (y : Sound l n) (h : k < c) (pos : p ≡ 0 → ⊥) (free : among s k (queueList l n) ≡ false) where
@@ -106,13 +122,13 @@ module _ (s : List ℕ) (c : ℕ) where
     r = memberAt l k
 
     abbrev a : List ℕ
-    a = set l (k * 8 + 0) 1
+    a = notedOf key c s l k
 
     abbrev b : List ℕ
     b = set a (r * 8 + 6) p
 
     a-rows : Rows a
-    a-rows = noted-rows l k n y
+    a-rows = noted-rows l k h (y .rows)
 
     -- there is room: as many members are queued as are named at most
     room-left : n < c
@@ -122,19 +138,19 @@ module _ (s : List ℕ) (c : ℕ) where
         omega (arith, queue-length l n, once-members s c (k ∷ queueList l n) o w, cnt-le (isFirst s) c)
 
     b-rows : Rows b
-    b-rows = kept-rows a (r * 8 + 6) p (λ j f d e. other-field j f r 6 d e (inr (inl refl))) a-rows
+    b-rows = kept-rows a (r * 8 + 6) p (λ j f d e. other-field j f r 6 d (inl refl) e) a-rows
 
     abbrev m : List ℕ
-    m = marked p k r l n
+    m = marked key c s p k r l n
 
     m-rows : Rows m
     unfolding marked
-    m-rows = kept-rows b (n * 8 + 7) k (λ j f d e. other-field j f n 7 d e (inr (inr refl))) b-rows
+    m-rows = kept-rows b (n * 8 + 7) k (λ j f d e. other-field j f n 7 d (inr refl) e) b-rows
 
     pub m-member : (j : ℕ) → memberAt m j ≡ memberAt l j
     unfolding marked
     m-member j =
-        kept-field b (n * 8 + 7) k j 1 (λ e. omega arith) ∙ kept-field a (r * 8 + 6) p j 1 (λ e. omega arith) ∙ kept-field l (k * 8 + 0) 1 j 1 (λ e. omega arith)
+        kept-field b (n * 8 + 7) k j 1 (λ e. omega arith) ∙ kept-field a (r * 8 + 6) p j 1 (λ e. omega arith) ∙ noted-member l k j
 
     m-queue : queueList m (n + 1) ≡ k ∷ queueList l n
     unfolding marked queueList
@@ -142,7 +158,7 @@ module _ (s : List ℕ) (c : ℕ) where
         let inside : n * 8 + 7 < length b = omega (arith, b-rows .room, room-left) in
         let here : queueAt m n ≡ k = getD-set-same b (n * 8 + 7) k 0 inside in
         let rest : queueList m n ≡ queueList l n =
-        kept-queue b (n * 8 + 7) k n (λ i e g. omega arith) ∙ kept-queue a (r * 8 + 6) p n (λ i e g. omega arith) ∙ kept-queue l (k * 8 + 0) 1 n (λ i e g. omega arith) in
+        kept-queue b (n * 8 + 7) k n (λ i e g. omega arith) ∙ kept-queue a (r * 8 + 6) p n (λ i e g. omega arith) ∙ noted-queue l k n in
         ap (λ (i : ℕ). queueList m i) (add-one n) ∙ ap₂ _∷_ here rest
 
     pub m-pass-here : passAt m r ≡ p
@@ -155,7 +171,7 @@ module _ (s : List ℕ) (c : ℕ) where
     pub m-pass-other : (q : ℕ) → (q ≡ r → ⊥) → passAt m q ≡ passAt l q
     unfolding marked
     m-pass-other q e =
-        kept-field b (n * 8 + 7) k q 6 (λ g. omega arith) ∙ kept-field a (r * 8 + 6) p q 6 (λ g. e (omega arith)) ∙ kept-field l (k * 8 + 0) 1 q 6 (λ g. omega arith)
+        kept-field b (n * 8 + 7) k q 6 (λ g. omega arith) ∙ kept-field a (r * 8 + 6) p q 6 (λ g. e (omega arith)) ∙ noted-pass l k q
 
     m-mark : (j : ℕ) → j < c → eqb (passAt m (memberAt m j)) 0 ≡ not (among s j (queueList m (n + 1)))
     m-mark j g = rw (m-queue, m-member j) (go (ℕ-discrete (offsetOf s k) (offsetOf s j)))
@@ -181,22 +197,22 @@ module _ (s : List ℕ) (c : ℕ) where
         go (yes e) w = clash (among s j (k ∷ queueList l n)) (among-here s (queueList l n) k j e) w
         go (no e) w =
             kept-field b (n * 8 + 7) k j 0 (λ z. omega arith) ∙ kept-field a (r * 8 + 6) p j 0 (λ z. omega arith)
-            ∙ kept-field l (k * 8 + 0) 1 j 0 (λ z. let d : k ≡ j = omega arith in e (ap (offsetOf s) d))
+            ∙ noted-there key s c k l j (λ d. e (ap (offsetOf s) (sym d)))
             ∙ y .marks .unmarked j g (sym (among-there s (queueList l n) k j e) ∙ w)
 
-    pub marked-sound : Sound (marked p k r l n) (n + 1)
+    pub marked-sound : Sound (marked key c s p k r l n) (n + 1)
     marked-sound = record {
       rows = m-rows;
       marks = record { mark = m-mark; once = rw m-queue (more free (y .marks .once)); below = rw m-queue (one-more h (y .marks .below)); unmarked = m-unmarked };
     }
 
     -- what was queued before stays
-    pub marked-front : (i : ℕ) → i ≤ n → queueList (marked p k r l n) i ≡ queueList l i
+    pub marked-front : (i : ℕ) → i ≤ n → queueList (marked key c s p k r l n) i ≡ queueList l i
     unfolding marked
     marked-front i g =
-        kept-queue b (n * 8 + 7) k i (λ j e d. omega arith) ∙ kept-queue a (r * 8 + 6) p i (λ j e d. omega arith) ∙ kept-queue l (k * 8 + 0) 1 i (λ j e d. omega arith)
+        kept-queue b (n * 8 + 7) k i (λ j e d. omega arith) ∙ kept-queue a (r * 8 + 6) p i (λ j e d. omega arith) ∙ noted-queue l k i
 
-    pub marked-queue : queueList (marked p k r l n) (n + 1) ≡ k ∷ queueList l n
+    pub marked-queue : queueList (marked key c s p k r l n) (n + 1) ≡ k ∷ queueList l n
     marked-queue = m-queue
 
   -- ---- an entry of the pass
@@ -205,13 +221,13 @@ module _ (s : List ℕ) (c : ℕ) where
   abbrev pub Low : ℕ → List ℕ → Type 0
   Low p l = (j : ℕ) → j < c → passAt l (memberAt l j) ≤ p
 
-  noted-low : (p : ℕ) (l : List ℕ) (k : ℕ) → Low p l → Low p (set l (k * 8 + 0) 1)
-  noted-low p l k w j g = rw (kept-field l (k * 8 + 0) 1 j 1 (λ e. omega arith), kept-field l (k * 8 + 0) 1 (memberAt l j) 6 (λ e. omega arith)) (w j g)
+  noted-low : (p : ℕ) (l : List ℕ) (k : ℕ) → Low p l → Low p (notedOf key c s l k)
+  noted-low p l k w j g = rw (noted-member l k j, noted-pass l k (memberAt l j)) (w j g)
 
-  marked-low : (p k : ℕ) (l : List ℕ) (n : ℕ) (y : Sound l n) (h : k < c) (pos : p ≡ 0 → ⊥) (free : among s k (queueList l n) ≡ false) → Low p l → Low p (marked p k (memberAt l k) l n)
+  marked-low : (p k : ℕ) (l : List ℕ) (n : ℕ) (y : Sound l n) (h : k < c) (pos : p ≡ 0 → ⊥) (free : among s k (queueList l n) ≡ false) → Low p l → Low p (marked key c s p k (memberAt l k) l n)
   marked-low p k l n y h pos free w j g = rw (m-member p k l n y h pos free j) (go (ℕ-discrete (memberAt l j) (memberAt l k)))
     where
-      go : Dec (memberAt l j ≡ memberAt l k) → passAt (marked p k (memberAt l k) l n) (memberAt l j) ≤ p
+      go : Dec (memberAt l j ≡ memberAt l k) → passAt (marked key c s p k (memberAt l k) l n) (memberAt l j) ≤ p
       go (yes d) = rw (d, m-pass-here p k l n y h pos free) (omega arith)
       go (no d) = rw (m-pass-other p k l n y h pos free (memberAt l j) d) (w j g)
 
@@ -227,7 +243,7 @@ module _ (s : List ℕ) (c : ℕ) where
     abbrev tie : ℕ → Bool
     tie k = undefinedName t (nameOf s c k)
 
-    made-at : (k : ℕ) (l : List ℕ) (n : ℕ) → k < c → Sound l n → Made p l n (pullAt s tie (queueList l n) k) (tieOf s t p k (queueOf l n))
+    made-at : (k : ℕ) (l : List ℕ) (n : ℕ) → k < c → Sound l n → Made p l n (pullAt s tie (queueList l n) k) (tieOf key c s t p k (queueOf l n))
     unfolding tieOf enqueue pullAt
     made-at k l n h y =
         rw (y .rows .name k h)
@@ -238,7 +254,7 @@ module _ (s : List ℕ) (c : ℕ) where
 
         go : (u x w f : Bool) → among s k (queueList l n) ≡ f → x ≡ not f
             → Made p l n (cond u (cond f (queueList l n) (k ∷ queueList l n)) (queueList l n))
-            (cond u (cond x (queueOf (marked p k (memberAt l k) l n) (n + 1)) (cond w (queueOf (set l (k * 8 + 0) 1) n) (queueOf l n))) (queueOf l n))
+            (cond u (cond x (queueOf (marked key c s p k (memberAt l k) l n) (n + 1)) (cond w (queueOf (notedOf key c s l k) n) (queueOf l n))) (queueOf l n))
         go false x w f e d = none
         go true true w false e d = record {
           sound = marked-sound p k l n y h pos e;
@@ -250,22 +266,22 @@ module _ (s : List ℕ) (c : ℕ) where
         go true false w false e d = clash false d refl
         go true true w true e d = clash true refl d
         go true false true true e d = record {
-          sound = noted-sound l k n y e;
-          queue = noted-queue l k n y;
+          sound = noted-sound l k n y h e;
+          queue = noted-queue l k n;
           more = omega arith;
-          front = λ i g. kept-queue l (k * 8 + 0) 1 i (λ j a z. omega arith);
+          front = λ i g. noted-queue l k i;
           low = noted-low p l k;
         }
         go true false false true e d = none
 
     -- the n entries from k on
     made-run : (n k : ℕ) (u : Queue) → k + n ≡ c → Sound (u .cells) (u .queued)
-        → Made p (u .cells) (u .queued) (pull s tie n k (queueList (u .cells) (u .queued))) (tieAll s t p n k u)
+        → Made p (u .cells) (u .queued) (pull s tie n k (queueList (u .cells) (u .queued))) (tieAll key c s t p n k u)
     unfolding tieAll pull
     made-run zero k u e y = record { sound = y; queue = refl; more = omega arith; front = λ i g. refl; low = λ w. w }
     made-run (suc n) k u e y =
         let m = made-at k (u .cells) (u .queued) (omega arith) y in
-        let r = made-run n (k + 1) (tieOf s t p k u) (omega arith) (m .sound) in
+        let r = made-run n (k + 1) (tieOf key c s t p k u) (omega arith) (m .sound) in
         record {
           sound = r .sound;
           queue = r .queue ∙ ap (λ (q : List ℕ). pull s tie n (k + 1) q) (m .queue);
@@ -275,7 +291,7 @@ module _ (s : List ℕ) (c : ℕ) where
         }
 
     -- a pass over the cells queues what the definition pulls
-    pub made-pass : (l : List ℕ) (n : ℕ) → Sound l n → Made p l n (pull s tie c 0 (queueList l n)) (tieAll s t p c 0 (queueOf l n))
+    pub made-pass : (l : List ℕ) (n : ℕ) → Sound l n → Made p l n (pull s tie c 0 (queueList l n)) (tieAll key c s t p c 0 (queueOf l n))
     made-pass l n y = made-run c 0 (queueOf l n) (omega arith) y
 
   -- ---- the search for a removed name

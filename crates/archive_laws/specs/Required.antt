@@ -14,29 +14,25 @@ use borrow.Author.Tests.{eq-eqb, ne-eqb}
 use Rattle.archive_index.specs.Index.{offsetOf, nameOf}
 use Rattle.archive_index.specs.Rows.{requiredAt, memberAt, passAt}
 use Rattle.archive_walk.specs.Look.{Table, undefinedName}
+use Rattle.archive_walk.specs.Names.{notedOf}
 use Rattle.archive_walk.specs.Walk.{Queue, queueOf, marked, enqueue, tieOf, tieAll}
 use Rattle.archive_laws.specs.Rounds.{among}
 use Rattle.archive_laws.specs.Counts.{clash, first-one, among-same, among-here, among-there, among-more}
 use Rattle.archive_laws.specs.Runs.{queueList}
-use Rattle.archive_laws.specs.Pass.{Sound, kept-field, m-member, m-pass-here, m-pass-other, marked-sound, marked-queue, noted-sound, noted-queue}
+use Rattle.archive_laws.specs.Chains.{noted-there, noted-here}
+use Rattle.archive_laws.specs.Pass.{Sound, m-member, m-pass-here, m-pass-other, marked-sound, marked-queue, noted-sound, noted-member, noted-pass, noted-queue}
 
 -- a field 0 after an entry was queued
-module _ (p k r : ℕ) (l : List ℕ) (n : ℕ) where
-  mark-here : k * 8 + 0 < length l → requiredAt (marked p k r l n) k ≡ 1
-  unfolding marked
-  mark-here h =
-      getD-set-other (set (set l (k * 8 + 0) 1) (r * 8 + 6) p) (n * 8 + 7) (k * 8 + 0) k 0 (λ e. omega arith)
-      ∙ getD-set-other (set l (k * 8 + 0) 1) (r * 8 + 6) (k * 8 + 0) p 0 (λ e. omega arith)
-      ∙ getD-set-same l (k * 8 + 0) 1 0 h
+module _ (key : ℕ) (s : List ℕ) (c p k r : ℕ) (l : List ℕ) (n : ℕ) where
+  abbrev a : List ℕ
+  a = notedOf key c s l k
 
-  mark-there : (j : ℕ) → (j ≡ k → ⊥) → requiredAt (marked p k r l n) j ≡ requiredAt l j
+  mark-kept : (j : ℕ) → requiredAt (marked key c s p k r l n) j ≡ requiredAt a j
   unfolding marked
-  mark-there j d =
-      getD-set-other (set (set l (k * 8 + 0) 1) (r * 8 + 6) p) (n * 8 + 7) (j * 8 + 0) k 0 (λ e. omega arith)
-      ∙ getD-set-other (set l (k * 8 + 0) 1) (r * 8 + 6) (j * 8 + 0) p 0 (λ e. omega arith)
-      ∙ getD-set-other l (k * 8 + 0) (j * 8 + 0) 1 0 (λ e. d (omega arith))
+  mark-kept j =
+      getD-set-other (set a (r * 8 + 6) p) (n * 8 + 7) (j * 8 + 0) k 0 (λ e. omega arith) ∙ getD-set-other a (r * 8 + 6) (j * 8 + 0) p 0 (λ e. omega arith)
 
-module _ (s : List ℕ) (c : ℕ) (t : Table) (p : ℕ) (pos : p ≡ 0 → ⊥) (l₀ : List ℕ) (n₀ : ℕ) where
+module _ (key : ℕ) (s : List ℕ) (c : ℕ) (t : Table) (p : ℕ) (pos : p ≡ 0 → ⊥) (l₀ : List ℕ) (n₀ : ℕ) where
   abbrev q₀ : List ℕ
   q₀ = queueList l₀ n₀
 
@@ -49,7 +45,7 @@ module _ (s : List ℕ) (c : ℕ) (t : Table) (p : ℕ) (pos : p ≡ 0 → ⊥) 
 
   -- in the middle of the pass, before entry k
   record Mid (k : ℕ) (l : List ℕ) (n : ℕ) : Type 0 where
-    sound : Sound s c l n
+    sound : Sound key s c l n
     old : (j : ℕ) → among s j q₀ ≡ true → among s j (queueList l n) ≡ true
     by : (j : ℕ) → j < c → eqb (passAt l (memberAt l j)) p ≡ cond (among s j q₀) false (among s j (queueList l n))
     done : (j : ℕ) → j < k → requiredAt l j ≡ markOf j
@@ -72,7 +68,7 @@ module _ (s : List ℕ) (c : ℕ) (t : Table) (p : ℕ) (pos : p ≡ 0 → ⊥) 
 
     -- entry k's mark is set, the others are as they were
     module _ (l′ : List ℕ) (n′ : ℕ) (one : markOf k ≡ 1) (here : requiredAt l′ k ≡ 1) (there : (j : ℕ) → (j ≡ k → ⊥) → requiredAt l′ j ≡ requiredAt l j)
-        (sound′ : Sound s c l′ n′) (old′ : (j : ℕ) → among s j q₀ ≡ true → among s j (queueList l′ n′) ≡ true)
+        (sound′ : Sound key s c l′ n′) (old′ : (j : ℕ) → among s j q₀ ≡ true → among s j (queueList l′ n′) ≡ true)
         (by′ : (j : ℕ) → j < c → eqb (passAt l′ (memberAt l′ j)) p ≡ cond (among s j q₀) false (among s j (queueList l′ n′))) where
       set-one : Mid (k + 1) l′ n′
       set-one = record {
@@ -87,31 +83,30 @@ module _ (s : List ℕ) (c : ℕ) (t : Table) (p : ℕ) (pos : p ≡ 0 → ⊥) 
           at j g (yes d) = rw d (here ∙ sym one)
           at j g (no d) = there j d ∙ m .done j (omega arith)
 
-    noted : markOf k ≡ 1 → among s k (queueList l n) ≡ true → Mid (k + 1) (set l (k * 8 + 0) 1) n
+    noted : markOf k ≡ 1 → among s k (queueList l n) ≡ true → Mid (k + 1) (notedOf key c s l k) n
     noted one held =
-        set-one (set l (k * 8 + 0) 1) n one (getD-set-same l (k * 8 + 0) 1 0 (omega (arith, m .sound .rows .room)))
-        (λ j d. getD-set-other l (k * 8 + 0) (j * 8 + 0) 1 0 (λ e. d (omega arith))) (noted-sound s c l k n (m .sound) held) (λ j e. rw (noted-queue s c l k n (m .sound)) (m .old j e))
-        (λ j g. rw (noted-queue s c l k n (m .sound), kept-field s c l (k * 8 + 0) 1 j 1 (λ e. omega arith), kept-field s c l (k * 8 + 0) 1 (memberAt l j) 6 (λ e. omega arith)) (m .by j g))
+        set-one (notedOf key c s l k) n one (noted-here key s c k l (m .sound .rows .room) h) (noted-there key s c k l) (noted-sound key s c l k n (m .sound) h held)
+        (λ j e. rw (noted-queue key s c l k n) (m .old j e)) (λ j g. rw (noted-queue key s c l k n, noted-member key s c l k j, noted-pass key s c l k (memberAt l j)) (m .by j g))
 
-    queued : markOf k ≡ 1 → among s k (queueList l n) ≡ false → Mid (k + 1) (marked p k (memberAt l k) l n) (n + 1)
+    queued : markOf k ≡ 1 → among s k (queueList l n) ≡ false → Mid (k + 1) (marked key c s p k (memberAt l k) l n) (n + 1)
     queued one free =
-        set-one (marked p k (memberAt l k) l n) (n + 1) one here there (marked-sound s c p k l n (m .sound) h pos free) (λ j e. rw (marked-queue s c p k l n (m .sound) h pos free) (among-more s (queueList l n) k j (m .old j e)))
-        (λ j g. rw (marked-queue s c p k l n (m .sound) h pos free, m-member s c p k l n (m .sound) h pos free j) (at j g (ℕ-discrete (offsetOf s k) (offsetOf s j))))
+        set-one (marked key c s p k (memberAt l k) l n) (n + 1) one here there (marked-sound key s c p k l n (m .sound) h pos free) (λ j e. rw (marked-queue key s c p k l n (m .sound) h pos free) (among-more s (queueList l n) k j (m .old j e)))
+        (λ j g. rw (marked-queue key s c p k l n (m .sound) h pos free, m-member key s c p k l n (m .sound) h pos free j) (at j g (ℕ-discrete (offsetOf s k) (offsetOf s j))))
       where
-        here : requiredAt (marked p k (memberAt l k) l n) k ≡ 1
-        here = mark-here p k (memberAt l k) l n (omega (arith, m .sound .rows .room))
+        here : requiredAt (marked key c s p k (memberAt l k) l n) k ≡ 1
+        here = mark-kept key s c p k (memberAt l k) l n k ∙ noted-here key s c k l (m .sound .rows .room) h
 
-        there : (j : ℕ) → (j ≡ k → ⊥) → requiredAt (marked p k (memberAt l k) l n) j ≡ requiredAt l j
-        there j d = mark-there p k (memberAt l k) l n j d
+        there : (j : ℕ) → (j ≡ k → ⊥) → requiredAt (marked key c s p k (memberAt l k) l n) j ≡ requiredAt l j
+        there j d = mark-kept key s c p k (memberAt l k) l n j ∙ noted-there key s c k l j d
 
         at : (j : ℕ) → j < c → Dec (offsetOf s k ≡ offsetOf s j)
-            → eqb (passAt (marked p k (memberAt l k) l n) (memberAt l j)) p ≡ cond (among s j q₀) false (among s j (k ∷ queueList l n))
+            → eqb (passAt (marked key c s p k (memberAt l k) l n) (memberAt l j)) p ≡ cond (among s j q₀) false (among s j (k ∷ queueList l n))
         at j g (yes e) =
             let first-j = m .sound .rows .member j g in
             let first-k = m .sound .rows .member k h in
             let same-rep : memberAt l j ≡ memberAt l k = first-one s (memberAt l j) (memberAt l k) (first-j .first) (first-k .first) (first-j .same ∙ sym e ∙ sym (first-k .same)) in
             let fresh : among s j q₀ ≡ false = not-old j (sym (among-same s (queueList l n) k j e) ∙ free) in
-            rw (same-rep, m-pass-here s c p k l n (m .sound) h pos free, fresh, among-here s (queueList l n) k j e, eq-eqb p p refl)
+            rw (same-rep, m-pass-here key s c p k l n (m .sound) h pos free, fresh, among-here s (queueList l n) k j e, eq-eqb p p refl)
           where
             not-old : (j : ℕ) → among s j (queueList l n) ≡ false → among s j q₀ ≡ false
             not-old j f = go (among s j q₀) refl
@@ -122,7 +117,7 @@ module _ (s : List ℕ) (c : ℕ) (t : Table) (p : ℕ) (pos : p ≡ 0 → ⊥) 
         at j g (no e) =
             let first-j = m .sound .rows .member j g in
             let first-k = m .sound .rows .member k h in
-            rw (m-pass-other s c p k l n (m .sound) h pos free (memberAt l j) (λ d. e (sym (first-k .same) ∙ sym (ap (offsetOf s) d) ∙ first-j .same)), among-there s (queueList l n) k j e) (m .by j g)
+            rw (m-pass-other key s c p k l n (m .sound) h pos free (memberAt l j) (λ d. e (sym (first-k .same) ∙ sym (ap (offsetOf s) d) ∙ first-j .same)), among-there s (queueList l n) k j e) (m .by j g)
 
     not-before : among s k (queueList l n) ≡ false → among s k q₀ ≡ false
     not-before f = go (among s k q₀) refl
@@ -131,7 +126,7 @@ module _ (s : List ℕ) (c : ℕ) (t : Table) (p : ℕ) (pos : p ≡ 0 → ⊥) 
         go false e = e
         go true e = clash (among s k (queueList l n)) (m .old k e) f
 
-    mid-step : Mid (k + 1) (tieOf s t p k (queueOf l n) .cells) (tieOf s t p k (queueOf l n) .queued)
+    mid-step : Mid (k + 1) (tieOf key c s t p k (queueOf l n) .cells) (tieOf key c s t p k (queueOf l n) .queued)
     unfolding tieOf enqueue
     mid-step =
         rw (m .sound .rows .name k h)
@@ -143,8 +138,8 @@ module _ (s : List ℕ) (c : ℕ) (t : Table) (p : ℕ) (pos : p ≡ 0 → ⊥) 
 
         go : (u a b x w : Bool) → tie k ≡ u → among s k q₀ ≡ x → among s k (queueList l n) ≡ w → a ≡ not w → b ≡ cond x false w
             → Mid (k + 1)
-            ((cond {A = Queue} u (cond a (queueOf (marked p k (memberAt l k) l n) (n + 1)) (cond b (queueOf (set l (k * 8 + 0) 1) n) (queueOf l n))) (queueOf l n)) .cells)
-            ((cond {A = Queue} u (cond a (queueOf (marked p k (memberAt l k) l n) (n + 1)) (cond b (queueOf (set l (k * 8 + 0) 1) n) (queueOf l n))) (queueOf l n)) .queued)
+            ((cond {A = Queue} u (cond a (queueOf (marked key c s p k (memberAt l k) l n) (n + 1)) (cond b (queueOf (notedOf key c s l k) n) (queueOf l n))) (queueOf l n)) .cells)
+            ((cond {A = Queue} u (cond a (queueOf (marked key c s p k (memberAt l k) l n) (n + 1)) (cond b (queueOf (notedOf key c s l k) n) (queueOf l n))) (queueOf l n)) .queued)
         go false a b x w eu ex ew ea eb = skipped (sym (rw eu))
         go true true b x false eu ex ew ea eb = queued (unit eu (not-before ew)) ew
         go true true b x true eu ex ew ea eb = clash true refl ea
@@ -154,13 +149,13 @@ module _ (s : List ℕ) (c : ℕ) (t : Table) (p : ℕ) (pos : p ≡ 0 → ⊥) 
         go true false false false true eu ex ew ea eb = clash true refl (sym eb)
         go true false false false false eu ex ew ea eb = clash true refl (sym ea)
 
-  mid-run : (i k : ℕ) (u : Queue) → k + i ≡ c → Mid k (u .cells) (u .queued) → Mid c (tieAll s t p i k u .cells) (tieAll s t p i k u .queued)
+  mid-run : (i k : ℕ) (u : Queue) → k + i ≡ c → Mid k (u .cells) (u .queued) → Mid c (tieAll key c s t p i k u .cells) (tieAll key c s t p i k u .queued)
   unfolding tieAll
   mid-run zero k u e m = let f : k ≡ c = omega arith in subst (λ (x : ℕ). Mid x (u .cells) (u .queued)) f m
-  mid-run (suc i) k u e m = mid-run i (k + 1) (tieOf s t p k u) (omega arith) (mid-step k (u .cells) (u .queued) (omega arith) m)
+  mid-run (suc i) k u e m = mid-run i (k + 1) (tieOf key c s t p k u) (omega arith) (mid-step k (u .cells) (u .queued) (omega arith) m)
 
   -- the marks after a pass
-  pub required-pass : Sound s c l₀ n₀ → ((j : ℕ) → j < c → passAt l₀ (memberAt l₀ j) < p) → (j : ℕ) → j < c → requiredAt (tieAll s t p c 0 (queueOf l₀ n₀) .cells) j ≡ markOf j
+  pub required-pass : Sound key s c l₀ n₀ → ((j : ℕ) → j < c → passAt l₀ (memberAt l₀ j) < p) → (j : ℕ) → j < c → requiredAt (tieAll key c s t p c 0 (queueOf l₀ n₀) .cells) j ≡ markOf j
   required-pass y w j h = mid-run c 0 (queueOf l₀ n₀) (omega arith) begin .done j h
     where
       never : (b : Bool) → cond b false b ≡ false

@@ -60,11 +60,11 @@ abbrev pub begunRun : List ℕ → Walk → Run
 begunRun l w = runOf l w []
 
 -- of the last pass: no walk is done before a pass, and none begins as done
-pub begun-some-pass : (l : List ℕ) (c n : ℕ) → begunRun l (freshWalk c n) .walk .done ≡ true → 1 ≤ begunRun l (freshWalk c n) .walk .passes
-begun-some-pass l c n e = absurd (false≢true e)
+pub begun-some-pass : (l : List ℕ) (key c n : ℕ) → begunRun l (freshWalk key c n) .walk .done ≡ true → 1 ≤ begunRun l (freshWalk key c n) .walk .passes
+begun-some-pass l key c n e = absurd (false≢true e)
 
-unfoldable pub startRun : List ℕ → List ℕ → Run
-startRun s l = begunRun (startOf s l .cells) (startOf s l .started .walk)
+unfoldable pub startRun : ℕ → List ℕ → List ℕ → Run
+startRun key s l = begunRun (startOf key s l .cells) (startOf key s l .started .walk)
 
 -- as rounds of the definition
 abbrev pub seen : Run → Rounds

@@ -22,7 +22,7 @@ use Rattle.archive_laws.specs.RoundLaws.{Kept}
 use Rattle.archive_laws.specs.Runs.{queueList, viewOf, Run, runOf, ranOf, stepRun, seen}
 use Rattle.archive_laws.specs.Pass.{queue-length, Sound, Low, Made, made-pass, search-is}
 
-module _ (s : List ℕ) (c : ℕ) where
+module _ (key : ℕ) (s : List ℕ) (c : ℕ) where
   -- ---- the ways of a call of the definition
 
   module _ (v : View) (q : List ℕ) (o p : ℕ) where
@@ -48,41 +48,42 @@ module _ (s : List ℕ) (c : ℕ) where
       round-last h = rw (e, f, ← g, h)
 
   abbrev pub walkAt : ℕ → ℕ → ℕ → ℕ → Bool → Walk
-  walkAt n p q o d = record { entries = c; length = n; passes = p; queued = q; offered = o; done = d }
+  walkAt n p q o d = record { key = key; entries = c; length = n; passes = p; queued = q; offered = o; done = d }
 
   -- a run's cells, counts and answers fit
   pub record Fine (r : Run) : Type 0 where
+    pub keyed : r .walk .key ≡ key
     pub entries : r .walk .entries ≡ c
     pub whole : r .walk .length ≤ length s
-    pub sound : Sound s c (r .cells) (r .walk .queued)
-    pub low : Low s c (r .walk .passes) (r .cells)
+    pub sound : Sound key s c (r .cells) (r .walk .queued)
+    pub low : Low key s c (r .walk .passes) (r .cells)
     pub sent : r .offers ≡ queueList (r .cells) (r .walk .offered)
 
   record Agree (t : Table) (l : List ℕ) (q : ℕ) (a : Rounds) (r : Run) : Type 0 where
     fine : Fine r
     same : seen r ≡ round s c (viewOf s c t) a
-    wrote : r .walk .passes ≡ a .passes + 1 → r .cells ≡ tieAll s t (a .passes + 1) c 0 (queueOf l q) .cells
+    wrote : r .walk .passes ≡ a .passes + 1 → r .cells ≡ tieAll key c s t (a .passes + 1) c 0 (queueOf l q) .cells
     left : (r .walk .passes ≡ a .passes + 1 → ⊥) → r .cells ≡ l
 
   -- the counts of a walk that goes on are those of a walk
-  pub going-fits : (l : List ℕ) (n p q o : ℕ) → n ≤ length s → Sound s c l q → Kept s c (roundsOf (queueList l q) o p false)
+  pub going-fits : (l : List ℕ) (n p q o : ℕ) → n ≤ length s → Sound key s c l q → Kept s c (roundsOf (queueList l q) o p false)
       → walkFits s l (walkAt n p q o false) ≡ true
   going-fits l n p q o h y k =
       let long : length (queueList l q) ≡ q = queue-length l q in
       let few : length (queueList l q) ≤ members s c = once-members s c (queueList l q) (y .marks .once) (y .marks .below) in
       sym (fits-all s l (walkAt n p q o false) true h (omega (arith, y .rows .room)) (omega (arith, cnt-le (isFirst s) c)) (omega (arith, k .some)) (omega (arith, k .going refl)) refl)
 
-  module _ (t : Table) (l : List ℕ) (n p q o : ℕ) (os : List ℕ) (h : n ≤ length s) (y : Sound s c l q) (b : Low s c p l) (e : os ≡ queueList l o) where
+  module _ (t : Table) (l : List ℕ) (n p q o : ℕ) (os : List ℕ) (h : n ≤ length s) (y : Sound key s c l q) (b : Low key s c p l) (e : os ≡ queueList l o) where
     abbrev v : View
     v = viewOf s c t
 
     abbrev u : Queue
-    u = tieAll s t (p + 1) c 0 (queueOf l q)
+    u = tieAll key c s t (p + 1) c 0 (queueOf l q)
 
-    made : Made s c (p + 1) l q (pull s (v .tied) c 0 (queueList l q)) u
-    made = made-pass s c t (p + 1) (λ z. omega arith) l q y
+    made : Made key s c (p + 1) l q (pull s (v .tied) c 0 (queueList l q)) u
+    made = made-pass key s c t (p + 1) (λ z. omega arith) l q y
 
-    later : Low s c (p + 1) l
+    later : Low key s c (p + 1) l
     later j g = omega (arith, b j g)
 
     one-sent : (m : List ℕ) → os ≡ queueList m o → queueAt m o ∷ os ≡ queueList m (o + 1)
@@ -97,14 +98,14 @@ module _ (s : List ℕ) (c : ℕ) where
 
     -- a refusal leaves the run
     left-alone : Fine (runOf l (walkAt n p q o false) os)
-    left-alone = record { entries = refl; whole = h; sound = y; low = b; sent = e }
+    left-alone = record { keyed = refl; entries = refl; whole = h; sound = y; low = b; sent = e }
 
     -- the definition's test for a refusal, at each way
     judged-out : eqb (judgeTable t .number) 0 ≡ false → v .refused ≡ true
     judged-out f = rw f
 
     judged-in : (b : Bool) → eqb (judgeTable t .number) 0 ≡ true → ltb (removedOf s l t c 0) c ≡ b → v .refused ≡ b
-    judged-in b f g = rw f (sym (search-is s c l t (y .rows)) ∙ g)
+    judged-in b f g = rw f (sym (search-is key s c l t (y .rows)) ∙ g)
 
     step-going : Kept s c (roundsOf (queueList l q) o p false) → Agree t l q (roundsOf (queueList l q) o p false) (stepRun s t (runOf l (walkAt n p q o false) os))
     unfolding stepRun nextOf goOf offerOf passOf searchOf makeOf
@@ -127,7 +128,7 @@ module _ (s : List ℕ) (c : ℕ) where
             os)
         go false f j x z ew ef ej ex ez = clash false ew refl
         go true true j x z ew ef ej ex ez = record {
-          fine = record { entries = refl; whole = h; sound = y; low = b; sent = one-sent l e };
+          fine = record { keyed = refl; entries = refl; whole = h; sound = y; low = b; sent = one-sent l e };
           same = sym (round-sent v (queueList l q) o p (at-pass true ef));
           wrote = λ z. absurd (omega arith);
           left = λ z. refl;
@@ -145,13 +146,13 @@ module _ (s : List ℕ) (c : ℕ) where
           left = λ z. refl;
         }
         go true false true false true ew ef ej ex ez = record {
-          fine = record { entries = refl; whole = h; sound = made .sound; low = made .low later; sent = one-sent (u .cells) (e ∙ sym (made .front o (omega (arith, k .some, queue-length l q)))) };
+          fine = record { keyed = refl; entries = refl; whole = h; sound = made .sound; low = made .low later; sent = one-sent (u .cells) (e ∙ sym (made .front o (omega (arith, k .some, queue-length l q)))) };
           same = sym (round-made v (queueList l q) o p (queueList (u .cells) (u .queued)) (at-pass false ef) (judged-in false ej ex) (made .queue) (at-made true ez));
           wrote = λ z. refl;
           left = λ z. absurd (z refl);
         }
         go true false true false false ew ef ej ex ez = record {
-          fine = record { entries = refl; whole = h; sound = made .sound; low = made .low later; sent = e ∙ sym (made .front o (omega (arith, k .some, queue-length l q))) };
+          fine = record { keyed = refl; entries = refl; whole = h; sound = made .sound; low = made .low later; sent = e ∙ sym (made .front o (omega (arith, k .some, queue-length l q))) };
           same = sym (round-last v (queueList l q) o p (queueList (u .cells) (u .queued)) (at-pass false ef) (judged-in false ej ex) (made .queue) (at-made false ez));
           wrote = λ z. refl;
           left = λ z. absurd (z refl);
@@ -159,27 +160,28 @@ module _ (s : List ℕ) (c : ℕ) where
 
     step-done : Agree t l q (roundsOf (queueList l q) o p true) (stepRun s t (runOf l (walkAt n p q o true) os))
     unfolding stepRun nextOf
-    step-done = record { fine = record { entries = refl; whole = h; sound = y; low = b; sent = e }; same = sym (round-done v (queueList l q) o p); wrote = λ z. absurd (omega arith); left = λ z. refl }
+    step-done = record { fine = record { keyed = refl; entries = refl; whole = h; sound = y; low = b; sent = e }; same = sym (round-done v (queueList l q) o p); wrote = λ z. absurd (omega arith); left = λ z. refl }
 
-  step-at : (t : Table) (l : List ℕ) (n p q o : ℕ) (d : Bool) (os : List ℕ) → n ≤ length s → Sound s c l q → Low s c p l → os ≡ queueList l o
+  step-at : (t : Table) (l : List ℕ) (n p q o : ℕ) (d : Bool) (os : List ℕ) → n ≤ length s → Sound key s c l q → Low key s c p l → os ≡ queueList l o
       → Kept s c (roundsOf (queueList l q) o p d) → Agree t l q (roundsOf (queueList l q) o p d) (stepRun s t (runOf l (walkAt n p q o d) os))
   step-at t l n p q o true os h y b e k = step-done t l n p q o os h y b e
   step-at t l n p q o false os h y b e k = step-going t l n p q o os h y b e k
 
   -- a run as its parts
-  parts : (r : Run) → r .walk .entries ≡ c
+  parts : (r : Run) → r .walk .key ≡ key → r .walk .entries ≡ c
       → r ≡ runOf (r .cells) (walkAt (r .walk .length) (r .walk .passes) (r .walk .queued) (r .walk .offered) (r .walk .done)) (r .offers)
-  parts r e =
-      ap {B = Run}
-      (λ (x : ℕ).
-      runOf (r .cells)
-      (record { entries = x; length = r .walk .length; passes = r .walk .passes; queued = r .walk .queued; offered = r .walk .offered; done = r .walk .done }) (r .offers))
-      e
+  parts r d e = go (r .walk .key) (r .walk .entries) d e
+    where
+      go : (k n : ℕ) → k ≡ key → n ≡ c
+          → runOf (r .cells)
+          (record { key = k; entries = n; length = r .walk .length; passes = r .walk .passes; queued = r .walk .queued; offered = r .walk .offered; done = r .walk .done }) (r .offers)
+          ≡ runOf (r .cells) (walkAt (r .walk .length) (r .walk .passes) (r .walk .queued) (r .walk .offered) (r .walk .done)) (r .offers)
+      go k n d e = rw (d, e)
 
   agrees : (t : Table) (r : Run) → Fine r → Kept s c (seen r) → Agree t (r .cells) (r .walk .queued) (seen r) (stepRun s t r)
   agrees t r f k =
       let w = r .walk in
-      subst (λ (z : Run). Agree t (r .cells) (w .queued) (seen r) (stepRun s t z)) (sym (parts r (f .entries)))
+      subst (λ (z : Run). Agree t (r .cells) (w .queued) (seen r) (stepRun s t z)) (sym (parts r (f .keyed) (f .entries)))
       (step-at t (r .cells) (w .length) (w .passes) (w .queued) (w .offered) (w .done) (r .offers) (f .whole) (f .sound) (f .low) (f .sent) k)
 
   pub step-agrees : (t : Table) (r : Run) → Fine r → Kept s c (seen r) → Fine (stepRun s t r) × (seen (stepRun s t r) ≡ round s c (viewOf s c t) (seen r))
@@ -187,7 +189,7 @@ module _ (s : List ℕ) (c : ℕ) where
 
   -- the cells after a pass
   pub step-wrote : (t : Table) (r : Run) → Fine r → Kept s c (seen r) → stepRun s t r .walk .passes ≡ r .walk .passes + 1
-      → stepRun s t r .cells ≡ tieAll s t (r .walk .passes + 1) c 0 (queueOf (r .cells) (r .walk .queued)) .cells
+      → stepRun s t r .cells ≡ tieAll key c s t (r .walk .passes + 1) c 0 (queueOf (r .cells) (r .walk .queued)) .cells
   step-wrote t r f k = agrees t r f k .wrote
 
   -- a call that makes no pass writes nothing

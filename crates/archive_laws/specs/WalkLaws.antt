@@ -1,33 +1,33 @@
 -- The theorem on whole walks.
 -- Assumes nothing.
-use Prim.Native.Nat.{ℕ, zero, suc, _+_, _/_, _<_, _≤_}
+use Prim.Native.Nat.{ℕ, zero, suc, _+_, _*_, _/_, _<_, _≤_}
 use native.Mathlib.Decide.{ℕ-discrete}
 use native.Mathlib.Omega.{arith}
 use mathlib.Core.Path.{_≡_, refl, sym, ap, subst, _∙_}
 use mathlib.Core.Bool.{Bool, true, false, cond}
 use mathlib.Core.List.{List, [], _∷_}
 use lib.Dec.{eqb, ltb}
-use lib.ListN.{length}
+use lib.ListN.{getD, length}
 use borrow.Author.Tests.{eqb-true, eq-eqb, ne-eqb, ltb-true, ltb-false, lt-ltb}
 use Rattle.byte_slices.specs.Bytes.{same}
 use Rattle.link.specs.Bounds.{lesser}
 use Rattle.archive_index.specs.declared.Opened.{Opened}
 use Rattle.archive_index.specs.Index.{countOf, offsetOf, namesAt, nameOf, cutOf}
-use Rattle.archive_index.specs.Rows.{requiredAt, passAt, memberAt, queueAt, rowsOf}
+use Rattle.archive_index.specs.Rows.{requiredAt, passAt, memberAt, queueAt, rowsOf, noHeads}
 use Rattle.archive_index.specs.Open.{Left, left, openedAs, refusedAs, offsetsIn, openRowsOf, openNamesOf, openEntriesOf, openOf}
 use Rattle.archive_walk.specs.declared.Walk.{Walk}
 use Rattle.archive_walk.specs.declared.Started.{Started}
 use Rattle.archive_walk.specs.declared.Begun.the-variants.{Ready}
 use Rattle.archive_walk.specs.declared.Begun.the-variants as Begins
 use Rattle.archive_walk.specs.Look.{Table}
-use Rattle.archive_walk.specs.Names.{chainNames, requiredOf}
+use Rattle.archive_walk.specs.Names.{requiredOf}
 use Rattle.archive_walk.specs.Walk.{begunNumber, freshWalk, noWalk, begunOf, startOf, goOf, walkFits, nextOf}
 use Rattle.archive_laws.specs.Rounds.{Same, among, Once, none, more, pull, Rounds, roundsOf, round, rounds, fresh}
 use Rattle.archive_laws.specs.Counts.{among-same, no-one}
 use Rattle.archive_laws.specs.RoundLaws.{newly, pull-into, did, Kept, kept-begun, kept-did, passes-most, passes-going, pass-made, end-passes, last-pass}
 use Rattle.archive_laws.specs.Runs.{queueList, viewOf, viewsOf, Run, begunRun, begun-some-pass, stepRun, history, startRun, seen}
 use Rattle.archive_laws.specs.Pass.{queue-length, Rows, Sound, Low}
-use Rattle.archive_laws.specs.Chains.{any-same, chains-linked, chains-field, chains-length}
+use Rattle.archive_laws.specs.Chains.{any-same, none-linked, heads-field, heads-length}
 use Rattle.archive_laws.specs.Entries.{rows-entered}
 use Rattle.archive_laws.specs.Steps.{Fine, going-fits, step-agrees, step-wrote, step-left}
 use Rattle.archive_laws.specs.Required.{required-pass}
@@ -70,30 +70,30 @@ accepted s l =
 
 -- the cells, and the run that such a start gives
 abbrev pub freshCells : List ℕ → List ℕ → List ℕ
-freshCells s l = chainNames s (countOf s) (rowsOf s (countOf s) (namesAt (countOf s)) l)
+freshCells s l = noHeads (countOf s) (rowsOf s (countOf s) (namesAt (countOf s)) l)
 
-abbrev pub freshRun : List ℕ → List ℕ → Run
-freshRun s l = begunRun (freshCells s l) (freshWalk (countOf s) (length s))
+abbrev pub freshRun : ℕ → List ℕ → List ℕ → Run
+freshRun key s l = begunRun (freshCells s l) (freshWalk key (countOf s) (length s))
 
-opened-number : (n : ℕ) (o : Opened) → begunNumber (begunOf n o .begun) ≡ 0 → o .refusal .number ≡ 0
+opened-number : (key n : ℕ) (o : Opened) → begunNumber (begunOf key n o .begun) ≡ 0 → o .refusal .number ≡ 0
 unfolding begunOf
-opened-number n o = go (eqb (o .refusal .number) 0) refl
+opened-number key n o = go (eqb (o .refusal .number) 0) refl
   where
     go : (b : Bool) → eqb (o .refusal .number) 0 ≡ b
-        → begunNumber ((cond {A = Started} b (record { walk = freshWalk (o .entries) n; begun = Ready (o .entries) }) (record { walk = noWalk; begun = Begins.Refused (o .refusal) })) .begun) ≡ 0
+        → begunNumber ((cond {A = Started} b (record { walk = freshWalk key (o .entries) n; begun = Ready (o .entries) }) (record { walk = noWalk; begun = Begins.Refused (o .refusal) })) .begun) ≡ 0
         → o .refusal .number ≡ 0
     go true e z = eqb-true (o .refusal .number) 0 e
     go false e z = z
 
-started : (s l : List ℕ) (x : Left) → x ≡ openOf s l → Accepted s l x → startRun s l ≡ freshRun s l
+started : (key : ℕ) (s l : List ℕ) (x : Left) → x ≡ openOf s l → Accepted s l x → startRun key s l ≡ freshRun key s l
 unfolding startRun startOf begunOf
-started s l x e a = rw (← e, a .made)
+started key s l x e a = rw (← e, a .made)
 
-started-number : (s l : List ℕ) → begunNumber (startOf s l .started .begun) ≡ 0 → begunNumber (begunOf (length s) (openOf s l .opened) .begun) ≡ 0
+started-number : (key : ℕ) (s l : List ℕ) → begunNumber (startOf key s l .started .begun) ≡ 0 → begunNumber (begunOf key (length s) (openOf s l .opened) .begun) ≡ 0
 unfolding startOf
-started-number s l z = z
+started-number key s l z = z
 
-module _ (s l : List ℕ) where
+module _ (key : ℕ) (s l : List ℕ) where
   abbrev c : ℕ
   c = countOf s
 
@@ -101,63 +101,65 @@ module _ (s l : List ℕ) where
   rows = rowsOf s c (namesAt c) l
 
   module _ (a : Accepted s l (openOf s l)) where
-    fresh-rows : Rows s c (freshCells s l)
+    fresh-field : (j g : ℕ) → g < 8 → (g ≡ 3 → ⊥) → getD (freshCells s l) (j * 8 + g) 0 ≡ getD rows (j * 8 + g) 0
+    fresh-field = heads-field key s c c rows
+
+    -- no name is required before a pass
+    pub fresh-unmarked : (j : ℕ) → j < c → requiredAt (freshCells s l) j ≡ 0
+    fresh-unmarked j h = fresh-field j 0 (omega arith) (λ z. omega arith) ∙ rows-entered s c l (omega (arith, a .rows)) (a .names) .unmarked j h
+
+    fresh-rows : Rows key s c (freshCells s l)
     fresh-rows =
         let y = rows-entered s c l (omega (arith, a .rows)) (a .names) in
         record {
-          room = omega (arith, chains-length s c rows, y .room);
-          name = λ k h. rw (chains-field s c rows k 4 (omega arith) (λ z. omega arith) (λ z. omega arith), chains-field s c rows k 5 (omega arith) (λ z. omega arith) (λ z. omega arith)) (y .name k h);
-          member = λ k h. rw (chains-field s c rows k 1 (omega arith) (λ z. omega arith) (λ z. omega arith)) (y .member k h);
-          linked = chains-linked s c rows (y .room);
+          room = omega (arith, heads-length key s c c rows, y .room);
+          name = λ k h. rw (fresh-field k 4 (omega arith) (λ z. omega arith), fresh-field k 5 (omega arith) (λ z. omega arith)) (y .name k h);
+          member = λ k h. rw (fresh-field k 1 (omega arith) (λ z. omega arith)) (y .member k h);
+          linked = none-linked key s c rows (y .room) (y .unmarked);
         }
 
     unqueued : (k : ℕ) → k < c → passAt (freshCells s l) (memberAt (freshCells s l) k) ≡ 0
     unqueued k h =
         let y = rows-entered s c l (omega (arith, a .rows)) (a .names) in
         let r : ℕ = memberAt (freshCells s l) k in
-        chains-field s c rows r 6 (omega arith) (λ z. omega arith) (λ z. omega arith) ∙ y .unqueued r (omega (arith, fresh-rows .member k h .low))
+        fresh-field r 6 (omega arith) (λ z. omega arith) ∙ y .unqueued r (omega (arith, fresh-rows .member k h .low))
 
-    -- no name is required before a pass
-    pub fresh-unmarked : (j : ℕ) → j < c → requiredAt (freshCells s l) j ≡ 0
-    fresh-unmarked j h =
-        chains-field s c rows j 0 (omega arith) (λ z. omega arith) (λ z. omega arith) ∙ rows-entered s c l (omega (arith, a .rows)) (a .names) .unmarked j h
-
-    fresh-sound : Sound s c (freshCells s l) 0
+    fresh-sound : Sound key s c (freshCells s l) 0
     unfolding queueList among
     fresh-sound = record {
       rows = fresh-rows;
       marks = record { mark = λ k h. eq-eqb (passAt (freshCells s l) (memberAt (freshCells s l) k)) 0 (unqueued k h); once = none; below = no-one; unmarked = λ k h e. fresh-unmarked k h };
     }
 
-    fresh-low : Low s c 0 (freshCells s l)
+    fresh-low : Low key s c 0 (freshCells s l)
     fresh-low j h = omega (arith, unqueued j h)
 
   -- ---- calls
 
-  told-next : (t : Table) (r : Run) → Fine s c r → Kept s c (seen r) → Kept s c (seen (stepRun s t r))
+  told-next : (t : Table) (r : Run) → Fine key s c r → Kept s c (seen r) → Kept s c (seen (stepRun s t r))
   told-next t r f k =
-      let x = step-agrees s c t r f k in
+      let x = step-agrees key s c t r f k in
       subst (Kept s c) (sym (x .1)) (kept-did s c (viewOf s c t) (seen r) (round s c (viewOf s c t) (seen r)) k (did s c (viewOf s c t) (seen r)))
 
-  told : (ts : List Table) (r : Run) → Fine s c r → Kept s c (seen r) → Fine s c (history s ts r) × Kept s c (seen (history s ts r)) × (seen (history s ts r) ≡ rounds s c (viewsOf s c ts) (seen r))
+  told : (ts : List Table) (r : Run) → Fine key s c r → Kept s c (seen r) → Fine key s c (history s ts r) × Kept s c (seen (history s ts r)) × (seen (history s ts r) ≡ rounds s c (viewsOf s c ts) (seen r))
   unfolding history viewsOf rounds
   told [] r f k = (f, k, refl)
   told (t ∷ ts) r f k =
-      let x = step-agrees s c t r f k in
+      let x = step-agrees key s c t r f k in
       let y = told ts (stepRun s t r) (x .0) (told-next t r f k) in
       (y .0, y .1, y .2 ∙ ap (rounds s c (viewsOf s c ts)) (x .1))
 
   -- ---- what holds after them
 
-  module _ (r : Run) (f : Fine s c r) (k : Kept s c (seen r)) where
+  module _ (r : Run) (f : Fine key s c r) (k : Kept s c (seen r)) where
     fits-going : r .walk .done ≡ false → walkFits s (r .cells) (r .walk) ≡ true
-    fits-going e = subst (λ (w : Walk). walkFits s (r .cells) w ≡ true) (walk-parts (r .walk) (f .entries) e) (going-fits s c (r .cells) (r .walk .length) (r .walk .passes) (r .walk .queued) (r .walk .offered) (f .whole) (f .sound) (subst (λ (d : Bool). Kept s c (roundsOf (queueIn r) (r .walk .offered) (r .walk .passes) d)) e k))
+    fits-going e = subst (λ (w : Walk). walkFits s (r .cells) w ≡ true) (walk-parts (r .walk .key) (r .walk .entries) (r .walk .done) (f .keyed) (f .entries) e) (going-fits key s c (r .cells) (r .walk .length) (r .walk .passes) (r .walk .queued) (r .walk .offered) (f .whole) (f .sound) (subst (λ (d : Bool). Kept s c (roundsOf (queueIn r) (r .walk .offered) (r .walk .passes) d)) e k))
       where
-        walk-parts : (w : Walk) → w .entries ≡ c → w .done ≡ false
-            → record { entries = c; length = w .length; passes = w .passes; queued = w .queued; offered = w .offered; done = false } ≡ w
-        walk-parts w p q =
-            ap {B = Walk} (λ (x : ℕ). record { entries = x; length = w .length; passes = w .passes; queued = w .queued; offered = w .offered; done = false }) (sym p)
-            ∙ ap {B = Walk} (λ (d : Bool). record { entries = w .entries; length = w .length; passes = w .passes; queued = w .queued; offered = w .offered; done = d }) (sym q)
+        parts : ℕ → ℕ → Bool → Walk
+        parts k n d = record { key = k; entries = n; length = r .walk .length; passes = r .walk .passes; queued = r .walk .queued; offered = r .walk .offered; done = d }
+
+        walk-parts : (k n : ℕ) (d : Bool) → k ≡ key → n ≡ c → d ≡ false → parts key c false ≡ parts k n d
+        walk-parts k n d p q z = sym (rw (p, q, z))
 
     all-sent : r .walk .queued ≤ r .walk .offered → r .offers ≡ queueIn r
     all-sent h =
@@ -167,7 +169,7 @@ module _ (s l : List ℕ) where
     -- a pass finds nothing queued
     drained : (t : Table) → stepRun s t r .walk .passes ≡ r .walk .passes + 1 → r .offers ≡ queueIn r
     drained t p =
-        let x = step-agrees s c t r f k in
+        let x = step-agrees key s c t r f k in
         let b = round s c (viewOf s c t) (seen r) in
         let q : b .passes ≡ seen r .passes + 1 = ap (λ (z : Rounds). z .passes) (sym (x .1)) ∙ p in
         let y = pass-made s c (viewOf s c t) (seen r) b (did s c (viewOf s c t) (seen r)) q in
@@ -175,7 +177,7 @@ module _ (s l : List ℕ) where
 
     pass-facts : (t : Table) → stepRun s t r .walk .passes ≡ r .walk .passes + 1 → Pass s c t r (stepRun s t r)
     pass-facts t p =
-        let x = step-agrees s c t r f k in
+        let x = step-agrees key s c t r f k in
         let b = round s c (viewOf s c t) (seen r) in
         let q : b .passes ≡ seen r .passes + 1 = ap (λ (z : Rounds). z .passes) (sym (x .1)) ∙ p in
         let y = pass-made s c (viewOf s c t) (seen r) b (did s c (viewOf s c t) (seen r)) q in
@@ -187,17 +189,20 @@ module _ (s l : List ℕ) where
           all = λ j h e. rw g (pull-into s (tiedIn s c t) c 0 (r .offers) j (omega arith) (omega arith) e);
           required = λ j h.
               written j h ∙ ap (λ (q : List ℕ). cond (tiedIn s c t j) (cond (among s j q) (requiredAt (r .cells) j) 1) (requiredAt (r .cells) j)) (sym d);
-          names = λ e h o x. asked-then s c (r′ .cells) (step-agrees s c t r f k .0 .sound .rows) e h x t (marked e o);
+          names = λ e h o x. asked-then key s c (r′ .cells) (f′ .sound .rows) (r′ .walk) (f′ .keyed) (f′ .entries) e h x t (marked e o);
           pulled = g;
         }
       where
         r′ : Run
         r′ = stepRun s t r
 
+        f′ : Fine key s c r′
+        f′ = step-agrees key s c t r f k .0
+
         written : (j : ℕ) → j < c → requiredAt (r′ .cells) j ≡ cond (tiedIn s c t j) (cond (among s j (queueIn r)) (requiredAt (r .cells) j) 1) (requiredAt (r .cells) j)
         written j h =
-            rw (step-wrote s c t r f k p)
-            (required-pass s c t (r .walk .passes + 1) (λ z. omega arith) (r .cells) (r .walk .queued) (f .sound) (λ i e. omega (arith, f .low i e)) j h)
+            rw (step-wrote key s c t r f k p)
+            (required-pass key s c t (r .walk .passes + 1) (λ z. omega arith) (r .cells) (r .walk .queued) (f .sound) (λ i e. omega (arith, f .low i e)) j h)
 
         marked : (e : ℕ) → among s e (r .offers) ≡ false → (j : ℕ) → j < c → Same s j e → requiredAt (r′ .cells) j ≡ cond (tiedIn s c t j) 1 0
         marked e o j h d =
@@ -215,14 +220,17 @@ module _ (s l : List ℕ) where
         go (yes p) =
             let d = pass-facts t p in
             d .required j h ∙ rw (d .drained, e) (either (tiedIn s c t j) (requiredAt (r .cells) j))
-        go (no p) = ap (λ (m : List ℕ). requiredAt m j) (step-left s c t r f k p)
+        go (no p) = ap (λ (m : List ℕ). requiredAt m j) (step-left key s c t r f k p)
 
-    names-kept : (t : Table) (e : ℕ) → e < c → among s e (queueIn r) ≡ true → (x : List ℕ) → requiredOf s (stepRun s t r .cells) c e x ≡ requiredOf s (r .cells) c e x
+    names-kept : (t : Table) (e : ℕ) → e < c → among s e (queueIn r) ≡ true → (x : List ℕ) → requiredOf s (stepRun s t r .cells) (stepRun s t r .walk) e x ≡ requiredOf s (r .cells) (r .walk) e x
     names-kept t e h o x =
-        asked-is s c (stepRun s t r .cells) (step-agrees s c t r f k .0 .sound .rows) e h x
+        asked-is key s c (stepRun s t r .cells) (f′ .sound .rows) (stepRun s t r .walk) (f′ .keyed) (f′ .entries) e h x
         ∙ any-same (asks s c (stepRun s t r .cells) e x) (asks s c (r .cells) e x) c (λ j g. one j g (ℕ-discrete (offsetOf s j) (offsetOf s e)))
-        ∙ sym (asked-is s c (r .cells) (f .sound .rows) e h x)
+        ∙ sym (asked-is key s c (r .cells) (f .sound .rows) (r .walk) (f .keyed) (f .entries) e h x)
       where
+        f′ : Fine key s c (stepRun s t r)
+        f′ = step-agrees key s c t r f k .0
+
         never : (b : Bool) → cond b false false ≡ false
         never true = refl
         never false = refl
@@ -235,14 +243,14 @@ module _ (s l : List ℕ) where
 
     end-facts : (t : Table) → r .walk .done ≡ false → stepRun s t r .walk .done ≡ true → stepRun s t r .walk .passes ≡ r .walk .passes + 1
     end-facts t p q =
-        let x = step-agrees s c t r f k in
+        let x = step-agrees key s c t r f k in
         let b = round s c (viewOf s c t) (seen r) in
         let z : b .done ≡ true = ap (λ (y : Rounds). y .done) (sym (x .1)) ∙ q in
         ap (λ (y : Rounds). y .passes) (x .1) ∙ end-passes s c (viewOf s c t) (seen r) b (did s c (viewOf s c t) (seen r)) p z
 
     last-facts : (t : Table) → r .walk .done ≡ false → stepRun s t r .walk .done ≡ true → (j : ℕ) → j < c → tiedIn s c t j ≡ true → among s j (stepRun s t r .offers) ≡ true
     last-facts t p q j h e =
-        let x = step-agrees s c t r f k in
+        let x = step-agrees key s c t r f k in
         let b = round s c (viewOf s c t) (seen r) in
         let z : b .done ≡ true = ap (λ (y : Rounds). y .done) (sym (x .1)) ∙ q in
         let y = last-pass s c (viewOf s c t) (seen r) b k (did s c (viewOf s c t) (seen r)) p z in
@@ -273,37 +281,43 @@ module _ (s l : List ℕ) where
       go false g x r = let z : o ≡ suc n = omega (arith, ltb-false o (suc n) g) in rw z x
 
   -- after a start that is not refused and any calls, each over any table
-  pub walked : begunNumber (startOf s l .started .begun) ≡ 0 → (ts : List Table) → Walked s c ts (history s ts (startRun s l))
-  unfolding queueList
-  walked z ts = rw begin (facts (history s ts (freshRun s l)) (y .0) (y .1) (y .2))
-    where
-      a : Accepted s l (openOf s l)
-      a = accepted s l (opened-number (length s) (openOf s l .opened) (started-number s l z))
+  module _ (z : begunNumber (startOf key s l .started .begun) ≡ 0) (ts : List Table) where
+    accepted-start : Accepted s l (openOf s l)
+    accepted-start = accepted s l (opened-number key (length s) (openOf s l .opened) (started-number key s l z))
 
-      begin : startRun s l ≡ freshRun s l
-      begin = started s l (openOf s l) refl a
+    begin : startRun key s l ≡ freshRun key s l
+    begin = started key s l (openOf s l) refl accepted-start
 
-      start-fine : Fine s c (freshRun s l)
-      start-fine = record { entries = refl; whole = omega arith; sound = fresh-sound a; low = fresh-low a; sent = refl }
+    run-told : Fine key s c (history s ts (freshRun key s l)) × Kept s c (seen (history s ts (freshRun key s l))) × (seen (history s ts (freshRun key s l)) ≡ rounds s c (viewsOf s c ts) fresh)
+    unfolding queueList
+    run-told =
+        told ts (freshRun key s l) (record { keyed = refl; entries = refl; whole = omega arith; sound = fresh-sound accepted-start; low = fresh-low accepted-start; sent = refl })
+        (kept-begun s c (freshRun key s l .walk .done) (begun-some-pass (freshCells s l) key c (length s)))
 
-      y : Fine s c (history s ts (freshRun s l)) × Kept s c (seen (history s ts (freshRun s l))) × (seen (history s ts (freshRun s l)) ≡ rounds s c (viewsOf s c ts) fresh)
-      y = told ts (freshRun s l) start-fine (kept-begun s c (freshRun s l .walk .done) (begun-some-pass (freshCells s l) c (length s)))
+    -- index, cells and counts of the walk are as they were at the start
+    pub walk-fine : Fine key s c (history s ts (startRun key s l))
+    walk-fine = rw begin (run-told .0)
 
-      facts : (r : Run) → Fine s c r → Kept s c (seen r) → seen r ≡ rounds s c (viewsOf s c ts) fresh → Walked s c ts r
-      facts r f k e = record {
-        same-rounds = e;
-        fits = fits-going r f k;
-        bound = passes-most s c (seen r) k;
-        going = passes-going s c (seen r) k;
-        answers = right s (r .cells) (r .walk);
-        in-order = f .sent;
-        once = rw (f .sent) (once-front (r .cells) (r .walk .queued) (r .walk .offered) (omega (arith, k .some, queue-length (r .cells) (r .walk .queued))) (k .once));
-        pass = pass-facts r f k;
-        ends = end-facts r f k;
-        some-pass = k .some-pass;
-        last = last-facts r f k;
-        asked = λ e h x. asked-is s c (r .cells) (f .sound .rows) e h x;
-        names-stay = names-kept r f k;
-        still = λ t d. still-done t r d;
-        blind = λ t t′ h. not-looked-at t t′ (r .cells) (r .walk) h;
-      }
+    pub walked : Walked s c ts (history s ts (startRun key s l))
+    walked = rw begin (facts (history s ts (freshRun key s l)) (run-told .0) (run-told .1) (run-told .2))
+      where
+        facts : (r : Run) → Fine key s c r → Kept s c (seen r) → seen r ≡ rounds s c (viewsOf s c ts) fresh → Walked s c ts r
+        facts r f k e = record {
+          same-rounds = e;
+          fits = fits-going r f k;
+          bound = passes-most s c (seen r) k;
+          going = passes-going s c (seen r) k;
+          answers = right s (r .cells) (r .walk);
+          in-order = f .sent;
+          once = rw (f .sent) (once-front (r .cells) (r .walk .queued) (r .walk .offered) (omega (arith, k .some, queue-length (r .cells) (r .walk .queued))) (k .once));
+          pass = pass-facts r f k;
+          ends = end-facts r f k;
+          some-pass = k .some-pass;
+          last = last-facts r f k;
+          asked = λ e h x. asked-is key s c (r .cells) (f .sound .rows) (r .walk) (f .keyed) (f .entries) e h x;
+          chains-asked = f .sound .rows .linked .only;
+          chains-apart = f .sound .rows .linked .apart;
+          names-stay = names-kept r f k;
+          still = λ t d. still-done t r d;
+          blind = λ t t′ h. not-looked-at t t′ (r .cells) (r .walk) h;
+        }

@@ -7,11 +7,12 @@ use mathlib.Core.List.{List}
 use lib.Dec.{eqb}
 use Rattle.byte_slices.specs.Bytes.{same}
 use Rattle.archive_index.specs.Index.{offsetOf, nameOf}
-use Rattle.archive_index.specs.Rows.{requiredAt}
+use Rattle.archive_index.specs.Rows.{requiredAt, headAt}
 use Rattle.archive_walk.specs.Look.{Table, undefinedName}
-use Rattle.archive_walk.specs.Names.{requiredOf}
+use Rattle.archive_walk.specs.Names.{along, requiredOf}
 use Rattle.archive_walk.specs.Walk.{walkFits, nextOf}
 use Rattle.archive_laws.specs.Rounds.{anyBelow, among, Once, members, pull, rounds, fresh}
+use Rattle.archive_laws.specs.Chains.{unasked, repeats}
 use Rattle.archive_laws.specs.RoundLaws.{Newly}
 use Rattle.archive_laws.specs.Answers.{Right}
 use Rattle.archive_laws.specs.Runs.{queueList, viewsOf, Run, stepRun, seen}
@@ -41,7 +42,7 @@ pub record Pass (s : List ℕ) (c : ℕ) (t : Table) (r r′ : Run) : Type 0 whe
   -- the names that admission will ask for: those of the tied entries of the members that this pass queues; earlier ones stay
   pub required : (k : ℕ) → k < c → requiredAt (r′ .cells) k ≡ cond (tiedIn s c t k) (cond (among s k (r .offers)) (requiredAt (r .cells) k) 1) (requiredAt (r .cells) k)
   -- so of a member that was not offered before just those names are required that the index ties to it and that are undefined at the pass
-  pub names : (e : ℕ) → e < c → among s e (r .offers) ≡ false → (x : List ℕ) → requiredOf s (r′ .cells) c e x ≡ cond (undefinedName t x) (inIndex s c e x) false
+  pub names : (e : ℕ) → e < c → among s e (r .offers) ≡ false → (x : List ℕ) → requiredOf s (r′ .cells) (r′ .walk) e x ≡ cond (undefinedName t x) (inIndex s c e x) false
   pub pulled : queueIn r′ ≡ pull s (tiedIn s c t) c 0 (r .offers)
 
 pub record Walked (s : List ℕ) (c : ℕ) (ts : List Table) (r : Run) : Type 0 where
@@ -64,9 +65,12 @@ pub record Walked (s : List ℕ) (c : ℕ) (ts : List Table) (r : Run) : Type 0 
   -- the last pass: no name undefined in its table is tied to a member that was not offered
   pub last : (t : Table) → r .walk .done ≡ false → stepRun s t r .walk .done ≡ true → (k : ℕ) → k < c → tiedIn s c t k ≡ true → among s k (stepRun s t r .offers) ≡ true
   -- admission asks for a name just if it is that of a marked entry of the member
-  pub asked : (e : ℕ) → e < c → (x : List ℕ) → requiredOf s (r .cells) c e x ≡ anyBelow (asks s c (r .cells) e x) c
+  pub asked : (e : ℕ) → e < c → (x : List ℕ) → requiredOf s (r .cells) (r .walk) e x ≡ anyBelow (asks s c (r .cells) e x) c
+  -- for the time that admission takes: a chain has marked entries only, no two of one member and name
+  pub chains-asked : (b : ℕ) → b < c → (n : ℕ) → along (r .cells) (unasked (r .cells)) (headAt (r .cells) b) n ≡ false
+  pub chains-apart : (b : ℕ) → b < c → (n : ℕ) → repeats s (r .cells) (headAt (r .cells) b) n ≡ false
   -- the names required of a queued member stay, though they may be defined since
-  pub names-stay : (t : Table) (e : ℕ) → e < c → among s e (queueIn r) ≡ true → (x : List ℕ) → requiredOf s (stepRun s t r .cells) c e x ≡ requiredOf s (r .cells) c e x
+  pub names-stay : (t : Table) (e : ℕ) → e < c → among s e (queueIn r) ≡ true → (x : List ℕ) → requiredOf s (stepRun s t r .cells) (stepRun s t r .walk) e x ≡ requiredOf s (r .cells) (r .walk) e x
   -- done stays done
   pub still : (t : Table) → r .walk .done ≡ true → stepRun s t r ≡ r
   -- "a queued one is offered though its name is defined since": the table is not looked at

@@ -172,7 +172,7 @@ fn walk(
 }
 
 fn list(index: &[u8], cells: &mut [u64], l: Link, bytes: &[u8], names: &[u64], symbols: &[u64]) {
-    let s = archive_walk::start(index, cells);
+    let s = archive_walk::start(0, index, cells);
     let w = s.walk;
     let begun = s.begun;
     match begun {
@@ -193,7 +193,7 @@ fn run(
     symbols: &mut [u64],
     sections: &mut [u64],
 ) {
-    let o = Symbols::new(bytes, names, symbols, sections);
+    let o = Symbols::new(0, bytes, names, symbols, sections);
     let table = o.table;
     let l = undefined(table.link, bytes, names, symbols, sections, name);
     list(index, cells, l, bytes, names, symbols);

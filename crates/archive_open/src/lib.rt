@@ -4,12 +4,13 @@ ghost use Prim.Native.Nat.{_+_, _*_, _-_, _<_};
 ghost use lib.Dec.{eqb};
 ghost use lib.ListN.{length};
 ghost use Rattle.archive_index.specs.Index.{offsetOf, afterOf, cutOf};
-ghost use Rattle.archive_index.specs.Rows.{chainOf, representativeOf, entered, enterOf, enterAll};
+ghost use Rattle.archive_index.specs.Rows.{descend, spotOf, entered, enterOf, enterAll};
 ghost use Rattle.archive_index.specs.Open.{left, openedAs, openNamesOf, openOf};
 use archive_index::Opened;
+use archive_index::Spot;
 use link::Refusal;
 
-// The first entry from place `at` on whose name is cut short, or the number of entries.
+// The first entry whose name is cut short, of those whose names start at place `start`, or the number of entries.
 fn cut_name(index: &[u8], entries: usize, start: usize) -> usize
     ensures { λ r. ⌜ r ≡ cutOf (now (index .entry)) start entries 0 ⌝ }
 {
@@ -25,15 +26,6 @@ fn cut_name(index: &[u8], entries: usize, start: usize) -> usize
     k
 }
 
-fn chain(index: &[u8], entries: usize, k: usize) -> usize
-    ensures { λ r. ⌜ r ≡ chainOf (now (index .entry)) entries k ⌝ }
-{
-    if entries == 0 {
-        return 0;
-    }
-    (archive_index::offset(index, k) as usize) % entries
-}
-
 // Is entry k of the member at the offset?
 fn is_of(index: &[u8], k: usize, o: u64) -> bool
     ensures { λ r. ⌜ r ≡ eqb (offsetOf (now (index .entry)) k) o ⌝ }
@@ -41,24 +33,45 @@ fn is_of(index: &[u8], k: usize, o: u64) -> bool
     archive_index::offset(index, k) == o
 }
 
-// Entry k's representative: along its chain the entry of its member, else itself.
-fn representative(index: &[u8], cells: &[u64], b: usize, k: usize) -> usize
-    ensures { λ r. ⌜ r ≡ representativeOf (now (index .entry)) (now (cells .entry)) b k ⌝ }
+// From the first entry down the tree of members: the representative of the member at offset o, else the empty cell of a child.
+fn search(index: &[u8], cells: &[u64], o: u64, k: usize) -> Spot
+    ensures { λ r. ⌜ r ≡ descend (now (index .entry)) (now (cells .entry)) o k 0 o k ⌝ }
 {
-    let o = archive_index::offset(index, k);
-    let mut at = cells::row_get(cells, b, 3) as usize;
+    let mut at = 0;
+    let mut key = o;
     let mut left = k;
     while 0 < left {
-        if at == 0 {
-            return k;
+        if is_of(index, at, o) {
+            return Spot::Known { entry: at };
         }
-        if is_of(index, at - 1, o) {
-            return at - 1;
+        let field = 2 + key as usize % 2;
+        let child = cells::row_get(cells, at, field) as usize;
+        if child == 0 {
+            return Spot::Free {
+                parent: at,
+                field: field,
+            };
         }
-        at = cells::row_get(cells, at - 1, 2) as usize;
+        at = child - 1;
+        key = key / 2;
         left -= 1;
     }
-    k
+    Spot::Known { entry: k }
+}
+
+// Entry k's: that of the entry before it, where both are of one member.
+fn spot(index: &[u8], cells: &[u64], k: usize) -> Spot
+    ensures { λ r. ⌜ r ≡ spotOf (now (index .entry)) (now (cells .entry)) k ⌝ }
+{
+    if k == 0 {
+        return Spot::Known { entry: k };
+    }
+    let o = archive_index::offset(index, k);
+    if is_of(index, k - 1, o) {
+        let r = cells::row_get(cells, k - 1, 1) as usize;
+        return Spot::Known { entry: r };
+    }
+    search(index, cells, o, k)
 }
 
 // The length of a name from one place up to the zero byte before the other.
@@ -71,50 +84,39 @@ fn span(at: usize, after: usize) -> usize
     0
 }
 
-fn enter_as(cells: &mut [u64], b: usize, k: usize, r: usize, at: usize, len: usize)
+fn enter_as(cells: &mut [u64], k: usize, spot: Spot, at: usize, len: usize)
     requires { ⌜ k < 0xffffffffffffffff ⌝ }
-    ensures { λ _. ⌜ now (cells .exit) ≡ entered (now (cells .entry)) b k r at len ⌝ }
+    ensures { λ _. ⌜ now (cells .exit) ≡ entered (now (cells .entry)) k spot at len ⌝ }
 {
-    let own = cells::row_get(cells, k, 3);
-    if r == k {
-        let next = cells::row_get(cells, b, 3);
-        cell_writes::row_store(
-            cells,
-            k,
-            0,
-            r as u64,
-            next,
-            own,
-            at as u64,
-            len as u64,
-            0,
-            0,
-        );
-        cells::row_put(cells, b, 3, (k + 1) as u64);
-        return;
+    match spot {
+        Spot::Known { entry } => {
+            cell_writes::row_store(cells, k, 0, entry as u64, 0, 0, at as u64, len as u64, 0, 0);
+        }
+        Spot::Free { parent, field } => {
+            cells::row_put(cells, parent, field, (k + 1) as u64);
+            cell_writes::row_store(cells, k, 0, k as u64, 0, 0, at as u64, len as u64, 0, 0);
+        }
     }
-    cell_writes::row_store(cells, k, 0, r as u64, 0, own, at as u64, len as u64, 0, 0);
 }
 
 // Entry k, whose name starts at the place: answers the place after it.
-fn enter(index: &[u8], cells: &mut [u64], entries: usize, k: usize, at: usize) -> usize
+fn enter(index: &[u8], cells: &mut [u64], k: usize, at: usize) -> usize
     requires { ⌜ k < 0xffffffffffffffff ⌝ }
-    ensures { λ r. ⌜ (r ≡ afterOf (now (index .entry)) at) × (now (cells .exit) ≡ enterOf (now (index .entry)) entries (now (cells .entry)) k at r) ⌝ }
+    ensures { λ r. ⌜ (r ≡ afterOf (now (index .entry)) at) × (now (cells .exit) ≡ enterOf (now (index .entry)) (now (cells .entry)) k at r) ⌝ }
 {
     let after = archive_index::after_name(index, at);
-    let b = chain(index, entries, k);
-    let r = representative(index, cells, b, k);
-    enter_as(cells, b, k, r, at, span(at, after));
+    let x = spot(index, cells, k);
+    enter_as(cells, k, x, at, span(at, after));
     after
 }
 
 fn enter_all(index: &[u8], cells: &mut [u64], entries: usize, start: usize)
-    ensures { λ _. ⌜ now (cells .exit) ≡ enterAll (now (index .entry)) entries entries 0 start (now (cells .entry)) ⌝ }
+    ensures { λ _. ⌜ now (cells .exit) ≡ enterAll (now (index .entry)) entries 0 start (now (cells .entry)) ⌝ }
 {
     let mut at = start;
     let mut k = 0;
     while k < entries {
-        at = enter(index, cells, entries, k, at);
+        at = enter(index, cells, k, at);
         k += 1;
     }
 }
@@ -142,7 +144,6 @@ fn open_names(index: &[u8], cells: &mut [u64], entries: usize, start: usize) -> 
     if cells.len() / 8 < entries {
         return answer(0, 2, 0);
     }
-    archive_index::clear_heads(cells, entries);
     enter_all(index, cells, entries, start);
     answer(entries, 0, 0)
 }

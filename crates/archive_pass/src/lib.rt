@@ -19,10 +19,10 @@ fn judge_table(l: Link, bytes: &[u8], names: &[u64], symbols: &[u64]) -> Refusal
     link_judge::judge(
         l,
         Lent {
-            names: names.len(),
+            names: names.len() / link::NAME_CELLS,
             bytes: bytes.len(),
             symbols: symbols.len(),
-            sections: link::NOT_LENT,
+            sections: l.slots,
             inputs: link::NOT_LENT,
             lists: link::NOT_LENT,
         },
@@ -33,8 +33,8 @@ fn judge_table(l: Link, bytes: &[u8], names: &[u64], symbols: &[u64]) -> Refusal
 fn name_holder(l: Link, bytes: &[u8], names: &[u64], symbols: &[u64], x: &[u8]) -> Holder
     ensures { λ r. ⌜ r ≡ nameHolder (tableOf l (now (bytes .entry)) (now (names .entry)) (now (symbols .entry))) (now (x .entry)) ⌝ }
 {
-    let id = interner::find(bytes, names, l.names, x);
-    symbol_rows::holder_of(names, symbols, l.names, Interned(id))
+    let id = interner::find(l, bytes, names, x);
+    symbol_rows::holder_of(l, names, symbols, id)
 }
 
 fn is_removed(l: Link, bytes: &[u8], names: &[u64], symbols: &[u64], x: &[u8]) -> bool
@@ -91,32 +91,43 @@ fn first_removed(
 }
 
 // Entry k goes to the end of the queue, and its name is required of its member.
-fn mark(cells: &mut [u64], queued: usize, p: usize, k: usize, r: usize)
-    ensures { λ _. ⌜ now (cells .exit) ≡ marked p k r (now (cells .entry)) queued ⌝ }
+fn mark(w: Walk, index: &[u8], cells: &mut [u64], queued: usize, p: usize, k: usize, r: usize)
+    requires { ⌜ k < 0xffffffffffffffff ⌝ }
+    ensures { λ _. ⌜ now (cells .exit) ≡ marked (w .key) (w .entries) (now (index .entry)) p k r (now (cells .entry)) queued ⌝ }
 {
-    cells::row_put(cells, k, 0, 1);
+    archive_walk::note(w, index, cells, k);
     cells::row_put(cells, r, 6, p as u64);
     cells::row_put(cells, queued, 7, k as u64);
 }
 
 // Entry k in pass p, its name undefined, its member represented by r; answers how many members are queued then.
-fn put_in_queue(cells: &mut [u64], queued: usize, p: usize, k: usize, r: usize) -> usize
+fn put_in_queue(
+    w: Walk,
+    index: &[u8],
+    cells: &mut [u64],
+    queued: usize,
+    p: usize,
+    k: usize,
+    r: usize,
+) -> usize
+    requires { ⌜ k < 0xffffffffffffffff ⌝ }
     requires { ⌜ queued < 0xffffffffffffffff ⌝ }
-    ensures { λ n. ⌜ queueOf (now (cells .exit)) n ≡ enqueue p k r (queueOf (now (cells .entry)) queued) ⌝ }
+    ensures { λ n. ⌜ queueOf (now (cells .exit)) n ≡ enqueue (w .key) (w .entries) (now (index .entry)) p k r (queueOf (now (cells .entry)) queued) ⌝ }
 {
     let by = cells::row_get(cells, r, 6) as usize;
     if by == 0 {
-        mark(cells, queued, p, k, r);
+        mark(w, index, cells, queued, p, k, r);
         return queued + 1;
     }
     if by == p {
-        cells::row_put(cells, k, 0, 1);
+        archive_walk::note(w, index, cells, k);
         return queued;
     }
     queued
 }
 
 fn tie(
+    w: Walk,
     index: &[u8],
     cells: &mut [u64],
     queued: usize,
@@ -127,8 +138,9 @@ fn tie(
     names: &[u64],
     symbols: &[u64],
 ) -> usize
+    requires { ⌜ k < 0xffffffffffffffff ⌝ }
     requires { ⌜ queued < 0xffffffffffffffff ⌝ }
-    ensures { λ n. ⌜ queueOf (now (cells .exit)) n ≡ tieOf (now (index .entry)) (tableOf l (now (bytes .entry)) (now (names .entry)) (now (symbols .entry))) p k (queueOf (now (cells .entry)) queued) ⌝ }
+    ensures { λ n. ⌜ queueOf (now (cells .exit)) n ≡ tieOf (w .key) (w .entries) (now (index .entry)) (tableOf l (now (bytes .entry)) (now (names .entry)) (now (symbols .entry))) p k (queueOf (now (cells .entry)) queued) ⌝ }
 {
     if is_undefined(
         l,
@@ -138,30 +150,29 @@ fn tie(
         archive_index::name(index, cells, k),
     ) {
         let r = cells::row_get(cells, k, 1) as usize;
-        return put_in_queue(cells, queued, p, k, r);
+        return put_in_queue(w, index, cells, queued, p, k, r);
     }
     queued
 }
 
-// Pass p over all entries.
+// Pass p of the walk over all its entries.
 fn tie_all(
+    w: Walk,
     index: &[u8],
     cells: &mut [u64],
-    queued: usize,
     p: usize,
-    entries: usize,
     l: Link,
     bytes: &[u8],
     names: &[u64],
     symbols: &[u64],
 ) -> usize
-    requires { ⌜ queued + entries < 0xffffffffffffffff ⌝ }
-    ensures { λ n. ⌜ queueOf (now (cells .exit)) n ≡ tieAll (now (index .entry)) (tableOf l (now (bytes .entry)) (now (names .entry)) (now (symbols .entry))) p entries 0 (queueOf (now (cells .entry)) queued) ⌝ }
+    requires { ⌜ w .queued + w .entries < 0xffffffffffffffff ⌝ }
+    ensures { λ n. ⌜ queueOf (now (cells .exit)) n ≡ tieAll (w .key) (w .entries) (now (index .entry)) (tableOf l (now (bytes .entry)) (now (names .entry)) (now (symbols .entry))) p (w .entries) 0 (queueOf (now (cells .entry)) (w .queued)) ⌝ }
 {
-    let mut n = queued;
+    let mut n = w.queued;
     let mut k = 0;
-    while k < entries {
-        n = tie(index, cells, n, p, k, l, bytes, names, symbols);
+    while k < w.entries {
+        n = tie(w, index, cells, n, p, k, l, bytes, names, symbols);
         k += 1;
     }
     n
@@ -189,6 +200,7 @@ fn hand_out(index: &[u8], cells: &[u64], w: Walk) -> Moved
         let e = cells::row_get(cells, w.offered, 7) as usize;
         return Moved {
             walk: Walk {
+                key: w.key,
                 entries: w.entries,
                 length: w.length,
                 passes: w.passes,
@@ -205,6 +217,7 @@ fn hand_out(index: &[u8], cells: &[u64], w: Walk) -> Moved
     }
     Moved {
         walk: Walk {
+            key: w.key,
             entries: w.entries,
             length: w.length,
             passes: w.passes,
@@ -231,18 +244,9 @@ fn make_pass(
     ensures { λ r. ⌜ stepMoved (now (cells .exit)) r ≡ makeOf (now (index .entry)) (now (cells .entry)) w (tableOf l (now (bytes .entry)) (now (names .entry)) (now (symbols .entry))) ⌝ }
 {
     let p = w.passes + 1;
-    let n = tie_all(
-        index,
-        cells,
-        w.queued,
-        p,
-        w.entries,
-        l,
-        bytes,
-        names,
-        symbols,
-    );
+    let n = tie_all(w, index, cells, p, l, bytes, names, symbols);
     let after = Walk {
+        key: w.key,
         entries: w.entries,
         length: w.length,
         passes: p,

@@ -8,7 +8,7 @@ use lib.ListN.{length}
 use Rattle.link.specs.declared.Link.{Link}
 use Rattle.link.specs.declared.Lent.{Lent}
 use Rattle.link.specs.declared.Refusal.{Refusal}
-use Rattle.link.specs.Bounds.{notLent}
+use Rattle.link.specs.Bounds.{notLent, nameRows}
 use Rattle.link.specs.Judge.{judgeOf}
 use Rattle.interner.specs.Names.{findOf}
 use Rattle.symbol.specs.Row.{field}
@@ -26,17 +26,17 @@ pub record Table : Type 0 where
 abbrev pub tableOf : Link → List ℕ → List ℕ → List ℕ → Table
 tableOf l b n y = record { link = l; bytes = b; names = n; symbols = y }
 
-abbrev pub lentOf : ℕ → ℕ → ℕ → Lent
-lentOf bytes names symbols =
-    record { names = names; bytes = bytes; symbols = symbols; sections = notLent; inputs = notLent; lists = notLent }
+abbrev pub lentOf : Link → ℕ → ℕ → ℕ → Lent
+lentOf l bytes names symbols =
+    record { names = nameRows names; bytes = bytes; symbols = symbols; sections = l .slots; inputs = notLent; lists = notLent }
 
 -- 1 for a count above what is lent
 unfoldable pub judgeTable : Table → Refusal
-judgeTable t = judgeOf (t .link) (lentOf (length (t .bytes)) (length (t .names)) (length (t .symbols)))
+judgeTable t = judgeOf (t .link) (lentOf (t .link) (length (t .bytes)) (length (t .names)) (length (t .symbols)))
 
 -- who holds the name x
 unfoldable pub nameHolder : Table → List ℕ → Holder
-nameHolder t x = holderOf (t .names) (t .symbols) (t .link .names) (record { 0 = findOf (t .bytes) (t .names) (t .link .names) x })
+nameHolder t x = holderOf (t .link) (t .names) (t .symbols) (record { 0 = findOf (t .bytes) (t .names) (t .link) x })
 
 abbrev pub wasRemoved : Holder → Bool
 wasRemoved Unissued = false

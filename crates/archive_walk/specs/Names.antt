@@ -1,37 +1,21 @@
--- The names of an archive's members, chained by a hash of member and name, so that admission asks for one without a look at every entry. The chains lie
--- in the cells in which the index chained members while it was opened: entry k's link in its field 2, the head of chain k in its field 3.
+-- The names required of an archive's members, chained by a keyed hash of member and name, so that admission asks for one without a look at every entry.
+-- The chains lie in the cells in which the index had the tree of members while it was opened: entry k's link in its field 2, the head of chain k in its
+-- field 3. A start leaves them empty; a pass chains an entry when it marks its name as required, once for each member and name: so neither entries that no
+-- pass marked nor copies of one name make a chain longer.
 -- Assumes nothing.
-use Prim.Native.Nat.{ℕ, zero, suc, _+_, _*_, _-_, _%_}
+use Prim.Native.Nat.{ℕ, zero, suc, _+_, _*_, _-_, _/_, _%_}
 use mathlib.Core.Bool.{Bool, true, false, cond}
 use mathlib.Core.List.{List}
 use lib.Dec.{eqb}
-use lib.ListN.{set}
+use lib.ListN.{set, length}
 use Rattle.byte_slices.specs.Bytes.{same}
-use Rattle.interner.specs.Hash.{hashFrom}
-use Rattle.archive_index.specs.Rows.{requiredAt, memberAt, nextAt, headAt, storedName, noHeads}
+use Rattle.keyed_hash.specs.Keyed.{hashOf}
+use Rattle.archive_index.specs.Rows.{requiredAt, memberAt, nextAt, headAt, storedName}
+use Rattle.archive_walk.specs.declared.Walk.{Walk}
 
 -- the chain of the name x of the member that r represents, among c chains
-unfoldable pub nameChain : ℕ → ℕ → List ℕ → ℕ
-nameChain c r x = cond (eqb c 0) 0 ((hashFrom 0 x % 0x100000000 + r % 0x100000000) % c)
-
--- the chain of entry k
-abbrev pub chainAt : List ℕ → ℕ → List ℕ → ℕ → ℕ
-chainAt s c l k = nameChain c (memberAt l k) (storedName s l k)
-
--- entry k goes to the head of its chain
-unfoldable pub linkedOf : List ℕ → ℕ → List ℕ → ℕ → List ℕ
-linkedOf s c l k = set (set l (k * 8 + 2) (headAt l (chainAt s c l k))) (chainAt s c l k * 8 + 3) (k + 1)
-
--- the n entries from k on
-unfoldable pub linkAll : List ℕ → ℕ → ℕ → ℕ → List ℕ → List ℕ
-linkAll s c zero k l = l
-linkAll s c (suc n) k l = linkAll s c n (k + 1) (linkedOf s c l k)
-
--- all c entries
-unfoldable pub chainNames : List ℕ → ℕ → List ℕ → List ℕ
-chainNames s c l = linkAll s c c 0 (noHeads c l)
-
--- ---- the names that admission asks for
+unfoldable pub nameChain : ℕ → ℕ → ℕ → List ℕ → ℕ
+nameChain key c r x = cond (eqb c 0) 0 ((hashOf key x + r % 0x100000000) % c)
 
 -- f holds of one of at most n entries along the links from at on
 unfoldable pub along : List ℕ → (ℕ → Bool) → ℕ → ℕ → Bool
@@ -42,6 +26,31 @@ along l f at (suc n) = cond (eqb at 0) false (cond (f (at - 1)) true (along l f 
 unfoldable pub bearsOf : List ℕ → List ℕ → ℕ → List ℕ → ℕ → Bool
 bearsOf s l r x k = cond (eqb (requiredAt l k) 1) (cond (eqb (memberAt l k) r) (same (storedName s l k) x) false) false
 
+-- an entry from this head on bears the name x; no chain is longer than there are rows
+unfoldable pub borneFrom : List ℕ → List ℕ → ℕ → List ℕ → ℕ → Bool
+borneFrom s l r x head = along l (bearsOf s l r x) head (length l / 8)
+
+-- one in the chain of that name and member does
+unfoldable pub chained : ℕ → ℕ → List ℕ → List ℕ → ℕ → List ℕ → Bool
+chained key c s l r x = borneFrom s l r x (headAt l (nameChain key c r x))
+
+-- ---- a pass marks entry k
+
+-- the chain of entry k
+abbrev pub chainAt : ℕ → ℕ → List ℕ → List ℕ → ℕ → ℕ
+chainAt key c s l k = nameChain key c (memberAt l k) (storedName s l k)
+
+-- marked, and at the head of chain b
+unfoldable pub headedOf : List ℕ → ℕ → ℕ → List ℕ
+headedOf l k b = set (set (set l (k * 8 + 0) 1) (k * 8 + 2) (headAt l b)) (b * 8 + 3) (k + 1)
+
+-- marked; in its chain unless another entry there bears the same name of the same member
+unfoldable pub notedOf : ℕ → ℕ → List ℕ → List ℕ → ℕ → List ℕ
+notedOf key c s l k =
+    cond (chained key c s l (memberAt l k) (storedName s l k)) (set l (k * 8 + 0) 1) (headedOf l k (chainAt key c s l k))
+
+-- ---- the names that admission asks for
+
 -- the name x is required of the member that was offered by entry e
-unfoldable pub requiredOf : List ℕ → List ℕ → ℕ → ℕ → List ℕ → Bool
-requiredOf s l c e x = along l (bearsOf s l (memberAt l e) x) (headAt l (nameChain c (memberAt l e) x)) c
+unfoldable pub requiredOf : List ℕ → List ℕ → Walk → ℕ → List ℕ → Bool
+requiredOf s l w e x = chained (w .key) (w .entries) s l (memberAt l e) x

@@ -8,9 +8,9 @@ use lib.ListN.{set, length}
 use Rattle.link.specs.Judge.{refused}
 use Rattle.archive_index.specs.declared.Opened.{Opened}
 use Rattle.archive_index.specs.Index.{offsetOf}
-use Rattle.archive_index.specs.Rows.{memberAt, passAt, queueAt, storedName}
+use Rattle.archive_index.specs.Rows.{memberAt, passAt, queueAt, storedName, noHeads}
 use Rattle.archive_index.specs.Open.{openOf}
-use Rattle.archive_walk.specs.Names.{chainNames}
+use Rattle.archive_walk.specs.Names.{notedOf}
 use Rattle.archive_walk.specs.Look.{Table, judgeTable, removedName, undefinedName}
 use Rattle.archive_walk.specs.declared.Walk.{Walk}
 use Rattle.archive_walk.specs.declared.Begun.{Begun}
@@ -49,21 +49,22 @@ pub record Start : Type 0 where
 abbrev pub startLeft : List ℕ → Started → Start
 startLeft l r = record { cells = l; started = r }
 
--- nothing is queued, and no pass is made
-abbrev pub freshWalk : ℕ → ℕ → Walk
-freshWalk c n = record { entries = c; length = n; passes = 0; queued = 0; offered = 0; done = false }
+-- nothing is queued, and no pass is made; the key places the names in their chains, and no answer depends on it (archive_laws, AnyKey)
+abbrev pub freshWalk : ℕ → ℕ → ℕ → Walk
+freshWalk key c n = record { key = key; entries = c; length = n; passes = 0; queued = 0; offered = 0; done = false }
 
 -- what comes with a refusal fits no index: a call for the next member gives 1, and doesn't say "done"
 abbrev pub noWalk : Walk
-noWalk = record { entries = 0; length = 0xffffffffffffffff; passes = 0; queued = 0; offered = 0; done = false }
+noWalk = record { key = 0; entries = 0; length = 0xffffffffffffffff; passes = 0; queued = 0; offered = 0; done = false }
 
-unfoldable pub begunOf : ℕ → Opened → Started
-begunOf n o =
-    cond (eqb (o .refusal .number) 0) (record { walk = freshWalk (o .entries) n; begun = Ready (o .entries) })
+unfoldable pub begunOf : ℕ → ℕ → Opened → Started
+begunOf key n o =
+    cond (eqb (o .refusal .number) 0) (record { walk = freshWalk key (o .entries) n; begun = Ready (o .entries) })
     (record { walk = noWalk; begun = Begins.Refused (o .refusal) })
 
-unfoldable pub startOf : List ℕ → List ℕ → Start
-startOf s l = startLeft (chainNames s (openOf s l .opened .entries) (openOf s l .cells)) (begunOf (length s) (openOf s l .opened))
+-- the entries' rows, with no name in a chain
+unfoldable pub startOf : ℕ → List ℕ → List ℕ → Start
+startOf key s l = startLeft (noHeads (openOf s l .opened .entries) (openOf s l .cells)) (begunOf key (length s) (openOf s l .opened))
 
 -- ---- a call for the next member
 
@@ -84,10 +85,10 @@ refusedMove w number place = record { walk = w; offer = Refused (refused number 
 -- the front of the queue goes out; "Every walk's last pass, maybe its first, offers nothing": an empty queue ends the walk
 abbrev pub handedOut : Walk → Walk
 handedOut w =
-    record { entries = w .entries; length = w .length; passes = w .passes; queued = w .queued; offered = w .offered + 1; done = false }
+    record { key = w .key; entries = w .entries; length = w .length; passes = w .passes; queued = w .queued; offered = w .offered + 1; done = false }
 
 abbrev pub ended : Walk → Walk
-ended w = record { entries = w .entries; length = w .length; passes = w .passes; queued = w .queued; offered = w .offered; done = true }
+ended w = record { key = w .key; entries = w .entries; length = w .length; passes = w .passes; queued = w .queued; offered = w .offered; done = true }
 
 unfoldable pub offerOf : List ℕ → List ℕ → Walk → Step
 offerOf s l w =
@@ -103,26 +104,26 @@ pub record Queue : Type 0 where
 abbrev pub queueOf : List ℕ → ℕ → Queue
 queueOf l n = record { cells = l; queued = n }
 
--- entry k goes to the end of the queue of n
-unfoldable pub marked : ℕ → ℕ → ℕ → List ℕ → ℕ → List ℕ
-marked p k r l n = set (set (set l (k * 8 + 0) 1) (r * 8 + 6) p) (n * 8 + 7) k
+-- entry k goes to the end of the queue of n, in pass p, and its name is required of its member
+unfoldable pub marked : ℕ → ℕ → List ℕ → ℕ → ℕ → ℕ → List ℕ → ℕ → List ℕ
+marked key c s p k r l n = set (set (notedOf key c s l k) (r * 8 + 6) p) (n * 8 + 7) k
 
 -- entry k, whose name is undefined, of the member that r represents: queued if no pass has queued it yet; in the pass that queues it the names of
 -- its other entries are required too
-unfoldable pub enqueue : ℕ → ℕ → ℕ → Queue → Queue
-enqueue p k r q =
+unfoldable pub enqueue : ℕ → ℕ → List ℕ → ℕ → ℕ → ℕ → Queue → Queue
+enqueue key c s p k r q =
     cond (eqb (passAt (q .cells) r) 0)
-    (queueOf (marked p k r (q .cells) (q .queued)) (q .queued + 1))
-    (cond (eqb (passAt (q .cells) r) p) (queueOf (set (q .cells) (k * 8 + 0) 1) (q .queued)) q)
+    (queueOf (marked key c s p k r (q .cells) (q .queued)) (q .queued + 1))
+    (cond (eqb (passAt (q .cells) r) p) (queueOf (notedOf key c s (q .cells) k) (q .queued)) q)
 
 -- entry k in pass p
-unfoldable pub tieOf : List ℕ → Table → ℕ → ℕ → Queue → Queue
-tieOf s t p k q = cond (undefinedName t (storedName s (q .cells) k)) (enqueue p k (memberAt (q .cells) k) q) q
+unfoldable pub tieOf : ℕ → ℕ → List ℕ → Table → ℕ → ℕ → Queue → Queue
+tieOf key c s t p k q = cond (undefinedName t (storedName s (q .cells) k)) (enqueue key c s p k (memberAt (q .cells) k) q) q
 
 -- the n entries from k on
-unfoldable pub tieAll : List ℕ → Table → ℕ → ℕ → ℕ → Queue → Queue
-tieAll s t p zero k q = q
-tieAll s t p (suc n) k q = tieAll s t p n (k + 1) (tieOf s t p k q)
+unfoldable pub tieAll : ℕ → ℕ → List ℕ → Table → ℕ → ℕ → ℕ → Queue → Queue
+tieAll key c s t p zero k q = q
+tieAll key c s t p (suc n) k q = tieAll key c s t p n (k + 1) (tieOf key c s t p k q)
 
 -- of the n entries from k on the first whose name's row was removed, else k + n
 unfoldable pub removedOf : List ℕ → List ℕ → Table → ℕ → ℕ → ℕ
@@ -130,14 +131,14 @@ removedOf s l t zero k = k
 removedOf s l t (suc n) k = cond (removedName t (storedName s l k)) k (removedOf s l t n (k + 1))
 
 abbrev pub passed : Walk → ℕ → Walk
-passed w n = record { entries = w .entries; length = w .length; passes = w .passes + 1; queued = n; offered = w .offered; done = false }
+passed w n = record { key = w .key; entries = w .entries; length = w .length; passes = w .passes + 1; queued = n; offered = w .offered; done = false }
 
 abbrev pub offeredFrom : List ℕ → Walk → Queue → Step
 offeredFrom s w q = offerOf s (q .cells) (passed w (q .queued))
 
 -- a pass over all entries; then the front of what it queued
 unfoldable pub makeOf : List ℕ → List ℕ → Walk → Table → Step
-makeOf s l w t = offeredFrom s w (tieAll s t (w .passes + 1) (w .entries) 0 (queueOf l (w .queued)))
+makeOf s l w t = offeredFrom s w (tieAll (w .key) (w .entries) s t (w .passes + 1) (w .entries) 0 (queueOf l (w .queued)))
 
 -- "A pass that meets a name whose row was removed gives 21", at the entry's position, before anything is queued
 unfoldable pub searchOf : List ℕ → List ℕ → Walk → Table → ℕ → Step

@@ -16,7 +16,7 @@ use Rattle.link.specs.declared.SymbolId.{SymbolId}
 use Rattle.link.specs.Judge.{judgeOf}
 use Rattle.byte_slices.specs.Bytes.{same}
 use Rattle.byte_slices.specs.Ways.{pick, apart}
-use Rattle.interner.specs.Hash.{hashFrom}
+use Rattle.keyed_hash.specs.Keyed.{hashOf}
 use Rattle.interner.specs.Names.{findOf}
 use Rattle.symbol.specs.Row.{field}
 use Rattle.symbol_rows.specs.declared.Holder.{Holder}
@@ -35,63 +35,106 @@ use Rattle.archive_walk.specs.declared.Offer.the-variants.{Member, Done,
 use Rattle.archive_walk.specs.declared.Moved.{Moved}
 use Rattle.archive_walk.specs.Look.{Table, lentOf, judgeTable, nameHolder, removedName, undefinedName}
 use Rattle.archive_walk.specs.Walk.{startLeft, freshWalk, noWalk, begunOf, startOf, stepMoved, refusedMove, handedOut, ended, offerOf, Queue, queueOf, marked, enqueue, tieOf, tieAll, removedOf, passed, makeOf, searchOf, passOf, walkFits, goOf, nextOf}
-use Rattle.archive_walk.specs.Names.{nameChain, linkedOf, linkAll, chainNames, along, bearsOf, requiredOf}
+use Rattle.archive_walk.specs.Names.{nameChain, along, bearsOf, borneFrom, chained, headedOf, notedOf, requiredOf}
 
--- ---- the chains of names
+-- ---- the chains of required names
 
-module _ (c r : ℕ) (x : List ℕ) (t : ℕ) where
-  pub name-chain-none : c ≡ 0 → t ≡ 0 → t ≡ nameChain c r x
+module _ (key c r : ℕ) (x : List ℕ) (t : ℕ) where
+  pub name-chain-none : c ≡ 0 → t ≡ 0 → t ≡ nameChain key c r x
   unfolding nameChain
   name-chain-none z q = simp (q, eq-eqb _ _ z)
 
-  pub name-chain-some : (h : ℕ) → (c ≡ 0 → ⊥) → h ≡ hashFrom 0 x → t ≡ (h % 0x100000000 + r % 0x100000000) % c → t ≡ nameChain c r x
+  pub name-chain-some : (h : ℕ) → (c ≡ 0 → ⊥) → h ≡ hashOf key x → t ≡ (h + r % 0x100000000) % c → t ≡ nameChain key c r x
   unfolding nameChain
   name-chain-some h z e q = q ∙ rw e (sym (rw (ne-eqb _ _ z)))
 
-module _ (s : List ℕ) (c : ℕ) (l : List ℕ) where
-  pub linked-is : (m t x : List ℕ) (k r b head : ℕ) → r ≡ memberAt l k → x ≡ storedName s l k → b ≡ nameChain c r x → head ≡ headAt l b
-      → m ≡ set l (k * 8 + 2) head → t ≡ set m (b * 8 + 3) (k + 1) → t ≡ linkedOf s c l k
-  unfolding linkedOf
-  linked-is m t x k r b head e f g h i q = q ∙ rw (i, h, g, f, e)
+module _ (s l : List ℕ) (r : ℕ) (x : List ℕ) (k : ℕ) (y : Bool) (a : ℕ) where
+  pub bears-free : a ≡ requiredAt l k → (a ≡ 1 → ⊥) → y ≡ false → y ≡ bearsOf s l r x k
+  unfolding bearsOf
+  bears-free e h q = q ∙ sym (rw (← e, ne-eqb _ _ h))
 
-  pub link-on : (m w : List ℕ) (k : ℕ) → k < c → m ≡ linkedOf s c l k → w ≡ linkAll s c (c - k) k l → w ≡ linkAll s c (c - (k + 1)) (k + 1) m
-  unfolding linkAll
-  link-on m w k h e q = q ∙ rw (one-more c k h) (rw e refl)
+  module _ (b : ℕ) where
+    pub bears-other : a ≡ requiredAt l k → a ≡ 1 → b ≡ memberAt l k → (b ≡ r → ⊥) → y ≡ false → y ≡ bearsOf s l r x k
+    unfolding bearsOf
+    bears-other e h f g q = q ∙ sym (rw (← e, eq-eqb _ _ h, ← f, ne-eqb _ _ g))
 
-  pub link-end : (w : List ℕ) (k : ℕ) → c ≤ k → w ≡ linkAll s c (c - k) k l → l ≡ w
-  unfolding linkAll
-  link-end w k h q = sym (q ∙ rw (sub-eq-zero-of-le h))
+    pub bears-name : (z : List ℕ) → a ≡ requiredAt l k → a ≡ 1 → b ≡ memberAt l k → b ≡ r → z ≡ storedName s l k → y ≡ same z x → y ≡ bearsOf s l r x k
+    unfolding bearsOf
+    bears-name z e h f g i q = q ∙ sym (rw (← e, eq-eqb _ _ h, ← f, eq-eqb _ _ g, ← i))
 
-  pub chain-names-is : (m t : List ℕ) → m ≡ noHeads c l → t ≡ linkAll s c c 0 m → t ≡ chainNames s c l
-  unfolding chainNames
-  chain-names-is m t e q = q ∙ rw e
+pub borne-start : (s l : List ℕ) (r : ℕ) (x : List ℕ) (head at n : ℕ) → at ≡ head → n ≡ length l / 8 → borneFrom s l r x head ≡ along l (bearsOf s l r x) at n
+unfolding borneFrom
+borne-start s l r x head at n e f = rw (e, f)
+
+module _ (l : List ℕ) (f : ℕ → Bool) (at n : ℕ) (w : Bool) where
+  one-less : 0 < n → n ≡ suc (n - 1)
+  one-less h = omega arith
+
+  pub along-out : n ≤ 0 → w ≡ along l f at n → false ≡ w
+  unfolding along
+  along-out h q = let e : n ≡ 0 = omega arith in sym (q ∙ rw e)
+
+  pub along-end : 0 < n → at ≡ 0 → w ≡ along l f at n → false ≡ w
+  unfolding along
+  along-end h e q = sym (q ∙ rw (one-less h) (simp (eq-eqb _ _ e)))
+
+  module _ (b : Bool) where
+    pub along-hit : 0 < n → (at ≡ 0 → ⊥) → b ≡ f (at - 1) → b ≡ true → w ≡ along l f at n → true ≡ w
+    unfolding along
+    along-hit h e g i q = sym (q ∙ rw (one-less h) (simp (ne-eqb _ _ e, ← g, i)))
+
+    pub along-on : (m : ℕ) → 0 < n → (at ≡ 0 → ⊥) → b ≡ f (at - 1) → b ≡ false → m ≡ nextAt l (at - 1) → w ≡ along l f at n → w ≡ along l f m (n - 1)
+    unfolding along
+    along-on m h e g i j q =
+        q ∙ subst (λ (k : ℕ). along l f at k ≡ along l f m (n - 1)) (sym (one-less h)) (simp (ne-eqb _ _ e, ← g, i, j))
+
+pub head-is : (l m u t : List ℕ) (k b head : ℕ) → head ≡ headAt l b → m ≡ set l (k * 8 + 0) 1 → u ≡ set m (k * 8 + 2) head → t ≡ set u (b * 8 + 3) (k + 1)
+    → t ≡ headedOf l k b
+unfolding headedOf
+head-is l m u t k b head e f g q = q ∙ rw (g, f, e)
+
+module _ (s l : List ℕ) (w : Walk) (k : ℕ) (t : List ℕ) (r : ℕ) (x : List ℕ) (b head : ℕ) (f : Bool) where
+  pub note-known : r ≡ memberAt l k → x ≡ storedName s l k → b ≡ nameChain (w .key) (w .entries) r x → head ≡ headAt l b → f ≡ borneFrom s l r x head → f ≡ true
+      → t ≡ set l (k * 8 + 0) 1 → t ≡ notedOf (w .key) (w .entries) s l k
+  unfolding notedOf chained
+  note-known e g h i j z q = q ∙ sym (rw (← e, ← g, ← h, ← i, ← j, z))
+
+  pub note-new : r ≡ memberAt l k → x ≡ storedName s l k → b ≡ nameChain (w .key) (w .entries) r x → head ≡ headAt l b → f ≡ borneFrom s l r x head → f ≡ false
+      → t ≡ headedOf l k b → t ≡ notedOf (w .key) (w .entries) s l k
+  unfolding notedOf chained
+  note-new e g h i j z q = q ∙ sym (rw (← e, ← g, ← h, ← i, ← j, z))
+
+pub required-is : (s l : List ℕ) (w : Walk) (e : ℕ) (x : List ℕ) (r b head : ℕ) (t : Bool) → r ≡ memberAt l e → b ≡ nameChain (w .key) (w .entries) r x → head ≡ headAt l b
+    → t ≡ borneFrom s l r x head → t ≡ requiredOf s l w e x
+unfolding requiredOf chained
+required-is s l w e x r b head t f g h q = q ∙ rw (h, g, f)
 
 -- ---- the start
 
-module _ (n : ℕ) (o : Opened) (t : Started) where
-  pub begin-ready : o .refusal .number ≡ 0 → t ≡ record { walk = freshWalk (o .entries) n; begun = Ready (o .entries) } → t ≡ begunOf n o
+module _ (key n : ℕ) (o : Opened) (t : Started) where
+  pub begin-ready : o .refusal .number ≡ 0 → t ≡ record { walk = freshWalk key (o .entries) n; begun = Ready (o .entries) } → t ≡ begunOf key n o
   unfolding begunOf
   begin-ready e q = q ∙ sym (rw (eq-eqb _ _ e))
 
-  pub begin-refused : (o .refusal .number ≡ 0 → ⊥) → t ≡ record { walk = noWalk; begun = Begins.Refused (o .refusal) } → t ≡ begunOf n o
+  pub begin-refused : (o .refusal .number ≡ 0 → ⊥) → t ≡ record { walk = noWalk; begun = Begins.Refused (o .refusal) } → t ≡ begunOf key n o
   unfolding begunOf
   begin-refused e q = q ∙ sym (rw (ne-eqb _ _ e))
 
-module _ (s l : List ℕ) where
-  pub start-is : (m n : List ℕ) (o : Opened) (t : Started) → left m o ≡ openOf s l → n ≡ chainNames s (o .entries) m → t ≡ begunOf (length s) o
-      → startLeft n t ≡ startOf s l
+module _ (key : ℕ) (s l : List ℕ) where
+  pub start-is : (m n : List ℕ) (o : Opened) (t : Started) → left m o ≡ openOf s l → n ≡ noHeads (o .entries) m → t ≡ begunOf key (length s) o
+      → startLeft n t ≡ startOf key s l
   unfolding startOf
   start-is m n o t e f q = rw (q, f, ← e)
 
 -- ---- the table
 
-pub judged-is : (t : Table) (r : Refusal) → r ≡ judgeOf (t .link) (lentOf (length (t .bytes)) (length (t .names)) (length (t .symbols))) → r ≡ judgeTable t
+pub judged-is : (t : Table) (r : Refusal) → r ≡ judgeOf (t .link) (lentOf (t .link) (length (t .bytes)) (length (t .names)) (length (t .symbols))) → r ≡ judgeTable t
 unfolding judgeTable
 judged-is t r q = q
 
 module _ (t : Table) (x : List ℕ) where
-  pub holder-is : (h : Holder) (i : ℕ) → i ≡ findOf (t .bytes) (t .names) (t .link .names) x
-      → h ≡ holderOf (t .names) (t .symbols) (t .link .names) (record { 0 = i }) → h ≡ nameHolder t x
+  pub holder-is : (h : Holder) (i : ℕ) → i ≡ findOf (t .bytes) (t .names) (t .link) x
+      → h ≡ holderOf (t .link) (t .names) (t .symbols) (record { 0 = i }) → h ≡ nameHolder t x
   unfolding nameHolder
   holder-is h i e q = q ∙ rw e
 
@@ -144,59 +187,64 @@ module _ (s l : List ℕ) (t : Table) (c k w : ℕ) where
   unfolding removedOf
   search-end h q = sym (q ∙ rw (sub-eq-zero-of-le h))
 
-pub mark-is : (l m u t : List ℕ) (n p k r : ℕ) → m ≡ set l (k * 8 + 0) 1 → u ≡ set m (r * 8 + 6) p → t ≡ set u (n * 8 + 7) k → t ≡ marked p k r l n
+pub mark-is : (w : Walk) (s l m u t : List ℕ) (n p k r : ℕ) → m ≡ notedOf (w .key) (w .entries) s l k → u ≡ set m (r * 8 + 6) p → t ≡ set u (n * 8 + 7) k
+    → t ≡ marked (w .key) (w .entries) s p k r l n
 unfolding marked
-mark-is l m u t n p k r f g q = q ∙ rw (g, f)
+mark-is w s l m u t n p k r f g q = q ∙ rw (g, f)
 
-module _ (l : List ℕ) (n p k r : ℕ) (t : Queue) (by : ℕ) where
-  pub queue-new : (m : List ℕ) → by ≡ passAt l r → by ≡ 0 → m ≡ marked p k r l n → t ≡ queueOf m (n + 1) → t ≡ enqueue p k r (queueOf l n)
+module _ (w : Walk) (s l : List ℕ) (n p k r : ℕ) (t : Queue) (by : ℕ) where
+  pub queue-new : (m : List ℕ) → by ≡ passAt l r → by ≡ 0 → m ≡ marked (w .key) (w .entries) s p k r l n → t ≡ queueOf m (n + 1)
+      → t ≡ enqueue (w .key) (w .entries) s p k r (queueOf l n)
   unfolding enqueue
   queue-new m e z f q = q ∙ rw f (sym (rw (← e, eq-eqb _ _ z)))
 
-  pub queue-mate : (m : List ℕ) → by ≡ passAt l r → (by ≡ 0 → ⊥) → by ≡ p → m ≡ set l (k * 8 + 0) 1 → t ≡ queueOf m n → t ≡ enqueue p k r (queueOf l n)
+  pub queue-mate : (m : List ℕ) → by ≡ passAt l r → (by ≡ 0 → ⊥) → by ≡ p → m ≡ notedOf (w .key) (w .entries) s l k → t ≡ queueOf m n
+      → t ≡ enqueue (w .key) (w .entries) s p k r (queueOf l n)
   unfolding enqueue
   queue-mate m e z f g q = q ∙ rw g (sym (rw (← e, ne-eqb _ _ z, eq-eqb _ _ f)))
 
-  pub queue-old : by ≡ passAt l r → (by ≡ 0 → ⊥) → (by ≡ p → ⊥) → t ≡ queueOf l n → t ≡ enqueue p k r (queueOf l n)
+  pub queue-old : by ≡ passAt l r → (by ≡ 0 → ⊥) → (by ≡ p → ⊥) → t ≡ queueOf l n → t ≡ enqueue (w .key) (w .entries) s p k r (queueOf l n)
   unfolding enqueue
   queue-old e z f q = q ∙ sym (rw (← e, ne-eqb _ _ z, ne-eqb _ _ f))
 
-module _ (s : List ℕ) (t : Table) (p k : ℕ) (l : List ℕ) (n : ℕ) (u : Queue) (x : List ℕ) (b : Bool) where
-  pub tie-undefined : (r : ℕ) → x ≡ storedName s l k → b ≡ undefinedName t x → b ≡ true → r ≡ memberAt l k → u ≡ enqueue p k r (queueOf l n)
-      → u ≡ tieOf s t p k (queueOf l n)
+module _ (w : Walk) (s : List ℕ) (t : Table) (p k : ℕ) (l : List ℕ) (n : ℕ) (u : Queue) (x : List ℕ) (b : Bool) where
+  pub tie-undefined : (r : ℕ) → x ≡ storedName s l k → b ≡ undefinedName t x → b ≡ true → r ≡ memberAt l k → u ≡ enqueue (w .key) (w .entries) s p k r (queueOf l n)
+      → u ≡ tieOf (w .key) (w .entries) s t p k (queueOf l n)
   unfolding tieOf
   tie-undefined r e f g h q = q ∙ sym (rw (← e, ← f, g, ← h))
 
-  pub tie-not : x ≡ storedName s l k → b ≡ undefinedName t x → b ≡ false → u ≡ queueOf l n → u ≡ tieOf s t p k (queueOf l n)
+  pub tie-not : x ≡ storedName s l k → b ≡ undefinedName t x → b ≡ false → u ≡ queueOf l n → u ≡ tieOf (w .key) (w .entries) s t p k (queueOf l n)
   unfolding tieOf
   tie-not e f g q = q ∙ sym (rw (← e, ← f, g))
 
-module _ (s : List ℕ) (t : Table) (p c k : ℕ) (q u w : Queue) where
-  pub all-on : k < c → u ≡ tieOf s t p k q → w ≡ tieAll s t p (c - k) k q → w ≡ tieAll s t p (c - (k + 1)) (k + 1) u
+module _ (key c : ℕ) (s : List ℕ) (t : Table) (p k : ℕ) (q u v : Queue) where
+  pub all-on : k < c → u ≡ tieOf key c s t p k q → v ≡ tieAll key c s t p (c - k) k q
+      → v ≡ tieAll key c s t p (c - (k + 1)) (k + 1) u
   unfolding tieAll
   all-on h e f = f ∙ rw (one-more c k h) (rw e refl)
 
-  pub all-end : c ≤ k → w ≡ tieAll s t p (c - k) k q → q ≡ w
+  pub all-end : c ≤ k → v ≡ tieAll key c s t p (c - k) k q → q ≡ v
   unfolding tieAll
   all-end h f = sym (f ∙ rw (sub-eq-zero-of-le h))
 
 -- an entry queues at most one member
-enqueue-most : (p k r : ℕ) (q : Queue) → enqueue p k r q .queued ≤ q .queued + 1
-unfolding enqueue
-enqueue-most p k r q =
-    pick (λ (u : Queue). u .queued ≤ q .queued + 1) (eqb (passAt (q .cells) r) 0) _ _ (λ e. omega arith)
-    (λ e. pick (λ (u : Queue). u .queued ≤ q .queued + 1) (eqb (passAt (q .cells) r) p) _ _ (λ f. omega arith) (λ f. omega arith))
+module _ (key c : ℕ) (s : List ℕ) where
+  enqueue-most : (p k r : ℕ) (q : Queue) → enqueue key c s p k r q .queued ≤ q .queued + 1
+  unfolding enqueue
+  enqueue-most p k r q =
+      pick (λ (u : Queue). u .queued ≤ q .queued + 1) (eqb (passAt (q .cells) r) 0) _ _ (λ e. omega arith)
+      (λ e. pick (λ (u : Queue). u .queued ≤ q .queued + 1) (eqb (passAt (q .cells) r) p) _ _ (λ f. omega arith) (λ f. omega arith))
 
-tie-most : (s : List ℕ) (t : Table) (p k : ℕ) (q : Queue) → tieOf s t p k q .queued ≤ q .queued + 1
-unfolding tieOf
-tie-most s t p k q =
-    pick (λ (u : Queue). u .queued ≤ q .queued + 1) (undefinedName t (storedName s (q .cells) k)) _ _
-    (λ e. enqueue-most p k (memberAt (q .cells) k) q) (λ e. omega arith)
+  tie-most : (t : Table) (p k : ℕ) (q : Queue) → tieOf key c s t p k q .queued ≤ q .queued + 1
+  unfolding tieOf
+  tie-most t p k q =
+      pick (λ (u : Queue). u .queued ≤ q .queued + 1) (undefinedName t (storedName s (q .cells) k)) _ _
+      (λ e. enqueue-most p k (memberAt (q .cells) k) q) (λ e. omega arith)
 
-pub count-on : (s : List ℕ) (t : Table) (p k : ℕ) (l m : List ℕ) (a n j : ℕ) → queueOf m j ≡ tieOf s t p k (queueOf l n) → n ≤ a + k → j ≤ a + (k + 1)
-count-on s t p k l m a n j e h =
-    let f : j ≡ tieOf s t p k (queueOf l n) .queued = ap (λ (q : Queue). q .queued) e in
-    rw f (omega (arith, tie-most s t p k (queueOf l n)))
+pub count-on : (key c : ℕ) (s : List ℕ) (t : Table) (p k : ℕ) (l m : List ℕ) (a n j : ℕ) → queueOf m j ≡ tieOf key c s t p k (queueOf l n) → n ≤ a + k → j ≤ a + (k + 1)
+count-on key c s t p k l m a n j e h =
+    let f : j ≡ tieOf key c s t p k (queueOf l n) .queued = ap (λ (q : Queue). q .queued) e in
+    rw f (omega (arith, tie-most key c s t p k (queueOf l n)))
 
 -- ---- a call
 
@@ -211,7 +259,7 @@ module _ (s l : List ℕ) (w : Walk) (t : Moved) where
   offer-done h q = rw q (sym (rw (le-ltb _ _ h)))
 
   module _ (b : Table) where
-    pub make-is : (m : List ℕ) (n p : ℕ) (u : Walk) → p ≡ w .passes + 1 → queueOf m n ≡ tieAll s b p (w .entries) 0 (queueOf l (w .queued))
+    pub make-is : (m : List ℕ) (n p : ℕ) (u : Walk) → p ≡ w .passes + 1 → queueOf m n ≡ tieAll (w .key) (w .entries) s b p (w .entries) 0 (queueOf l (w .queued))
         → u ≡ passed w n → stepMoved m t ≡ offerOf s m u → stepMoved m t ≡ makeOf s l w b
     unfolding makeOf
     make-is m n p u e f g q = q ∙ rw g (sym (rw (← e, ← f)))
@@ -307,46 +355,3 @@ module _ (s l : List ℕ) (w : Walk) (f : Bool) where
 
   pub passes-fit : f ≡ walkFits s l w → f ≡ true → Fits w64 (length l) → w .passes < 0xffffffffffffffff
   passes-fit e g h = let r = fits-room s l w (sym e ∙ g) in omega (arith, r .rows, r .members, r .passed)
-
--- ---- required names
-
-module _ (s l : List ℕ) (r : ℕ) (x : List ℕ) (k : ℕ) (y : Bool) (a : ℕ) where
-  pub bears-free : a ≡ requiredAt l k → (a ≡ 1 → ⊥) → y ≡ false → y ≡ bearsOf s l r x k
-  unfolding bearsOf
-  bears-free e h q = q ∙ sym (rw (← e, ne-eqb _ _ h))
-
-  module _ (b : ℕ) where
-    pub bears-other : a ≡ requiredAt l k → a ≡ 1 → b ≡ memberAt l k → (b ≡ r → ⊥) → y ≡ false → y ≡ bearsOf s l r x k
-    unfolding bearsOf
-    bears-other e h f g q = q ∙ sym (rw (← e, eq-eqb _ _ h, ← f, ne-eqb _ _ g))
-
-    pub bears-name : (z : List ℕ) → a ≡ requiredAt l k → a ≡ 1 → b ≡ memberAt l k → b ≡ r → z ≡ storedName s l k → y ≡ same z x → y ≡ bearsOf s l r x k
-    unfolding bearsOf
-    bears-name z e h f g i q = q ∙ sym (rw (← e, eq-eqb _ _ h, ← f, eq-eqb _ _ g, ← i))
-
-module _ (s l : List ℕ) (c e r b at : ℕ) (x : List ℕ) where
-  pub seek-start : r ≡ memberAt l e → b ≡ nameChain c r x → at ≡ headAt l b → requiredOf s l c e x ≡ along l (bearsOf s l r x) at c
-  unfolding requiredOf
-  seek-start f g h = rw (h, g, f)
-
-module _ (l : List ℕ) (f : ℕ → Bool) (at n : ℕ) (w : Bool) where
-  one-less : 0 < n → n ≡ suc (n - 1)
-  one-less h = omega arith
-
-  pub along-out : n ≤ 0 → w ≡ along l f at n → false ≡ w
-  unfolding along
-  along-out h q = let e : n ≡ 0 = omega arith in sym (q ∙ rw e)
-
-  pub along-end : 0 < n → at ≡ 0 → w ≡ along l f at n → false ≡ w
-  unfolding along
-  along-end h e q = sym (q ∙ rw (one-less h) (simp (eq-eqb _ _ e)))
-
-  module _ (b : Bool) where
-    pub along-hit : 0 < n → (at ≡ 0 → ⊥) → b ≡ f (at - 1) → b ≡ true → w ≡ along l f at n → true ≡ w
-    unfolding along
-    along-hit h e g i q = sym (q ∙ rw (one-less h) (simp (ne-eqb _ _ e, ← g, i)))
-
-    pub along-on : (m : ℕ) → 0 < n → (at ≡ 0 → ⊥) → b ≡ f (at - 1) → b ≡ false → m ≡ nextAt l (at - 1) → w ≡ along l f at n → w ≡ along l f m (n - 1)
-    unfolding along
-    along-on m h e g i j q =
-        q ∙ subst (λ (k : ℕ). along l f at k ≡ along l f m (n - 1)) (sym (one-less h)) (simp (ne-eqb _ _ e, ← g, i, j))

@@ -31,14 +31,14 @@ module _ (s : List ℕ) (c : ℕ) (t : Table) (r r′ : Run) (pass : Pass s c t 
   member = memberOf headers entries file
 
   -- the names required of it
-  required-is : (x : List ℕ) → requiredOf s (r′ .cells) c e x ≡ undefinedName t x && lists member x
+  required-is : (x : List ℕ) → requiredOf s (r′ .cells) (r′ .walk) e x ≡ undefinedName t x && lists member x
   required-is x = pass .names e low new x ∙ rw (listed x) (and-cond (undefinedName t x) (lists member x))
 
   -- admission
-  pub admitted : hasGlobalSymbol headers entries file (requiredOf s (r′ .cells) c e) ≡ taken (undefinedName t) member
+  pub admitted : hasGlobalSymbol headers entries file (requiredOf s (r′ .cells) (r′ .walk) e) ≡ taken (undefinedName t) member
   admitted =
-      object-admits (requiredOf s (r′ .cells) c e) headers entries file
-      ∙ some-same (λ d. isGlobal (d .symbol) && requiredOf s (r′ .cells) c e (d .name)) (λ d. isGlobal (d .symbol) && (undefinedName t (d .name) && lists member (d .name))) member
+      object-admits (requiredOf s (r′ .cells) (r′ .walk) e) headers entries file
+      ∙ some-same (λ d. isGlobal (d .symbol) && requiredOf s (r′ .cells) (r′ .walk) e (d .name)) (λ d. isGlobal (d .symbol) && (undefinedName t (d .name) && lists member (d .name))) member
       (λ d. rw (required-is (d .name)))
 
   -- a member that would be admitted is queued by the pass
@@ -64,13 +64,13 @@ module _ (s : List ℕ) (c : ℕ) (t : Table) (r r′ : Run) (pass : Pass s c t 
 
   -- the walk's choice and admission
   abbrev pub chosen : Bool
-  chosen = among s e (queueIn r′) && hasGlobalSymbol headers entries file (requiredOf s (r′ .cells) c e)
+  chosen = among s e (queueIn r′) && hasGlobalSymbol headers entries file (requiredOf s (r′ .cells) (r′ .walk) e)
 
   pub chosen-is : chosen ≡ taken (undefinedName t) member
   chosen-is =
       both-ways chosen (taken (undefinedName t) member)
-      (λ h. sym admitted ∙ and-right (among s e (queueIn r′)) (hasGlobalSymbol headers entries file (requiredOf s (r′ .cells) c e)) h)
-      (λ h. and-in (among s e (queueIn r′)) (hasGlobalSymbol headers entries file (requiredOf s (r′ .cells) c e)) (queued h) (admitted ∙ h))
+      (λ h. sym admitted ∙ and-right (among s e (queueIn r′)) (hasGlobalSymbol headers entries file (requiredOf s (r′ .cells) (r′ .walk) e)) h)
+      (λ h. and-in (among s e (queueIn r′)) (hasGlobalSymbol headers entries file (requiredOf s (r′ .cells) (r′ .walk) e)) (queued h) (admitted ∙ h))
 
   -- of the gABI's wanted names: all undefined names that the member defines, but for those that have weak references only
   module _ (wanted : List (List ℕ)) (agree : (x : List ℕ) → lists member x ≡ true → undefinedName t x ≡ Strings.among x wanted) where

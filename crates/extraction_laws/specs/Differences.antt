@@ -13,12 +13,13 @@ use Rattle.gabi.specs.Resolution as Gabi
 use Rattle.gabi.specs.Resolution.{isGlobalDefinition, isWeakDefinition, isGlobalReference, has, resolve}
 use Rattle.gabi.specs.Archive.{isUnresolved, wants, offers, extracts}
 use Rattle.cells.specs.Rows.{putRow}
-use Rattle.byte_slices.specs.Bytes.{same}
+use Rattle.byte_slices.specs.Bytes.{wordAt, same}
 use Rattle.link.specs.Bounds.{lesser}
-use Rattle.link.specs.Judge.{otherLength, judgeSections, judgeNames, judgeLists, afterSymbols, afterSections}
+use Rattle.link.specs.Judge.{judgeSections, judgeNames, judgeLists, afterSymbols, afterSections}
 use Rattle.link.specs.Judge as Link
-use Rattle.interner.specs.Hash.{mixed, hashFrom, spread, headCell}
-use Rattle.interner.specs.Names.{chase, seekOf, findOf}
+use Rattle.keyed_hash.specs.Keyed as Keyed
+use Rattle.interner.specs.Hash.{spread, headCell}
+use Rattle.interner.specs.Names.{chase, seekOf, findFrom, findOf}
 use Rattle.symbol_rows.specs.Holder.{heldBy, holderOf}
 use Rattle.upcoming_symbol.specs.Judge.{shownOf, hiddenOf, sectionInRange, elfInRange}
 use Rattle.upcoming_symbol.specs.Judge as Upcoming
@@ -30,7 +31,7 @@ use Rattle.archive_index.specs.Index.{countOf, offsetOf, afterOf, cutOf}
 use Rattle.archive_index.specs.Rows as Rows
 use Rattle.archive_index.specs.Open.{openRowsOf, openNamesOf, openEntriesOf, openOf}
 use Rattle.archive_walk.specs.Look.{Table, tableOf, judgeTable, nameHolder, removedName, undefinedName}
-use Rattle.archive_walk.specs.Names.{nameChain, linkedOf, linkAll, chainNames, along, bearsOf, requiredOf}
+use Rattle.archive_walk.specs.Names.{nameChain, along, bearsOf, borneFrom, chained, headedOf, notedOf, requiredOf}
 use Rattle.archive_walk.specs.Walk.{begunOf, startOf, offerOf, marked, enqueue, tieOf, tieAll, removedOf, makeOf, searchOf, passOf, walkFits, goOf, nextOf}
 use Rattle.archive_laws.specs.Runs.{Run, stepRun, history, startRun}
 use Rattle.elf_object.specs.Rows as Object
@@ -46,7 +47,7 @@ b = 98 ∷ []
 -- a table of one name, b, with this code of visibility and this second word of an undefined value
 abbrev tableWith : ℕ → ℕ → Table
 tableWith v a =
-    tableOf (record { names = 1; bytes = 1; symbols = 2; sections = 0; inputs = 0; lists = 0; chains = 1; slots = 0; broken = false }) b
+    tableOf (record { names = 1; bytes = 1; symbols = 2; sections = 0; inputs = 0; lists = 0; chains = 1; slots = 0; key = 0; broken = false }) b
     (0 ∷ 1 ∷ 0 ∷ 1 ∷ 0 ∷ 0 ∷ 0 ∷ 0 ∷ 1 ∷ []) (1 ∷ 0 ∷ 0 ∷ 0 ∷ 0 ∷ 0 ∷ 0 ∷ 0 ∷ 1 ∷ 0 ∷ 0 ∷ 0 ∷ v ∷ 7 ∷ a ∷ 0 ∷ [])
 
 abbrev pub strongly : Table
@@ -61,7 +62,7 @@ index = 0 ∷ 0 ∷ 0 ∷ 1 ∷ 0 ∷ 0 ∷ 0 ∷ 10 ∷ 98 ∷ 0 ∷ []
 
 -- one call over the table
 abbrev pub ran : Table → Run
-ran t = history index (t ∷ []) (startRun index (replicate {A = ℕ} 8 7))
+ran t = history index (t ∷ []) (startRun 0 index (replicate {A = ℕ} 8 7))
 
 -- an object with a symbol b of that binding in that section: no section, a symbol table, its string table
 abbrev headers : List ℕ
@@ -119,7 +120,7 @@ pub data All : List Case → Type 0 where
   also : {c : Case} {cs : List Case} → Right c → All cs → All (c ∷ cs)
 
 pub differences : All (agreeing ∷ weakReference ∷ weakDefinition ∷ memberRefers ∷ [])
-unfolding beforeZero hasName nameAt sameName Strings.among isGlobal isWeak isReference isDefinition Gabi.count isGlobalDefinition isWeakDefinition isGlobalReference has resolve isUnresolved wants offers extracts putRow same lesser otherLength judgeSections judgeNames judgeLists afterSymbols afterSections Link.judgeOf mixed hashFrom spread headCell chase seekOf findOf heldBy holderOf shownOf hiddenOf sectionInRange elfInRange Upcoming.judgeOf inSection convertedOf undefinedOf valueOf elfRowOf countOf offsetOf afterOf cutOf Rows.chainOf Rows.chase Rows.representativeOf Rows.entered Rows.enterOf Rows.enterAll Rows.noHeads Rows.rowsOf openRowsOf openNamesOf openEntriesOf openOf judgeTable nameHolder removedName undefinedName nameChain linkedOf linkAll chainNames along bearsOf requiredOf begunOf startOf offerOf marked enqueue tieOf tieAll removedOf makeOf searchOf passOf walkFits goOf nextOf stepRun history startRun Object.sectionOf Object.entriesFrom Object.tableEntries Judged.rangeOk Judged.contentsOk Judged.headerOk Judged.entryOk Judged.firstBad Judged.badHeader Judged.badEntry Judged.judgeOf Admits.isSection Admits.nameAnywhere Admits.isRequired Admits.someFrom Admits.bearsRequired Admits.inTable Admits.isTable Admits.inSection Admits.hasGlobalSymbol Admits.offeredIn Admits.matchesOf withName rowsNamed sectionNamed sectionsNamed memberOf
+unfolding beforeZero hasName nameAt sameName Strings.among isGlobal isWeak isReference isDefinition Gabi.count isGlobalDefinition isWeakDefinition isGlobalReference has resolve isUnresolved wants offers extracts putRow same lesser judgeSections judgeNames judgeLists afterSymbols afterSections Link.judgeOf wordAt Keyed.folded Keyed.mixed Keyed.hashFrom Keyed.pointOf Keyed.hashOf spread headCell chase seekOf findFrom findOf heldBy holderOf shownOf hiddenOf sectionInRange elfInRange Upcoming.judgeOf inSection convertedOf undefinedOf valueOf elfRowOf countOf offsetOf afterOf cutOf Rows.descend Rows.spotOf Rows.enterOf Rows.enterAll Rows.noHeads Rows.rowsOf openRowsOf openNamesOf openEntriesOf openOf judgeTable nameHolder removedName undefinedName nameChain along bearsOf borneFrom chained headedOf notedOf requiredOf begunOf startOf offerOf marked enqueue tieOf tieAll removedOf makeOf searchOf passOf walkFits goOf nextOf stepRun history startRun Object.sectionOf Object.entriesFrom Object.tableEntries Judged.rangeOk Judged.contentsOk Judged.headerOk Judged.entryOk Judged.firstBad Judged.badHeader Judged.badEntry Judged.judgeOf Admits.isSection Admits.nameAnywhere Admits.isRequired Admits.someFrom Admits.bearsRequired Admits.inTable Admits.isTable Admits.inSection Admits.hasGlobalSymbol Admits.offeredIn Admits.matchesOf withName rowsNamed sectionNamed sectionsNamed memberOf
 differences =
     also {c = agreeing} (refl, refl, refl, refl, refl)
     (also {c = weakReference} (refl, refl, refl, refl, refl)

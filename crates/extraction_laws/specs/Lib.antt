@@ -5,3 +5,5 @@ pub mod Chosen
 pub mod Wanted
 pub mod Differences
 pub mod Terms
+pub mod MemberWords
+pub mod Answer

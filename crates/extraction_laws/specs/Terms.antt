@@ -28,16 +28,16 @@ or-swap false false true = refl
 or-swap false false false = refl
 
 -- a start that isn't refused, any calls, then one over t that makes a pass
-module _ (s l : List ℕ) (start : begunNumber (startOf s l .started .begun) ≡ 0) (ts : List Table) (t : Table)
-    (made : stepRun s t (history s ts (startRun s l)) .walk .passes ≡ history s ts (startRun s l) .walk .passes + 1) where
+module _ (key : ℕ) (s l : List ℕ) (start : begunNumber (startOf key s l .started .begun) ≡ 0) (ts : List Table) (t : Table)
+    (made : stepRun s t (history s ts (startRun key s l)) .walk .passes ≡ history s ts (startRun key s l) .walk .passes + 1) where
   abbrev before : Run
-  before = history s ts (startRun s l)
+  before = history s ts (startRun key s l)
 
   abbrev c : ℕ
   c = countOf s
 
   pass : Pass s c t before (stepRun s t before)
-  pass = walked s l start ts .pass t made
+  pass = walked key s l start ts .pass t made
 
   -- the member of entry e, not offered before, is this object; the index lists its global and weak definitions
   module _ (e : ℕ) (low : e < c) (new : among s e (before .offers) ≡ false) (headers entries file : List ℕ)
@@ -47,7 +47,7 @@ module _ (s l : List ℕ) (start : begunNumber (startOf s l .started .begun) ≡
 
     -- the pass queues it, and admission over its required names says yes
     abbrev chosen : Bool
-    chosen = among s e (queueIn (stepRun s t before)) && hasGlobalSymbol headers entries file (requiredOf s (stepRun s t before .cells) c e)
+    chosen = among s e (queueIn (stepRun s t before)) && hasGlobalSymbol headers entries file (requiredOf s (stepRun s t before .cells) (stepRun s t before .walk) e)
 
     -- just if a global symbol of it bears a name that is undefined at the pass, and that it defines
     pub chosen-is : chosen ≡ taken (undefinedName t) member

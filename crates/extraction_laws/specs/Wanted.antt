@@ -59,36 +59,36 @@ abbrev pub lentTable : State → Table
 lentTable s = tableOf (s .link) (s .bytes) (s .names) (s .symbols)
 
 abbrev pub idOf : State → List ℕ → ℕ
-idOf s x = findOf (s .bytes) (s .names) (s .link .names) x
+idOf s x = findOf (s .bytes) (s .names) (s .link) x
 
 module _ (s : State) (x : List ℕ) where
   undefined-held : (y : Entry) (ys : List Entry) → Resolved s (idOf s x) y ys → undefinedName (lentTable s) x ≡ eqb (rowAt (s .symbols) (y .id) .value .kind) 7
   unfolding undefinedName nameHolder holderOf heldBy
   undefined-held y ys h =
-      rw (lt-leb (s .link .names) (idOf s x) (h .issued), h .id, ne-eqb (y .id) 0 (λ q. omega (arith, h .real)), h .present)
+      rw (lt-leb (s .link .names) (idOf s x) (h .issued), h .id, ne-eqb (y .id) 0 (λ q. omega (arith, h .real)), lt-leb (s .link .symbols) (y .id) (h .counted), h .present)
 
   undefined-nobody : (idOf s x < s .link .names → globalAt (s .names) (idOf s x) ≡ 0) → undefinedName (lentTable s) x ≡ false
   unfolding undefinedName nameHolder holderOf heldBy
   undefined-nobody h = by-test (leb (s .link .names) (idOf s x)) (λ t. rw t) (λ t. rw (t, h (leb-false (s .link .names) (idOf s x) t)))
 
 -- after a new table and any sequence of calls that removes nothing
-module _ (bytes names symbols sections : List ℕ) (new : numberIn (newOf bytes names symbols sections .said) ≡ 0)
-    (ks : List Call) (quiet : RemovesNothing ks (Terms.start bytes names symbols sections new)) (x : List ℕ) where
+module _ (key : ℕ) (bytes names symbols sections : List ℕ) (new : numberIn (newOf key bytes names symbols sections .said) ≡ 0)
+    (ks : List Call) (quiet : RemovesNothing ks (Terms.start key bytes names symbols sections new)) (x : List ℕ) where
   abbrev end : State
-  end = Terms.end bytes names symbols sections new ks quiet
+  end = Terms.end key bytes names symbols sections new ks quiet
 
   abbrev adds : List Entry
-  adds = Terms.adds bytes names symbols sections new ks quiet (idOf end x)
+  adds = Terms.adds key bytes names symbols sections new ks quiet (idOf end x)
 
   -- a name under which g and gs were accepted is undefined just where the gABI wants it from an archive, or it has weak references only
   pub undefined-wanted : (y : Entry) (ys : List Entry) → adds ≡ y ∷ ys → (g : Sym) (gs : List Sym) → AllMean (rows (y ∷ ys)) (g ∷ gs)
       → undefinedName (lentTable end) x ≡ wants (g ∷ gs) || weakOnly (g ∷ gs)
   unfolding wants weakOnly
   undefined-wanted y ys e g gs m =
-      undefined-held end x y ys (Terms.demand-3a bytes names symbols sections new ks quiet (idOf end x) y ys e)
+      undefined-held end x y ys (Terms.demand-3a key bytes names symbols sections new ks quiet (idOf end x) y ys e)
       ∙ row-undefined (y .row) (rows ys) g (rowAt (end .symbols) (y .id)) (resolve (g ∷ gs))
-      (Terms.gabi-agrees-any bytes names symbols sections new ks quiet (idOf end x) y ys e g gs m)
+      (Terms.gabi-agrees-any key bytes names symbols sections new ks quiet (idOf end x) y ys e g gs m)
 
   -- a name under which nothing was accepted isn't
   pub undefined-none : adds ≡ [] → undefinedName (lentTable end) x ≡ false
-  undefined-none e = undefined-nobody end x (λ i. Terms.no-row bytes names symbols sections new ks quiet (idOf end x) e i)
+  undefined-none e = undefined-nobody end x (λ i. Terms.no-row key bytes names symbols sections new ks quiet (idOf end x) e i)

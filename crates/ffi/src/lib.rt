@@ -18,14 +18,15 @@ ghost use Rattle.ffi_collect.specs.Calls.{entryOf, runLeft, runCall};
 #[no_mangle]
 pub extern "C" fn hidvorn_new(
     header: &mut [u64],
+    key: usize,
     bytes: &mut [u8],
     names: &mut [u64],
     symbols: &mut [u64],
     sections: &mut [u64],
 ) -> u64
-    ensures { λ r. ⌜ newLeft (told r (now (header .exit))) (now (bytes .exit)) (now (names .exit)) (now (symbols .exit)) (now (sections .exit)) ≡ newCall (now (header .entry)) (now (bytes .entry)) (now (names .entry)) (now (symbols .entry)) (now (sections .entry)) ⌝ }
+    ensures { λ r. ⌜ newLeft (told r (now (header .exit))) (now (bytes .exit)) (now (names .exit)) (now (symbols .exit)) (now (sections .exit)) ≡ newCall (now (header .entry)) key (now (bytes .entry)) (now (names .entry)) (now (symbols .entry)) (now (sections .entry)) ⌝ }
 {
-    ffi_symbols::new(header, bytes, names, symbols, sections)
+    ffi_symbols::new(header, key, bytes, names, symbols, sections)
 }
 
 #[no_mangle]
@@ -233,12 +234,13 @@ pub extern "C" fn hidvorn_load_shared_object<'a>(
 pub extern "C" fn hidvorn_archive_start(
     header: &mut [u64],
     walk: &mut [u64],
+    key: usize,
     index: &[u8],
     rows: &mut [u64],
 ) -> u64
-    ensures { λ r. ⌜ walkLeft (told r (now (header .exit))) (now (walk .exit)) (now (rows .exit)) ≡ startCall (now (header .entry)) (now (walk .entry)) (now (index .entry)) (now (rows .entry)) ⌝ }
+    ensures { λ r. ⌜ walkLeft (told r (now (header .exit))) (now (walk .exit)) (now (rows .exit)) ≡ startCall (now (header .entry)) (now (walk .entry)) key (now (index .entry)) (now (rows .entry)) ⌝ }
 {
-    ffi_archive::archive_start(header, walk, index, rows)
+    ffi_archive::archive_start(header, walk, key, index, rows)
 }
 
 #[no_mangle]

@@ -45,20 +45,20 @@ pub record WalkLeft : Type 0 where
 abbrev pub walkLeft : Told → List ℕ → List ℕ → WalkLeft
 walkLeft t c rows = record { told = t; walk = c; rows = rows }
 
--- six cells for a walk
+-- seven cells for a walk
 unfoldable pub noWalk : List ℕ → Bool
-noWalk c = ltb (length c) 6
+noWalk c = ltb (length c) 7
 
 abbrev pub startTold : List ℕ → List ℕ → Start → WalkLeft
 startTold h c s = walkLeft (answerOf h (begunReply (s .started .begun))) (walkOut c (s .started .walk)) (s .cells)
 
-unfoldable pub startFit : List ℕ → List ℕ → List ℕ → List ℕ → WalkLeft
-startFit h c index rows = startTold h c (startOf index rows)
+unfoldable pub startFit : List ℕ → List ℕ → ℕ → List ℕ → List ℕ → WalkLeft
+startFit h c key index rows = startTold h c (startOf key index rows)
 
-unfoldable pub startCall : List ℕ → List ℕ → List ℕ → List ℕ → WalkLeft
-startCall h c index rows =
+unfoldable pub startCall : List ℕ → List ℕ → ℕ → List ℕ → List ℕ → WalkLeft
+startCall h c key index rows =
     cond (isShort h) (walkLeft (told 1 h) c rows)
-    (cond (noWalk c) (walkLeft (answerOf h (refusalOf 1 0)) c rows) (startFit h c index rows))
+    (cond (noWalk c) (walkLeft (answerOf h (refusalOf 1 0)) c rows) (startFit h c key index rows))
 
 abbrev pub nextTold : List ℕ → List ℕ → Step → WalkLeft
 nextTold h c s = walkLeft (answerOf h (offeredReply (s .moved .offer))) (walkOut c (s .moved .walk)) (s .cells)

@@ -1,4 +1,4 @@
--- A walk in six lent cells.
+-- A walk in seven lent cells.
 -- Assumes nothing.
 use Prim.Native.Nat.{ℕ}
 use mathlib.Core.List.{List}
@@ -9,16 +9,20 @@ use Rattle.ffi_header.specs.Header.{isSet, flagOf}
 unfoldable pub walkIn : List ℕ → Walk
 walkIn c =
     record {
-      entries = getD c 0 0;
-      length = getD c 1 0;
-      passes = getD c 2 0;
-      queued = getD c 3 0;
-      offered = getD c 4 0;
-      done = isSet (getD c 5 0);
+      key = getD c 0 0;
+      entries = getD c 1 0;
+      length = getD c 2 0;
+      passes = getD c 3 0;
+      queued = getD c 4 0;
+      offered = getD c 5 0;
+      done = isSet (getD c 6 0);
     }
 
 unfoldable pub indexOut : List ℕ → Walk → List ℕ
-indexOut c w = set (set (set c 0 (w .entries)) 1 (w .length)) 2 (w .passes)
+indexOut c w = set (set (set c 0 (w .key)) 1 (w .entries)) 2 (w .length)
+
+unfoldable pub countsOut : List ℕ → Walk → List ℕ
+countsOut c w = set (set (set c 3 (w .passes)) 4 (w .queued)) 5 (w .offered)
 
 unfoldable pub walkOut : List ℕ → Walk → List ℕ
-walkOut c w = set (set (set (indexOut c w) 3 (w .queued)) 4 (w .offered)) 5 (flagOf (w .done))
+walkOut c w = set (countsOut (indexOut c w) w) 6 (flagOf (w .done))

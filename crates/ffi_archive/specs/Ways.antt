@@ -16,25 +16,28 @@ use Rattle.object_requirement.specs.declared.Admission.{Admission}
 use Rattle.object_requirement.specs.Matches.{matchesOf}
 use Rattle.ffi_header.specs.declared.Reply.{Reply}
 use Rattle.ffi_header.specs.Header.{isSet, flagOf, isShort, linkIn, refusalOf, Told, told, answerOf}
-use Rattle.ffi_archive.specs.Cells.{walkIn, indexOut, walkOut}
+use Rattle.ffi_archive.specs.Cells.{walkIn, indexOut, countsOut, walkOut}
 use Rattle.ffi_archive.specs.Calls.{begunReply, offeredReply, admittedReply, WalkLeft, walkLeft, noWalk, startFit, startCall, nextFit, nextCall, matchesCall}
 
 -- ---- a walk
 
 module _ (c : List ℕ) where
-  pub walk-read : (t : Walk) (a b d e f g : ℕ) (k : Bool) → a ≡ getD c 0 0 → b ≡ getD c 1 0 → d ≡ getD c 2 0 → e ≡ getD c 3 0 → f ≡ getD c 4 0
-      → g ≡ getD c 5 0 → k ≡ isSet g → t ≡ record { entries = a; length = b; passes = d; queued = e; offered = f; done = k } → t ≡ walkIn c
+  pub walk-read : (t : Walk) (i a b d e f g : ℕ) (k : Bool) → i ≡ getD c 0 0 → a ≡ getD c 1 0 → b ≡ getD c 2 0 → d ≡ getD c 3 0 → e ≡ getD c 4 0 → f ≡ getD c 5 0
+      → g ≡ getD c 6 0 → k ≡ isSet g → t ≡ record { key = i; entries = a; length = b; passes = d; queued = e; offered = f; done = k } → t ≡ walkIn c
   unfolding walkIn
-  walk-read t a b d e f g k q0 q1 q2 q3 q4 q5 q6 q = simp (q, q0, q1, q2, q3, q4, q6, q5)
+  walk-read t i a b d e f g k q0 q1 q2 q3 q4 q5 q6 q7 q = simp (q, q0, q1, q2, q3, q4, q5, q7, q6)
 
-  pub index-put : (w : Walk) (m0 m1 t : List ℕ) → m0 ≡ set c 0 (w .entries) → m1 ≡ set m0 1 (w .length) → t ≡ set m1 2 (w .passes) → t ≡ indexOut c w
+  pub index-put : (w : Walk) (m0 m1 t : List ℕ) → m0 ≡ set c 0 (w .key) → m1 ≡ set m0 1 (w .entries) → t ≡ set m1 2 (w .length) → t ≡ indexOut c w
   unfolding indexOut
   index-put w m0 m1 t q0 q1 q = simp (q, q1, q0)
 
-  pub walk-put : (w : Walk) (m0 m1 m2 t : List ℕ) (d : ℕ) → m0 ≡ indexOut c w → m1 ≡ set m0 3 (w .queued) → m2 ≡ set m1 4 (w .offered)
-      → d ≡ flagOf (w .done) → t ≡ set m2 5 d → t ≡ walkOut c w
+  pub counts-put : (w : Walk) (m0 m1 t : List ℕ) → m0 ≡ set c 3 (w .passes) → m1 ≡ set m0 4 (w .queued) → t ≡ set m1 5 (w .offered) → t ≡ countsOut c w
+  unfolding countsOut
+  counts-put w m0 m1 t q0 q1 q = simp (q, q1, q0)
+
+  pub walk-put : (w : Walk) (m0 m1 t : List ℕ) (d : ℕ) → m0 ≡ indexOut c w → m1 ≡ countsOut m0 w → d ≡ flagOf (w .done) → t ≡ set m1 6 d → t ≡ walkOut c w
   unfolding walkOut
-  walk-put w m0 m1 m2 t d q0 q1 q2 f q = simp (q, q2, q1, q0, f)
+  walk-put w m0 m1 t d q0 q1 f q = simp (q, q1, q0, f)
 
 -- ---- answers
 
@@ -49,53 +52,53 @@ admitted-known a t k e q = simp (q, e)
 
 -- ---- the calls
 
-module _ (h c index rows : List ℕ) (t : WalkLeft) where
-  pub start-told : (s : Start) (m : List ℕ) (r : Reply) (y : Told) → s ≡ startOf index rows → m ≡ walkOut c (s .started .walk) → r ≡ begunReply (s .started .begun)
-      → y ≡ answerOf h r → t ≡ walkLeft y m (s .cells) → t ≡ startFit h c index rows
+module _ (h c : List ℕ) (key : ℕ) (index rows : List ℕ) (t : WalkLeft) where
+  pub start-told : (s : Start) (m : List ℕ) (r : Reply) (y : Told) → s ≡ startOf key index rows → m ≡ walkOut c (s .started .walk) → r ≡ begunReply (s .started .begun)
+      → y ≡ answerOf h r → t ≡ walkLeft y m (s .cells) → t ≡ startFit h c key index rows
   unfolding startFit
   start-told s m r y e f g i q = simp (q, i, g, f, ← e)
 
-  pub start-short : length h < 16 → t ≡ walkLeft (told 1 h) c rows → t ≡ startCall h c index rows
+  pub start-short : length h < 16 → t ≡ walkLeft (told 1 h) c rows → t ≡ startCall h c key index rows
   unfolding startCall isShort
   start-short i q = simp (q, lt-ltb _ _ i)
 
-  pub start-none : (r : Reply) (y : Told) → 16 ≤ length h → length c < 6 → r ≡ refusalOf 1 0 → y ≡ answerOf h r → t ≡ walkLeft y c rows → t ≡ startCall h c index rows
+  pub start-none : (r : Reply) (y : Told) → 16 ≤ length h → length c < 7 → r ≡ refusalOf 1 0 → y ≡ answerOf h r → t ≡ walkLeft y c rows → t ≡ startCall h c key index rows
   unfolding startCall isShort noWalk
   start-none r y i j e f q = simp (q, f, e, le-ltb _ _ i, lt-ltb _ _ j)
 
-  pub start-fits : 16 ≤ length h → 6 ≤ length c → t ≡ startFit h c index rows → t ≡ startCall h c index rows
+  pub start-fits : 16 ≤ length h → 7 ≤ length c → t ≡ startFit h c key index rows → t ≡ startCall h c key index rows
   unfolding startCall isShort noWalk
   start-fits i j q = simp (q, le-ltb _ _ i, le-ltb _ _ j)
 
-  module _ (b n s : List ℕ) where
-    pub next-told : (l : Link) (w : Walk) (x : Step) (m : List ℕ) (r : Reply) (y : Told) → l ≡ linkIn h → w ≡ walkIn c → x ≡ nextOf index rows w (tableOf l b n s)
-        → m ≡ walkOut c (x .moved .walk) → r ≡ offeredReply (x .moved .offer) → y ≡ answerOf h r → t ≡ walkLeft y m (x .cells) → t ≡ nextFit h c index rows b n s
-    unfolding nextFit
-    next-told l w x m r y k u e f g i q = simp (q, i, g, f, ← k, ← u, ← e)
+module _ (h c index rows : List ℕ) (t : WalkLeft) (b n s : List ℕ) where
+  pub next-told : (l : Link) (w : Walk) (x : Step) (m : List ℕ) (r : Reply) (y : Told) → l ≡ linkIn h → w ≡ walkIn c → x ≡ nextOf index rows w (tableOf l b n s)
+      → m ≡ walkOut c (x .moved .walk) → r ≡ offeredReply (x .moved .offer) → y ≡ answerOf h r → t ≡ walkLeft y m (x .cells) → t ≡ nextFit h c index rows b n s
+  unfolding nextFit
+  next-told l w x m r y k u e f g i q = simp (q, i, g, f, ← k, ← u, ← e)
 
-    pub next-short : length h < 16 → t ≡ walkLeft (told 1 h) c rows → t ≡ nextCall h c index rows b n s
-    unfolding nextCall isShort
-    next-short i q = simp (q, lt-ltb _ _ i)
+  pub next-short : length h < 16 → t ≡ walkLeft (told 1 h) c rows → t ≡ nextCall h c index rows b n s
+  unfolding nextCall isShort
+  next-short i q = simp (q, lt-ltb _ _ i)
 
-    pub next-none : (r : Reply) (y : Told) → 16 ≤ length h → length c < 6 → r ≡ refusalOf 1 0 → y ≡ answerOf h r → t ≡ walkLeft y c rows
-        → t ≡ nextCall h c index rows b n s
-    unfolding nextCall isShort noWalk
-    next-none r y i j e f q = simp (q, f, e, le-ltb _ _ i, lt-ltb _ _ j)
+  pub next-none : (r : Reply) (y : Told) → 16 ≤ length h → length c < 7 → r ≡ refusalOf 1 0 → y ≡ answerOf h r → t ≡ walkLeft y c rows
+      → t ≡ nextCall h c index rows b n s
+  unfolding nextCall isShort noWalk
+  next-none r y i j e f q = simp (q, f, e, le-ltb _ _ i, lt-ltb _ _ j)
 
-    pub next-fits : 16 ≤ length h → 6 ≤ length c → t ≡ nextFit h c index rows b n s → t ≡ nextCall h c index rows b n s
-    unfolding nextCall isShort noWalk
-    next-fits i j q = simp (q, le-ltb _ _ i, le-ltb _ _ j)
+  pub next-fits : 16 ≤ length h → 7 ≤ length c → t ≡ nextFit h c index rows b n s → t ≡ nextCall h c index rows b n s
+  unfolding nextCall isShort noWalk
+  next-fits i j q = simp (q, le-ltb _ _ i, le-ltb _ _ j)
 
 module _ (h c index rows : List ℕ) (entry : ℕ) (headers entries contents file : List ℕ) (t : Told) where
   pub matches-short : length h < 16 → t ≡ told 1 h → t ≡ matchesCall h c index rows entry headers entries contents file
   unfolding matchesCall isShort
   matches-short i q = simp (q, lt-ltb _ _ i)
 
-  pub matches-none : (r : Reply) → 16 ≤ length h → length c < 6 → r ≡ refusalOf 1 0 → t ≡ answerOf h r → t ≡ matchesCall h c index rows entry headers entries contents file
+  pub matches-none : (r : Reply) → 16 ≤ length h → length c < 7 → r ≡ refusalOf 1 0 → t ≡ answerOf h r → t ≡ matchesCall h c index rows entry headers entries contents file
   unfolding matchesCall isShort noWalk
   matches-none r i j e q = simp (q, e, le-ltb _ _ i, lt-ltb _ _ j)
 
-  pub matches-told : (w : Walk) (a : Admission) (r : Reply) → 16 ≤ length h → 6 ≤ length c → w ≡ walkIn c → a ≡ matchesOf headers entries contents file index rows w entry
+  pub matches-told : (w : Walk) (a : Admission) (r : Reply) → 16 ≤ length h → 7 ≤ length c → w ≡ walkIn c → a ≡ matchesOf headers entries contents file index rows w entry
       → r ≡ admittedReply a → t ≡ answerOf h r → t ≡ matchesCall h c index rows entry headers entries contents file
   unfolding matchesCall isShort noWalk
   matches-told w a r i j e f g q = simp (q, g, le-ltb _ _ i, le-ltb _ _ j, ← e, ← f)

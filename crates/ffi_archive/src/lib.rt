@@ -1,8 +1,8 @@
-// The walk over an archive's members, and admission, for another language: the answer lies in a header (ffi_header), the walk in six cells. A
-// header of fewer than 16 cells gives 1, and nothing is read or written; a walk of fewer than six gives 1 at place 0 and is left.
+// The walk over an archive's members, and admission, for another language: the answer lies in a header (ffi_header), the walk in seven cells. A
+// header of fewer than 16 cells gives 1, and nothing is read or written; a walk of fewer than seven gives 1 at place 0 and is left.
 ghost use mathlib.Core.Path.{_≡_};
 ghost use Rattle.ffi_header.specs.Header.{told};
-ghost use Rattle.ffi_archive.specs.Cells.{walkIn, indexOut, walkOut};
+ghost use Rattle.ffi_archive.specs.Cells.{walkIn, indexOut, countsOut, walkOut};
 ghost use Rattle.ffi_archive.specs.Calls.{begunReply, offeredReply, admittedReply, walkLeft, startFit, startCall, nextFit, nextCall, matchesCall};
 use archive_walk::Begun;
 use archive_walk::Offer;
@@ -16,30 +16,38 @@ pub fn walk_in(walk: &[u64]) -> Walk
     ensures { λ r. ⌜ r ≡ walkIn (now (walk .entry)) ⌝ }
 {
     Walk {
-        entries: cells::get(walk, 0) as usize,
-        length: cells::get(walk, 1) as usize,
-        passes: cells::get(walk, 2) as usize,
-        queued: cells::get(walk, 3) as usize,
-        offered: cells::get(walk, 4) as usize,
-        done: ffi_header::is_set(cells::get(walk, 5)),
+        key: cells::get(walk, 0) as usize,
+        entries: cells::get(walk, 1) as usize,
+        length: cells::get(walk, 2) as usize,
+        passes: cells::get(walk, 3) as usize,
+        queued: cells::get(walk, 4) as usize,
+        offered: cells::get(walk, 5) as usize,
+        done: ffi_header::is_set(cells::get(walk, 6)),
     }
 }
 
 fn put_index(walk: &mut [u64], w: Walk)
     ensures { λ _. ⌜ now (walk .exit) ≡ indexOut (now (walk .entry)) w ⌝ }
 {
-    cells::put(walk, 0, w.entries as u64);
-    cells::put(walk, 1, w.length as u64);
-    cells::put(walk, 2, w.passes as u64);
+    cells::put(walk, 0, w.key as u64);
+    cells::put(walk, 1, w.entries as u64);
+    cells::put(walk, 2, w.length as u64);
+}
+
+fn put_counts(walk: &mut [u64], w: Walk)
+    ensures { λ _. ⌜ now (walk .exit) ≡ countsOut (now (walk .entry)) w ⌝ }
+{
+    cells::put(walk, 3, w.passes as u64);
+    cells::put(walk, 4, w.queued as u64);
+    cells::put(walk, 5, w.offered as u64);
 }
 
 pub fn put_walk(walk: &mut [u64], w: Walk)
     ensures { λ _. ⌜ now (walk .exit) ≡ walkOut (now (walk .entry)) w ⌝ }
 {
     put_index(walk, w);
-    cells::put(walk, 3, w.queued as u64);
-    cells::put(walk, 4, w.offered as u64);
-    cells::put(walk, 5, ffi_header::flag(w.done));
+    put_counts(walk, w);
+    cells::put(walk, 6, ffi_header::flag(w.done));
 }
 
 // ---- answers
@@ -79,27 +87,39 @@ fn admitted(a: Admission) -> Reply
 
 // ---- the calls
 
-fn start_fit(header: &mut [u64], walk: &mut [u64], index: &[u8], rows: &mut [u64]) -> u64
-    ensures { λ r. ⌜ walkLeft (told r (now (header .exit))) (now (walk .exit)) (now (rows .exit)) ≡ startFit (now (header .entry)) (now (walk .entry)) (now (index .entry)) (now (rows .entry)) ⌝ }
+fn start_fit(
+    header: &mut [u64],
+    walk: &mut [u64],
+    key: usize,
+    index: &[u8],
+    rows: &mut [u64],
+) -> u64
+    ensures { λ r. ⌜ walkLeft (told r (now (header .exit))) (now (walk .exit)) (now (rows .exit)) ≡ startFit (now (header .entry)) (now (walk .entry)) key (now (index .entry)) (now (rows .entry)) ⌝ }
 {
-    let s = archive_walk::start(index, rows);
+    let s = archive_walk::start(key, index, rows);
     let w = s.walk;
     let a = s.begun;
     put_walk(walk, w);
     ffi_header::answer(header, begun(a))
 }
 
-// The value is the number of entries; the link isn't looked at.
-pub fn archive_start(header: &mut [u64], walk: &mut [u64], index: &[u8], rows: &mut [u64]) -> u64
-    ensures { λ r. ⌜ walkLeft (told r (now (header .exit))) (now (walk .exit)) (now (rows .exit)) ≡ startCall (now (header .entry)) (now (walk .entry)) (now (index .entry)) (now (rows .entry)) ⌝ }
+// The value is the number of entries; the link isn't looked at. The key may be any number.
+pub fn archive_start(
+    header: &mut [u64],
+    walk: &mut [u64],
+    key: usize,
+    index: &[u8],
+    rows: &mut [u64],
+) -> u64
+    ensures { λ r. ⌜ walkLeft (told r (now (header .exit))) (now (walk .exit)) (now (rows .exit)) ≡ startCall (now (header .entry)) (now (walk .entry)) key (now (index .entry)) (now (rows .entry)) ⌝ }
 {
     if header.len() < 16 {
         return 1;
     }
-    if walk.len() < 6 {
+    if walk.len() < 7 {
         return ffi_header::answer(header, ffi_header::refusal(1, 0));
     }
-    start_fit(header, walk, index, rows)
+    start_fit(header, walk, key, index, rows)
 }
 
 fn next_fit(
@@ -137,7 +157,7 @@ pub fn archive_next(
     if header.len() < 16 {
         return 1;
     }
-    if walk.len() < 6 {
+    if walk.len() < 7 {
         return ffi_header::answer(header, ffi_header::refusal(1, 0));
     }
     next_fit(header, walk, index, rows, bytes, names, symbols)
@@ -160,7 +180,7 @@ pub fn matches(
     if header.len() < 16 {
         return 1;
     }
-    if walk.len() < 6 {
+    if walk.len() < 7 {
         return ffi_header::answer(header, ffi_header::refusal(1, 0));
     }
     let w = walk_in(walk);

@@ -1,4 +1,4 @@
--- A link and an answer in the cells of a header: 0 to 8 the link, 9 the refusal's number, 10 its place, 11 to 15 the values.
+-- A link and an answer in the cells of a header: 0 to 8 and 15 the link, 9 the refusal's number, 10 its place, 11 to 14 the values.
 -- Assumes nothing.
 use Prim.Native.Nat.{ℕ}
 use mathlib.Core.Bool.{Bool, true, false, cond}
@@ -33,6 +33,7 @@ linkIn h =
       lists = getD h 5 0;
       chains = getD h 6 0;
       slots = getD h 7 0;
+      key = getD h 15 0;
       broken = isSet (getD h 8 0);
     }
 
@@ -55,9 +56,9 @@ saying (refusing r) = refusedOf r
 
 -- ---- the header after a call
 
--- cell 8 and the answer
-unfoldable pub replyIn : List ℕ → ℕ → Reply → List ℕ
-replyIn h broken r = putRow h 1 (broken ∷ r .number ∷ r .place ∷ r .first ∷ r .second ∷ r .third ∷ r .fourth ∷ 0 ∷ [])
+-- cells 8 and 15, and the answer
+unfoldable pub replyIn : List ℕ → ℕ → ℕ → Reply → List ℕ
+replyIn h broken key r = putRow h 1 (broken ∷ r .number ∷ r .place ∷ r .first ∷ r .second ∷ r .third ∷ r .fourth ∷ key ∷ [])
 
 -- cells 0 to 7
 unfoldable pub countsIn : List ℕ → Link → List ℕ
@@ -66,7 +67,7 @@ countsIn h l =
 
 -- the link that is handed back, and the answer
 unfoldable pub headerOf : List ℕ → Link → Reply → List ℕ
-headerOf h l r = replyIn (countsIn h l) (flagOf (l .broken)) r
+headerOf h l r = replyIn (countsIn h l) (flagOf (l .broken)) (l .key) r
 
 -- the number that a call returns, and its header
 pub record Told : Type 0 where
@@ -80,6 +81,6 @@ told number header = record { number = number; header = header }
 unfoldable pub tellOf : List ℕ → Link → Reply → Told
 tellOf h l r = told (r .number) (headerOf h l r)
 
--- a call that doesn't change a link: cell 8 keeps its number
+-- a call that doesn't change a link: cells 8 and 15 keep their numbers
 unfoldable pub answerOf : List ℕ → Reply → Told
-answerOf h r = told (r .number) (replyIn h (getD h 8 0) r)
+answerOf h r = told (r .number) (replyIn h (getD h 8 0) (getD h 15 0) r)

@@ -23,11 +23,11 @@ module _ (c : ℕ) (t : Bool) where
   set-so e q = simp (q, ne-eqb _ _ e)
 
 module _ (h : List ℕ) where
-  pub link-read : (t : Link) (a b c d e f g i j : ℕ) (k : Bool) → a ≡ getD h 0 0 → b ≡ getD h 1 0 → c ≡ getD h 2 0 → d ≡ getD h 3 0 → e ≡ getD h 4 0
-      → f ≡ getD h 5 0 → g ≡ getD h 6 0 → i ≡ getD h 7 0 → j ≡ getD h 8 0 → k ≡ isSet j
-      → t ≡ record { names = a; bytes = b; symbols = c; sections = d; inputs = e; lists = f; chains = g; slots = i; broken = k } → t ≡ linkIn h
+  pub link-read : (t : Link) (a b c d e f g i j m : ℕ) (k : Bool) → a ≡ getD h 0 0 → b ≡ getD h 1 0 → c ≡ getD h 2 0 → d ≡ getD h 3 0 → e ≡ getD h 4 0
+      → f ≡ getD h 5 0 → g ≡ getD h 6 0 → i ≡ getD h 7 0 → m ≡ getD h 15 0 → j ≡ getD h 8 0 → k ≡ isSet j
+      → t ≡ record { names = a; bytes = b; symbols = c; sections = d; inputs = e; lists = f; chains = g; slots = i; key = m; broken = k } → t ≡ linkIn h
   unfolding linkIn
-  link-read t a b c d e f g i j k q0 q1 q2 q3 q4 q5 q6 q7 q8 q9 q = simp (q, q0, q1, q2, q3, q4, q5, q6, q7, q9, q8)
+  link-read t a b c d e f g i j m k q0 q1 q2 q3 q4 q5 q6 q7 qm q8 q9 q = simp (q, q0, q1, q2, q3, q4, q5, q6, q7, qm, q9, q8)
 
   pub counts-put : (m : List ℕ) (l : Link)
       → m ≡ putRow h 0 (l .names ∷ l .bytes ∷ l .symbols ∷ l .sections ∷ l .inputs ∷ l .lists ∷ l .chains ∷ l .slots ∷ []) → m ≡ countsIn h l
@@ -35,15 +35,15 @@ module _ (h : List ℕ) where
   counts-put m l q = q
 
   module _ (r : Reply) where
-    pub reply-put : (m : List ℕ) (b : ℕ) → m ≡ putRow h 1 (b ∷ r .number ∷ r .place ∷ r .first ∷ r .second ∷ r .third ∷ r .fourth ∷ 0 ∷ []) → m ≡ replyIn h b r
+    pub reply-put : (m : List ℕ) (b k : ℕ) → m ≡ putRow h 1 (b ∷ r .number ∷ r .place ∷ r .first ∷ r .second ∷ r .third ∷ r .fourth ∷ k ∷ []) → m ≡ replyIn h b k r
     unfolding replyIn
-    reply-put m b q = q
+    reply-put m b k q = q
 
     module _ (t : Told) where
-      pub answer-told : (b : ℕ) (m : List ℕ) → b ≡ getD h 8 0 → m ≡ replyIn h b r → t ≡ told (r .number) m → t ≡ answerOf h r
+      pub answer-told : (b k : ℕ) (m : List ℕ) → b ≡ getD h 8 0 → k ≡ getD h 15 0 → m ≡ replyIn h b k r → t ≡ told (r .number) m → t ≡ answerOf h r
       unfolding answerOf
-      answer-told b m e f q = simp (q, f, e)
+      answer-told b k m e g f q = simp (q, f, e, g)
 
-      pub tell-told : (l : Link) (c m : List ℕ) (b : ℕ) → c ≡ countsIn h l → b ≡ flagOf (l .broken) → m ≡ replyIn c b r → t ≡ told (r .number) m → t ≡ tellOf h l r
+      pub tell-told : (l : Link) (c m : List ℕ) (b : ℕ) → c ≡ countsIn h l → b ≡ flagOf (l .broken) → m ≡ replyIn c b (l .key) r → t ≡ told (r .number) m → t ≡ tellOf h l r
       unfolding tellOf headerOf
       tell-told l c m b e f g q = simp (q, g, f, e)

@@ -1,5 +1,5 @@
 // A link and an answer in the cells of a header, for the calls from another language. Cells 0 to 8 hold the link (names, bytes, symbols, sections,
-// inputs, lists, chains, slots, broken), 9 the number of the refusal, 10 its place, 11 to 15 the values of the answer.
+// inputs, lists, chains, slots, broken) and 15 its key, 9 the number of the refusal, 10 its place, 11 to 14 the values of the answer.
 ghost use mathlib.Core.Path.{_≡_};
 ghost use Rattle.ffi_header.specs.Header.{isSet, flagOf, linkIn, resultOf, refusalOf, refusedOf, replyIn, countsIn, told, tellOf, answerOf};
 use link::Link;
@@ -48,13 +48,14 @@ pub fn link_in(header: &[u64]) -> Link
         lists: cells::get(header, 5) as usize,
         chains: cells::get(header, 6) as usize,
         slots: cells::get(header, 7) as usize,
+        key: cells::get(header, 15) as usize,
         broken: is_set(cells::get(header, 8)),
     }
 }
 
-// Cell 8 and the answer.
-fn put_reply(header: &mut [u64], broken: u64, r: Reply)
-    ensures { λ _. ⌜ now (header .exit) ≡ replyIn (now (header .entry)) broken r ⌝ }
+// Cells 8 and 15, and the answer.
+fn put_reply(header: &mut [u64], broken: u64, key: u64, r: Reply)
+    ensures { λ _. ⌜ now (header .exit) ≡ replyIn (now (header .entry)) broken key r ⌝ }
 {
     cell_writes::row_store(
         header,
@@ -66,16 +67,17 @@ fn put_reply(header: &mut [u64], broken: u64, r: Reply)
         r.second,
         r.third,
         r.fourth,
-        0,
+        key,
     );
 }
 
-// The answer of a call that doesn't change a link: cells 0 to 8 stay.
+// The answer of a call that doesn't change a link: its cells stay.
 pub fn answer(header: &mut [u64], r: Reply) -> u64
     ensures { λ n. ⌜ told n (now (header .exit)) ≡ answerOf (now (header .entry)) r ⌝ }
 {
     let broken = cells::get(header, 8);
-    put_reply(header, broken, r);
+    let key = cells::get(header, 15);
+    put_reply(header, broken, key, r);
     r.number
 }
 
@@ -101,7 +103,7 @@ pub fn tell(header: &mut [u64], l: Link, r: Reply) -> u64
     ensures { λ n. ⌜ told n (now (header .exit)) ≡ tellOf (now (header .entry)) l r ⌝ }
 {
     put_counts(header, l);
-    put_reply(header, flag(l.broken), r);
+    put_reply(header, flag(l.broken), l.key as u64, r);
     r.number
 }
 

@@ -47,7 +47,7 @@ foundReply id count = cond (ltb id count) (resultOf 1 id 0 0) (resultOf 0 0 0 0)
 -- the counts are judged as for `resolve`; a broken link is accepted
 unfoldable pub findReply : Store → List ℕ → Reply
 findReply s x =
-    cond (eqb (judgeOf (s .link) (lent s) .number) 0) (foundReply (findOf (s .bytes) (s .names) (s .link .names) x) (s .link .names))
+    cond (eqb (judgeOf (s .link) (lent s) .number) 0) (foundReply (findOf (s .bytes) (s .names) (s .link) x) (s .link .names))
     (refusedOf (judgeOf (s .link) (lent s)))
 
 unfoldable pub findCall : List ℕ → List ℕ → List ℕ → List ℕ → Told

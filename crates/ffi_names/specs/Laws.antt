@@ -45,7 +45,7 @@ first-within b n id =
     (λ t. omega (arith, ltb-true (getD n (id * 8 + 0) 0) (length b) t)) (λ t. omega arith)
 
 -- an issued name, where intern isn't refused: its id, and nothing changes
-pub found-interned : (s : Store) (x : List ℕ) → findOf (s .bytes) (s .names) (s .link .names) x < s .link .names → changeOf (s .link) (lent s) .number ≡ 0
-    → internOf s x ≡ left s (accepted (findOf (s .bytes) (s .names) (s .link .names) x))
+pub found-interned : (s : Store) (x : List ℕ) → findOf (s .bytes) (s .names) (s .link) x < s .link .names → changeOf (s .link) (lent s) .number ≡ 0
+    → internOf s x ≡ left s (accepted (findOf (s .bytes) (s .names) (s .link) x))
 unfolding internOf issueOf fitsOf keepOf
 found-interned s x h z = simp (eq-eqb _ _ z, lt-ltb _ _ h)

@@ -72,7 +72,7 @@ module _ (s : Store) (x : List ℕ) (t : Reply) (n : Lent) (k : Refusal) where
   unfolding findReply
   find-refused a e z q = simp (q, ← a, ← e, ne-eqb _ _ z)
 
-  pub find-answered : (id : ℕ) → n ≡ lent s → k ≡ judgeOf (s .link) n → k .number ≡ 0 → id ≡ findOf (s .bytes) (s .names) (s .link .names) x
+  pub find-answered : (id : ℕ) → n ≡ lent s → k ≡ judgeOf (s .link) n → k .number ≡ 0 → id ≡ findOf (s .bytes) (s .names) (s .link) x
       → t ≡ foundReply id (s .link .names) → t ≡ findReply s x
   unfolding findReply
   find-answered id a e z f q = simp (q, ← a, ← e, eq-eqb _ _ z, ← f)

@@ -72,14 +72,14 @@ pub fn resolve(header: &mut [u64], bytes: &[u8], names: &[u64], id: usize) -> u6
     ffi_header::answer(header, r)
 }
 
-fn lent_names(bytes: usize, names: usize) -> Lent
-    ensures { λ r. ⌜ r ≡ lentOf bytes names ⌝ }
+fn lent_names(l: Link, bytes: usize, names: usize) -> Lent
+    ensures { λ r. ⌜ r ≡ lentOf l bytes names ⌝ }
 {
     Lent {
-        names: names,
+        names: names / link::NAME_CELLS,
         bytes: bytes,
         symbols: link::NOT_LENT,
-        sections: link::NOT_LENT,
+        sections: l.slots,
         inputs: link::NOT_LENT,
         lists: link::NOT_LENT,
     }
@@ -98,11 +98,12 @@ fn found_reply(id: usize, count: usize) -> Reply
 fn find_reply(l: Link, bytes: &[u8], names: &[u64], name: &[u8]) -> Reply
     ensures { λ r. ⌜ r ≡ findReply (storeOf (now (bytes .entry)) (now (names .entry)) l) (now (name .entry)) ⌝ }
 {
-    let head = link_judge::judge(l, lent_names(bytes.len(), names.len()));
+    let head = link_judge::judge(l, lent_names(l, bytes.len(), names.len()));
     if head.number != 0 {
         return ffi_header::refused(head);
     }
-    found_reply(interner::find(bytes, names, l.names, name), l.names)
+    let id = interner::find(l, bytes, names, name);
+    found_reply(id.0, l.names)
 }
 
 // The values are 1 and the name's id where it was issued, else 0 and 0. No name is issued.

@@ -28,8 +28,8 @@ abbrev pub newTold : List ℕ → New.NewLeft → NewLeft
 newTold h w =
     newLeft (tellOf h (w .table .link) (saying (w .said))) (w .bytes) (w .table .names) (w .table .symbols) (w .table .sections)
 
-unfoldable pub newCall : List ℕ → List ℕ → List ℕ → List ℕ → List ℕ → NewLeft
-newCall h b n s x = cond (isShort h) (newLeft (told 1 h) b n s x) (newTold h (New.newOf b n s x))
+unfoldable pub newCall : List ℕ → ℕ → List ℕ → List ℕ → List ℕ → List ℕ → NewLeft
+newCall h key b n s x = cond (isShort h) (newLeft (told 1 h) b n s x) (newTold h (New.newOf key b n s x))
 
 -- ---- add
 

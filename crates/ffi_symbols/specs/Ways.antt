@@ -22,13 +22,13 @@ use Rattle.ffi_symbols.specs.Calls.{NewLeft, newLeft, newCall, AddLeft, 
 pub said-known : (a : Answer) (t : Reply) (k : Answer) → a ≡ k → t ≡ saying (Table.said k) → t ≡ saying (Table.said a)
 said-known a t k e q = simp (q, e)
 
-module _ (h b n s x : List ℕ) (t : NewLeft) where
-  pub new-short : length h < 16 → t ≡ newLeft (told 1 h) b n s x → t ≡ newCall h b n s x
+module _ (key : ℕ) (h b n s x : List ℕ) (t : NewLeft) where
+  pub new-short : length h < 16 → t ≡ newLeft (told 1 h) b n s x → t ≡ newCall h key b n s x
   unfolding newCall isShort
   new-short i q = simp (q, lt-ltb _ _ i)
 
-  pub new-told : (w : New.NewLeft) (r : Reply) (y : Told) → 16 ≤ length h → w ≡ New.newOf b n s x → r ≡ saying (w .said) → y ≡ tellOf h (w .table .link) r
-      → t ≡ newLeft y (w .bytes) (w .table .names) (w .table .symbols) (w .table .sections) → t ≡ newCall h b n s x
+  pub new-told : (w : New.NewLeft) (r : Reply) (y : Told) → 16 ≤ length h → w ≡ New.newOf key b n s x → r ≡ saying (w .said) → y ≡ tellOf h (w .table .link) r
+      → t ≡ newLeft y (w .bytes) (w .table .names) (w .table .symbols) (w .table .sections) → t ≡ newCall h key b n s x
   unfolding newCall isShort
   new-told w r y i f g j q = simp (q, j, g, le-ltb _ _ i, ← f)
 

@@ -20,20 +20,21 @@ fn added(a: Answer) -> Reply
     }
 }
 
-// The value is the null symbol's id. What the lent cells held before doesn't matter.
+// The value is the null symbol's id. What the lent cells held before doesn't matter. Any number is a key of the names' hash.
 pub fn new(
     header: &mut [u64],
+    key: usize,
     bytes: &mut [u8],
     names: &mut [u64],
     symbols: &mut [u64],
     sections: &mut [u64],
 ) -> u64
-    ensures { λ r. ⌜ newLeft (told r (now (header .exit))) (now (bytes .exit)) (now (names .exit)) (now (symbols .exit)) (now (sections .exit)) ≡ newCall (now (header .entry)) (now (bytes .entry)) (now (names .entry)) (now (symbols .entry)) (now (sections .entry)) ⌝ }
+    ensures { λ r. ⌜ newLeft (told r (now (header .exit))) (now (bytes .exit)) (now (names .exit)) (now (symbols .exit)) (now (sections .exit)) ≡ newCall (now (header .entry)) key (now (bytes .entry)) (now (names .entry)) (now (symbols .entry)) (now (sections .entry)) ⌝ }
 {
     if header.len() < 16 {
         return 1;
     }
-    let o = Symbols::new(bytes, names, symbols, sections);
+    let o = Symbols::new(key, bytes, names, symbols, sections);
     let table = o.table;
     let l = table.link;
     let a = o.answer;

@@ -12,11 +12,12 @@ use Rattle.link.specs.declared.Link.{Link}
 use Rattle.sections.specs.Rows.{field, firstAt, isBuilt}
 use Rattle.gc_sections.specs.declared.EntryPoint.{EntryPoint}
 use Rattle.gc_sections.specs.declared.Answer.the-variants.{Dropped}
-use Rattle.gc_sections.specs.Roots.{readable, nameIs, rooted, isRoot}
+use Rattle.gc_sections.specs.declared.Lead.the-variants.{Section}
+use Rattle.gc_sections.specs.Roots.{symbolId, sectionId, leadOf, readable, nameIs, rooted, isRoot}
 use Rattle.gc_sections.specs.Run.{Left, Lists, judged, runOf}
 use Rattle.gc_laws.specs.Reached.{Leads, Reached, marked, entered, root, step}
+use Rattle.gc_laws.specs.Own.{built-own, own-built, leads-own, own-leads, root-own, own-root}
 use Rattle.gc_laws.specs.Walk.{built-below}
-use Rattle.gc_laws.specs.Exact.{root-built}
 use Rattle.gc_laws.specs.Paint.{picked-none, paint-none, length-painted}
 use Rattle.gc_laws.specs.Swept.{stateCell, symbolCell, freed}
 use Rattle.gc_laws.specs.Collected as C
@@ -54,31 +55,44 @@ module _ (l : Link) (x : Lists) (symbols sections : List ℕ) (entry : EntryPoin
   below : (y : ℕ) → R y → y < n
   below y q = built-below sections n y (whole y q)
 
+  lead-on : (i y : ℕ) → Leads l x symbols sections i y → R y → Leads l x (r .symbols) (r .sections) i y
+  lead-on i y m q =
+      leads-own l x (r .symbols) (r .sections) i y
+      (C.lead-on l x symbols sections entry work ok whole i y (own-leads l x symbols sections i y m) q)
+
+  lead-back : (i y : ℕ) → Leads l x (r .symbols) (r .sections) i y → Leads l x symbols sections i y
+  lead-back i y m =
+      leads-own l x symbols sections i y
+      (C.lead-back l x symbols sections entry work ok whole i y (own-leads l x (r .symbols) (r .sections) i y m))
+
   pub still : (y : ℕ) → R y → S y
-  still y (marked i ne m) = marked i ne (C.lead-on l x symbols sections entry work ok whole i y m (marked i ne m))
-  still y (entered i e m) = entered i e (C.lead-on l x symbols sections entry work ok whole i y m (entered i e m))
-  still y (root e) = root (root-stays y (below y (root e)) (root e) ∙ e)
+  still y (marked i ne m) = marked i ne (lead-on i y m (marked i ne m))
+  still y (entered i e m) = entered i e (lead-on i y m (entered i e m))
+  still y (root b q) =
+      let e = own-root l x symbols sections y b q in
+      let s = root-own l x (r .symbols) (r .sections) y (root-stays y (b .issued) (root b q) ∙ e) in
+      root (s .0) (s .1)
   still y (step {y = z} q b m) =
       let h = below z q in
       let first : firstAt (r .sections) z ≡ firstAt sections z = same-row z 5 h (omega arith) q in
-      step {z = y} (still z q) (C.reached-kept l x symbols sections entry work ok whole z q)
+      step {z = y} (still z q) (built-own l x (r .symbols) (r .sections) z (C.reached-kept l x symbols sections entry work ok whole z q))
       (record {
         at = m .at;
         within = rw (same-row z 6 h (omega arith) q) (m .within);
         listed = rw first (m .listed);
-        leads = rw first (C.lead-on l x symbols sections entry work ok whole (getD (x .lists) (firstAt sections z + m .at) 0) y (m .leads) (step {z = y} q b m));
+        leads = rw first (lead-on (getD (x .lists) (firstAt sections z + m .at) 0) y (m .leads) (step {z = y} q b m));
       })
 
   pub before : (y : ℕ) → S y → R y
-  before y (marked i ne m) = marked i ne (C.lead-back l x symbols sections entry work ok whole i y m)
-  before y (entered i e m) = entered i e (C.lead-back l x symbols sections entry work ok whole i y m)
-  before y (root e) = C.kept-reached l x symbols sections entry work ok whole y (root-built (x .bytes) (x .names) (r .sections) n y e)
+  before y (marked i ne m) = marked i ne (lead-back i y m)
+  before y (entered i e m) = entered i e (lead-back i y m)
+  before y (root b q) = C.kept-reached l x symbols sections entry work ok whole y (own-built l x (r .symbols) (r .sections) y b)
   before y (step {y = z} s b m) =
       let q = before z s in
       let h = below z q in
       let first : firstAt (r .sections) z ≡ firstAt sections z = same-row z 5 h (omega arith) q in
-      let lead = C.lead-back l x symbols sections entry work ok whole (getD (x .lists) (firstAt (r .sections) z + m .at) 0) y (m .leads) in
-      step {z = y} q (whole z q)
+      let lead = lead-back (getD (x .lists) (firstAt (r .sections) z + m .at) 0) y (m .leads) in
+      step {z = y} q (built-own l x symbols sections z (whole z q))
       (record {
         at = m .at;
         within = rw (same-row z 6 h (omega arith) q) at (m .within);
@@ -107,7 +121,7 @@ module _ (l : Link) (x : Lists) (symbols sections : List ℕ) (entry : EntryPoin
     nobody : (i : ℕ) → goes i ≡ false
     nobody i = by-test (goes i) (λ t. absurd (never (C.goes-no l x (r .symbols) (r .sections) entry cells again whole′ i t))) (λ t. t)
       where
-        never : (y : ℕ) × (Leads l x (r .symbols) (r .sections) i y) × (D y ≡ true) → ⊥
+        never : (y : ℕ) × (leadOf (r .symbols) (l .symbols) (symbolId i) ≡ Section (sectionId y)) × (D y ≡ true) → ⊥
         never k = apart (sym (nothing (k .0)) ∙ k .2)
 
     abbrev frees : ℕ → Bool

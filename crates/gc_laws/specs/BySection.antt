@@ -12,8 +12,8 @@ use lib.ListN.{set, length, length-set}
 use Rattle.cells.specs.Split.{by-test}
 use Rattle.byte_slices.specs.Ways.{apart}
 use Rattle.link.specs.declared.Link.{Link}
+use Rattle.link.specs.Bounds.{sectionSlots}
 use Rattle.symbol.specs.Row as Symbol
-use Rattle.symbol_rows.specs.Decide.{sectionCells}
 use Rattle.symbols.specs.Remove.{Rows, rowsOf}
 use Rattle.sections.specs.Rows.{droppedOf, isBuilt}
 use Rattle.gc_sections.specs.declared.Lead.{Lead}
@@ -91,12 +91,12 @@ module _ (symbols : List ℕ) (count cells : ℕ) where
 
 -- ---- section by section
 
-module _ (l : Link) (symbols sections : List ℕ) (p : ℕ → Bool) (fit : l .sections ≤ sectionCells (length sections)) (long : l .symbols * 8 ≤ length symbols) where
+module _ (l : Link) (symbols sections : List ℕ) (p : ℕ → Bool) (fit : l .sections ≤ l .slots) (room : l .slots ≤ sectionSlots (length sections)) (long : l .symbols * 8 ≤ length symbols) where
   abbrev k : ℕ
   k = l .symbols
 
   abbrev cells : ℕ
-  cells = sectionCells (length sections)
+  cells = l .slots
 
   -- the sections below m that p takes
   unfoldable upTo : ℕ → ℕ → Bool
@@ -218,7 +218,7 @@ module _ (l : Link) (symbols sections : List ℕ) (p : ℕ → Bool) (fit : l .s
       → purgeSection l m (rowsOf (symbolsAt m) (set (sectionsAt m) (m * 8 + 0) 3)) ≡ rowsOf (symbolsAt (suc m)) (sectionsAt (suc m))
   unfolding purgeSection
   step-taken m h e =
-      removed-is l (symbolsAt m) cells (one m) (set (sectionsAt m) (m * 8 + 0) 3) (ap sectionCells (length-set (sectionsAt m) (m * 8 + 0) 3 ∙ size m))
+      removed-is l (symbolsAt m) (one m) (set (sectionsAt m) (m * 8 + 0) 3) (rw (length-set (sectionsAt m) (m * 8 + 0) 3, size m) room)
       ∙ rows-same
       (paint-same (gone (one m) (symbolsAt m) k) (gone (one m) symbols k) stateCell stateCell 2 (test-same m) (λ i. refl) k 0 (symbolsAt m)
       ∙ paint-both (gone (one m) symbols k) (goes m) stateCell 2 k symbols
@@ -283,22 +283,23 @@ module _ (l : Link) (x : Lists) (symbols sections : List ℕ) (entry : EntryPoin
   abbrev D : ℕ → Bool
   D = C.D l x symbols sections entry work ok whole
 
-  now-up : (y : ℕ) → droppedNow (C.work₁ l x symbols sections entry work ok whole) (l .sections) y ≡ upTo l symbols sections D (C.fit l x symbols sections entry work ok whole) (symbols-fit l x symbols sections work ok) (l .sections) y
+  now-up : (y : ℕ) → droppedNow (C.work₁ l x symbols sections entry work ok whole) (l .sections) y ≡ upTo l symbols sections D (C.fit l x symbols sections entry work ok whole) (C.room l x symbols sections entry work ok whole) (symbols-fit l x symbols sections work ok) (l .sections) y
   now-up y =
       C.now-doomed l x symbols sections entry work ok whole y
-      ∙ up-all l symbols sections D (C.fit l x symbols sections entry work ok whole) (symbols-fit l x symbols sections work ok) (C.doomed-past l x symbols sections entry work ok whole) y
+      ∙ up-all l symbols sections D (C.fit l x symbols sections entry work ok whole) (C.room l x symbols sections entry work ok whole) (symbols-fit l x symbols sections work ok) (C.doomed-past l x symbols sections entry work ok whole) y
 
   pub one-pass : rowsOf (r .symbols) (r .sections) ≡ bySection l D (rowsOf symbols sections)
   unfolding C.result
   one-pass =
       let fit = C.fit l x symbols sections entry work ok whole in
+      let room = C.room l x symbols sections entry work ok whole in
       let long = symbols-fit l x symbols sections work ok in
-      let cells = sectionCells (length sections) in
+      let cells = l .slots in
       let now : ℕ → Bool = λ y. droppedNow (C.work₁ l x symbols sections entry work ok whole) (l .sections) y in
-      let up = upTo l symbols sections D fit long (l .sections) in
+      let up = upTo l symbols sections D fit room long (l .sections) in
       rw (C.run-result l x symbols sections entry work ok whole)
-      (rows-same l symbols sections D fit long
+      (rows-same l symbols sections D fit room long
       (paint-same (gone now symbols (l .symbols)) (gone up symbols (l .symbols)) stateCell stateCell 2 (gone-same symbols (l .symbols) cells now up now-up) (λ i. refl) (l .symbols) 0 symbols)
       (paint-same (freed now symbols (l .symbols) cells) (freed up symbols (l .symbols) cells) (symbolCell symbols cells) (symbolCell symbols cells) 0
       (freed-same symbols (l .symbols) cells now up now-up) (λ i. refl) (l .symbols) 0 (each (paint D stateCell 3) (l .sections) 0 sections))
-      ∙ sym (by-section l symbols sections D fit long))
+      ∙ sym (by-section l symbols sections D fit room long))

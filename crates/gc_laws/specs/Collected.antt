@@ -15,9 +15,9 @@ use Rattle.byte_slices.specs.Ways.{apart}
 use Rattle.link.specs.declared.Link.{Link}
 use Rattle.link.specs.declared.Refusal.{Refusal}
 use Rattle.link.specs.declared.SectionId.{SectionId}
+use Rattle.link.specs.Bounds.{sectionSlots}
 use Rattle.link.specs.Judge.{refused}
 use Rattle.symbol.specs.Row as Symbol
-use Rattle.symbol_rows.specs.Decide.{sectionCells}
 use Rattle.sections.specs.Rows.{field, stateAt, isBuilt}
 use Rattle.gc_sections.specs.declared.Lead.{Lead}
 use Rattle.gc_sections.specs.declared.Lead.the-variants as Leading
@@ -35,7 +35,7 @@ use Rattle.gc_laws.specs.Walk.{built-below}
 use Rattle.gc_laws.specs.Exact.{Exact, exact, elsewhere, lead-below}
 use Rattle.gc_laws.specs.Paint.{paint, picked, length-painted, paint-hit, paint-miss}
 use Rattle.gc_laws.specs.Swept.{stateCell, itself, doomed, swept-is, taken, gone, takesSymbol, freed, symbolCell, purged-is}
-use Rattle.gc_laws.specs.Head.{sections-fit, symbols-fit, work-fits, run-is}
+use Rattle.gc_laws.specs.Head.{sections-fit, slots-fit, symbols-fit, work-fits, run-is}
 
 pub differ : (a b : ℕ) (q : Refusal) → Dropped a b ≡ Refused q → ⊥
 differ a b q e = let z : _≡_ {A = ℕ} 0 1 = cc in omega arith
@@ -146,7 +146,7 @@ module _ (l : Link) (x : Lists) (symbols sections : List ℕ) (entry : EntryPoin
       sections₁ = each (paint D stateCell 3) n 0 sections
 
       abbrev pub cells : ℕ
-      cells = sectionCells (length sections)
+      cells = l .slots
 
       abbrev pub goes : ℕ → Bool
       goes = gone (λ (y : ℕ). droppedNow work₁ n y) symbols (l .symbols)
@@ -159,6 +159,9 @@ module _ (l : Link) (x : Lists) (symbols sections : List ℕ) (entry : EntryPoin
           left (each (paint goes stateCell 2) (l .symbols) 0 symbols) (each (paint frees (symbolCell symbols cells) 0) (l .symbols) 0 sections₁) work₁ l
           (Dropped (0 + picked D n 0) (0 + picked goes (l .symbols) 0))
 
+      pub room : cells ≤ sectionSlots (length sections)
+      room = slots-fit l x symbols sections work ok
+
       pub run-result : r ≡ result
       unfolding sweepOf purgeOf result
       run-result =
@@ -166,7 +169,7 @@ module _ (l : Link) (x : Lists) (symbols sections : List ℕ) (entry : EntryPoin
           ∙ ap (λ (u : Unbuilt). finishOf l symbols sections (w .work) u) no-unbuilt
           ∙ ap (purgeOf l symbols) (swept-is n sections (w .work))
           ∙ ap (λ (p : Purged). left (p .rows .symbols) (p .rows .sections) work₁ l (Dropped (0 + picked D n 0) (p .count)))
-          (purged-is l work₁ symbols cells sections₁ (ap sectionCells (length-painted D stateCell 3 n 0 sections)))
+          (purged-is l work₁ symbols sections₁ (rw (length-painted D stateCell 3 n 0 sections) room))
 
       -- the answer counts both
       pub answer-counts : r .answer ≡ Dropped (picked D n 0) (picked goes (l .symbols) 0)
@@ -226,7 +229,7 @@ module _ (l : Link) (x : Lists) (symbols sections : List ℕ) (entry : EntryPoin
       row-dropped y e =
           let h : y < n = built-below sections n y (doomed-no y e .0) in
           paint-miss frees (symbolCell symbols cells) 0 (l .symbols) 0 sections₁ (stateCell y) (λ j a b q d. omega (arith, fit))
-          ∙ paint-hit D stateCell 3 n 0 sections y (omega arith) (omega arith) e (omega (arith, fit))
+          ∙ paint-hit D stateCell 3 n 0 sections y (omega arith) (omega arith) e (omega (arith, fit, room))
 
       pub idle : (y : ℕ) → Built y → getD (w .work) y 0 ≡ 0 → D y ≡ true
       unfolding doomed
@@ -354,7 +357,7 @@ module _ (l : Link) (x : Lists) (symbols sections : List ℕ) (entry : EntryPoin
           let f : frees i ≡ true = rw (goes-yes i y m (doomed-yes y b ne), eq-eqb _ _ k, lt-ltb (Symbol.field symbols i 6) cells (omega (arith, fit))) in
           rw (run-result, ← e)
           (paint-hit frees (symbolCell symbols cells) 0 (l .symbols) 0 sections₁ i (omega arith) (omega (arith, lead-below symbols (l .symbols) i y m)) f
-          (omega (arith, fit, length-painted D stateCell 3 n 0 sections)))
+          (omega (arith, fit, room, length-painted D stateCell 3 n 0 sections)))
 
       pub section-symbol-stays : (y : ℕ) → ((i : ℕ) → Lies i y → Symbol.field symbols i 5 ≡ 2 → Built y → R y)
           → getD (r .sections) (cells * 8 + y) 0 ≡ getD sections (cells * 8 + y) 0

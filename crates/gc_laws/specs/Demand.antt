@@ -7,23 +7,23 @@ use mathlib.Core.Bool.{true, false}
 use mathlib.Core.List.{List}
 use borrow.Author.Tests.{eqb-true}
 use lib.Dec.{eqb, ltb}
-use lib.ListN.{getD, length}
+use lib.ListN.{getD}
 use Rattle.cells.specs.Split.{by-test}
-use Rattle.byte_slices.specs.Ways.{pick}
+use Rattle.byte_slices.specs.Ways.{pick, apart}
 use Rattle.link.specs.declared.Link.{Link}
 use Rattle.link.specs.declared.Lent.{Lent}
 use Rattle.link.specs.declared.Refusal.{Refusal}
 use Rattle.link.specs.Judge.{refused, changeOf}
 use Rattle.link.specs.Passed.{judge-gives}
 use Rattle.symbol.specs.Row as Symbol
-use Rattle.symbol_rows.specs.Decide.{sectionCells}
 use Rattle.sections.specs.Rows.{field, stateAt, isBuilt}
 use Rattle.gc_sections.specs.declared.EntryPoint.{EntryPoint}
 use Rattle.gc_sections.specs.declared.Lead.the-variants as Leading
 use Rattle.gc_sections.specs.declared.Answer.the-variants.{Dropped, Refused}
-use Rattle.gc_sections.specs.Roots.{leadOf}
+use Rattle.gc_sections.specs.Roots.{symbolId, sectionId, leadOf}
 use Rattle.gc_sections.specs.Run.{Left, Lists, numberOf, judgeCells, judgeOf, judged, runOf}
-use Rattle.gc_laws.specs.Reached.{Reached}
+use Rattle.gc_laws.specs.Reached.{droppedState, removedState, Built, Leads, Reached}
+use Rattle.gc_laws.specs.Own.{built-own, own-built, leads-own, own-leads}
 use Rattle.gc_laws.specs.Collected as C
 
 -- 21 is never an answer of the head
@@ -68,6 +68,19 @@ module _ (l : Link) (x : Lists) (symbols sections : List ℕ) (entry : EntryPoin
   pub refused-passed : (k : ℕ) → r .answer ≡ Refused (refused 21 k) → Passed
   refused-passed k e = head Passed (λ p. p) (λ q. absurd (judge-head l _ _ _ (ap numberOf (sym q ∙ e))))
 
+  -- built before the call, and after it; each in its own words
+  abbrev pub Before : ℕ → Type 0
+  Before = Built l x symbols sections
+
+  abbrev pub After : ℕ → Type 0
+  After = Built l x (r .symbols) (r .sections)
+
+  unbuilt : (y : ℕ) → (Before y → ⊥) → isBuilt sections n y ≡ false
+  unbuilt y ne = by-test (isBuilt sections n y) (λ t. absurd (ne (built-own l x symbols sections y t))) (λ t. t)
+
+  built-not : (y : ℕ) → isBuilt sections n y ≡ false → Before y → ⊥
+  built-not y e b = apart (sym e ∙ own-built l x symbols sections y b)
+
   pub accepted-whole : (a b : ℕ) → r .answer ≡ Dropped a b → (y : ℕ) → R y → isBuilt sections n y ≡ true
   accepted-whole a b e y q =
       by-test (isBuilt sections n y) (λ t. t)
@@ -75,32 +88,29 @@ module _ (l : Link) (x : Lists) (symbols sections : List ℕ) (entry : EntryPoin
 
   -- not refused: a section is there after the call exactly if it is reached, and it was there before
   pub record Kept : Type 0 where
-    pub reached : (y : ℕ) → isBuilt (r .sections) n y ≡ true → R y
-    pub kept : (y : ℕ) → R y → isBuilt (r .sections) n y ≡ true
-    pub built : (y : ℕ) → R y → isBuilt sections n y ≡ true
-    pub dropped : (y : ℕ) → isBuilt sections n y ≡ true → (R y → ⊥) → stateAt (r .sections) y ≡ 3
+    pub reached : (y : ℕ) → After y → R y
+    pub kept : (y : ℕ) → R y → After y
+    pub built : (y : ℕ) → R y → Before y
+    pub dropped : (y : ℕ) → Before y → (R y → ⊥) → stateAt (r .sections) y ≡ droppedState
 
   pub keeps : (a b : ℕ) → r .answer ≡ Dropped a b → Kept
   keeps a b e =
       let ok = accepted-passed a b e in
       let whole = accepted-whole a b e in
       record {
-        reached = C.kept-reached l x symbols sections entry work ok whole;
-        kept = C.reached-kept l x symbols sections entry work ok whole;
-        built = whole;
-        dropped = C.unreached-dropped l x symbols sections entry work ok whole;
+        reached = λ y q. C.kept-reached l x symbols sections entry work ok whole y (own-built l x (r .symbols) (r .sections) y q);
+        kept = λ y q. built-own l x (r .symbols) (r .sections) y (C.reached-kept l x symbols sections entry work ok whole y q);
+        built = λ y q. built-own l x symbols sections y (whole y q);
+        dropped = λ y q. C.unreached-dropped l x symbols sections entry work ok whole y (own-built l x symbols sections y q);
       }
 
   -- symbol i lies in section y
   abbrev pub Lies : ℕ → ℕ → Type 0
-  Lies i y = leadOf symbols (l .symbols) (record { 0 = i }) ≡ Leading.Section (record { 0 = y })
+  Lies = Leads l x symbols sections
 
-  abbrev pub Built : ℕ → Type 0
-  Built y = isBuilt sections n y ≡ true
-
-  -- the cell of section y's symbol, behind the section rows
+  -- the cell of section y's symbol, behind the section rows that a new table was lent
   abbrev pub cellOf : ℕ → ℕ
-  cellOf y = sectionCells (length sections) * 8 + y
+  cellOf y = l .slots * 8 + y
 
   -- its value is `Section`
   abbrev pub IsSection : ℕ → Type 0
@@ -108,38 +118,52 @@ module _ (l : Link) (x : Lists) (symbols sections : List ℕ) (entry : EntryPoin
 
   -- not refused: "their symbols' rows with them", and no other cell of a row
   pub record Removed : Type 0 where
-    pub removed : (i y : ℕ) → Lies i y → Built y → (R y → ⊥) → Symbol.stateAt (r .symbols) i ≡ 2
-    pub stays : (i f : ℕ) → f < 8 → (f ≡ 0 → (y : ℕ) → Lies i y → Built y → R y) → Symbol.field (r .symbols) i f ≡ Symbol.field symbols i f
-    pub sectionStays : (y f : ℕ) → y < sectionCells (length sections) → f < 8 → (f ≡ 0 → Built y → R y) → field (r .sections) y f ≡ field sections y f
+    pub removed : (i y : ℕ) → Lies i y → Before y → (R y → ⊥) → Symbol.stateAt (r .symbols) i ≡ removedState
+    pub stays : (i f : ℕ) → f < 8 → (f ≡ 0 → (y : ℕ) → Lies i y → Before y → R y) → Symbol.field (r .symbols) i f ≡ Symbol.field symbols i f
+    pub sectionStays : (y f : ℕ) → y < l .slots → f < 8 → (f ≡ 0 → Before y → R y) → field (r .sections) y f ≡ field sections y f
     -- "`remove` of any `Section` row drops that entry": a section's symbol goes with each removed `Section` row of it, and no other cell changes
-    pub entryDropped : (i y : ℕ) → Lies i y → IsSection i → Built y → (R y → ⊥) → getD (r .sections) (cellOf y) 0 ≡ 0
-    pub entryStays : (y : ℕ) → ((i : ℕ) → Lies i y → IsSection i → Built y → R y) → getD (r .sections) (cellOf y) 0 ≡ getD sections (cellOf y) 0
+    pub entryDropped : (i y : ℕ) → Lies i y → IsSection i → Before y → (R y → ⊥) → getD (r .sections) (cellOf y) 0 ≡ 0
+    pub entryStays : (y : ℕ) → ((i : ℕ) → Lies i y → IsSection i → Before y → R y) → getD (r .sections) (cellOf y) 0 ≡ getD sections (cellOf y) 0
+
+  abbrev own : (y : ℕ) → isBuilt sections n y ≡ true → Before y
+  own = built-own l x symbols sections
+
+  abbrev ofOwn : (y : ℕ) → Before y → isBuilt sections n y ≡ true
+  ofOwn = own-built l x symbols sections
+
+  abbrev lead : (i y : ℕ) → leadOf symbols (l .symbols) (symbolId i) ≡ Leading.Section (sectionId y) → Lies i y
+  lead = leads-own l x symbols sections
+
+  abbrev ofLead : (i y : ℕ) → Lies i y → leadOf symbols (l .symbols) (symbolId i) ≡ Leading.Section (sectionId y)
+  ofLead = own-leads l x symbols sections
 
   pub removes : (a b : ℕ) → r .answer ≡ Dropped a b → Removed
   removes a b e =
       let ok = accepted-passed a b e in
       let whole = accepted-whole a b e in
       record {
-        removed = C.symbol-removed l x symbols sections entry work ok whole;
-        stays = C.symbol-stays l x symbols sections entry work ok whole;
-        sectionStays = C.others-stay l x symbols sections entry work ok whole;
-        entryDropped = C.section-symbol-dropped l x symbols sections entry work ok whole;
-        entryStays = C.section-symbol-stays l x symbols sections entry work ok whole;
+        removed = λ i y m q. C.symbol-removed l x symbols sections entry work ok whole i y (ofLead i y m) (ofOwn y q);
+        stays = λ i f h k. C.symbol-stays l x symbols sections entry work ok whole i f h (λ z y m q. k z y (lead i y m) (own y q));
+        sectionStays = λ y f h g k. C.others-stay l x symbols sections entry work ok whole y f h g (λ z q. k z (own y q));
+        entryDropped = λ i y m s q. C.section-symbol-dropped l x symbols sections entry work ok whole i y (ofLead i y m) s (ofOwn y q);
+        entryStays = λ y k. C.section-symbol-stays l x symbols sections entry work ok whole y (λ i m s q. k i (lead i y m) s (own y q));
       }
 
   -- refused with 21: the place is the lowest section that is reached but not built
   pub record Lowest (k : ℕ) : Type 0 where
     pub reached : R k
-    pub unbuilt : isBuilt sections n k ≡ false
-    pub least : (y : ℕ) → R y → isBuilt sections n y ≡ false → k ≤ y
+    pub unbuilt : Before k → ⊥
+    pub least : (y : ℕ) → R y → (Before y → ⊥) → k ≤ y
 
   pub refuses : (k : ℕ) → r .answer ≡ Refused (refused 21 k) → Lowest k
-  refuses k e = let f = C.refused-lowest l x symbols sections entry work (refused-passed k e) k e in record { reached = f .0; unbuilt = f .1; least = f .2 }
+  refuses k e =
+      let f = C.refused-lowest l x symbols sections entry work (refused-passed k e) k e in
+      record { reached = f .0; unbuilt = built-not k (f .1); least = λ y q u. f .2 y q (unbuilt y u) }
 
   -- a call that passes its head is refused where there is such a section, and only there
-  pub passes : Passed → (y : ℕ) → R y → isBuilt sections n y ≡ false → (k : ℕ) × (r .answer ≡ Refused (refused 21 k))
-  passes ok y q u = C.unbuilt-refused l x symbols sections entry work ok y q u
+  pub passes : Passed → (y : ℕ) → R y → (Before y → ⊥) → (k : ℕ) × (r .answer ≡ Refused (refused 21 k))
+  passes ok y q u = C.unbuilt-refused l x symbols sections entry work ok y q (unbuilt y u)
 
-  pub accepts : Passed → ((y : ℕ) → R y → isBuilt sections n y ≡ true) → (a b : ℕ) × (r .answer ≡ Dropped a b)
+  pub accepts : Passed → ((y : ℕ) → R y → Before y) → (a b : ℕ) × (r .answer ≡ Dropped a b)
   unfolding C.result
-  accepts ok whole = (_, _, ap (λ (t : Left). t .answer) (C.run-result l x symbols sections entry work ok whole))
+  accepts ok whole = (_, _, ap (λ (t : Left). t .answer) (C.run-result l x symbols sections entry work ok (λ y q. ofOwn y (whole y q))))

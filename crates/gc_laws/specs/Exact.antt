@@ -26,6 +26,7 @@ use Rattle.gc_sections.specs.Roots.{symbolId, sectionId, leadOf, isRoot}
 use Rattle.gc_sections.specs.Reach.{Walk, saveOf, reachLead, addOf, rootSymbol, rootSection, entryOf, endOf, relocation, relocations, follow, visit, clearCell, startOf, rootsOf, processOf, walked}
 use Rattle.gc_sections.specs.Run.{Lists}
 use Rattle.gc_laws.specs.Reached.{Names, Reached, marked, entered, root, step}
+use Rattle.gc_laws.specs.Own.{built-own, own-built, leads-own, own-leads, root-own, own-root}
 use Rattle.gc_laws.specs.Marks.{marks, marks-le, marks-none, cleared, length-cleared}
 use Rattle.gc_laws.specs.Walk.{Good, Ext, Seen, Steps, none, ext-refl, ext-trans, ext-seen, save-step, reach-step, each-steps, built-below}
 
@@ -106,7 +107,7 @@ module _ (l : Link) (x : Lists) (symbols sections : List ℕ) (entry : EntryPoin
       go : (b : Bool) → eqb (getD (x .marks) i 0) 0 ≡ b
           → Met s (λ y. (getD (x .marks) i 0 ≡ 0 → ⊥) × Lies i y) (cond b s (addOf l symbols sections (symbolId i) s))
       go true e = none sections n R s (λ y. (getD (x .marks) i 0 ≡ 0 → ⊥) × Lies i y) g (λ y m. absurd (m .0 (eqb-true _ _ e)))
-      go false e = narrow (add-step i s g (λ y m. marked i (eqb-false _ _ e) m)) (λ y m. m .1)
+      go false e = narrow (add-step i s g (λ y m. marked i (eqb-false _ _ e) (leads-own l x symbols sections i y m))) (λ y m. m .1)
 
   section-step : (i : ℕ) (s : Walk) → Fine s
       → Met s (λ y. (y ≡ i) × (isRoot (x .bytes) (x .names) sections n i ≡ true)) (rootSection n (x .bytes) (x .names) sections i s)
@@ -115,7 +116,7 @@ module _ (l : Link) (x : Lists) (symbols sections : List ℕ) (entry : EntryPoin
     where
       go : (b : Bool) → isRoot (x .bytes) (x .names) sections n i ≡ b
           → Met s (λ y. (y ≡ i) × (isRoot (x .bytes) (x .names) sections n i ≡ true)) (cond b (saveOf n (sectionId i) s) s)
-      go true e = narrow (save-step sections n R s i g (root-built _ _ _ _ _ e) (root e)) (λ y m. m .0)
+      go true e = narrow (save-step sections n R s i g (root-built _ _ _ _ _ e) (let q = root-own l x symbols sections i e in root (q .0) (q .1))) (λ y m. m .0)
       go false e =
           none sections n R s (λ y. (y ≡ i) × (isRoot (x .bytes) (x .names) sections n i ≡ true)) g (λ y m. absurd (apart (sym e ∙ m .1)))
 
@@ -128,7 +129,7 @@ module _ (l : Link) (x : Lists) (symbols sections : List ℕ) (entry : EntryPoin
       never : (i : ℕ) → Entry.None ≡ Entry.Symbol (symbolId i) → ⊥
       never i e = let z : _≡_ {A = ℕ} 0 1 = cc in omega arith
   entry-step (Entry.Symbol id) s d g =
-      narrow (add-step (id .0) s g (λ y m. entered (id .0) d m))
+      narrow (add-step (id .0) s g (λ y m. entered (id .0) d (leads-own l x symbols sections (id .0) y m)))
       (λ y m. let f : Entry.Symbol (symbolId (m .0)) ≡ Entry.Symbol id = sym (m .1) ∙ d in let k : symbolId (m .0) ≡ id = cc in rw (← k) (m .2))
 
   record Rooted (s t : Walk) : Type 0 where
@@ -164,7 +165,9 @@ module _ (l : Link) (x : Lists) (symbols sections : List ℕ) (entry : EntryPoin
       let h = end-within (l .lists) (firstAt sections y) (countAt sections y) j lo hi in
       let e : firstAt sections y + (j - firstAt sections y) ≡ j = omega arith in
       add-step (getD (x .lists) j 0) s g
-      (λ z m. step r b (record { at = j - firstAt sections y; within = h .0; listed = rw e (h .1); leads = rw e m }))
+      (λ z m.
+      step r (built-own l x symbols sections y b)
+      (record { at = j - firstAt sections y; within = h .0; listed = rw e (h .1); leads = rw e (leads-own l x symbols sections (getD (x .lists) j 0) z m) }))
 
   follow-step : (y : ℕ) (s : Walk) → R y → isBuilt sections n y ≡ true → Fine s
       → Met s (λ z. Names l x symbols sections y z) (follow l symbols sections (x .lists) y s)
@@ -176,7 +179,7 @@ module _ (l : Link) (x : Lists) (symbols sections : List ℕ) (entry : EntryPoin
       narrow
       (each-steps sections n R (relocation l symbols sections (x .lists)) (λ j z. Lies (getD (x .lists) j 0) z) first end
       (λ j t p q f. relocation-step y j t r b p q f) (end - first) first s (omega arith) (omega arith) g)
-      (λ z m. (first + m .at, omega arith, end-all (l .lists) first (countAt sections y) (m .at) (m .within) (m .listed), m .leads))
+      (λ z m. (first + m .at, omega arith, end-all (l .lists) first (countAt sections y) (m .at) (m .within) (m .listed), own-leads l x symbols sections _ z (m .leads)))
 
   -- ---- the queue
 
@@ -268,11 +271,11 @@ module _ (l : Link) (x : Lists) (symbols sections : List ℕ) (entry : EntryPoin
     ended = process-turns n 0 s₁ (begun .good) (λ k h. absurd (not-suc-le-zero h)) (omega arith)
 
     every : (y : ℕ) → R y → Seen sections n s₂ y
-    every y (marked i ne m) = ext-seen sections n (ended .ext) (begun .by-mark i y ne m)
-    every y (entered i e m) = ext-seen sections n (ended .ext) (begun .by-entry i y e m)
-    every y (root e) = ext-seen sections n (ended .ext) (begun .by-root y e)
+    every y (marked i ne m) = ext-seen sections n (ended .ext) (begun .by-mark i y ne (own-leads l x symbols sections i y m))
+    every y (entered i e m) = ext-seen sections n (ended .ext) (begun .by-entry i y e (own-leads l x symbols sections i y m))
+    every y (root b r) = ext-seen sections n (ended .ext) (begun .by-root y (own-root l x symbols sections y b r))
     every y (step {y = z} r b m) =
-        let f = ended .good .listed z (built-below sections n z b) (every z r .mark b) in
+        let f = ended .good .listed z (b .issued) (every z r .mark (own-built l x symbols sections z b)) in
         let few : s₂ .visitor .queued ≤ n = omega (arith, ended .good .count, marks-le n (s₂ .work)) in
         subst (λ (k : ℕ). Closed s₂ k) (f .2) (ended .visited (f .0) (omega (arith, f .1)) (f .1)) y m
 

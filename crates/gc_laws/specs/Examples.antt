@@ -9,6 +9,7 @@ use Rattle.byte_slices.specs.Bytes.{same}
 use Rattle.link.specs.declared.Link.{Link}
 use Rattle.link.specs.Bounds.{lesser}
 use Rattle.link.specs.Judge as Link
+use Rattle.symbol_rows.specs.Decide.{sectionCell}
 use Rattle.symbol_rows.specs.Apply.{setSectionSymbol}
 use Rattle.symbols.specs.Remove.{dropSection, removeRowOf}
 use Rattle.sections.specs.Rows.{stateAt, isBuilt}
@@ -24,7 +25,7 @@ use Rattle.gc_sections.specs.Run.{Left, Lists, listsOf, judgeCells, judgeOf, pu
 
 -- counts: one name of no bytes; so many symbols, sections and list cells
 abbrev counts : ℕ → ℕ → ℕ → Link
-counts symbols sections lists = record { names = 1; bytes = 0; symbols = symbols; sections = sections; inputs = 0; lists = lists; chains = 1; slots = sections; broken = false }
+counts symbols sections lists = record { names = 1; bytes = 0; symbols = symbols; sections = sections; inputs = 0; lists = lists; chains = 1; slots = sections; key = 0; broken = false }
 
 -- the null symbol, and one that lies in section s: local, `Section`
 abbrev null : List ℕ
@@ -127,7 +128,7 @@ All [] = Unit {0}
 All (e ∷ es) = Right e × All es
 
 pub examples : All (p12 ∷ shortMarks ∷ twoUnbuilt ∷ unreadable ∷ [])
-unfolding same lesser Link.otherLength Link.judgeSections Link.judgeNames Link.judgeLists Link.afterSymbols Link.afterSections Link.judgeOf Link.changeOf setSectionSymbol dropSection removeRowOf isBuilt each valueLead leadOf readable nameIs rooted isRoot
+unfolding same lesser Link.judgeSections Link.judgeNames Link.judgeLists Link.afterSymbols Link.afterSections Link.judgeOf Link.changeOf sectionCell setSectionSymbol dropSection removeRowOf isBuilt each valueLead leadOf readable nameIs rooted isRoot
     saveOf reachOf addOf rootSymbol rootSection endOf relocation relocations follow visit clearCell startOf rootsOf processOf walked dropUnreached droppedNow purgeSymbol
     sweepSections purgeSymbols judgeCells judgeOf purgeOf sweepOf finished collectOf runOf
 examples = ((refl, refl, refl), ((refl, refl, refl), ((refl, refl, refl), ((refl, refl, refl), tt))))

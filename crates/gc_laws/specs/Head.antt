@@ -11,7 +11,7 @@ use lib.ListN.{length}
 use Rattle.cells.specs.Split.{by-test}
 use Rattle.link.specs.declared.Link.{Link}
 use Rattle.link.specs.declared.Lent.{Lent}
-use Rattle.link.specs.Bounds.{lesser}
+use Rattle.link.specs.Bounds.{lesser, sectionSlots}
 use Rattle.link.specs.Judge.{refused, changeOf}
 use Rattle.gc_sections.specs.declared.EntryPoint.{EntryPoint}
 use Rattle.gc_sections.specs.Reach.{Walk, walked}
@@ -39,15 +39,18 @@ module _ (l : Link) (x : Lists) (symbols sections work : List ℕ) (ok : judged 
   abbrev lent : Lent
   lent = lentOf (length (x .bytes)) (length (x .names)) (length symbols) (length sections) (length (x .lists))
 
-  counts : (l .sections ≤ lesser 65535 (length sections / 9)) × (l .symbols ≤ lesser 65535 (length symbols / 8))
+  counts : (l .sections ≤ lesser 65535 (l .slots)) × (l .slots ≤ length sections / 9) × (l .symbols ≤ lesser 65535 (length symbols / 8))
   counts = counts-lent l lent (length (x .marks)) (length work) (judged l x symbols sections work) refl ok
 
-  -- a row of 8 cells and a cell behind them for each section
-  pub sections-fit : l .sections ≤ length sections / 9
-  sections-fit = omega (arith, counts .0, lesser-right 65535 (length sections / 9))
+  pub sections-fit : l .sections ≤ l .slots
+  sections-fit = omega (arith, counts .0, lesser-right 65535 (l .slots))
+
+  -- a row of 8 cells and a cell behind the rows for each of them
+  pub slots-fit : l .slots ≤ sectionSlots (length sections)
+  slots-fit = counts .1
 
   pub symbols-fit : l .symbols * 8 ≤ length symbols
-  symbols-fit = omega (arith, counts .1, lesser-right 65535 (length symbols / 8))
+  symbols-fit = omega (arith, counts .2, lesser-right 65535 (length symbols / 8))
 
   pub work-fits : l .sections + l .sections ≤ length work
   work-fits = omega (arith, cells-enough l (length (x .marks)) (length work) (cells-pass l lent (length (x .marks)) (length work) ok) .1)

@@ -1,4 +1,5 @@
 pub mod Reached
+pub mod Own
 pub mod Marks
 pub mod Walk
 pub mod Exact

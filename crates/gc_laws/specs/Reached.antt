@@ -1,22 +1,65 @@
--- What relocations reach from the roots, with no word of how that is found out.
+-- What relocations reach from the roots, with no word of how that is found out: none of the tests of the collection itself stands here.
 -- Assumes nothing.
-use Prim.Native.Nat.{ℕ, _+_, _<_}
+use Prim.Native.Char.{code}
+use Prim.Native.Nat.{ℕ, zero, suc, _+_, _<_}
+use Prim.Native.String.{String, len, charAt}
 use mathlib.Core.Path.{_≡_}
-use mathlib.Core.Bool.{true}
-use mathlib.Core.List.{List}
+use mathlib.Core.List.{List, [], _∷_}
+use mathlib.Core.Logic.{_≢_}
 use lib.ListN.{getD}
 use Rattle.link.specs.declared.Link.{Link}
-use Rattle.sections.specs.Rows.{firstAt, countAt, isBuilt}
-use Rattle.gc_sections.specs.declared.Lead.the-variants.{Section}
+use Rattle.interner.specs.Names.{nameAt}
+use Rattle.symbol.specs.Row as Symbol
+use Rattle.sections.specs.Rows.{field, stateAt, nameIdAt, retainAt, readAt, firstAt, countAt}
 use Rattle.gc_sections.specs.declared.EntryPoint.{EntryPoint}
 use Rattle.gc_sections.specs.declared.EntryPoint.the-variants.{Symbol}
-use Rattle.gc_sections.specs.Roots.{symbolId, sectionId, leadOf, isRoot}
 use Rattle.gc_sections.specs.Run.{Lists}
 
+-- the bytes of a text
+abbrev bytesFrom : String → ℕ → ℕ → List ℕ
+bytesFrom t i zero = []
+bytesFrom t i (suc n) = code (charAt t i) ∷ bytesFrom t (i + 1) n
+
+abbrev pub bytesOf : String → List ℕ
+bytesOf t = bytesFrom t 0 (len t)
+
+-- ---- the numbers in rows that are read here
+
+-- the first cell of a section's row, built or dropped, and of a symbol's, removed
+abbrev pub builtState : ℕ
+builtState = 2
+
+abbrev pub droppedState : ℕ
+droppedState = 3
+
+abbrev pub removedState : ℕ
+removedState = 2
+
+-- the kinds of a section, as in document 01
+abbrev pub program : ℕ
+program = 1
+
+abbrev pub uninitialized : ℕ
+uninitialized = 2
+
+-- a value that lies in a section, the cell behind it: `Section`, relative to one, an address in one
+pub data InSection (kind : ℕ) : Type 0 where
+  section : kind ≡ 2 → InSection kind
+  relative : kind ≡ 3 → InSection kind
+  address : kind ≡ 4 → InSection kind
+
 module _ (l : Link) (x : Lists) (symbols sections : List ℕ) where
-  -- the value of symbol i lies in section y
-  abbrev pub Leads : ℕ → ℕ → Type 0
-  Leads i y = leadOf symbols (l .symbols) (symbolId i) ≡ Section (sectionId y)
+  -- section y was built, and not dropped since
+  pub record Built (y : ℕ) : Type 0 where
+    pub issued : y < l .sections
+    pub state : stateAt sections y ≡ builtState
+
+  -- the value of symbol i lies in section y; "Symbols removed or absent lead nowhere"
+  pub record Leads (i y : ℕ) : Type 0 where
+    pub issued : i < l .symbols
+    pub present : Symbol.stateAt symbols i ≢ removedState
+    pub valued : InSection (Symbol.field symbols i 5)
+    pub lies : Symbol.field symbols i 6 ≡ y
 
   -- some relocation of section y names a symbol that lies in section z
   pub record Names (y z : ℕ) : Type 0 where
@@ -25,9 +68,17 @@ module _ (l : Link) (x : Lists) (symbols sections : List ℕ) where
     pub listed : firstAt sections y + at < l .lists
     pub leads : Leads (getD (x .lists) (firstAt sections y + at) 0) z
 
+  -- "retained sections, `.eh_frame`, and everything but readable program or uninitialized sections"
+  pub data IsRoot (y : ℕ) : Type 0 where
+    retained : retainAt sections y ≢ 0 → IsRoot y
+    ehFrame : nameAt (x .bytes) (x .names) (nameIdAt sections y) ≡ bytesOf ".eh_frame" → IsRoot y
+    unreadable : readAt sections y ≡ 0 → IsRoot y
+    otherKind : field sections y 2 ≢ program → field sections y 2 ≢ uninitialized → IsRoot y
+
   module _ (entry : EntryPoint) where
+    -- "Roots: symbols marked by the caller, the entry symbol", and those sections, if they are built; from these on by relocations
     pub data Reached : ℕ → Type 0 where
-      marked : (i : ℕ) {y : ℕ} → (getD (x .marks) i 0 ≡ 0 → ⊥) → Leads i y → Reached y
-      entered : (i : ℕ) {y : ℕ} → entry ≡ Symbol (symbolId i) → Leads i y → Reached y
-      root : {y : ℕ} → isRoot (x .bytes) (x .names) sections (l .sections) y ≡ true → Reached y
-      step : {y z : ℕ} → Reached y → isBuilt sections (l .sections) y ≡ true → Names y z → Reached z
+      marked : (i : ℕ) {y : ℕ} → getD (x .marks) i 0 ≢ 0 → Leads i y → Reached y
+      entered : (i : ℕ) {y : ℕ} → entry ≡ Symbol (record { 0 = i }) → Leads i y → Reached y
+      root : {y : ℕ} → Built y → IsRoot y → Reached y
+      step : {y z : ℕ} → Reached y → Built y → Names y z → Reached z

@@ -8,11 +8,13 @@ use mathlib.Core.Bool.{Bool, true, false, cond}
 use mathlib.Core.List.{List}
 use lib.Dec.{eqb, ltb, leb}
 use lib.ListN.{getD, set, length, length-set}
-use lib.Seq.{getD-set-other}
+use lib.Seq.{getD-set-other, set-out}
+use borrow.Author.Tests.{le-ltb}
 use Rattle.cells.specs.Split.{by-test}
 use Rattle.link.specs.declared.Link.{Link}
+use Rattle.link.specs.Bounds.{sectionSlots}
 use Rattle.symbol.specs.Row as Symbol
-use Rattle.symbol_rows.specs.Decide.{sectionCells}
+use Rattle.symbol_rows.specs.Decide.{sectionCell}
 use Rattle.symbol_rows.specs.Apply.{setSectionSymbol}
 use Rattle.symbols.specs.Remove.{Rows, rowsOf, dropSection, removeRowOf}
 use Rattle.sections.specs.Rows.{isBuilt}
@@ -111,12 +113,15 @@ symbolCell symbols cells i = cells * 8 + Symbol.field symbols i 6
 -- symbol i is removed if p takes the section that it lies in; and without counting
 unfoldable pub purgeIf : (ℕ → Bool) → Link → ℕ → Purged → Purged
 purgeIf p l i s =
-    cond (taken p (leadOf (s .rows .symbols) (l .symbols) (symbolId i))) (purgedOf (removeRowOf (s .rows) (symbolId i)) (s .count + 1)) s
+    cond (taken p (leadOf (s .rows .symbols) (l .symbols) (symbolId i))) (purgedOf (removeRowOf l (s .rows) (symbolId i)) (s .count + 1)) s
 
 unfoldable pub removeIf : (ℕ → Bool) → Link → ℕ → Rows → Rows
-removeIf p l i x = cond (taken p (leadOf (x .symbols) (l .symbols) (symbolId i))) (removeRowOf x (symbolId i)) x
+removeIf p l i x = cond (taken p (leadOf (x .symbols) (l .symbols) (symbolId i))) (removeRowOf l x (symbolId i)) x
 
-module _ (l : Link) (symbols : List ℕ) (cells : ℕ) (p : ℕ → Bool) where
+module _ (l : Link) (symbols : List ℕ) (p : ℕ → Bool) where
+  abbrev cells : ℕ
+  cells = l .slots
+
   abbrev goes : ℕ → Bool
   goes = gone p symbols (l .symbols)
 
@@ -131,7 +136,7 @@ module _ (l : Link) (symbols : List ℕ) (cells : ℕ) (p : ℕ → Bool) where
   -- the rows from i on are as before the pass
   record Rest (i : ℕ) (s : Purged) : Type 0 where
     field : (j f : ℕ) → i ≤ j → f < 8 → Symbol.field (s .rows .symbols) j f ≡ Symbol.field symbols j f
-    size : sectionCells (length (s .rows .sections)) ≡ cells
+    room : cells ≤ sectionSlots (length (s .rows .sections))
 
   lead-same : (i : ℕ) (s : Purged) → Rest i s → leadOf (s .rows .symbols) (l .symbols) (symbolId i) ≡ leadOf symbols (l .symbols) (symbolId i)
   unfolding leadOf
@@ -153,29 +158,31 @@ module _ (l : Link) (symbols : List ℕ) (cells : ℕ) (p : ℕ → Bool) where
       (s .count + cond b 1 0)
 
   section-freed : (i : ℕ) (s : Purged) → Rest i s
-      → dropSection (s .rows .sections) (Symbol.field symbols i 5) (Symbol.field symbols i 6)
+      → dropSection l (s .rows .sections) (Symbol.field symbols i 5) (Symbol.field symbols i 6)
       ≡ cond (takesSymbol symbols cells i) (set (s .rows .sections) (symbolCell symbols cells i) 0) (s .rows .sections)
-  unfolding dropSection setSectionSymbol takesSymbol
-  section-freed i s a = rw (a .size) (go (eqb (Symbol.field symbols i 5) 2) (ltb (Symbol.field symbols i 6) cells))
+  unfolding dropSection setSectionSymbol sectionCell takesSymbol
+  section-freed i s a =
+      rw (le-ltb (sectionSlots (length (s .rows .sections))) cells (a .room)) (go (eqb (Symbol.field symbols i 5) 2) (ltb (Symbol.field symbols i 6) cells))
     where
       go : (b c : Bool)
-          → cond b (cond c (set (s .rows .sections) (cells * 8 + Symbol.field symbols i 6) 0) (s .rows .sections)) (s .rows .sections)
+          → cond b (set (s .rows .sections) (cond c (cells * 8 + Symbol.field symbols i 6) (length (s .rows .sections))) 0) (s .rows .sections)
           ≡ cond (cond b c false) (set (s .rows .sections) (cells * 8 + Symbol.field symbols i 6) 0) (s .rows .sections)
-      go true c = refl
+      go true true = refl
+      go true false = set-out (s .rows .sections) (length (s .rows .sections)) 0 (omega arith)
       go false c = refl
 
   row-gone : (i : ℕ) (s : Purged) (x : _) → Rest i s → leadOf symbols (l .symbols) (symbolId i) ≡ Section x
-      → purgedOf (removeRowOf (s .rows) (symbolId i)) (s .count + 1) ≡ rowTurned i true s
+      → purgedOf (removeRowOf l (s .rows) (symbolId i)) (s .count + 1) ≡ rowTurned i true s
   unfolding removeRowOf
   row-gone i s x a e =
       rw (a .field i 0 (omega arith) (omega arith), lead-there i x e, a .field i 5 (omega arith) (omega arith), a .field i 6 (omega arith) (omega arith), section-freed i s a)
 
   lead-turn : (i : ℕ) (s : Purged) → Rest i s → (k : Lead) → leadOf symbols (l .symbols) (symbolId i) ≡ k
-      → cond (taken p k) (purgedOf (removeRowOf (s .rows) (symbolId i)) (s .count + 1)) s ≡ rowTurned i (taken p k) s
+      → cond (taken p k) (purgedOf (removeRowOf l (s .rows) (symbolId i)) (s .count + 1)) s ≡ rowTurned i (taken p k) s
   lead-turn i s a Nowhere e = ap (λ (m : ℕ). purgedOf (s .rows) m) (sym (add-zero (s .count)))
   lead-turn i s a (Section x) e = go (p (x .0))
     where
-      go : (b : Bool) → cond b (purgedOf (removeRowOf (s .rows) (symbolId i)) (s .count + 1)) s ≡ rowTurned i b s
+      go : (b : Bool) → cond b (purgedOf (removeRowOf l (s .rows) (symbolId i)) (s .count + 1)) s ≡ rowTurned i b s
       go true = row-gone i s x a e
       go false = ap (λ (m : ℕ). purgedOf (s .rows) m) (sym (add-zero (s .count)))
 
@@ -195,7 +202,7 @@ module _ (l : Link) (symbols : List ℕ) (cells : ℕ) (p : ℕ → Bool) where
   unfolding paint
   rest-turned i s a = record {
     field = λ j f h g. still-field i j f (s .rows .symbols) (goes i) h g ∙ a .field j f (omega arith) g;
-    size = ap sectionCells (length-freed (frees i)) ∙ a .size;
+    room = rw (length-freed (frees i)) (a .room);
   }
     where
       length-freed : (b : Bool) → length (cond b (set (s .rows .sections) (symbolCell symbols cells i) 0) (s .rows .sections)) ≡ length (s .rows .sections)
@@ -215,7 +222,7 @@ module _ (l : Link) (symbols : List ℕ) (cells : ℕ) (p : ℕ → Bool) where
   unfolding purgeIf removeIf
   if-rows i s = go (taken p (leadOf (s .rows .symbols) (l .symbols) (symbolId i)))
     where
-      go : (b : Bool) → cond b (purgedOf (removeRowOf (s .rows) (symbolId i)) (s .count + 1)) s .rows ≡ cond b (removeRowOf (s .rows) (symbolId i)) (s .rows)
+      go : (b : Bool) → cond b (purgedOf (removeRowOf l (s .rows) (symbolId i)) (s .count + 1)) s .rows ≡ cond b (removeRowOf l (s .rows) (symbolId i)) (s .rows)
       go true = refl
       go false = refl
 
@@ -224,14 +231,14 @@ module _ (l : Link) (symbols : List ℕ) (cells : ℕ) (p : ℕ → Bool) where
   loop-rows zero i s = refl
   loop-rows (suc k) i s = ap (λ (x : Rows). each (removeIf p l) k (i + 1) x) (sym (if-rows i s)) ∙ loop-rows k (i + 1) (purgeIf p l i s)
 
-  pub purged-if : (sections : List ℕ) → sectionCells (length sections) ≡ cells → each (purgeIf p l) (l .symbols) 0 (purgedOf (rowsOf symbols sections) 0)
+  pub purged-if : (sections : List ℕ) → cells ≤ sectionSlots (length sections) → each (purgeIf p l) (l .symbols) 0 (purgedOf (rowsOf symbols sections) 0)
       ≡ purgedOf (rowsOf (each (paint goes stateCell 2) (l .symbols) 0 symbols) (each (paint frees (symbolCell symbols cells) 0) (l .symbols) 0 sections))
       (0 + picked goes (l .symbols) 0)
-  purged-if sections e = purge-loop (l .symbols) 0 (purgedOf (rowsOf symbols sections) 0) (record { field = λ j f h g. refl; size = e })
+  purged-if sections h = purge-loop (l .symbols) 0 (purgedOf (rowsOf symbols sections) 0) (record { field = λ j f h g. refl; room = h })
 
-  pub removed-is : (sections : List ℕ) → sectionCells (length sections) ≡ cells → each (removeIf p l) (l .symbols) 0 (rowsOf symbols sections)
+  pub removed-is : (sections : List ℕ) → cells ≤ sectionSlots (length sections) → each (removeIf p l) (l .symbols) 0 (rowsOf symbols sections)
       ≡ rowsOf (each (paint goes stateCell 2) (l .symbols) 0 symbols) (each (paint frees (symbolCell symbols cells) 0) (l .symbols) 0 sections)
-  removed-is sections e = loop-rows (l .symbols) 0 (purgedOf (rowsOf symbols sections) 0) ∙ ap (λ (s : Purged). s .rows) (purged-if sections e)
+  removed-is sections h = loop-rows (l .symbols) 0 (purgedOf (rowsOf symbols sections) 0) ∙ ap (λ (s : Purged). s .rows) (purged-if sections h)
 
 pub each-same : {S : Type 0} (f g : ℕ → S → S) → ((i : ℕ) (s : S) → f i s ≡ g i s) → (k i : ℕ) (s : S) → each f k i s ≡ each g k i s
 unfolding each
@@ -239,7 +246,7 @@ each-same f g h zero i s = refl
 each-same f g h (suc k) i s = ap (each f k (i + 1)) (h i s) ∙ each-same f g h k (i + 1) (g i s)
 
 -- the code's test is one such
-module _ (l : Link) (work symbols : List ℕ) (cells : ℕ) where
+module _ (l : Link) (work symbols : List ℕ) where
   abbrev now : ℕ → Bool
   now x = droppedNow work (l .sections) x
 
@@ -247,14 +254,14 @@ module _ (l : Link) (work symbols : List ℕ) (cells : ℕ) where
   unfolding purgeSymbol purgeIf
   purge-now i s = go (leadOf (s .rows .symbols) (l .symbols) (symbolId i))
     where
-      go : (k : Lead) → purgeLead work (l .sections) i k s ≡ cond (taken now k) (purgedOf (removeRowOf (s .rows) (symbolId i)) (s .count + 1)) s
+      go : (k : Lead) → purgeLead l work i k s ≡ cond (taken now k) (purgedOf (removeRowOf l (s .rows) (symbolId i)) (s .count + 1)) s
       go Nowhere = refl
       go (Section x) = refl
 
-  pub purged-is : (sections : List ℕ) → sectionCells (length sections) ≡ cells
+  pub purged-is : (sections : List ℕ) → l .slots ≤ sectionSlots (length sections)
       → purgeSymbols l work (rowsOf symbols sections)
       ≡ purgedOf (rowsOf (each (paint (gone now symbols (l .symbols)) stateCell 2) (l .symbols) 0 symbols)
-      (each (paint (freed now symbols (l .symbols) cells) (symbolCell symbols cells) 0) (l .symbols) 0 sections)) (0 + picked (gone now symbols (l .symbols)) (l .symbols) 0)
+      (each (paint (freed now symbols (l .symbols) (l .slots)) (symbolCell symbols (l .slots)) 0) (l .symbols) 0 sections)) (0 + picked (gone now symbols (l .symbols)) (l .symbols) 0)
   unfolding purgeSymbols
-  purged-is sections e =
-      each-same (purgeSymbol l work) (purgeIf now l) purge-now (l .symbols) 0 (purgedOf (rowsOf symbols sections) 0) ∙ purged-if l symbols cells now sections e
+  purged-is sections h =
+      each-same (purgeSymbol l work) (purgeIf now l) purge-now (l .symbols) 0 (purgedOf (rowsOf symbols sections) 0) ∙ purged-if l symbols now sections h

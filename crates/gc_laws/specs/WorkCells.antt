@@ -5,12 +5,10 @@ use native.Mathlib.Omega.{arith}
 use mathlib.Core.Path.{_≡_, refl, sym, ap, _∙_}
 use mathlib.Core.Bool.{Bool, true}
 use mathlib.Core.List.{List}
-use lib.ListN.{length}
 use Rattle.cells.specs.Split.{by-test}
 use Rattle.byte_slices.specs.Ways.{apart}
 use Rattle.link.specs.declared.Link.{Link}
 use Rattle.link.specs.Judge.{refused}
-use Rattle.symbol_rows.specs.Decide.{sectionCells}
 use Rattle.sections.specs.Rows.{isBuilt}
 use Rattle.gc_sections.specs.declared.EntryPoint.{EntryPoint}
 use Rattle.gc_sections.specs.declared.Answer.the-variants.{Refused}
@@ -73,7 +71,7 @@ module _ (l : Link) (x : Lists) (symbols sections : List ℕ) (entry : EntryPoin
     same-now y = C.now-doomed l x symbols sections entry work ok whole y ∙ same-doom y ∙ sym (C.now-doomed l x symbols sections entry other okay whole y)
 
     abbrev cells : ℕ
-    cells = sectionCells (length sections)
+    cells = l .slots
 
     goes-same : (i : ℕ) → gone now symbols (l .symbols) i ≡ gone then symbols (l .symbols) i
     goes-same = gone-same symbols (l .symbols) cells now then same-now

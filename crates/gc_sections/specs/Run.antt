@@ -8,7 +8,7 @@ use lib.ListN.{length}
 use Rattle.link.specs.declared.Link.{Link}
 use Rattle.link.specs.declared.Lent.{Lent}
 use Rattle.link.specs.declared.Refusal.{Refusal}
-use Rattle.link.specs.Bounds.{notLent}
+use Rattle.link.specs.Bounds.{notLent, nameRows, sectionSlots}
 use Rattle.link.specs.Judge.{refused, none, changeOf}
 use Rattle.symbols.specs.Remove.{rowsOf}
 use Rattle.gc_sections.specs.declared.Unbuilt.{Unbuilt}
@@ -77,7 +77,7 @@ listsOf bytes names lists marks = record { bytes = bytes; names = names; lists =
 
 abbrev pub lentOf : ℕ → ℕ → ℕ → ℕ → ℕ → Lent
 lentOf bytes names symbols sections lists =
-    record { names = names; bytes = bytes; symbols = symbols; sections = sections; inputs = notLent; lists = lists }
+    record { names = nameRows names; bytes = bytes; symbols = symbols; sections = sectionSlots sections; inputs = notLent; lists = lists }
 
 -- "mark list cut short" (1), at the first symbol without one; then two work cells for each section (2)
 unfoldable pub judgeCells : Link → ℕ → ℕ → Refusal

@@ -16,7 +16,7 @@ use Rattle.link.specs.declared.SectionId.{SectionId}
 use Rattle.link.specs.Bounds.{lesser, sectionRows, symbolRows}
 use Rattle.link.specs.Judge as Link
 use Rattle.link.specs.Judge.{refused, changeOf}
-use Rattle.link.specs.Passed.{passed-sections, passed-symbols}
+use Rattle.link.specs.Passed.{passed-sections, passed-slots, passed-symbols}
 use Rattle.symbols.specs.Remove.{Rows, rowsOf, removeRowOf}
 use Rattle.sections.specs.Rows.{droppedOf, isBuilt}
 use Rattle.gc_sections.specs.declared.Lead.{Lead}
@@ -80,7 +80,7 @@ module _ (l : Link) (work : List ℕ) (i : ℕ) (s t : Purged) (k : Lead) where
     purge-kept e f g h q = simp (q, ← e, f, ← g, h)
 
     pub purge-now : (y : Rows) → k ≡ leadOf (s .rows .symbols) (l .symbols) (symbolId i) → k ≡ Section x → b ≡ droppedNow work (l .sections) (x .0) → b ≡ true
-        → y ≡ removeRowOf (s .rows) (symbolId i) → t ≡ purgedOf y (s .count + 1) → t ≡ purgeSymbol l work i s
+        → y ≡ removeRowOf l (s .rows) (symbolId i) → t ≡ purgedOf y (s .count + 1) → t ≡ purgeSymbol l work i s
     unfolding purgeSymbol
     purge-now y e f g h r q = simp (q, ← e, f, ← g, h, r)
 
@@ -155,15 +155,15 @@ unfolding lesser
 lesser-left a b = by-test (ltb a b) (λ t. rw t (omega arith)) (λ t. rw t (ltb-false a b t))
 
 module _ (l : Link) (n : Lent) (marks work : ℕ) (head : Refusal) (e : head ≡ judgeOf l n marks work) (z : head .number ≡ 0) where
-  pub counts-lent : (l .sections ≤ sectionRows (n .sections)) × (l .symbols ≤ symbolRows (n .symbols))
+  pub counts-lent : (l .sections ≤ sectionRows (l .slots)) × (l .slots ≤ n .sections) × (l .symbols ≤ symbolRows (n .symbols))
   unfolding changeOf
   counts-lent =
       let a = judge-change l n marks work (rw (← e) z) in
       let b = never (l .broken) (refused 22 0) (Link.judgeOf l n) (λ q. omega arith) a in
-      (passed-sections l n (b .1), passed-symbols l n (b .1))
+      (passed-sections l n (b .1), passed-slots l n (b .1), passed-symbols l n (b .1))
 
   pub few-sections : l .sections ≤ 65535
-  few-sections = omega (arith, counts-lent .0, lesser-left 65535 (n .sections / 9))
+  few-sections = omega (arith, counts-lent .0, lesser-left 65535 (l .slots))
 
   pub few-symbols : l .symbols ≤ 65535
-  few-symbols = omega (arith, counts-lent .1, lesser-left 65535 (n .symbols / 8))
+  few-symbols = omega (arith, counts-lent .2, lesser-left 65535 (n .symbols / 8))

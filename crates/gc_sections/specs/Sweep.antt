@@ -39,13 +39,13 @@ pub record Purged : Type 0 where
 abbrev pub purgedOf : Rows → ℕ → Purged
 purgedOf rows count = record { rows = rows; count = count }
 
-abbrev pub purgeLead : List ℕ → ℕ → ℕ → Lead → Purged → Purged
-purgeLead work n i Nowhere s = s
-purgeLead work n i (Section x) s = cond (droppedNow work n (x .0)) (purgedOf (removeRowOf (s .rows) (symbolId i)) (s .count + 1)) s
+abbrev pub purgeLead : Link → List ℕ → ℕ → Lead → Purged → Purged
+purgeLead l work i Nowhere s = s
+purgeLead l work i (Section x) s = cond (droppedNow work (l .sections) (x .0)) (purgedOf (removeRowOf l (s .rows) (symbolId i)) (s .count + 1)) s
 
 -- a symbol in a section that this call dropped is removed
 unfoldable pub purgeSymbol : Link → List ℕ → ℕ → Purged → Purged
-purgeSymbol l work i s = purgeLead work (l .sections) i (leadOf (s .rows .symbols) (l .symbols) (symbolId i)) s
+purgeSymbol l work i s = purgeLead l work i (leadOf (s .rows .symbols) (l .symbols) (symbolId i)) s
 
 unfoldable pub sweepSections : ℕ → List ℕ → List ℕ → Swept
 sweepSections n sections work = each (dropUnreached n) n 0 (sweptOf sections work 0)

@@ -7,6 +7,7 @@ ghost use Rattle.gc_sections.specs.Roots.{valueLead, leadOf, readable, r
 ghost use Rattle.gc_sections.specs.Reach.{walkOf, saveOf, lowerOf, reachOf, addOf, rootSymbol, rootSection, entryOf, endOf, relocation, relocations, visit, clearCell, startOf, rootsOf, processOf, walked};
 ghost use Rattle.gc_sections.specs.Sweep.{sweptOf, dropUnreached, droppedNow, purgedOf, purgeSymbol, sweepSections, purgeSymbols};
 ghost use Rattle.gc_sections.specs.Run.{outcome, listsOf, lentOf, judgeCells, judgeOf, sweepOf, finishOf, runOf};
+use link::Interned;
 use link::Lent;
 use link::Link;
 use link::Refusal;
@@ -101,7 +102,7 @@ fn readable(sections: &[u64], i: usize) -> bool
 fn name_is(bytes: &[u8], names: &[u64], sections: &[u64], i: usize, name: &[u8]) -> bool
     ensures { λ r. ⌜ r ≡ nameIs (now (bytes .entry)) (now (names .entry)) (now (sections .entry)) i (now (name .entry)) ⌝ }
 {
-    let id = cells::row_get(sections, i, 1) as usize;
+    let id = Interned(cells::row_get(sections, i, 1) as usize);
     byte_slices::same_bytes(interner::name_of(bytes, names, id), name)
 }
 
@@ -516,7 +517,7 @@ fn purge_symbol(
         Lead::Nowhere => count,
         Lead::Section { id } => {
             if dropped_now(work, l.sections, id.0) {
-                symbol_remove::remove_row(symbols, sections, SymbolId(i));
+                symbol_remove::remove_row(l, symbols, sections, SymbolId(i));
                 return count + 1;
             }
             count
@@ -591,10 +592,10 @@ fn lent_of(bytes: usize, names: usize, symbols: usize, sections: usize, lists: u
     ensures { λ r. ⌜ r ≡ lentOf bytes names symbols sections lists ⌝ }
 {
     Lent {
-        names: names,
+        names: names / link::NAME_CELLS,
         bytes: bytes,
         symbols: symbols,
-        sections: sections,
+        sections: sections / link::SECTION_CELLS,
         inputs: link::NOT_LENT,
         lists: lists,
     }

@@ -2,7 +2,7 @@
 ghost use mathlib.Core.Path.{_≡_};
 ghost use Prim.Native.Nat.{_<_};
 ghost use Rattle.interner.specs.Names.{storeOf};
-ghost use Rattle.interner.specs.Calls.{outcome, lentOf, refusedOf, internOf, noNames, newOf, resolved, resolveOf};
+ghost use Rattle.interner.specs.Calls.{outcome, lentOf, refusedOf, issuedOf, internOf, noNames, clearHeads, newOf, resolved, resolveOf};
 use interner::Answer;
 use interner::Outcome;
 use link::Interned;
@@ -10,14 +10,14 @@ use link::Lent;
 use link::Link;
 use link::Refusal;
 
-fn lent_names(bytes: usize, names: usize) -> Lent
-    ensures { λ r. ⌜ r ≡ lentOf bytes names ⌝ }
+fn lent_names(l: Link, bytes: usize, names: usize) -> Lent
+    ensures { λ r. ⌜ r ≡ lentOf l bytes names ⌝ }
 {
     Lent {
-        names: names,
+        names: names / link::NAME_CELLS,
         bytes: bytes,
         symbols: link::NOT_LENT,
-        sections: link::NOT_LENT,
+        sections: l.slots,
         inputs: link::NOT_LENT,
         lists: link::NOT_LENT,
     }
@@ -37,15 +37,12 @@ fn refused(l: Link, number: u64, place: u64) -> Outcome
     }
 }
 
-// Equal bytes get the same id. 22; 1; then, for a name not issued yet, 2.
-pub fn intern(l: Link, bytes: &mut [u8], names: &mut [u64], x: &[u8]) -> Outcome
-    ensures { λ r. ⌜ outcome (now (bytes .exit)) (now (names .exit)) r ≡ internOf (storeOf (now (bytes .entry)) (now (names .entry)) l) (now (x .entry)) ⌝ }
+// The id of a known name, or of a new one where there is room; the name is hashed once.
+fn issue(l: Link, bytes: &mut [u8], names: &mut [u64], x: &[u8]) -> Outcome
+    ensures { λ r. ⌜ outcome (now (bytes .exit)) (now (names .exit)) r ≡ issuedOf (storeOf (now (bytes .entry)) (now (names .entry)) l) (now (x .entry)) ⌝ }
 {
-    let head = link_judge::judge_change(l, lent_names(bytes.len(), names.len()));
-    if head.number != 0 {
-        return refused(l, head.number, head.place);
-    }
-    let id = Interned(interner::find(bytes, names, l.names, x));
+    let head = interner::head_cell(l, names.len(), x);
+    let id = interner::find_from(bytes, names, l.names, head, x);
     if id.0 < l.names {
         return Outcome {
             link: l,
@@ -53,7 +50,7 @@ pub fn intern(l: Link, bytes: &mut [u8], names: &mut [u64], x: &[u8]) -> Outcome
         };
     }
     if interner_issue::fits(l, bytes, names, id, x.len()) {
-        let kept = interner_issue::keep(l, bytes, names, id, x);
+        let kept = interner_issue::keep_at(l, bytes, names, id, head, x);
         return Outcome {
             link: kept,
             answer: Answer::Name { id: id },
@@ -62,8 +59,19 @@ pub fn intern(l: Link, bytes: &mut [u8], names: &mut [u64], x: &[u8]) -> Outcome
     refused(l, 2, 0)
 }
 
-fn no_names(chains: usize) -> Link
-    ensures { λ r. ⌜ r ≡ noNames chains ⌝ }
+// Equal bytes get the same id. 22; 1; then, for a name not issued yet, 2.
+pub fn intern(l: Link, bytes: &mut [u8], names: &mut [u64], x: &[u8]) -> Outcome
+    ensures { λ r. ⌜ outcome (now (bytes .exit)) (now (names .exit)) r ≡ internOf (storeOf (now (bytes .entry)) (now (names .entry)) l) (now (x .entry)) ⌝ }
+{
+    let head = link_judge::judge_change(l, lent_names(l, bytes.len(), names.len()));
+    if head.number != 0 {
+        return refused(l, head.number, head.place);
+    }
+    issue(l, bytes, names, x)
+}
+
+fn no_names(key: usize, chains: usize) -> Link
+    ensures { λ r. ⌜ r ≡ noNames key chains ⌝ }
 {
     Link {
         names: 0,
@@ -74,20 +82,30 @@ fn no_names(chains: usize) -> Link
         lists: 0,
         chains: chains,
         slots: 0,
+        key: key,
         broken: false,
     }
 }
 
-// A link without rows but the empty name, whose id is 0. Whatever the cells held before doesn't matter.
-pub fn new(bytes: &mut [u8], names: &mut [u64]) -> Outcome
-    ensures { λ r. ⌜ outcome (now (bytes .exit)) (now (names .exit)) r ≡ newOf (now (bytes .entry)) (now (names .entry)) ⌝ }
+// No chain has a name.
+fn clear_heads(names: &mut [u64])
+    ensures { λ _. ⌜ now (names .exit) ≡ clearHeads (now (names .entry)) ⌝ }
+{
+    let rows = link::name_rows(names.len());
+    cell_writes::clear_from(names, rows * 8);
+}
+
+// A link without rows but the empty name, whose id is 0. Whatever the cells held before doesn't matter. Any number is a key of the hash; answers
+// don't depend on it, and who doesn't know it can't choose names that share a chain.
+pub fn new(key: usize, bytes: &mut [u8], names: &mut [u64]) -> Outcome
+    ensures { λ r. ⌜ outcome (now (bytes .exit)) (now (names .exit)) r ≡ newOf key (now (bytes .entry)) (now (names .entry)) ⌝ }
 {
     let rows = link::name_rows(names.len());
     if rows == 0 {
-        return refused(no_names(0), 2, 0);
+        return refused(no_names(0, 0), 2, 0);
     }
-    cell_writes::clear_from(names, rows * 8);
-    let kept = interner_issue::keep(no_names(rows), bytes, names, Interned(0), b"");
+    clear_heads(names);
+    let kept = interner_issue::keep(no_names(key, rows), bytes, names, Interned(0), b"");
     Outcome {
         link: kept,
         answer: Answer::Name { id: Interned(0) },
@@ -106,7 +124,7 @@ pub fn resolve<'a>(
     ensures { λ r. ⌜ resolved (now r) (now (number .exit)) (now (place .exit)) ≡ resolveOf (storeOf (now (bytes .entry)) (now (names .entry)) l) id ⌝ }
     ensures place { λ r. ⌜ r .ptr .0 ≡ bytes .entry .ptr .0 ⌝ }
 {
-    let head = link_judge::judge(l, lent_names(bytes.len(), names.len()));
+    let head = link_judge::judge(l, lent_names(l, bytes.len(), names.len()));
     if head.number != 0 {
         *number = head.number;
         *place = head.place;
@@ -115,7 +133,7 @@ pub fn resolve<'a>(
     *place = 0;
     if id.0 < l.names {
         *number = 0;
-        return interner::name_of(bytes, names, id.0);
+        return interner::name_of(bytes, names, id);
     }
     *number = 23;
     &bytes[..0]

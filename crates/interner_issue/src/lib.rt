@@ -1,15 +1,18 @@
 // A name issued: whether there is room for it, and its row and bytes.
 ghost use mathlib.Core.Path.{_≡_};
 ghost use Prim.Native.Nat.{_<_};
-ghost use Rattle.interner.specs.Names.{storeOf, roomOf, fitsOf, linked, keepOf};
+ghost use Rattle.interner.specs.Names.{storeOf, roomOf, fitsOf, linked, keepAt, keepOf};
 use link::Interned;
 use link::Link;
 
-// Is there a free row, and are there as many free bytes?
+// Is there a free row of those that a new table was lent, and are there as many free bytes?
 fn room(l: Link, bytes: &[u8], names: &[u64], len: usize) -> bool
     ensures { λ r. ⌜ r ≡ roomOf (storeOf (now (bytes .entry)) (now (names .entry)) l) len ⌝ }
 {
-    if link::name_rows(names.len()) <= l.names {
+    if link::name_rows(names.len()) < l.chains {
+        return false;
+    }
+    if l.chains <= l.names {
         return false;
     }
     let most = link::name_byte_room(bytes.len());
@@ -42,9 +45,16 @@ fn link_row(names: &mut [u64], count: usize, start: usize, len: usize, head: usi
     cells::put(names, head, (count + 1) as u64);
 }
 
-// Issues the id for x: nothing changes for a known name, nor where there is no room.
-pub fn keep(l: Link, bytes: &mut [u8], names: &mut [u64], id: Interned, x: &[u8]) -> Link
-    ensures { λ r. ⌜ storeOf (now (bytes .exit)) (now (names .exit)) r ≡ keepOf (storeOf (now (bytes .entry)) (now (names .entry)) l) id (now (x .entry)) ⌝ }
+// Issues the id for x, where the head of its chain is told: nothing changes for a known name, nor where there is no room.
+pub fn keep_at(
+    l: Link,
+    bytes: &mut [u8],
+    names: &mut [u64],
+    id: Interned,
+    head: usize,
+    x: &[u8],
+) -> Link
+    ensures { λ r. ⌜ storeOf (now (bytes .exit)) (now (names .exit)) r ≡ keepAt (storeOf (now (bytes .entry)) (now (names .entry)) l) id head (now (x .entry)) ⌝ }
 {
     if id.0 < l.names {
         return l;
@@ -53,7 +63,6 @@ pub fn keep(l: Link, bytes: &mut [u8], names: &mut [u64], id: Interned, x: &[u8]
     if room(l, bytes, names, n) {
         let count = l.names;
         let used = l.bytes;
-        let head = interner::head_cell(names.len(), x);
         byte_slices::copy_in(bytes, used, x);
         link_row(names, count, used, n, head);
         return Link {
@@ -65,8 +74,16 @@ pub fn keep(l: Link, bytes: &mut [u8], names: &mut [u64], id: Interned, x: &[u8]
             lists: l.lists,
             chains: l.chains,
             slots: l.slots,
+            key: l.key,
             broken: l.broken,
         };
     }
     l
+}
+
+pub fn keep(l: Link, bytes: &mut [u8], names: &mut [u64], id: Interned, x: &[u8]) -> Link
+    ensures { λ r. ⌜ storeOf (now (bytes .exit)) (now (names .exit)) r ≡ keepOf (storeOf (now (bytes .entry)) (now (names .entry)) l) id (now (x .entry)) ⌝ }
+{
+    let head = interner::head_cell(l, names.len(), x);
+    keep_at(l, bytes, names, id, head, x)
 }

@@ -11,15 +11,17 @@ use borrow.Author.Tests.{eqb-true, eqb-false, ltb-true, ltb-false}
 use Rattle.cells.specs.Split.{by-test}
 use Rattle.byte_slices.specs.Bytes.{same}
 use Rattle.byte_slices.specs.Ways.{pick, apart, same-refl, same-true}
-use Rattle.interner.specs.Names.{Store, chase, seekOf, findOf}
+use Rattle.link.specs.Bounds.{nameRows}
+use lib.ListN.{length}
+use Rattle.interner.specs.Names.{Store, chase, seekOf, findFrom, findOf}
 use Rattle.interner_laws.specs.Good.{Chained, Stays, count, name, next, chain, head, find}
 
 -- whatever the cells hold
 pub find-low : (s : Store) (x : List ℕ) → find s x ≤ count s
-unfolding findOf
+unfolding findOf findFrom
 find-low s x =
-    pick (λ (r : ℕ). r ≤ count s) (ltb (seekOf (s .bytes) (s .names) (count s) x) (count s)) _ _
-    (λ t. omega (arith, ltb-true (seekOf (s .bytes) (s .names) (count s) x) (count s) t))
+    pick (λ (r : ℕ). r ≤ count s) (ltb (seekOf (s .bytes) (s .names) (count s) (chain s x) x) (count s)) _ _
+    (λ t. omega (arith, ltb-true (seekOf (s .bytes) (s .names) (count s) (chain s x) x) (count s) t))
     (λ t. omega arith)
 
 pub some-below : (h n : ℕ) → h ≤ n → (h ≡ 0 → ⊥) → h - 1 < n
@@ -58,11 +60,12 @@ module _ (s : Store) (x : List ℕ) (g : Chained s) where
             (eq-or-lt-of-le (omega arith));
       }))
 
-  sought : Found (count s) (seekOf (s .bytes) (s .names) (count s) x)
+  sought : Found (count s) (seekOf (s .bytes) (s .names) (count s) (chain s x) x)
   unfolding seekOf
   sought =
-      let f : Found (head s x) (chase (s .bytes) (s .names) (count s) x (head s x) (count s)) =
-      chased (count s) (head s x) (g .head-low x) (g .head-low x) (g .head-own x) in
+      let rows : ℕ = nameRows (length (s .names)) in
+      let f : Found (head s x) (chase (s .bytes) (s .names) (count s) x (head s x) rows) =
+      chased rows (head s x) (omega (arith, g .head-low x, g .rows-in, g .rows-lent)) (g .head-low x) (g .head-own x) in
       record {
         hit = f .hit;
         miss = λ h j l e.
@@ -72,9 +75,9 @@ module _ (s : Store) (x : List ℕ) (g : Chained s) where
       }
 
   pub found : Found (count s) (find s x)
-  unfolding findOf
+  unfolding findOf findFrom
   found =
-      pick (λ (r : ℕ). Found (count s) r) (ltb (seekOf (s .bytes) (s .names) (count s) x) (count s)) _ _
+      pick (λ (r : ℕ). Found (count s) r) (ltb (seekOf (s .bytes) (s .names) (count s) (chain s x) x) (count s)) _ _
       (λ t. sought)
       (λ t. record { hit = λ h. absurd (omega arith); miss = λ h. sought .miss (ltb-false _ _ t) })
 

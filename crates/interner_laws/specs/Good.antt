@@ -6,8 +6,8 @@ use mathlib.Core.List.{List, []}
 use lib.ListN.{getD, length}
 use Rattle.link.specs.declared.Link.{Link}
 use Rattle.link.specs.Bounds.{nameRows, nameBytes}
-use Rattle.interner.specs.Hash.{headCell}
-use Rattle.interner.specs.Names.{Store, nameAt, nextAt, headAt, findOf}
+use Rattle.interner.specs.Hash.{headOf}
+use Rattle.interner.specs.Names.{Store, nameAt, nextAt, findOf}
 use Rattle.interner_laws.specs.Histories.{IssuedIn, StaysIn}
 
 -- ---- the parts of a store
@@ -18,8 +18,9 @@ count s = s .link .names
 abbrev pub used : Store → ℕ
 used s = s .link .bytes
 
+-- those that a new table was lent
 abbrev pub rowsIn : Store → ℕ
-rowsIn s = nameRows (length (s .names))
+rowsIn s = s .link .chains
 
 abbrev pub cell : Store → ℕ → ℕ → ℕ
 cell s i f = getD (s .names) (i * 8 + f) 0
@@ -32,18 +33,19 @@ next s i = nextAt (s .names) i
 
 -- a chain is told by the cell of its head
 abbrev pub chain : Store → List ℕ → ℕ
-chain s x = headCell (length (s .names)) x
+chain s x = headOf (s .link) (s .names) x
 
 abbrev pub head : Store → List ℕ → ℕ
-head s x = headAt (s .names) x
+head s x = getD (s .names) (chain s x) 0
 
 abbrev pub find : Store → List ℕ → ℕ
-find s x = findOf (s .bytes) (s .names) (s .link .names) x
+find s x = findOf (s .bytes) (s .names) (s .link) x
 
 -- ---- tables
 
 pub record Chained (s : Store) : Type 0 where
   pub rows-some : 0 < rowsIn s
+  pub rows-lent : rowsIn s ≤ nameRows (length (s .names))
   pub rows-in : count s ≤ rowsIn s
   pub bytes-in : used s ≤ nameBytes (length (s .bytes))
   pub names-in : (i : ℕ) → i < count s → cell s i 0 + cell s i 1 ≤ used s
@@ -85,6 +87,7 @@ rest l =
       lists = l .lists;
       chains = l .chains;
       slots = l .slots;
+      key = l .key;
       broken = l .broken;
     }
 
@@ -106,5 +109,7 @@ pub record Alike (s t : Store) : Type 0 where
   pub long : length (t .names) ≡ length (s .names)
   pub cells : (i f : ℕ) → i < count s → f < 3 → cell t i f ≡ cell s i f
   pub heads : (q : ℕ) → rowsIn s * 8 ≤ q → q < length (s .names) → getD (t .names) q 0 ≡ getD (s .names) q 0
+  pub chains : t .link .chains ≡ s .link .chains
+  pub key : t .link .key ≡ s .link .key
   pub counted : count t ≡ count s
   pub filled : used t ≡ used s

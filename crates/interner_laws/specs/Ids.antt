@@ -28,8 +28,7 @@ module _ (s : Store) (g : Good s) (x : List ℕ) (ok : Accepted (internOf s x)) 
   pub resolves-on : Within s → resolveOf on (record { 0 = id first }) ≡ resolved x 0 0
   resolves-on w =
       let same = after-untouched vs (first .store) .others ∙ intern-untouched s x .others in
-      let long = after-untouched vs (first .store) .rows-same ∙ intern-untouched s x .rows-same in
-      resolves on on-good (within-rest on s same long w) (id first) x on-issued
+      resolves on on-good (within-rest on s same w) (id first) x on-issued
 
   module _ (y : List ℕ) (ok′ : Accepted (internOf on y)) where
     abbrev later : Left

@@ -5,10 +5,10 @@ use native.Mathlib.Omega.{arith}
 use native.Mathlib.Nat.{le-refl, le-trans}
 use mathlib.Core.Path.{_≡_, refl, ap, _∙_}
 use mathlib.Core.Bool.{true}
-use mathlib.Core.List.{List, []}
+use mathlib.Core.List.{List, [], _++_}
 use lib.Dec.{eqb, ltb}
-use lib.ListN.{length, take, getD, replicate, length-append, length-replicate, getD-replicate}
-use lib.Seq.{length-take-le, getD-append-add}
+use lib.ListN.{length, take, getD, set, replicate, length-set, length-append, length-replicate, getD-replicate}
+use lib.Seq.{length-take-le, getD-append-add, getD-set-other}
 use borrow.Author.Tests.{eqb-false, ne-eqb, ltb-true, ltb-false, le-ltb, lt-leb}
 use Rattle.cells.specs.Split.{by-test}
 use Rattle.byte_slices.specs.Ways.{pick}
@@ -16,6 +16,8 @@ use Rattle.link.specs.declared.Interned.{Interned}
 use Rattle.link.specs.Bounds.{nameRows, nameBytes}
 use Rattle.link.specs.Judge.{refused, changeOf}
 use Rattle.link.specs.Said.{accepted, refusing, numberIn, valueIn}
+use Rattle.link.specs.declared.Link.{Link}
+use Rattle.interner.specs.Hash.{headCell}
 use Rattle.interner.specs.Names.{Store, storeOf, roomOf, fitsOf, keepOf, added}
 use Rattle.interner.specs.Calls.{Left, left, lent, issueOf, internOf, noRows, noNames, clearHeads, newOf}
 use Rattle.interner_laws.specs.Histories.{history, always, kept, stays-none, stays-both}
@@ -42,7 +44,7 @@ untouched-none s =
 
 pub untouched-both : (s t u : Store) → Untouched s t → Untouched t u → Untouched s u
 untouched-both s t u p q =
-    let rows : (i : ℕ) → i < rowsIn s → i < rowsIn t = λ i l. rw (p .rows-same) l in
+    let rows : (i : ℕ) → i < rowsIn s → i < rowsIn t = λ i l. rw (ap (λ (l : Link). l .chains) (p .others)) l in
     record {
       rows-same = q .rows-same ∙ p .rows-same;
       bytes-same = q .bytes-same ∙ p .bytes-same;
@@ -61,7 +63,7 @@ abbrev pub idOf : Store → List ℕ → Interned
 idOf s x = record { 0 = find s x }
 
 module _ (P : Store → Type 0) (s : Store) (id : Interned) (x : List ℕ) where
-  keeps : P s → (count s ≤ id .0 → roomOf s (length x) ≡ true → P (added s x)) → P (keepOf s id x)
+  pub keeps : P s → (count s ≤ id .0 → roomOf s (length x) ≡ true → P (added s x)) → P (keepOf s id x)
   unfolding keepOf
   keeps p q =
       pick P (ltb (id .0) (count s)) _ _ (λ e. p)
@@ -162,12 +164,12 @@ module _ (xs : List (List ℕ)) (s : Store) where
 
 -- ---- a new table
 
-module _ (bytes names : List ℕ) where
+module _ (key : ℕ) (bytes names : List ℕ) where
   abbrev rows : ℕ
   rows = nameRows (length names)
 
   abbrev blank : Store
-  blank = storeOf bytes (clearHeads names) (noNames rows)
+  blank = storeOf bytes (clearHeads names) (noNames key rows)
 
   pub cleared-long : length (clearHeads names) ≡ length names
   unfolding clearHeads
@@ -179,19 +181,23 @@ module _ (bytes names : List ℕ) where
   unfolding clearHeads
   cleared q h k =
       let e : q ≡ length (take (rows * 8) names) + (q - rows * 8) = omega (arith, length-take-le (rows * 8) names (omega arith)) in
-      ap (λ (q : ℕ). getD (clearHeads names) q 0) e
+      ap (λ (q : ℕ). getD (take (rows * 8) names ++ replicate (length names - rows * 8) 0) q 0) e
       ∙ getD-append-add (take (rows * 8) names) (replicate (length names - rows * 8) 0) (q - rows * 8) 0
       ∙ getD-replicate (length names - rows * 8) (q - rows * 8) 0 0 (omega arith)
 
   module _ (some : 0 < rows) where
     no-head : (x : List ℕ) → head blank x ≡ 0
     no-head x =
-        rw cleared-long (cleared _ (head-behind (length names) x some) (head-within (length names) x some))
+        let l : Link = noNames key rows in
+        let n : ℕ = length (clearHeads names) in
+        let lent : rows ≤ nameRows n = omega (arith, cleared-long) in
+        cleared (headCell l n x) (head-behind l n x lent) (omega (arith, head-within l n x lent some, cleared-long))
 
     blank-chained : Chained blank
     blank-chained =
         record {
-          rows-some = rw cleared-long some;
+          rows-some = some;
+          rows-lent = omega (arith, cleared-long);
           rows-in = omega arith;
           bytes-in = omega arith;
           names-in = λ i h. absurd (omega arith);
@@ -207,16 +213,16 @@ module _ (bytes names : List ℕ) where
     blank-room : roomOf blank 0 ≡ true
     unfolding roomOf
     blank-room =
-        simp (lt-leb (nameRows (length (clearHeads names))) 0 (rw cleared-long some), le-ltb (nameBytes (length bytes)) 0 (omega arith), le-ltb (nameBytes (length bytes) - 0) 0 (omega arith))
+        simp (le-ltb (nameRows (length (clearHeads names))) rows (omega (arith, cleared-long)), lt-leb rows 0 some, le-ltb (nameBytes (length bytes)) 0 (omega arith), le-ltb (nameBytes (length bytes) - 0) 0 (omega arith))
 
     abbrev opened : Store
     opened = added blank []
 
-    new-is : newOf bytes names ≡ left opened (accepted 0)
+    new-is : newOf key bytes names ≡ left opened (accepted 0)
     unfolding newOf keepOf
     new-is = simp (ne-eqb rows 0 (λ e. omega arith), blank-room)
 
-    pub new-accepted : Accepted (newOf bytes names)
+    pub new-accepted : Accepted (newOf key bytes names)
     new-accepted = rw new-is
 
     opened-more : More blank [] opened
@@ -231,7 +237,7 @@ module _ (bytes names : List ℕ) where
           empty = i .right;
         }
 
-  module _ (ok : Accepted (newOf bytes names)) where
+  module _ (ok : Accepted (newOf key bytes names)) where
     pub new-rows : 0 < rows
     unfolding newOf
     new-rows =
@@ -239,18 +245,18 @@ module _ (bytes names : List ℕ) where
         (λ e. let z : 2 ≡ 0 = rw e at ok in absurd (omega arith))
         (λ e. let n : rows ≡ 0 → ⊥ = eqb-false rows 0 e in by-test (ltb 0 rows) (λ t. ltb-true 0 rows t) (λ t. absurd (n (omega (arith, ltb-false 0 rows t)))))
 
-    pub new-id : id (newOf bytes names) ≡ 0
+    pub new-id : id (newOf key bytes names) ≡ 0
     new-id = rw (new-is new-rows)
 
-    pub new-good : Good (newOf bytes names .store)
+    pub new-good : Good (newOf key bytes names .store)
     new-good = rw (new-is new-rows) (opened-good new-rows)
 
-    pub new-rest : rest (newOf bytes names .store .link) ≡ noNames rows
+    pub new-rest : rest (newOf key bytes names .store .link) ≡ noNames key rows
     new-rest = rw (new-is new-rows)
 
-    pub new-long : length (newOf bytes names .store .names) ≡ length names
+    pub new-long : length (newOf key bytes names .store .names) ≡ length names
     new-long = rw (new-is new-rows) (more-untouched blank (opened new-rows) [] (opened-more new-rows) .rows-same ∙ cleared-long)
 
-  pub new-refused : (Accepted (newOf bytes names) → ⊥) → newOf bytes names .store ≡ storeOf bytes names noRows
+  pub new-refused : (Accepted (newOf key bytes names) → ⊥) → newOf key bytes names .store ≡ storeOf bytes names noRows
   unfolding newOf
   new-refused = pick (λ (o : Left). (Accepted o → ⊥) → o .store ≡ storeOf bytes names noRows) (eqb rows 0) _ _ (λ e z. refl) (λ e z. absurd (z refl))

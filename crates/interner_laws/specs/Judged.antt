@@ -5,17 +5,16 @@ use native.Mathlib.Omega.{arith}
 use mathlib.Core.Path.{_≡_, refl, ap, sym, _∙_}
 use mathlib.Core.Bool.{false}
 use mathlib.Core.List.{List}
-use lib.Dec.{eqb}
 use lib.ListN.{length}
 use borrow.Author.Tests.{eq-eqb, lt-ltb}
 use Rattle.cells.specs.Split.{by-test}
 use Rattle.link.specs.declared.Link.{Link}
 use Rattle.link.specs.declared.Refusal.{Refusal}
-use Rattle.link.specs.Judge.{none, refused, otherLength, judgeSections, judgeNames, judgeLists, judgeOf, changeOf}
+use Rattle.link.specs.Judge.{none, refused, judgeSections, judgeNames, judgeLists, judgeOf, changeOf}
 use Rattle.link.specs.Said.{accepted, refusing}
-use Rattle.link.specs.Ways.{lesser-first, length-unlent, sections-fine, names-fine, lists-fine, over-rest, change-judged}
+use Rattle.link.specs.Ways.{lesser-first, sections-fine, names-fine, lists-fine, over-rest, change-judged}
 use Rattle.interner.specs.Names.{Store, storeOf, fitsOf, keepOf}
-use Rattle.link.specs.Bounds.{notLent, nameRows, nameBytes, sectionSlots}
+use Rattle.link.specs.Bounds.{notLent, nameRows, nameBytes, sectionRows}
 use Rattle.interner.specs.Calls.{Left, left, resolved, lent, issueOf, internOf, resolveOf, newOf, noNames}
 use Rattle.interner_laws.specs.Good.{Good, Issued, rest, count, find}
 use Rattle.interner_laws.specs.Find.{find-known}
@@ -23,37 +22,30 @@ use Rattle.interner_laws.specs.Interns.{Accepted, outcomes, after, after
 
 -- the counts that a call on names isn't lent anything for, and the rows that the names were lent
 pub record Within (s : Store) : Type 0 where
-  pub sections-in : s .link .sections ≤ 65535
+  pub sections-in : s .link .sections ≤ sectionRows (s .link .slots)
   pub symbols-in : s .link .symbols ≤ 65535
   pub inputs-in : s .link .inputs ≤ 4095
   pub lists-in : s .link .lists ≤ notLent
-  pub chains-are : nameRows (length (s .names)) ≡ s .link .chains
 
-pub within-rest : (s t : Store) → rest (s .link) ≡ rest (t .link) → length (s .names) ≡ length (t .names) → Within t → Within s
-within-rest s t e n w =
+pub within-rest : (s t : Store) → rest (s .link) ≡ rest (t .link) → Within t → Within s
+within-rest s t e w =
     record {
-      sections-in = rw (ap (λ (k : Link). k .sections) e) (w .sections-in);
+      sections-in = rw (ap (λ (k : Link). k .sections) e, ap (λ (k : Link). k .slots) e) (w .sections-in);
       symbols-in = rw (ap (λ (k : Link). k .symbols) e) (w .symbols-in);
       inputs-in = rw (ap (λ (k : Link). k .inputs) e) (w .inputs-in);
       lists-in = rw (ap (λ (k : Link). k .lists) e) (w .lists-in);
-      chains-are = ap nameRows n ∙ w .chains-are ∙ sym (ap (λ (k : Link). k .chains) e);
     }
 
--- a list of the rows that a new table was lent is of no other length
-pub same-length : (len rows fixed : ℕ) → rows ≡ fixed → false ≡ otherLength len rows fixed
-unfolding otherLength
-same-length len rows fixed e = by-test (eqb len notLent) (λ t. sym (rw t)) (λ t. sym (rw t (simp (eq-eqb _ _ e))))
-
 module _ (s : Store) (g : Good s) (w : Within s) where
-  sections-judged : none ≡ judgeSections (s .link) notLent
+  sections-judged : none ≡ judgeSections (s .link) (s .link .slots)
   sections-judged =
-      sections-fine (s .link) notLent none false 65535 (length-unlent notLent (sectionSlots notLent) (s .link .slots) false refl refl) refl
-      (lesser-first 65535 (notLent / 9) 65535 (omega arith) refl) (w .sections-in) refl
+      sections-fine (s .link) (s .link .slots) none (sectionRows (s .link .slots)) (omega arith) refl
+      (w .sections-in) refl
 
-  names-judged : none ≡ judgeNames (s .link) (length (s .names)) (length (s .bytes))
+  names-judged : none ≡ judgeNames (s .link) (nameRows (length (s .names))) (length (s .bytes))
   names-judged =
-      names-fine (s .link) (length (s .names)) (length (s .bytes)) none (nameRows (length (s .names))) false (nameBytes (length (s .bytes))) refl
-      (same-length (length (s .names)) (nameRows (length (s .names))) (s .link .chains) (w .chains-are)) refl (omega (arith, g .chained .rows-in, w .chains-are)) refl (g .chained .bytes-in) refl
+      names-fine (s .link) (nameRows (length (s .names))) (length (s .bytes)) none (nameBytes (length (s .bytes))) (g .chained .rows-lent) (g .chained .rows-in) refl
+      (g .chained .bytes-in) refl
 
   lists-judged : none ≡ judgeLists (s .link) notLent notLent
   lists-judged = lists-fine (s .link) notLent notLent none 4095 (lesser-first 4095 (notLent / 8) 4095 (omega arith) refl) (w .inputs-in) (w .lists-in) refl
@@ -83,23 +75,23 @@ module _ (s : Store) (g : Good s) (w : Within s) where
 
 -- ---- the tables that a new one becomes
 
-module _ (bytes names : List ℕ) (opened : Accepted (newOf bytes names)) (us : List (List ℕ)) where
+module _ (key : ℕ) (bytes names : List ℕ) (opened : Accepted (newOf key bytes names)) (us : List (List ℕ)) where
   abbrev table : Store
-  table = after us (newOf bytes names .store)
+  table = after us (newOf key bytes names .store)
 
   pub table-good : Good table
-  table-good = after-good us (newOf bytes names .store) (new-good bytes names opened)
+  table-good = after-good us (newOf key bytes names .store) (new-good key bytes names opened)
 
-  table-rest : rest (table .link) ≡ noNames (nameRows (length names))
-  table-rest = after-untouched us (newOf bytes names .store) .others ∙ new-rest bytes names opened
+  table-rest : rest (table .link) ≡ noNames key (nameRows (length names))
+  table-rest = after-untouched us (newOf key bytes names .store) .others ∙ new-rest key bytes names opened
 
   table-long : length (table .names) ≡ length names
-  table-long = after-untouched us (newOf bytes names .store) .rows-same ∙ new-long bytes names opened
+  table-long = after-untouched us (newOf key bytes names .store) .rows-same ∙ new-long key bytes names opened
 
   pub table-within : Within table
   table-within =
-      within-rest table (storeOf bytes names (noNames (nameRows (length names)))) table-rest table-long
-      (record { sections-in = omega arith; symbols-in = omega arith; inputs-in = omega arith; lists-in = omega arith; chains-are = refl })
+      within-rest table (storeOf bytes names (noNames key (nameRows (length names)))) table-rest
+      (record { sections-in = omega arith; symbols-in = omega arith; inputs-in = omega arith; lists-in = omega arith })
 
   pub table-whole : table .link .broken ≡ false
   table-whole = ap (λ (l : Link). l .broken) table-rest

@@ -13,16 +13,17 @@ use borrow.Author.Tests.{eqb-true, eqb-false, ltb-true, ltb-false, leb-false}
 use Rattle.cells.specs.Split.{by-test}
 use Rattle.byte_slices.specs.Bytes.{part}
 use Rattle.byte_slices.specs.Ways.{pick, apart}
+use Rattle.link.specs.declared.Link.{Link}
 use Rattle.link.specs.Bounds.{lesser, nameRows, nameBytes}
-use Rattle.interner.specs.Hash.{headCell}
 use Rattle.interner.specs.Names.{Store, roomOf, added}
 use Rattle.interner_laws.specs.Good.{Chained, Stays, Issued, Untouched, rest, count, used, rowsIn, cell, name, next, chain, head}
 use Rattle.interner_laws.specs.Find.{some-below}
-use Rattle.interner_laws.specs.Written.{copied-long, copied-old, copied-new, copied-before, copied-behind, head-behind, head-within, linked-long, row-old, row-new, head-new, head-old}
+use Rattle.interner_laws.specs.Written.{copied-long, copied-old, copied-new, copied-before, copied-behind, head-behind, head-within, head-cell-same, linked-long, row-old, row-new, head-new, head-old}
 
 -- what adding x to s leaves, whatever the cells hold
 pub record More (s : Store) (x : List ℕ) (t : Store) : Type 0 where
   pub row-free : count s < rowsIn s
+  pub row-lent : rowsIn s ≤ nameRows (length (s .names))
   pub bytes-free : used s + length x ≤ nameBytes (length (s .bytes))
   pub rows-same : length (t .names) ≡ length (s .names)
   pub bytes-same : length (t .bytes) ≡ length (s .bytes)
@@ -51,19 +52,22 @@ bytes-low n = lesser-low 1048576 n
 
 record Room (s : Store) (n : ℕ) : Type 0 where
   row : count s < rowsIn s
+  lent : rowsIn s ≤ nameRows (length (s .names))
   bytes : used s + n ≤ nameBytes (length (s .bytes))
 
 has-room : (s : Store) (n : ℕ) → roomOf s n ≡ true → Room s n
 unfolding roomOf
 has-room s n =
     let most : ℕ = nameBytes (length (s .bytes)) in
-    pick (λ (t : Bool). t ≡ true → Room s n) (leb (rowsIn s) (count s)) _ _
+    pick (λ (t : Bool). t ≡ true → Room s n) (ltb (nameRows (length (s .names))) (rowsIn s)) _ _
+    (λ l q. absurd (apart q))
+    (λ l. pick (λ (t : Bool). t ≡ true → Room s n) (leb (rowsIn s) (count s)) _ _
     (λ e q. absurd (apart q))
     (λ e. pick (λ (t : Bool). t ≡ true → Room s n) (ltb most (used s)) _ _
     (λ f q. absurd (apart q))
     (λ f. pick (λ (t : Bool). t ≡ true → Room s n) (ltb (most - used s) n) _ _
     (λ h q. absurd (apart q))
-    (λ h q. record { row = leb-false _ _ e; bytes = omega (arith, ltb-false most (used s) f, ltb-false (most - used s) n h) })))
+    (λ h q. record { row = leb-false _ _ e; lent = ltb-false _ _ l; bytes = omega (arith, ltb-false most (used s) f, ltb-false (most - used s) n h) }))))
 
 module _ (s : Store) (x : List ℕ) (r : roomOf s (length x) ≡ true) where
   pub added-more : More s x (added s x)
@@ -71,29 +75,32 @@ module _ (s : Store) (x : List ℕ) (r : roomOf s (length x) ≡ true) where
       let room : Room s (length x) = has-room s (length x) r in
       let row : count s < rowsIn s = room .row in
       let n : ℕ = length (s .names) in
-      let some : 0 < nameRows n = omega arith in
+      let lent : rowsIn s ≤ nameRows n = room .lent in
+      let some : 0 < rowsIn s = omega arith in
       let fits : used s + length x ≤ length (s .bytes) = omega (arith, room .bytes, bytes-low (length (s .bytes))) in
       let at : ℕ = chain s x in
-      let back : nameRows n * 8 ≤ at = head-behind n x some in
+      let back : rowsIn s * 8 ≤ at = head-behind (s .link) n x lent in
       let long : length (added s x .names) ≡ n = linked-long (s .names) (count s) (used s) (length x) at in
       let same-head : (y : List ℕ) → head (added s x) y ≡ getD (added s x .names) (chain s y) 0 =
-      λ y. ap (λ (k : ℕ). getD (added s x .names) (headCell k y) 0) long in
+      λ y. ap (λ (k : ℕ). getD (added s x .names) k 0)
+      (head-cell-same (added s x .link) (s .link) (length (added s x .names)) n y refl refl (rw long lent) lent) in
       record {
         row-free = row;
+        row-lent = lent;
         bytes-free = room .bytes;
         rows-same = long;
         bytes-same = copied-long (s .bytes) x (used s) fits;
         one-more = refl;
         filled = refl;
         others = refl;
-        cells = row-old (s .names) (count s) (used s) (length x) at row back;
-        start-is = row-new (s .names) (count s) (used s) (length x) at row back 0 (omega arith);
-        length-is = row-new (s .names) (count s) (used s) (length x) at row back 1 (omega arith);
-        next-is = row-new (s .names) (count s) (used s) (length x) at row back 2 (omega arith);
+        cells = row-old (s .names) (count s) (used s) (length x) at (rowsIn s) lent row back;
+        start-is = row-new (s .names) (count s) (used s) (length x) at (rowsIn s) lent row back 0 (omega arith);
+        length-is = row-new (s .names) (count s) (used s) (length x) at (rowsIn s) lent row back 1 (omega arith);
+        next-is = row-new (s .names) (count s) (used s) (length x) at (rowsIn s) lent row back 2 (omega arith);
         head-is = λ y e.
             same-head y ∙ ap (λ (k : ℕ). getD (added s x .names) k 0) e
-            ∙ head-new (s .names) (count s) (used s) (length x) at row back (head-within n x some);
-        heads = λ y e. same-head y ∙ head-old (s .names) (count s) (used s) (length x) at row back (chain s y) (head-behind n y some) e;
+            ∙ head-new (s .names) (count s) (used s) (length x) at (rowsIn s) lent row back (head-within (s .link) n x lent some);
+        heads = λ y e. same-head y ∙ head-old (s .names) (count s) (used s) (length x) at (rowsIn s) lent row back (chain s y) (head-behind (s .link) n y lent) e;
         part-old = copied-old (s .bytes) x (used s) fits;
         part-new = copied-new (s .bytes) x (used s) fits;
         before = copied-before (s .bytes) x (used s) fits;
@@ -139,8 +146,13 @@ module _ (s t : Store) (x : List ℕ) (m : More s x t) where
     pub more-issued : Issued t (count s) x
     more-issued = record { low = omega (arith, m .one-more); right = name-new }
 
+    chains-same : rowsIn t ≡ rowsIn s
+    chains-same = ap (λ (l : Link). l .chains) (m .others)
+
     chain-same : (y : List ℕ) → chain t y ≡ chain s y
-    chain-same y = ap (λ (k : ℕ). headCell k y) (m .rows-same)
+    chain-same y =
+        head-cell-same (t .link) (s .link) (length (t .names)) (length (s .names)) y chains-same (ap (λ (l : Link). l .key) (m .others))
+        (rw (chains-same, m .rows-same) (g .rows-lent)) (g .rows-lent)
 
     of-old : (i : ℕ) → i < n → chain t (name t i) ≡ chain s (name s i)
     of-old i h = chain-same (name t i) ∙ ap (chain s) (name-old i h)
@@ -212,8 +224,9 @@ module _ (s t : Store) (x : List ℕ) (m : More s x t) where
       pub more-chained : Chained t
       more-chained =
           record {
-            rows-some = rw (m .rows-same) (g .rows-some);
-            rows-in = rw (m .rows-same) (omega (arith, m .one-more, m .row-free));
+            rows-some = rw chains-same (g .rows-some);
+            rows-lent = rw (chains-same, m .rows-same) (g .rows-lent);
+            rows-in = rw chains-same (omega (arith, m .one-more, m .row-free));
             bytes-in = rw (m .bytes-same, m .filled) (m .bytes-free);
             names-in = names-in;
             distinct = distinct;

@@ -25,22 +25,22 @@ use Rattle.interner_laws.specs.Same
 -- ---- from a new table on
 
 -- a new table opens where there is a row
-pub opens : (bytes names : List ℕ) → 0 < nameRows (length names) → Accepted (newOf bytes names)
+pub opens : (key : ℕ) (bytes names : List ℕ) → 0 < nameRows (length names) → Accepted (newOf key bytes names)
 opens = Interns.new-accepted
 
-module _ (bytes names : List ℕ) (opened : Accepted (newOf bytes names)) (us : List (List ℕ)) where
+module _ (key : ℕ) (bytes names : List ℕ) (opened : Accepted (newOf key bytes names)) (us : List (List ℕ)) where
   -- what any history leaves
   abbrev table : Store
-  table = after us (newOf bytes names .store)
+  table = after us (newOf key bytes names .store)
 
   pub good : Good table
-  good = Judged.table-good bytes names opened us
+  good = Judged.table-good key bytes names opened us
 
   pub unbroken : table .link .broken ≡ false
-  unbroken = Judged.table-whole bytes names opened us
+  unbroken = Judged.table-whole key bytes names opened us
 
   pub within : Within table
-  within = Judged.table-within bytes names opened us
+  within = Judged.table-within key bytes names opened us
 
   module _ (x y : List ℕ) (vs : List (List ℕ)) where
     abbrev first : Left
@@ -63,8 +63,8 @@ module _ (bytes names : List ℕ) (opened : Accepted (newOf bytes names)) (us : 
   refused-full = Judged.refused-full table good within unbroken
 
   -- the empty name is issued with id 0, and stays so
-  pub empty-first : id (newOf bytes names) ≡ 0
-  empty-first = Interns.new-id bytes names opened
+  pub empty-first : id (newOf key bytes names) ≡ 0
+  empty-first = Interns.new-id key bytes names opened
 
   pub empty-interns : internOf table [] ≡ left table (accepted 0)
   empty-interns = Judged.interns-known table good within unbroken 0 [] (Interns.empty-issued table good)
@@ -137,5 +137,5 @@ untouched-by-keep = Interns.keep-untouched
 pub refused-as-it-was : (s : Store) (x : List ℕ) → (Accepted (internOf s x) → ⊥) → internOf s x .store ≡ s
 refused-as-it-was = Interns.intern-refused
 
-pub refused-new : (bytes names : List ℕ) → (Accepted (newOf bytes names) → ⊥) → newOf bytes names .store ≡ storeOf bytes names noRows
+pub refused-new : (key : ℕ) (bytes names : List ℕ) → (Accepted (newOf key bytes names) → ⊥) → newOf key bytes names .store ≡ storeOf bytes names noRows
 refused-new = Interns.new-refused

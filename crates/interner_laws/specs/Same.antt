@@ -6,19 +6,20 @@ use native.Mathlib.Nat.{le-refl}
 use mathlib.Core.Path.{_≡_, refl, ap, sym, _∙_}
 use mathlib.Core.List.{List}
 use lib.Dec.{ltb}
-use lib.ListN.{length, getD, set, length-set}
+use lib.ListN.{length, getD, set, length-set, List·getD-eq-default}
 use lib.Seq.{getD-set-other}
 use borrow.Author.Tests.{ltb-true, ltb-false}
 use Rattle.cells.specs.Split.{by-test}
-use Rattle.interner.specs.Hash.{headCell}
 use Rattle.link.specs.declared.Link.{Link}
+use Rattle.link.specs.Bounds.{nameRows}
 use Rattle.interner.specs.Names.{Store, storeOf}
 use Rattle.interner_laws.specs.Good.{Chained, Good, Stays, Alike, count, used, rowsIn, name, next, chain, head, find}
 use Rattle.interner_laws.specs.Find.{some-below, find-known, find-new, new-none, found, find-low}
-use Rattle.interner_laws.specs.Written.{head-behind, head-within}
+use Rattle.interner_laws.specs.Written.{head-behind, head-within, head-cell-same}
 
 pub alike-none : (s : Store) → Alike s s
-alike-none s = record { bytes = refl; long = refl; cells = λ i f h k. refl; heads = λ q h k. refl; counted = refl; filled = refl }
+alike-none s =
+    record { bytes = refl; long = refl; cells = λ i f h k. refl; heads = λ q h k. refl; chains = refl; key = refl; counted = refl; filled = refl }
 
 pub alike-both : (s t u : Store) → Alike s t → Alike t u → Alike s u
 alike-both s t u p q =
@@ -26,20 +27,24 @@ alike-both s t u p q =
       bytes = q .bytes ∙ p .bytes;
       long = q .long ∙ p .long;
       cells = λ i f h k. q .cells i f (rw (p .counted) h) k ∙ p .cells i f h k;
-      heads = λ c h k. q .heads c (rw (p .long) h) (rw (p .long) k) ∙ p .heads c h k;
+      heads = λ c h k. q .heads c (rw (p .chains) h) (rw (p .long) k) ∙ p .heads c h k;
+      chains = q .chains ∙ p .chains;
+      key = q .key ∙ p .key;
       counted = q .counted ∙ p .counted;
       filled = q .filled ∙ p .filled;
     }
 
 -- a store to such a cell
-pub set-alike : (s : Store) (l : Link) (i f v : ℕ) → l .names ≡ count s → l .bytes ≡ used s → i < rowsIn s → 3 ≤ f → f < 8
+pub set-alike : (s : Store) (l : Link) (i f v : ℕ) → l .names ≡ count s → l .bytes ≡ used s → l .chains ≡ s .link .chains → l .key ≡ s .link .key → i < rowsIn s → 3 ≤ f → f < 8
     → Alike s (storeOf (s .bytes) (set (s .names) (i * 8 + f) v) l)
-set-alike s l i f v c u h low high =
+set-alike s l i f v c u e k h low high =
     record {
       bytes = refl;
       long = length-set (s .names) (i * 8 + f) v;
       cells = λ j g k m. getD-set-other (s .names) (i * 8 + f) (j * 8 + g) v 0 (λ e. omega arith);
       heads = λ q k m. getD-set-other (s .names) (i * 8 + f) q v 0 (λ e. omega arith);
+      chains = e;
+      key = k;
       counted = c;
       filled = u;
     }
@@ -54,26 +59,30 @@ module _ (s t : Store) (a : Alike s t) where
   next-same : (i : ℕ) → i < count s → next t i ≡ next s i
   next-same i h = a .cells i 2 h (omega arith)
 
-  chain-same : (y : List ℕ) → chain t y ≡ chain s y
-  chain-same y = ap (λ (k : ℕ). headCell k y) (a .long)
-
-  of-same : (i : ℕ) → i < count s → chain t (name t i) ≡ chain s (name s i)
-  of-same i h = chain-same (name t i) ∙ ap (chain s) (name-same i h)
-
   below : (i : ℕ) → i < count t → i < count s
   below i h = rw (a .counted) at h
 
   module _ (g : Chained s) where
+    lent-same : rowsIn t ≤ nameRows (length (t .names))
+    lent-same = rw (a .chains, a .long) (g .rows-lent)
+
+    chain-same : (y : List ℕ) → chain t y ≡ chain s y
+    chain-same y = head-cell-same (t .link) (s .link) (length (t .names)) (length (s .names)) y (a .chains) (a .key) lent-same (g .rows-lent)
+
+    of-same : (i : ℕ) → i < count s → chain t (name t i) ≡ chain s (name s i)
+    of-same i h = chain-same (name t i) ∙ ap (chain s) (name-same i h)
+
     head-same : (y : List ℕ) → head t y ≡ head s y
     head-same y =
-        ap (λ (k : ℕ). getD (t .names) (headCell k y) 0) (a .long)
-        ∙ a .heads (chain s y) (head-behind (length (s .names)) y (g .rows-some)) (head-within (length (s .names)) y (g .rows-some))
+        ap (λ (k : ℕ). getD (t .names) k 0) (chain-same y)
+        ∙ a .heads (chain s y) (head-behind (s .link) (length (s .names)) y (g .rows-lent)) (head-within (s .link) (length (s .names)) y (g .rows-lent) (g .rows-some))
 
     pub chained-same : Chained t
     chained-same =
         record {
-          rows-some = rw (a .long) (g .rows-some);
-          rows-in = rw (a .long, a .counted) (g .rows-in);
+          rows-some = rw (a .chains) (g .rows-some);
+          rows-lent = lent-same;
+          rows-in = rw (a .chains, a .counted) (g .rows-in);
           bytes-in = rw (a .bytes, a .filled) (g .bytes-in);
           names-in = λ i h. let k : i < count s = below i h in rw (a .cells i 0 k (omega arith), a .cells i 1 k (omega arith), a .filled) (g .names-in i k);
           distinct = λ i j h k e. g .distinct i j (below i h) (below j k) (sym (name-same i (below i h)) ∙ e ∙ name-same j (below j k));

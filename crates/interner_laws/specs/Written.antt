@@ -7,13 +7,16 @@ use mathlib.Core.Path.{_≡_, refl, ap, sym, subst, _∙_}
 use mathlib.Core.List.{List, [], _∷_, _++_, append-assoc}
 use lib.ListN.{length, take, drop, getD, length-set, length-drop, take-append-drop, List·getD-append}
 use lib.Seq.{paste, take-append-le, drop-append-le, drop-at, take-append-seam, take-length, length-take-le, length-paste, drop-paste, getD-drop, getD-take, getD-set-same, getD-set-other}
-use borrow.Author.Tests.{ne-eqb}
+use borrow.Author.Tests.{lt-ltb, le-ltb}
 use Rattle.cells.specs.Rows.{putRow, length-putRow, row-same, row-other}
 use Rattle.byte_slices.specs.Bytes.{part, copied}
 use Rattle.byte_slices.specs.Ways.{copied-whole}
+use Rattle.link.specs.declared.Link.{Link}
 use Rattle.link.specs.Bounds.{nameRows}
-use Rattle.interner.specs.Hash.{hashFrom, spread, headCell}
-use Rattle.interner.specs.Ways.{hash-small, spread-below}
+use Rattle.interner.specs.Hash.{spread, headCell}
+use Rattle.keyed_hash.specs.Keyed.{hashOf}
+use Rattle.keyed_hash.specs.Ways.{hash-small}
+use Rattle.interner.specs.Ways.{spread-below}
 use Rattle.interner.specs.Names.{linked}
 
 -- ---- bytes
@@ -70,16 +73,30 @@ module _ (d x : List ℕ) (at : ℕ) (room : at + length x ≤ length d) where
 
 -- ---- heads lie behind the rows
 
-module _ (n : ℕ) (x : List ℕ) (some : 0 < nameRows n) where
-  head-is : headCell n x ≡ nameRows n * 8 + spread (nameRows n) (hashFrom 0 x)
+module _ (l : Link) (n : ℕ) (x : List ℕ) (lent : l .chains ≤ nameRows n) where
+  head-is : headCell l n x ≡ l .chains * 8 + spread (l .chains) (hashOf (l .key) x)
   unfolding headCell
-  head-is = simp (ne-eqb (nameRows n) 0 (λ e. omega arith))
+  head-is = simp (le-ltb (nameRows n) (l .chains) lent)
 
-  pub head-behind : nameRows n * 8 ≤ headCell n x
+  pub head-behind : l .chains * 8 ≤ headCell l n x
   head-behind = omega (arith, head-is)
 
-  pub head-within : headCell n x < n
-  head-within = omega (arith, head-is, spread-below (nameRows n) (hashFrom 0 x) (hash-small x 0 (omega arith)) some)
+  module _ (some : 0 < l .chains) where
+    pub head-before : headCell l n x < l .chains * 9
+    head-before = omega (arith, head-is, spread-below (l .chains) (hashOf (l .key) x) (hash-small (l .key) x) some)
+
+    pub head-within : headCell l n x < n
+    head-within = omega (arith, head-before)
+
+pub head-out : (l : Link) (n : ℕ) (x : List ℕ) → nameRows n < l .chains → headCell l n x ≡ n
+unfolding headCell
+head-out l n x h = simp (lt-ltb (nameRows n) (l .chains) h)
+
+-- where a link's chains begin follows from its number of rows, its key, and that they are lent
+pub head-cell-same : (k l : Link) (m n : ℕ) (x : List ℕ) → k .chains ≡ l .chains → k .key ≡ l .key → k .chains ≤ nameRows m → l .chains ≤ nameRows n
+    → headCell k m x ≡ headCell l n x
+head-cell-same k l m n x e f p q =
+    head-is k m x p ∙ ap (λ (c : ℕ). c * 8 + spread c (hashOf (k .key) x)) e ∙ ap (λ (y : ℕ). l .chains * 8 + spread (l .chains) (hashOf y x)) f ∙ sym (head-is l n x q)
 
 -- ---- the row
 
@@ -94,8 +111,8 @@ module _ (names : List ℕ) (count start len head : ℕ) where
   unfolding linked
   linked-long = length-set stored head (count + 1) ∙ length-putRow names count row
 
-  module _ (free : count < nameRows (length names)) (behind : nameRows (length names) * 8 ≤ head) where
-    pub row-old : (i f : ℕ) → i < nameRows (length names) → (i ≡ count → ⊥) → f < 8 → getD (linked names count start len head) (i * 8 + f) 0 ≡ getD names (i * 8 + f) 0
+  module _ (rows : ℕ) (lent : rows ≤ nameRows (length names)) (free : count < rows) (behind : rows * 8 ≤ head) where
+    pub row-old : (i f : ℕ) → i < rows → (i ≡ count → ⊥) → f < 8 → getD (linked names count start len head) (i * 8 + f) 0 ≡ getD names (i * 8 + f) 0
     unfolding linked
     row-old i f l n h =
         getD-set-other stored head (i * 8 + f) (count + 1) 0 (λ e. omega arith) ∙ row-other names count row i f refl h n
@@ -109,7 +126,7 @@ module _ (names : List ℕ) (count start len head : ℕ) where
     unfolding linked
     head-new h = getD-set-same stored head (count + 1) 0 (omega (arith, length-putRow names count row))
 
-    pub head-old : (q : ℕ) → nameRows (length names) * 8 ≤ q → (q ≡ head → ⊥) → getD (linked names count start len head) q 0 ≡ getD names q 0
+    pub head-old : (q : ℕ) → rows * 8 ≤ q → (q ≡ head → ⊥) → getD (linked names count start len head) q 0 ≡ getD names q 0
     unfolding linked
     head-old q h n =
         let e : q / 8 * 8 + q % 8 ≡ q = div-add-mod' q 8 in

@@ -34,6 +34,7 @@ listsAt l n =
       lists = n;
       chains = l .chains;
       slots = l .slots;
+      key = l .key;
       broken = l .broken;
     }
 
@@ -56,7 +57,7 @@ recordAs s x place id =
     (recordedOf (s .bytes) (s .names) (s .lists) (stoppedOf (s .stage .link) 2 place))
 
 unfoldable pub recordOf : Recorded → List ℕ → ℕ → Recorded
-recordOf s x place = recordAs s x place (record { 0 = findOf (s .bytes) (s .names) (s .stage .link .names) x })
+recordOf s x place = recordAs s x place (record { 0 = findOf (s .bytes) (s .names) (s .stage .link) x })
 
 -- ---- dependencies: "no free row" at the dependency's row
 

@@ -39,13 +39,13 @@ unfolding keepName
 kept-done s t x id k lists more l stage h a m c d q = simp (q, d, c, m, a, ← h)
 
 module _ (s t : Recorded) (x : List ℕ) (place id : ℕ) (b : Bool) where
-  pub record-full : (stage : Stage) → id ≡ findOf (s .bytes) (s .names) (s .stage .link .names) x
+  pub record-full : (stage : Stage) → id ≡ findOf (s .bytes) (s .names) (s .stage .link) x
       → b ≡ recordFits (s .stage .link) (s .bytes) (s .names) (length (s .lists)) (record { 0 = id }) (length x) → b ≡ false
       → stage ≡ stoppedOf (s .stage .link) 2 place → t ≡ recordedOf (s .bytes) (s .names) (s .lists) stage → t ≡ recordOf s x place
   unfolding recordOf recordAs
   record-full stage e f g h q = simp (q, h, ← e, ← f, g)
 
-  pub record-done : id ≡ findOf (s .bytes) (s .names) (s .stage .link .names) x
+  pub record-done : id ≡ findOf (s .bytes) (s .names) (s .stage .link) x
       → b ≡ recordFits (s .stage .link) (s .bytes) (s .names) (length (s .lists)) (record { 0 = id }) (length x) → b ≡ true
       → t ≡ keepName s x (record { 0 = id }) → t ≡ recordOf s x place
   unfolding recordOf recordAs

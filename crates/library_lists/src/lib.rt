@@ -18,6 +18,7 @@ fn lists_at(l: Link, n: usize) -> Link
         lists: n,
         chains: l.chains,
         slots: l.slots,
+        key: l.key,
         broken: l.broken,
     }
 }
@@ -63,7 +64,7 @@ pub fn record_name(
 ) -> Stage
     ensures { λ r. ⌜ recordedOf (now (bytes .exit)) (now (names .exit)) (now (lists .exit)) r ≡ recordOf (recordedOf (now (bytes .entry)) (now (names .entry)) (now (lists .entry)) (goingOf l)) (now (x .entry)) place ⌝ }
 {
-    let id = Interned(interner::find(bytes, names, l.names, x));
+    let id = interner::find(l, bytes, names, x);
     if record_fits(l, bytes, names, lists.len(), id, x.len()) {
         return keep_name(l, bytes, names, lists, id, x);
     }

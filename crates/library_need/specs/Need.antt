@@ -66,21 +66,21 @@ provides entries i =
     cond (eqb (field entries i 4) 0) false (cond (eqb (field entries i 1) 1) true (cond (eqb (field entries i 1) 2) true false))
 
 -- the marks of the names that it provides are cleared first: no others are read, whatever they held before
-unfoldable pub clearNamed : List ℕ → List ℕ → ℕ → Looked → List ℕ → List ℕ
-clearNamed bytes names count x marks = cond (x .found) (set marks (findOf bytes names count (x .name)) 0) marks
+unfoldable pub clearNamed : List ℕ → List ℕ → Link → Looked → List ℕ → List ℕ
+clearNamed bytes names l x marks = cond (x .found) (set marks (findOf bytes names l (x .name)) 0) marks
 
-unfoldable pub clearMark : List ℕ → List ℕ → ℕ → List ℕ → List ℕ → ℕ → List ℕ → List ℕ
-clearMark bytes names count entries file i marks =
-    cond (provides entries i) (clearNamed bytes names count (lookUp file (field entries i 0)) marks) marks
+unfoldable pub clearMark : List ℕ → List ℕ → Link → List ℕ → List ℕ → ℕ → List ℕ → List ℕ
+clearMark bytes names l entries file i marks =
+    cond (provides entries i) (clearNamed bytes names l (lookUp file (field entries i 0)) marks) marks
 
 -- n symbols from the i-th on
-unfoldable pub clearFrom : List ℕ → List ℕ → ℕ → List ℕ → List ℕ → ℕ → ℕ → List ℕ → List ℕ
-clearFrom bytes names count entries file zero i marks = marks
-clearFrom bytes names count entries file (suc n) i marks =
-    clearFrom bytes names count entries file n (i + 1) (clearMark bytes names count entries file i marks)
+unfoldable pub clearFrom : List ℕ → List ℕ → Link → List ℕ → List ℕ → ℕ → ℕ → List ℕ → List ℕ
+clearFrom bytes names l entries file zero i marks = marks
+clearFrom bytes names l entries file (suc n) i marks =
+    clearFrom bytes names l entries file n (i + 1) (clearMark bytes names l entries file i marks)
 
-unfoldable pub clearAll : List ℕ → List ℕ → ℕ → List ℕ → List ℕ → List ℕ → List ℕ
-clearAll bytes names count entries file marks = clearFrom bytes names count entries file (rowsIn entries) 0 marks
+unfoldable pub clearAll : List ℕ → List ℕ → Link → List ℕ → List ℕ → List ℕ → List ℕ
+clearAll bytes names l entries file marks = clearFrom bytes names l entries file (rowsIn entries) 0 marks
 
 -- "undefined and strong in the table": global, hidden or not, by the row's own weak flag
 unfoldable pub strongUndefined : List ℕ → SymbolId → Bool
@@ -95,10 +95,10 @@ lackedBy symbols Removed = false
 lackedBy symbols (Known id) = strongUndefined symbols id
 
 -- a name by its id
-unfoldable pub wantedIn : List ℕ → List ℕ → List ℕ → ℕ → ℕ → Bool
-wantedIn names symbols marks count id =
-    cond (leb count id) false
-    (cond (eqb (getD marks id 0) 1) true (lackedBy symbols (holderOf names symbols count (record { 0 = id }))))
+unfoldable pub wantedIn : Link → List ℕ → List ℕ → List ℕ → ℕ → Bool
+wantedIn l names symbols marks id =
+    cond (leb (l .names) id) false
+    (cond (eqb (getD marks id 0) 1) true (lackedBy symbols (holderOf l names symbols (record { 0 = id }))))
 
 -- what is read to judge a symbol
 pub record View : Type 0 where
@@ -106,14 +106,14 @@ pub record View : Type 0 where
   pub names : List ℕ
   pub symbols : List ℕ
   pub marks : List ℕ
-  pub count : ℕ
+  pub link : Link
 
-abbrev pub viewOf : List ℕ → List ℕ → List ℕ → List ℕ → ℕ → View
-viewOf b n s m c = record { bytes = b; names = n; symbols = s; marks = m; count = c }
+abbrev pub viewOf : List ℕ → List ℕ → List ℕ → List ℕ → Link → View
+viewOf b n s m l = record { bytes = b; names = n; symbols = s; marks = m; link = l }
 
 unfoldable pub nameWanted : View → Looked → Bool
 nameWanted v x =
-    cond (x .found) (wantedIn (v .names) (v .symbols) (v .marks) (v .count) (findOf (v .bytes) (v .names) (v .count) (x .name))) false
+    cond (x .found) (wantedIn (v .link) (v .names) (v .symbols) (v .marks) (findOf (v .bytes) (v .names) (v .link) (x .name))) false
 
 unfoldable pub symbolWanted : View → List ℕ → List ℕ → ℕ → Bool
 symbolWanted v entries file i = cond (provides entries i) (nameWanted v (lookUp file (field entries i 0))) false
@@ -132,9 +132,9 @@ judgedAs m b = record { marks = m; needed = b }
 
 unfoldable pub markedOf : Link → List ℕ → List ℕ → List ℕ → List ℕ → List ℕ → List ℕ → Judged
 markedOf l bytes names symbols marks entries file =
-    judgedAs marks (someWanted (viewOf bytes names symbols marks (l .names)) entries file)
+    judgedAs marks (someWanted (viewOf bytes names symbols marks l) entries file)
 
 unfoldable pub needOf : Link → List ℕ → List ℕ → List ℕ → List ℕ → List ℕ → List ℕ → List ℕ → List ℕ → List ℕ → Judged
 needOf l bytes names symbols inputs lists marks entries file x =
     markedOf l bytes names symbols
-    (markAll inputs lists (findOf bytes names (l .names) x) (l .names) (l .inputs) (clearAll bytes names (l .names) entries file marks)) entries file
+    (markAll inputs lists (findOf bytes names l x) (l .names) (l .inputs) (clearAll bytes names l entries file marks)) entries file

@@ -161,18 +161,18 @@ module _ (symbols : List ℕ) (id : SymbolId) (t : Bool) (value : ℕ) where
 pub lacked-held : (symbols : List ℕ) (h k : Holder) (t : Bool) → h ≡ k → t ≡ lackedBy symbols k → t ≡ lackedBy symbols h
 lacked-held symbols h k t e q = simp (q, e)
 
-module _ (names symbols marks : List ℕ) (count id : ℕ) (t : Bool) where
-  pub wanted-unissued : count ≤ id → t ≡ false → t ≡ wantedIn names symbols marks count id
+module _ (l : Link) (names symbols marks : List ℕ) (id : ℕ) (t : Bool) where
+  pub wanted-unissued : l .names ≤ id → t ≡ false → t ≡ wantedIn l names symbols marks id
   unfolding wantedIn
   wanted-unissued h q = simp (q, le-leb _ _ h)
 
   module _ (mark : ℕ) where
-    pub wanted-marked : id < count → mark ≡ getD marks id 0 → mark ≡ 1 → t ≡ true → t ≡ wantedIn names symbols marks count id
+    pub wanted-marked : id < l .names → mark ≡ getD marks id 0 → mark ≡ 1 → t ≡ true → t ≡ wantedIn l names symbols marks id
     unfolding wantedIn
     wanted-marked h e f q = simp (q, lt-leb _ _ h, ← e, eq-eqb _ _ f)
 
-    pub wanted-lacked : (holder : Holder) → id < count → mark ≡ getD marks id 0 → (mark ≡ 1 → ⊥) → holder ≡ holderOf names symbols count (record { 0 = id })
-        → t ≡ lackedBy symbols holder → t ≡ wantedIn names symbols marks count id
+    pub wanted-lacked : (holder : Holder) → id < l .names → mark ≡ getD marks id 0 → (mark ≡ 1 → ⊥) → holder ≡ holderOf l names symbols (record { 0 = id })
+        → t ≡ lackedBy symbols holder → t ≡ wantedIn l names symbols marks id
     unfolding wantedIn
     wanted-lacked holder h e f g q = simp (q, lt-leb _ _ h, ← e, ne-eqb _ _ f, g)
 
@@ -188,7 +188,7 @@ module _ (v : View) (entries file : List ℕ) (i : ℕ) (t b : Bool) where
     symbol-nameless e f g h a q = let z : hasName file offset ≡ false = sym (ap (λ (y : Looked). y .found) h) ∙ a in simp (q, ← e, f, ← g, z)
 
     pub symbol-named : (id : ℕ) → b ≡ provides entries i → b ≡ true → offset ≡ field entries i 0 → x ≡ lookUp file offset → x .found ≡ true
-        → id ≡ findOf (v .bytes) (v .names) (v .count) (x .name) → t ≡ wantedIn (v .names) (v .symbols) (v .marks) (v .count) id
+        → id ≡ findOf (v .bytes) (v .names) (v .link) (x .name) → t ≡ wantedIn (v .link) (v .names) (v .symbols) (v .marks) id
         → t ≡ symbolWanted v entries file i
     unfolding symbolWanted nameWanted
     symbol-named id e f g h a c q =
@@ -221,47 +221,47 @@ some-start v entries file = any-start _ _
 
 -- ---- marks cleared
 
-module _ (bytes names : List ℕ) (count : ℕ) (entries file : List ℕ) (i : ℕ) (marks t : List ℕ) (b : Bool) where
-  pub clear-unprovided : b ≡ provides entries i → b ≡ false → t ≡ marks → t ≡ clearMark bytes names count entries file i marks
+module _ (bytes names : List ℕ) (l : Link) (entries file : List ℕ) (i : ℕ) (marks t : List ℕ) (b : Bool) where
+  pub clear-unprovided : b ≡ provides entries i → b ≡ false → t ≡ marks → t ≡ clearMark bytes names l entries file i marks
   unfolding clearMark
   clear-unprovided e f q = simp (q, ← e, f)
 
   module _ (offset : ℕ) (x : Looked) where
     pub clear-nameless : b ≡ provides entries i → b ≡ true → offset ≡ field entries i 0 → x ≡ lookUp file offset → x .found ≡ false → t ≡ marks
-        → t ≡ clearMark bytes names count entries file i marks
+        → t ≡ clearMark bytes names l entries file i marks
     unfolding clearMark clearNamed
     clear-nameless e f g h k q =
         let z : hasName file offset ≡ false = sym (ap (λ (y : Looked). y .found) h) ∙ k in simp (q, ← e, f, ← g, z)
 
     pub clear-named : (id : ℕ) → b ≡ provides entries i → b ≡ true → offset ≡ field entries i 0 → x ≡ lookUp file offset → x .found ≡ true
-        → id ≡ findOf bytes names count (x .name) → t ≡ set marks id 0 → t ≡ clearMark bytes names count entries file i marks
+        → id ≡ findOf bytes names l (x .name) → t ≡ set marks id 0 → t ≡ clearMark bytes names l entries file i marks
     unfolding clearMark clearNamed
     clear-named id e f g h k m q =
         let z : hasName file offset ≡ true = sym (ap (λ (y : Looked). y .found) h) ∙ k in simp (q, m, h, ← e, f, ← g, z)
 
 -- shut, so that a search tells it from other equations at once
-unfoldable pub Cleared : ℕ → List ℕ → List ℕ → ℕ → List ℕ → List ℕ → ℕ → List ℕ → List ℕ → Type 0
-Cleared i bytes names count entries file rows start marks =
-    clearAll bytes names count entries file start ≡ clearFrom bytes names count entries file (rows - i) i marks
+unfoldable pub Cleared : ℕ → List ℕ → List ℕ → Link → List ℕ → List ℕ → ℕ → List ℕ → List ℕ → Type 0
+Cleared i bytes names l entries file rows start marks =
+    clearAll bytes names l entries file start ≡ clearFrom bytes names l entries file (rows - i) i marks
 
-module _ (bytes names : List ℕ) (count : ℕ) (entries file start : List ℕ) where
-  pub cleared-start : Cleared 0 bytes names count entries file (rowsIn entries) start start
+module _ (bytes names : List ℕ) (l : Link) (entries file start : List ℕ) where
+  pub cleared-start : Cleared 0 bytes names l entries file (rowsIn entries) start start
   unfolding Cleared clearAll
   cleared-start = rw (sub-zero (rowsIn entries))
 
   module _ (rows i : ℕ) (marks : List ℕ) where
-    pub cleared-end : Cleared i bytes names count entries file rows start marks → rows ≤ i → marks ≡ clearAll bytes names count entries file start
+    pub cleared-end : Cleared i bytes names l entries file rows start marks → rows ≤ i → marks ≡ clearAll bytes names l entries file start
     unfolding Cleared clearFrom
     cleared-end q h = let z : rows - i ≡ 0 = omega arith in sym (q ∙ rw z)
 
-    pub cleared-on : (more : List ℕ) → Cleared i bytes names count entries file rows start marks → i < rows → more ≡ clearMark bytes names count entries file i marks
-        → Cleared (i + 1) bytes names count entries file rows start more
+    pub cleared-on : (more : List ℕ) → Cleared i bytes names l entries file rows start marks → i < rows → more ≡ clearMark bytes names l entries file i marks
+        → Cleared (i + 1) bytes names l entries file rows start more
     unfolding Cleared clearFrom
     cleared-on more q h f = q ∙ rw (one-less rows i h) (simp f)
 
 pub need-judged : (l : Link) (bytes names symbols inputs lists marks entries file x : List ℕ) (id : ℕ) (clear marked : List ℕ) (b : Bool) (t : Judged)
-    → id ≡ findOf bytes names (l .names) x → clear ≡ clearAll bytes names (l .names) entries file marks → marked ≡ markAll inputs lists id (l .names) (l .inputs) clear
-    → b ≡ someWanted (viewOf bytes names symbols marked (l .names)) entries file → t ≡ judgedAs marked b
+    → id ≡ findOf bytes names l x → clear ≡ clearAll bytes names l entries file marks → marked ≡ markAll inputs lists id (l .names) (l .inputs) clear
+    → b ≡ someWanted (viewOf bytes names symbols marked l) entries file → t ≡ judgedAs marked b
     → t ≡ needOf l bytes names symbols inputs lists marks entries file x
 unfolding needOf markedOf
 need-judged l bytes names symbols inputs lists marks entries file x id clear marked b t e c f g q = simp (q, g, f, c, e)

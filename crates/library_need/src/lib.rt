@@ -137,39 +137,39 @@ fn is_lacked(symbols: &[u64], holder: Holder) -> bool
 }
 
 // Does the table lack the name, or is it marked? Not where it isn't issued.
-fn is_wanted(names: &[u64], symbols: &[u64], marks: &[u64], count: usize, id: usize) -> bool
-    ensures { λ r. ⌜ r ≡ wantedIn (now (names .entry)) (now (symbols .entry)) (now (marks .entry)) count id ⌝ }
+fn is_wanted(l: Link, names: &[u64], symbols: &[u64], marks: &[u64], id: Interned) -> bool
+    ensures { λ r. ⌜ r ≡ wantedIn l (now (names .entry)) (now (symbols .entry)) (now (marks .entry)) (id .0) ⌝ }
 {
-    if count <= id {
+    if l.names <= id.0 {
         return false;
     }
-    if cells::get(marks, id) == 1 {
+    if cells::get(marks, id.0) == 1 {
         return true;
     }
-    let holder = symbol_rows::holder_of(names, symbols, count, Interned(id));
+    let holder = symbol_rows::holder_of(l, names, symbols, id);
     is_lacked(symbols, holder)
 }
 
 // A symbol whose name is missing provides nothing.
 fn symbol_wanted(
+    l: Link,
     bytes: &[u8],
     names: &[u64],
     symbols: &[u64],
     marks: &[u64],
-    count: usize,
     entries: &[u64],
     file: &[u8],
     i: usize,
 ) -> bool
-    ensures { λ r. ⌜ r ≡ symbolWanted (viewOf (now (bytes .entry)) (now (names .entry)) (now (symbols .entry)) (now (marks .entry)) count) (now (entries .entry)) (now (file .entry)) i ⌝ }
+    ensures { λ r. ⌜ r ≡ symbolWanted (viewOf (now (bytes .entry)) (now (names .entry)) (now (symbols .entry)) (now (marks .entry)) l) (now (entries .entry)) (now (file .entry)) i ⌝ }
 {
     if is_provided(entries, i) {
         let offset = cells::row_get(entries, i, 0) as usize;
         let mut found = false;
         let x = strings::get(file, offset, &mut found);
         if found {
-            let id = interner::find(bytes, names, count, x);
-            return is_wanted(names, symbols, marks, count, id);
+            let id = interner::find(l, bytes, names, x);
+            return is_wanted(l, names, symbols, marks, id);
         }
         return false;
     }
@@ -177,20 +177,20 @@ fn symbol_wanted(
 }
 
 fn some_wanted(
+    l: Link,
     bytes: &[u8],
     names: &[u64],
     symbols: &[u64],
     marks: &[u64],
-    count: usize,
     entries: &[u64],
     file: &[u8],
 ) -> bool
-    ensures { λ r. ⌜ r ≡ someWanted (viewOf (now (bytes .entry)) (now (names .entry)) (now (symbols .entry)) (now (marks .entry)) count) (now (entries .entry)) (now (file .entry)) ⌝ }
+    ensures { λ r. ⌜ r ≡ someWanted (viewOf (now (bytes .entry)) (now (names .entry)) (now (symbols .entry)) (now (marks .entry)) l) (now (entries .entry)) (now (file .entry)) ⌝ }
 {
     let rows = entries.len() / 8;
     let mut i = 0;
     while i < rows {
-        if symbol_wanted(bytes, names, symbols, marks, count, entries, file, i) {
+        if symbol_wanted(l, bytes, names, symbols, marks, entries, file, i) {
             return true;
         }
         i += 1;
@@ -199,23 +199,23 @@ fn some_wanted(
 }
 
 fn clear_mark(
+    l: Link,
     marks: &mut [u64],
     bytes: &[u8],
     names: &[u64],
-    count: usize,
     entries: &[u64],
     file: &[u8],
     i: usize,
 )
-    ensures { λ _. ⌜ now (marks .exit) ≡ clearMark (now (bytes .entry)) (now (names .entry)) count (now (entries .entry)) (now (file .entry)) i (now (marks .entry)) ⌝ }
+    ensures { λ _. ⌜ now (marks .exit) ≡ clearMark (now (bytes .entry)) (now (names .entry)) l (now (entries .entry)) (now (file .entry)) i (now (marks .entry)) ⌝ }
 {
     if is_provided(entries, i) {
         let offset = cells::row_get(entries, i, 0) as usize;
         let mut found = false;
         let x = strings::get(file, offset, &mut found);
         if found {
-            let id = interner::find(bytes, names, count, x);
-            cells::put(marks, id, 0);
+            let id = interner::find(l, bytes, names, x);
+            cells::put(marks, id.0, 0);
             return;
         }
         return;
@@ -224,19 +224,19 @@ fn clear_mark(
 
 // The marks of the names that the symbols provide: no others are read, so no others have to be cleared.
 fn clear_marks(
+    l: Link,
     marks: &mut [u64],
     bytes: &[u8],
     names: &[u64],
-    count: usize,
     entries: &[u64],
     file: &[u8],
 )
-    ensures { λ _. ⌜ now (marks .exit) ≡ clearAll (now (bytes .entry)) (now (names .entry)) count (now (entries .entry)) (now (file .entry)) (now (marks .entry)) ⌝ }
+    ensures { λ _. ⌜ now (marks .exit) ≡ clearAll (now (bytes .entry)) (now (names .entry)) l (now (entries .entry)) (now (file .entry)) (now (marks .entry)) ⌝ }
 {
     let rows = entries.len() / 8;
     let mut i = 0;
     while i < rows {
-        clear_mark(marks, bytes, names, count, entries, file, i);
+        clear_mark(l, marks, bytes, names, entries, file, i);
         i += 1;
     }
 }
@@ -257,9 +257,8 @@ pub fn is_needed(
 ) -> bool
     ensures { λ r. ⌜ judgedAs (now (marks .exit)) r ≡ needOf l (now (bytes .entry)) (now (names .entry)) (now (symbols .entry)) (now (inputs .entry)) (now (lists .entry)) (now (marks .entry)) (now (entries .entry)) (now (file .entry)) (now (x .entry)) ⌝ }
 {
-    let count = l.names;
-    let id = interner::find(bytes, names, count, x);
-    clear_marks(marks, bytes, names, count, entries, file);
-    mark_libraries(marks, inputs, lists, id, count, l.inputs);
-    some_wanted(bytes, names, symbols, marks, count, entries, file)
+    let id = interner::find(l, bytes, names, x);
+    clear_marks(l, marks, bytes, names, entries, file);
+    mark_libraries(marks, inputs, lists, id.0, l.names, l.inputs);
+    some_wanted(l, bytes, names, symbols, marks, entries, file)
 }

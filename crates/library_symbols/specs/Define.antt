@@ -23,7 +23,7 @@ use Rattle.library_symbols.specs.declared.Definition.{Definition}
 unfoldable pub judgedOf : View → ℕ → Row → Decision
 judgedOf v n r =
     cond (fitsOf (storeOf (v .bytes) (v .names) (v .link)) (r .name) n)
-    (decideOf (v .link) (v .symbols) (v .sections) r (holderOf (v .names) (v .symbols) (v .link .names) (r .name))) (Refuse 2)
+    (decideOf (v .link) (v .symbols) (v .sections) r (holderOf (v .link) (v .names) (v .symbols) (r .name))) (Refuse 2)
 
 abbrev pub definition : Interned → Row → Decision → Definition
 definition id r d = record { id = id; row = r; decision = d }
@@ -36,7 +36,7 @@ externalOf v x binding visibility id = rowedOf v x id (externalRowOf id binding 
 
 -- the name's id, known or to come; the row that the symbol would become; the decision
 unfoldable pub planOf : View → List ℕ → ℕ → ℕ → Definition
-planOf v x binding visibility = externalOf v x binding visibility (record { 0 = findOf (v .bytes) (v .names) (v .link .names) x })
+planOf v x binding visibility = externalOf v x binding visibility (record { 0 = findOf (v .bytes) (v .names) (v .link) x })
 
 -- the lent cells that an add writes, and the stage
 pub record Added : Type 0 where

@@ -27,12 +27,12 @@ module _ (v : View) (n : ℕ) (r : Row) (t : Decision) (fits : Bool) where
   judged-full f g q = simp (q, ← f, g)
 
   pub judged-fits : (h : Holder) → fits ≡ fitsOf (storeOf (v .bytes) (v .names) (v .link)) (r .name) n → fits ≡ true
-      → h ≡ holderOf (v .names) (v .symbols) (v .link .names) (r .name) → t ≡ decideOf (v .link) (v .symbols) (v .sections) r h → t ≡ judgedOf v n r
+      → h ≡ holderOf (v .link) (v .names) (v .symbols) (r .name) → t ≡ decideOf (v .link) (v .symbols) (v .sections) r h → t ≡ judgedOf v n r
   unfolding judgedOf
   judged-fits h f g e q = simp (q, ← f, g, e)
 
 pub planned-done : (v : View) (x : List ℕ) (binding visibility id : ℕ) (r : Row) (d : Decision) (t : Definition)
-    → id ≡ findOf (v .bytes) (v .names) (v .link .names) x → r ≡ externalRowOf (record { 0 = id }) binding visibility → d ≡ judgedOf v (length x) r
+    → id ≡ findOf (v .bytes) (v .names) (v .link) x → r ≡ externalRowOf (record { 0 = id }) binding visibility → d ≡ judgedOf v (length x) r
     → t ≡ definition (record { 0 = id }) r d → t ≡ planOf v x binding visibility
 unfolding planOf externalOf rowedOf
 planned-done v x binding visibility id r d t a b c q = simp (q, c, b, ← a)

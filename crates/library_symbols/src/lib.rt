@@ -35,7 +35,7 @@ fn judged(
 {
     let name = row.name;
     if interner_issue::fits(l, bytes, names, name, len) {
-        let holder = symbol_rows::holder_of(names, symbols, l.names, name);
+        let holder = symbol_rows::holder_of(l, names, symbols, name);
         return symbol_resolution::decide(l, symbols, sections, row, holder);
     }
     Decision::Refuse { number: 2 }
@@ -54,7 +54,7 @@ fn plan_definition(
 ) -> Definition
     ensures { λ r. ⌜ r ≡ planOf (viewOf (now (bytes .entry)) (now (names .entry)) (now (symbols .entry)) (now (sections .entry)) l) (now (x .entry)) binding visibility ⌝ }
 {
-    let id = Interned(interner::find(bytes, names, l.names, x));
+    let id = interner::find(l, bytes, names, x);
     let row = upcoming_row::external_row(id, binding, visibility);
     let decision = judged(l, bytes, names, symbols, sections, x.len(), row);
     Definition {

@@ -1,6 +1,6 @@
 // The first checks of every call: 22 on a broken link, 1 for a count above what is lent.
 ghost use mathlib.Core.Path.{_≡_};
-ghost use Rattle.link.specs.Judge.{refused, otherLength, judgeSections, judgeNames, judgeLists, judgeOf, changeOf};
+ghost use Rattle.link.specs.Judge.{refused, judgeSections, judgeNames, judgeLists, judgeOf, changeOf};
 use link::Lent;
 use link::Link;
 use link::Refusal;
@@ -14,39 +14,24 @@ fn refuse(number: u64, place: usize) -> Refusal
     }
 }
 
-// Is a slice lent, and not with the rows that a new table was lent?
-fn other_length(len: usize, rows: usize, fixed: usize) -> bool
-    ensures { λ r. ⌜ r ≡ otherLength len rows fixed ⌝ }
+fn judge_sections(l: Link, rows: usize) -> Refusal
+    ensures { λ r. ⌜ r ≡ judgeSections l rows ⌝ }
 {
-    if len == link::NOT_LENT {
-        return false;
-    }
-    if rows == fixed {
-        return false;
-    }
-    true
-}
-
-fn judge_sections(l: Link, len: usize) -> Refusal
-    ensures { λ r. ⌜ r ≡ judgeSections l len ⌝ }
-{
-    let slots = len / 9;
-    if other_length(len, slots, l.slots) {
-        return refuse(1, link::lesser_of(slots, l.slots));
-    }
-    let rows = link::section_rows(len);
-    if rows < l.sections {
+    if rows < l.slots {
         return refuse(1, rows);
+    }
+    let most = link::section_rows(l.slots);
+    if most < l.sections {
+        return refuse(1, most);
     }
     refuse(0, 0)
 }
 
-fn judge_names(l: Link, len: usize, bytes: usize) -> Refusal
-    ensures { λ r. ⌜ r ≡ judgeNames l len bytes ⌝ }
+fn judge_names(l: Link, rows: usize, bytes: usize) -> Refusal
+    ensures { λ r. ⌜ r ≡ judgeNames l rows bytes ⌝ }
 {
-    let rows = link::name_rows(len);
-    if other_length(len, rows, l.chains) {
-        return refuse(1, link::lesser_of(rows, l.chains));
+    if rows < l.chains {
+        return refuse(1, rows);
     }
     if l.chains < l.names {
         return refuse(1, l.chains);
@@ -71,7 +56,8 @@ fn judge_lists(l: Link, inputs: usize, lists: usize) -> Refusal
     refuse(0, 0)
 }
 
-// A count above what is lent, or above the bound, is a list over its bound: 1 at the first row past it. Sections, symbols, then the rest.
+// A count above what is lent, or above the bound, is a list over its bound, and so is a table's own row that isn't lent any more: 1 at the first
+// row past it. Sections, symbols, then the rest.
 pub fn judge(l: Link, lent: Lent) -> Refusal
     ensures { λ r. ⌜ r ≡ judgeOf l lent ⌝ }
 {

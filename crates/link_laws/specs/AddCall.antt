@@ -11,12 +11,11 @@ use borrow.Author.Tests.{eqb-true, eq-eqb}
 use Rattle.cells.specs.Split.{by-test}
 use Rattle.byte_slices.specs.Ways.{pick}
 use Rattle.link.specs.declared.Refusal.{Refusal}
-use Rattle.link.specs.Bounds.{notLent, nameRows, nameBytes}
+use Rattle.link.specs.Bounds.{notLent, nameRows, nameBytes, sectionSlots}
 use Rattle.link.specs.Judge.{none, judgeSections, judgeNames, judgeLists, changeOf}
 use Rattle.link.specs.Judge as Link
 use Rattle.link.specs.Ways as Ways
 use Rattle.link.specs.Said.{numberIn}
-use Rattle.interner_laws.specs.Judged.{same-length}
 use Rattle.symbol.specs.declared.Row.{Row}
 use Rattle.symbol.specs.declared.SttFile.{SttFile}
 use Rattle.symbol.specs.declared.SttFile.the-variants as File
@@ -102,15 +101,14 @@ module _ (s : State) (conversion : List ℕ) (u : UpcomingSymbol) where
       rw (eq-eqb _ _ h)
       (row-number (table s) r (fileOf u) ∙ ap (λ (d : Decision). refusalOf d) (decided-same (table s) r (fileOf u) f) ∙ sym (put-number s r))
 
-  -- ---- the head, of a link that a history reached: it isn't broken, the section cells are as long as the new table's, and the symbol's fields are
+  -- ---- the head, of a link that a history reached: it isn't broken, the section rows of the new table are lent, and the symbol's fields are
   -- in range
 
   module _ (past : List Entry) (inv : Inv s past) (w : Within (s .link) (s .names)) (whole : s .link .broken ≡ false)
-      (sections : none ≡ judgeSections (s .link) (length (s .sections))) (ranged : inRange u ≡ true) where
-    names-judged : none ≡ judgeNames (s .link) (length (s .names)) notLent
+      (sections : none ≡ judgeSections (s .link) (sectionSlots (length (s .sections)))) (ranged : inRange u ≡ true) where
+    names-judged : none ≡ judgeNames (s .link) (nameRows (length (s .names))) notLent
     names-judged =
-        Ways.names-fine (s .link) (length (s .names)) notLent none (nameRows (length (s .names))) false (nameBytes notLent) refl
-        (same-length (length (s .names)) (nameRows (length (s .names))) (s .link .chains) (w .chains-are)) refl (omega (arith, inv .names-room, w .chains-are))
+        Ways.names-fine (s .link) (nameRows (length (s .names))) notLent none (nameBytes notLent) (w .chains-lent) (w .names-in)
         refl (lesser-most 1048576 notLent (s .link .bytes) (w .bytes-in) (omega (arith, w .bytes-in))) refl
 
     lists-judged : none ≡ judgeLists (s .link) notLent notLent

@@ -16,7 +16,6 @@ use Rattle.archive_index.specs.Open as Open
 use Rattle.archive_index.specs.Open.{offsetsIn, openRowsOf, openNamesOf, openEntriesOf, openOf}
 use Rattle.archive_walk.specs.declared.Walk.{Walk}
 use Rattle.archive_walk.specs.declared.Started.{Started}
-use Rattle.archive_walk.specs.Names.{chainNames, linkAll}
 use Rattle.archive_walk.specs.Look.{Table, judgeTable}
 use Rattle.archive_walk.specs.Walk.{Step, begunNumber, begunOf, startOf, numberOf, removedOf, makeOf, searchOf, passOf, walkFits, goOf, nextOf}
 use Rattle.link_laws.specs.NeverRemoved.{offered-number}
@@ -75,17 +74,17 @@ module _ (index cells : List ℕ) where
   open-leaves =
       pick Kept (eqb (length index) 0) _ _ (λ a. stopped 20 0) (λ a. pick Kept (ltb (length index) 4) _ _ (λ b. stopped 1 0) (λ b. entries-leave (countOf index)))
 
-begun-refused : (n : ℕ) (o : Opened) → begunNumber (begunOf n o .begun) ≢ 0 → o .refusal .number ≢ 0
+begun-refused : (key n : ℕ) (o : Opened) → begunNumber (begunOf key n o .begun) ≢ 0 → o .refusal .number ≢ 0
 unfolding begunOf
-begun-refused n o =
+begun-refused key n o =
     pick (λ (x : Started). begunNumber (x .begun) ≢ 0 → o .refusal .number ≢ 0) (eqb (o .refusal .number) 0) _ _ (λ a u. absurd (u refl)) (λ a u. eqb-false _ _ a)
 
-no-chains : (index cells : List ℕ) → chainNames index 0 cells ≡ cells
-unfolding chainNames linkAll noHeads
-no-chains index cells = refl
+no-chains : (cells : List ℕ) → noHeads 0 cells ≡ cells
+unfolding noHeads
+no-chains cells = refl
 
-pub start-leaves : (index cells : List ℕ) → begunNumber (startOf index cells .started .begun) ≢ 0 → startOf index cells .cells ≡ cells
+pub start-leaves : (key : ℕ) (index cells : List ℕ) → begunNumber (startOf key index cells .started .begun) ≢ 0 → startOf key index cells .cells ≡ cells
 unfolding startOf
-start-leaves index cells u =
-    let o = open-leaves index cells (begun-refused (length index) (openOf index cells .opened) u) in
-    ap (λ (c : ℕ). chainNames index c (openOf index cells .cells)) (o .no-entry) ∙ no-chains index (openOf index cells .cells) ∙ o .same
+start-leaves key index cells u =
+    let o = open-leaves index cells (begun-refused key (length index) (openOf index cells .opened) u) in
+    ap (λ (c : ℕ). noHeads c (openOf index cells .cells)) (o .no-entry) ∙ no-chains (openOf index cells .cells) ∙ o .same

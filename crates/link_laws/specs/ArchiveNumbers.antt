@@ -42,14 +42,14 @@ open-numbers s l =
     P : Open.Left → Type 0
     P o = Among (20 ∷ 1 ∷ 2 ∷ []) (o .opened .refusal .number)
 
-begun-numbers : (n : ℕ) (o : Opened) → Among (20 ∷ 1 ∷ 2 ∷ []) (o .refusal .number) → Among (20 ∷ 1 ∷ 2 ∷ []) (begunNumber (begunOf n o .begun))
+begun-numbers : (key n : ℕ) (o : Opened) → Among (20 ∷ 1 ∷ 2 ∷ []) (o .refusal .number) → Among (20 ∷ 1 ∷ 2 ∷ []) (begunNumber (begunOf key n o .begun))
 unfolding begunOf
-begun-numbers n o e =
+begun-numbers key n o e =
     pick (λ (x : Started). Among (20 ∷ 1 ∷ 2 ∷ []) (begunNumber (x .begun))) (eqb (o .refusal .number) 0) _ _ (λ a. refl) (λ a. e)
 
-pub start-numbers : (s l : List ℕ) → Among (20 ∷ 1 ∷ 2 ∷ []) (begunNumber (startOf s l .started .begun))
+pub start-numbers : (key : ℕ) (s l : List ℕ) → Among (20 ∷ 1 ∷ 2 ∷ []) (begunNumber (startOf key s l .started .begun))
 unfolding startOf
-start-numbers s l = begun-numbers (length s) (openOf s l .opened) (open-numbers s l)
+start-numbers key s l = begun-numbers key (length s) (openOf s l .opened) (open-numbers s l)
 
 offered-numbers : (s l : List ℕ) (w : Walk) → Among (1 ∷ 21 ∷ []) (numberOf (offerOf s l w .moved .offer))
 unfolding offerOf
@@ -86,7 +86,7 @@ pub matches-numbers : (headers entries contents file s l : List ℕ) (w : Walk) 
 unfolding matchesOf
 matches-numbers headers entries contents file s l w e =
     pick P (eqb (Elf.judgeOf headers entries (length contents) (length file) .number) 0) _ _
-    (λ a. pick P (offeredIn s l w e) _ _ (λ b. either (hasGlobalSymbol headers entries file (requiredOf s l (w .entries) e))) (λ b. refl))
+    (λ a. pick P (offeredIn s l w e) _ _ (λ b. either (hasGlobalSymbol headers entries file (requiredOf s l w e))) (λ b. refl))
     (λ a. elf-gives (λ (r : Refusal). Among (1 ∷ []) (r .number)) (λ k. refl) refl headers entries (length contents) (length file))
   where
     P : Admission → Type 0

@@ -9,7 +9,7 @@ use Rattle.byte_slices.specs.Ways.{apart}
 use Rattle.link.specs.declared.Link.{Link}
 use Rattle.link.specs.declared.Lent.{Lent}
 use Rattle.link.specs.declared.SymbolId.{SymbolId}
-use Rattle.link.specs.Bounds.{notLent}
+use Rattle.link.specs.Bounds.{sectionSlots}
 use Rattle.link.specs.Judge.{refused, changeOf}
 use Rattle.link.specs.Judge as Link
 use Rattle.link.specs.Counts.{lentOf}
@@ -48,7 +48,7 @@ changes (sectionSymbol section) = false
 changes (addGroup o work n) = true
 changes (merge o work ids) = true
 changes (load o marks) = true
-changes (archiveStart index cells) = false
+changes (archiveStart key index cells) = false
 changes (archiveNext index cells w) = false
 changes (matches headers entries contents file index cells w e) = false
 changes (collect marks entry work) = true
@@ -71,7 +71,7 @@ module _ (s : Linked) (b : s .table .link .broken ≡ true) where
 
   remove-broken : (id : SymbolId) → callRefusal (remove id) s ≡ refused 22 0
   unfolding removeOf
-  remove-broken id = simp (change-broken l (Symbols.lentOf notLent (length (s .table .symbols)) (length (s .table .sections))) b)
+  remove-broken id = simp (change-broken l (Symbols.lentOf (l .chains) (length (s .table .symbols)) (sectionSlots (length (s .table .sections)))) b)
 
   group-broken : (o : Group.Object) (work : List ℕ) (n : ℕ) → callRefusal (addGroup o work n) s ≡ refused 22 0
   unfolding addGroupOf AddGroup.headOf
@@ -105,7 +105,7 @@ module _ (s : Linked) (b : s .table .link .broken ≡ true) where
   broken-refused (addGroup o work n) c = group-broken o work n
   broken-refused (merge o work ids) c = merge-broken o work ids
   broken-refused (load o marks) c = load-broken o marks
-  broken-refused (archiveStart index cells) c = absurd (apart c)
+  broken-refused (archiveStart key index cells) c = absurd (apart c)
   broken-refused (archiveNext index cells w) c = absurd (apart c)
   broken-refused (matches headers entries contents file index cells w e) c = absurd (apart c)
   broken-refused (collect marks entry work) c = collect-broken marks entry work

@@ -25,7 +25,7 @@ module _ (s : Linked) (b : Below (s .table)) where
   call-past (addGroup o work n) = quiet-past (addGroup o work n) (λ (e : ⊥). e)
   call-past (merge o work ids) = quiet-past (merge o work ids) (λ (e : ⊥). e)
   call-past (load o marks) = quiet-past (load o marks) (λ (e : ⊥). e)
-  call-past (archiveStart index cells) = quiet-past (archiveStart index cells) (λ (e : ⊥). e)
+  call-past (archiveStart key index cells) = quiet-past (archiveStart key index cells) (λ (e : ⊥). e)
   call-past (archiveNext index cells w) = quiet-past (archiveNext index cells w) (λ (e : ⊥). e)
   call-past (matches headers entries contents file index cells w e) = quiet-past (matches headers entries contents file index cells w e) (λ (e : ⊥). e)
   call-past (collect marks entry work) = collect-past (s .table) (listsIn s marks) entry work

@@ -15,7 +15,7 @@ use Rattle.link.specs.declared.Lent.{Lent}
 use Rattle.link.specs.declared.Interned.{Interned}
 use Rattle.link.specs.declared.SymbolId.{SymbolId}
 use Rattle.link.specs.declared.Refusal.{Refusal}
-use Rattle.link.specs.Bounds.{notLent}
+use Rattle.link.specs.Bounds.{sectionSlots, nameRows}
 use Rattle.link.specs.Judge.{refused, changeOf}
 use Rattle.link.specs.Judge as Link
 use Rattle.link.specs.Passed.{judge-gives}
@@ -60,7 +60,7 @@ use Rattle.elf_object.specs.Judge as Elf
 use Rattle.section_groups.specs.Group as Group
 use Rattle.section_groups.specs.Group.{groupOf, groupSectionOf, go}
 use Rattle.add_group.specs.AddGroup as AddGroup
-use Rattle.add_group.specs.AddGroup.{answerOf, addGroupOf}
+use Rattle.add_group.specs.AddGroup.{answerOf, loadedIn, addGroupOf}
 use Rattle.link.specs.declared.Stage.{Stage}
 use Rattle.gc_sections.specs.declared.EntryPoint.{EntryPoint}
 use Rattle.gc_sections.specs.declared.Answer.{Answer}
@@ -98,7 +98,7 @@ intern-place x s = go (store (s .table))
     go : (t : Store) → P (internOf t x)
     go t =
         pick P (eqb (changeOf (t .link) (Names.lent t) .number) 0) _ _
-        (λ a. pick P (fitsOf t (record { 0 = findOf (t .bytes) (t .names) (t .link .names) x }) (length x)) _ _ (λ b u. refl) (λ b u. refl))
+        (λ a. pick P (fitsOf t (record { 0 = findOf (t .bytes) (t .names) (t .link) x }) (length x)) _ _ (λ b u. refl) (λ b u. refl))
         (λ a. changed (λ (r : Refusal). r .number ≢ 1 → r .place ≡ 0) (λ u. refl) (λ k u. absurd (u refl)) (λ u. refl) (t .link) (Names.lent t))
 
 pub resolve-place : (id : Interned) (s : Linked) → callNumber (resolve id) s ≢ 1 → callRefusal (resolve id) s .place ≡ 0
@@ -120,7 +120,7 @@ module _ (l : Link) (id : SymbolId) where
   remove-at : (x : Rows) → numberIn (removeOf l x id .said) ≡ 21 → placeIn (removeOf l x id .said) ≡ id .0
   unfolding removeOf
   remove-at x =
-      pick P (eqb (changeOf l (lentOf notLent (length (x .symbols)) (length (x .sections))) .number) 0) _ _
+      pick P (eqb (changeOf l (lentOf (l .chains) (length (x .symbols)) (sectionSlots (length (x .sections)))) .number) 0) _ _
       (λ a. pick P (leb (l .symbols) (id .0)) _ _ (λ b e. refl) (λ b e. differ 0 21 refl e))
       (λ a.
       changed (λ (r : Refusal). r .number ≡ 21 → r .place ≡ id .0) (λ e. differ 22 21 refl e) (λ k e. differ 1 21 refl e) (λ e. differ 0 21 refl e) l _)
@@ -131,7 +131,7 @@ module _ (l : Link) (id : SymbolId) where
   get-at : (symbols : List ℕ) → Lookup.refusalOf (getOf l symbols id) .number ≡ 21 → Lookup.refusalOf (getOf l symbols id) .place ≡ id .0
   unfolding getOf foundAt
   get-at symbols =
-      pick P (eqb (Link.judgeOf l (lentOf notLent (length symbols) notLent) .number) 0) _ _
+      pick P (eqb (Link.judgeOf l (lentOf (l .chains) (length symbols) (l .slots)) .number) 0) _ _
       (λ a.
       pick P (leb (l .symbols) (id .0)) _ _ (λ b e. refl) (λ b. pick P (eqb (stateAt symbols (id .0)) 2) _ _ (λ c e. refl) (λ c e. differ 0 21 refl e)))
       (λ a. judge-gives (λ (r : Refusal). r .number ≡ 21 → r .place ≡ id .0) (λ k e. differ 1 21 refl e) (λ e. differ 0 21 refl e) l _)
@@ -160,8 +160,8 @@ module _ (l : Link) (names symbols : List ℕ) (name : Interned) where
   pub global-at : NameAt (Lookup.refusalOf (getGlobalOf l names symbols name))
   unfolding getGlobalOf
   global-at =
-      pick (λ (f : Found). NameAt (Lookup.refusalOf f)) (eqb (Link.judgeOf l (lentOf (length names) (length symbols) notLent) .number) 0) _ _
-      (λ a. held-at (holderOf names symbols (l .names) name))
+      pick (λ (f : Found). NameAt (Lookup.refusalOf f)) (eqb (Link.judgeOf l (lentOf (nameRows (length names)) (length symbols) (l .slots)) .number) 0) _ _
+      (λ a. held-at (holderOf l names symbols name))
       (λ a. judge-gives NameAt (λ k. (λ e. differ 1 21 refl e, λ e. differ 1 23 refl e)) (λ e. differ 0 21 refl e, λ e. refl) l _)
 
 pub global-place : (name : Interned) (s : Linked) → callNumber (getGlobal name) s ≡ 21 → callRefusal (getGlobal name) s .place ≡ name .0
@@ -250,15 +250,15 @@ open-at s l =
     P : Open.Left → Type 0
     P o = o .opened .refusal .number ≢ 1 → o .opened .refusal .place ≡ 0
 
-begun-at : (n : ℕ) (o : Opened) → (o .refusal .number ≢ 1 → o .refusal .place ≡ 0) → begunNumber (begunOf n o .begun) ≢ 1 → begunPlace (begunOf n o .begun) ≡ 0
+begun-at : (key n : ℕ) (o : Opened) → (o .refusal .number ≢ 1 → o .refusal .place ≡ 0) → begunNumber (begunOf key n o .begun) ≢ 1 → begunPlace (begunOf key n o .begun) ≡ 0
 unfolding begunOf
-begun-at n o e =
+begun-at key n o e =
     pick (λ (x : Started). begunNumber (x .begun) ≢ 1 → begunPlace (x .begun) ≡ 0) (eqb (o .refusal .number) 0) _ _ (λ a u. refl) (λ a. e)
 
 -- 20 and 2 at 0
-pub start-place : (index cells : List ℕ) (s : Linked) → callNumber (archiveStart index cells) s ≢ 1 → callRefusal (archiveStart index cells) s .place ≡ 0
+pub start-place : (key : ℕ) (index cells : List ℕ) (s : Linked) → callNumber (archiveStart key index cells) s ≢ 1 → callRefusal (archiveStart key index cells) s .place ≡ 0
 unfolding startOf
-start-place index cells s = begun-at (length index) (openOf index cells .opened) (open-at index cells)
+start-place key index cells s = begun-at key (length index) (openOf index cells .opened) (open-at index cells)
 
 -- "the entry's position for a pass": of the walk's entries the first whose name's row was removed
 module _ (index cells : List ℕ) (t : Look.Table) where
@@ -403,7 +403,7 @@ module _ (o : Group.Object) (t : State) (work : List ℕ) (n : ℕ) where
   unfolding addGroupOf
   group-head u = rw (ne-eqb _ _ u)
 
-  group-past : AddGroup.headIn o at n .number ≡ 0 → addGroupOf o at n .said ≡ AddGroup.refusalOf (answerOf (groupOf o at n .stage) .answer)
+  group-past : AddGroup.headIn o at n .number ≡ 0 → addGroupOf o at n .said ≡ AddGroup.refusalOf (answerOf (groupOf (loadedIn o) at n .stage) .answer)
   unfolding addGroupOf
   group-past z = rw (eq-eqb _ _ z)
 
@@ -414,10 +414,10 @@ module _ (o : Group.Object) (t : State) (work : List ℕ) (n : ℕ) where
 
   group-element : AddGroup.headIn o at n .number ≡ 0 → addGroupOf o at n .said .number ≢ 0 → Sectioned
   group-element z u =
-      let same : groupSectionOf o (go at) n ≡ groupOf o at n = section-is o t work n (head-loaded o t work n z) in
-      let v : groupOf o at n .stage .number ≢ 0 = λ y. u (ap (λ (r : Refusal). r .number) (group-past z) ∙ answered-zero (groupOf o at n .stage) y) in
-      let said = group-past z ∙ answered-said (groupOf o at n .stage) v in
-      let e = group-left o (go at) n refl (λ y. v (sym (ap (λ (g : Group.Step). g .stage .number) same) ∙ y)) in
+      let same : groupSectionOf (loadedIn o) (go at) n ≡ groupOf (loadedIn o) at n = section-is o t work n (head-loaded o t work n z) in
+      let v : groupOf (loadedIn o) at n .stage .number ≢ 0 = λ y. u (ap (λ (r : Refusal). r .number) (group-past z) ∙ answered-zero (groupOf (loadedIn o) at n .stage) y) in
+      let said = group-past z ∙ answered-said (groupOf (loadedIn o) at n .stage) v in
+      let e = group-left (loadedIn o) (go at) n refl (λ y. v (sym (ap (λ (g : Group.Step). g .stage .number) same) ∙ y)) in
       record {
         number =
             ap (λ (r : Refusal). oneOf (r .number) (2 ∷ 4 ∷ 5 ∷ 6 ∷ 7 ∷ [])) said

@@ -27,7 +27,7 @@ use Rattle.section_groups.specs.Group as Group
 use Rattle.section_groups.specs.declared.Plan.{Plan}
 use Rattle.section_groups.specs.Group.{shapeOf, signatureOf, planOf, admitOf, decidedOf, namedOf, signedOf, shapedOf, groupOf, groupSectionOf, go}
 use Rattle.add_group.specs.AddGroup as AddGroup
-use Rattle.add_group.specs.AddGroup.{headOf, headIn, lent, rowsRefusal, marksRefusal, answerOf, addGroupOf}
+use Rattle.add_group.specs.AddGroup.{headOf, headIn, lent, rowsRefusal, marksRefusal, answerOf, tableIn, loadedIn, addGroupOf}
 use Rattle.gc_sections.specs.Run as Collection
 use Rattle.gc_sections.specs.Run.{runOf}
 use Rattle.symbol_laws.specs.History as History
@@ -96,7 +96,7 @@ module _ (o : Group.Object) (t : State) (work : List ℕ) (n : ℕ) where
 
   -- a group that passes the head: its signature's name is issued and marked
   abbrev pub groupSteps : List Step
-  groupSteps = cond (eqb (headIn o at n .number) 0) (groupSectionSteps o (go at) n) []
+  groupSteps = cond (eqb (headIn o at n .number) 0) (groupSectionSteps (loadedIn o) (go at) n) []
 
   pub head-loaded : headIn o at n .number ≡ 0 → isLoaded (o .headers) n 7 ≡ true
   unfolding headOf rowsRefusal marksRefusal
@@ -111,7 +111,7 @@ module _ (o : Group.Object) (t : State) (work : List ℕ) (n : ℕ) where
       (λ b. absurd (eqb-false _ _ b (rw (a, b) at e))))
       (λ a. absurd (eqb-false _ _ a (rw a at e)))
 
-  pub section-is : isLoaded (o .headers) n 7 ≡ true → groupSectionOf o (go at) n ≡ groupOf o at n
+  pub section-is : isLoaded (o .headers) n 7 ≡ true → groupSectionOf (loadedIn o) (go at) n ≡ groupOf (loadedIn o) at n
   unfolding groupSectionOf
   section-is e = rw e
 
@@ -134,30 +134,30 @@ module _ (o : Group.Object) (t : State) (work : List ℕ) (n : ℕ) where
   group-makes =
       by-test (eqb (headIn o at n .number) 0)
       (λ a.
-      let e : stepped (groupSectionOf o (go at) n) ≡ grouped (AddGroup.answered (groupOf o at n)) =
-      ap stepped (section-is (head-loaded (eqb-true _ _ a))) ∙ sym (answered-is (groupOf o at n)) in
-      rw a (subst (Makes t (groupSectionSteps o (go at) n)) e (section-makes (t .symbols) (t .sections) o (go at) n)))
+      let e : stepped (groupSectionOf (loadedIn o) (go at) n) ≡ grouped (AddGroup.answered (groupOf (loadedIn o) at n)) =
+      ap stepped (section-is (head-loaded (eqb-true _ _ a))) ∙ sym (answered-is (groupOf (loadedIn o) at n)) in
+      rw a (subst (Makes t (groupSectionSteps (loadedIn o) (go at) n)) e (section-makes (t .symbols) (t .sections) (loadedIn o) (go at) n)))
       (λ a. rw a (makes-none t))
 
   -- no row is added
-  section-log : (g : Group.Step) → logSteps (groupSectionSteps o g n) t ≡ []
+  section-log : (g : Group.Step) → logSteps (groupSectionSteps (loadedIn o) g n) t ≡ []
   unfolding groupSectionSteps signedSteps
   section-log g =
       by-test (isLoaded (o .headers) n 7)
-      (λ a. by-test (eqb (groupSectionOf o g n .stage .number) 0) (λ b. rw (a, b)) (λ b. rw (a, b))) (λ a. rw a)
+      (λ a. by-test (eqb (groupSectionOf (loadedIn o) g n .stage .number) 0) (λ b. rw (a, b)) (λ b. rw (a, b))) (λ a. rw a)
 
   pub group-log : [] ≡ logSteps groupSteps t
   group-log = by-test (eqb (headIn o at n .number) 0) (λ a. rw a (sym (section-log (go at)))) (λ a. rw a)
 
   -- what names don't touch of the link stays
   module _ {A : Type 0} (count : Link → A) (same : (s : Store) (id : Interned) (x : List ℕ) → count (keepOf s id x .link) ≡ count (s .link)) where
-    group-same : count (groupOf o at n .stage .link) ≡ count (t .link)
+    group-same : count (groupOf (loadedIn o) at n .stage .link) ≡ count (t .link)
     unfolding groupOf shapedOf signedOf namedOf decidedOf admitOf
     group-same =
-        let x : Looked = signatureOf (o .headers) (o .entries) (o .file) (o .table) n in
+        let x : Looked = signatureOf (o .headers) (tableIn (o .headers) (o .entries) (o .table)) (o .file) (o .table) n in
         let listed : ℕ = getD (o .contents) (firstAt (o .headers) n) 0 in
         let p : Plan = planOf (t .link) (t .bytes) (t .names) (length work / 8) (x .name) listed in
-        by-test (eqb (shapeOf (o .headers) (o .entries) (o .table) n) 0)
+        by-test (eqb (shapeOf (o .headers) (tableIn (o .headers) (o .entries) (o .table)) (o .table) n) 0)
         (λ a.
         by-test (x .found)
         (λ b.
@@ -168,7 +168,7 @@ module _ (o : Group.Object) (t : State) (work : List ℕ) (n : ℕ) where
     pub group-count : count (addGroupOf o at n .outcome .link) ≡ count (t .link)
     unfolding addGroupOf
     group-count =
-        by-test (eqb (headIn o at n .number) 0) (λ a. rw a (ap count (answer-link (groupOf o at n .stage)) ∙ group-same)) (λ a. rw a)
+        by-test (eqb (headIn o at n .number) 0) (λ a. rw a (ap count (answer-link (groupOf (loadedIn o) at n .stage)) ∙ group-same)) (λ a. rw a)
 
 -- ---- every call
 
@@ -183,7 +183,7 @@ callSteps (sectionSymbol section) s = []
 callSteps (addGroup o work n) s = groupSteps o (s .table) work n
 callSteps (merge o work ids) s = mergeSteps o (allIn s work ids)
 callSteps (load o marks) s = loadSteps o (libraryIn s marks)
-callSteps (archiveStart index cells) s = []
+callSteps (archiveStart key index cells) s = []
 callSteps (archiveNext index cells w) s = []
 callSteps (matches headers entries contents file index cells w e) s = []
 callSteps (collect marks entry work) s = []
@@ -199,7 +199,7 @@ call-makes (sectionSymbol section) s q = makes-none (s .table)
 call-makes (addGroup o work n) s q = group-makes o (s .table) work n
 call-makes (merge o work ids) s q = merge-makes o (allIn s work ids)
 call-makes (load o marks) s q = load-makes o (libraryIn s marks)
-call-makes (archiveStart index cells) s q = makes-none (s .table)
+call-makes (archiveStart key index cells) s q = makes-none (s .table)
 call-makes (archiveNext index cells w) s q = makes-none (s .table)
 call-makes (matches headers entries contents file index cells w e) s q = makes-none (s .table)
 call-makes (collect marks entry work) s q =
@@ -216,7 +216,7 @@ call-log (sectionSymbol section) s q = refl
 call-log (addGroup o work n) s q = group-log o (s .table) work n
 call-log (merge o work ids) s q = refl
 call-log (load o marks) s q = refl
-call-log (archiveStart index cells) s q = refl
+call-log (archiveStart key index cells) s q = refl
 call-log (archiveNext index cells w) s q = refl
 call-log (matches headers entries contents file index cells w e) s q = refl
 call-log (collect marks entry work) s q = refl
@@ -242,7 +242,7 @@ call-leads (sectionSymbol section) s = made (makes-none (s .table))
 call-leads (addGroup o work n) s = made (group-makes o (s .table) work n)
 call-leads (merge o work ids) s = made (merge-makes o (allIn s work ids))
 call-leads (load o marks) s = made (load-makes o (libraryIn s marks))
-call-leads (archiveStart index cells) s = made (makes-none (s .table))
+call-leads (archiveStart key index cells) s = made (makes-none (s .table))
 call-leads (archiveNext index cells w) s = made (makes-none (s .table))
 call-leads (matches headers entries contents file index cells w e) s = made (makes-none (s .table))
 call-leads (collect marks entry work) s =

@@ -68,7 +68,7 @@ pub data Call : Type 0 where
   -- the library, cells for the marks that as-needed takes
   load : Shared.Input → List ℕ → Call
   -- the index, and cells for its entries
-  archiveStart : List ℕ → List ℕ → Call
+  archiveStart : ℕ → List ℕ → List ℕ → Call
   archiveNext : List ℕ → List ℕ → Walk → Call
   -- headers, entries, contents and bytes of the object; index, cells, walk; the entry that was offered
   matches : List ℕ → List ℕ → List ℕ → List ℕ → List ℕ → List ℕ → Walk → ℕ → Call
@@ -104,7 +104,7 @@ LeftBy (sectionSymbol section) = SectionSymbol
 LeftBy (addGroup o work n) = AddGroup.Left
 LeftBy (merge o work ids) = Merge.Left
 LeftBy (load o marks) = Shared.Left
-LeftBy (archiveStart index cells) = Archive.Start
+LeftBy (archiveStart key index cells) = Archive.Start
 LeftBy (archiveNext index cells w) = Archive.Step
 LeftBy (matches headers entries contents file index cells w e) = Admission
 LeftBy (collect marks entry work) = Collection.Left
@@ -121,7 +121,7 @@ callLeft (sectionSymbol section) s = sectionSymbolOf (s .table .link) (s .table 
 callLeft (addGroup o work n) s = addGroupOf o (groupIn (s .table) work) n
 callLeft (merge o work ids) s = mergeOf o (allIn s work ids)
 callLeft (load o marks) s = loadOf o (libraryIn s marks)
-callLeft (archiveStart index cells) s = startOf index cells
+callLeft (archiveStart key index cells) s = startOf key index cells
 callLeft (archiveNext index cells w) s = nextOf index cells w (viewIn (s .table))
 callLeft (matches headers entries contents file index cells w e) s = matchesOf headers entries contents file index cells w e
 callLeft (collect marks entry work) s = runOf (s .table .link) (listsIn s marks) (s .table .symbols) (s .table .sections) entry work
@@ -143,7 +143,7 @@ refusalIn (sectionSymbol section) o = refused 0 0
 refusalIn (addGroup o work n) x = x .said
 refusalIn (merge o work ids) x = x .said
 refusalIn (load o marks) x = refusalBy (x .said)
-refusalIn (archiveStart index cells) o = refused (Archive.begunNumber (o .started .begun)) (Archive.begunPlace (o .started .begun))
+refusalIn (archiveStart key index cells) o = refused (Archive.begunNumber (o .started .begun)) (Archive.begunPlace (o .started .begun))
 refusalIn (archiveNext index cells w) o = refused (Archive.numberOf (o .moved .offer)) (Archive.placeOf (o .moved .offer))
 refusalIn (matches headers entries contents file index cells w e) o = refused (Matches.numberOf o) (Matches.placeOf o)
 refusalIn (collect marks entry work) o = refused (o .said .number) (o .said .place)
@@ -170,7 +170,7 @@ nextBy (sectionSymbol section) s o = s
 nextBy (addGroup o work n) s x = tabled s (withStore (s .table) (storeOf (x .bytes) (x .names) (x .outcome .link)))
 nextBy (merge o work ids) s x = linkIn (x .cells)
 nextBy (load o marks) s x = linked (Loads.tableIn (x .cells)) (x .cells .inputs) (x .cells .lists)
-nextBy (archiveStart index cells) s o = s
+nextBy (archiveStart key index cells) s o = s
 nextBy (archiveNext index cells w) s o = s
 nextBy (matches headers entries contents file index cells w e) s o = s
 nextBy (collect marks entry work) s o = tabled s (withRows (s .table) (rowsOf (o .symbols) (o .sections)) (o .link))
@@ -191,7 +191,7 @@ callNotes (sectionSymbol section) s = []
 callNotes (addGroup o work n) s = []
 callNotes (merge o work ids) s = logSteps (mergeSteps o (allIn s work ids)) (s .table)
 callNotes (load o marks) s = logSteps (loadSteps o (libraryIn s marks)) (s .table)
-callNotes (archiveStart index cells) s = []
+callNotes (archiveStart key index cells) s = []
 callNotes (archiveNext index cells w) s = []
 callNotes (matches headers entries contents file index cells w e) s = []
 callNotes (collect marks entry work) s = []
@@ -223,7 +223,7 @@ Removes (sectionSymbol section) s = ⊥
 Removes (addGroup o work n) s = ⊥
 Removes (merge o work ids) s = ⊥
 Removes (load o marks) s = ⊥
-Removes (archiveStart index cells) s = ⊥
+Removes (archiveStart key index cells) s = ⊥
 Removes (archiveNext index cells w) s = ⊥
 Removes (matches headers entries contents file index cells w e) s = ⊥
 Removes (collect marks entry work) s = Drops (callLeft (collect marks entry work) s .answer)

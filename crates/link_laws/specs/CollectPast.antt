@@ -6,14 +6,15 @@ use mathlib.Core.Path.{_≡_, refl, sym, ap, _∙_, subst}
 use mathlib.Core.List.{List}
 use lib.Dec.{eqb, ltb, leb}
 use lib.ListN.{getD, length, length-set}
+use borrow.Author.Tests.{eqb-true}
 use Rattle.cells.specs.Split.{by-test}
 use Rattle.byte_slices.specs.Ways.{pick}
 use Rattle.link.specs.declared.Link.{Link}
 use Rattle.link.specs.declared.SymbolId.{SymbolId}
-use Rattle.link.specs.Bounds.{notLent}
+use Rattle.link.specs.Bounds.{sectionSlots}
 use Rattle.link.specs.Judge.{changeOf}
 use Rattle.symbol.specs.Row.{field, stateAt}
-use Rattle.symbol_rows.specs.Decide.{sectionCells}
+use Rattle.symbol_rows.specs.Decide.{sectionCell}
 use Rattle.symbol_rows.specs.Apply.{setSectionSymbol}
 use Rattle.symbols.specs.Calls.{lentOf}
 use Rattle.symbols.specs.Remove.{Rows, rowsOf, dropSection, removeRowOf, removeOf}
@@ -23,6 +24,7 @@ use Rattle.gc_sections.specs.declared.Unbuilt.the-variants.{None, Lowest}
 use Rattle.gc_sections.specs.Reach.{Walk, walked}
 use Rattle.gc_sections.specs.Sweep.{Swept, Purged, droppedNow, sweepSections, purgeSymbols}
 use Rattle.gc_sections.specs.Run.{Left, Lists, judged, purgeOf, sweepOf, finishOf, finished, collectOf, runOf}
+use Rattle.gc_laws.specs.Head.{slots-fit}
 use Rattle.gc_laws.specs.Paint.{length-painted, paint-miss}
 use Rattle.gc_laws.specs.Swept.{stateCell, doomed, gone, freed, symbolCell, swept-is, purged-is}
 use Rattle.symbol_laws.specs.History as History
@@ -37,7 +39,7 @@ module _ (l : Link) (symbols sections : List ℕ) where
   pub record Past (r : Left) : Type 0 where
     pub link : r .link ≡ l
     pub symbols-past : (q : ℕ) → l .symbols * 8 ≤ q → getD (r .symbols) q 0 ≡ getD symbols q 0
-    pub sections-past : (q : ℕ) → l .sections * 8 ≤ q → q < sectionCells (length sections) * 8 → getD (r .sections) q 0 ≡ getD sections q 0
+    pub sections-past : (q : ℕ) → l .sections * 8 ≤ q → q < l .slots * 8 → getD (r .sections) q 0 ≡ getD sections q 0
     pub symbols-long : length (r .symbols) ≡ length symbols
     pub sections-long : length (r .sections) ≡ length sections
 
@@ -51,43 +53,44 @@ module _ (l : Link) (symbols sections : List ℕ) where
       ap (λ (s : Swept). getD (s .sections) q 0) (swept-is (l .sections) sections work)
       ∙ paint-miss (doomed (l .sections) sections work) stateCell 3 (l .sections) 0 sections q (λ j a b e d. omega arith)
 
-  module _ (work rows : List ℕ) where
+  module _ (work rows : List ℕ) (room : l .slots ≤ sectionSlots (length rows)) where
     abbrev cells : ℕ
-    cells = sectionCells (length rows)
+    cells = l .slots
 
     abbrev p : Purged
     p = purgeSymbols l work (rowsOf symbols rows)
 
     purged-symbols : (q : ℕ) → l .symbols * 8 ≤ q → getD (p .rows .symbols) q 0 ≡ getD symbols q 0
     purged-symbols q h =
-        ap (λ (s : Purged). getD (s .rows .symbols) q 0) (purged-is l work symbols cells rows refl)
+        ap (λ (s : Purged). getD (s .rows .symbols) q 0) (purged-is l work symbols rows room)
         ∙ paint-miss (gone (droppedNow work (l .sections)) symbols (l .symbols)) stateCell 2 (l .symbols) 0 symbols q (λ j a b e d. omega arith)
 
     purged-sections : (q : ℕ) → q < cells * 8 → getD (p .rows .sections) q 0 ≡ getD rows q 0
     purged-sections q h =
-        ap (λ (s : Purged). getD (s .rows .sections) q 0) (purged-is l work symbols cells rows refl)
+        ap (λ (s : Purged). getD (s .rows .sections) q 0) (purged-is l work symbols rows room)
         ∙ paint-miss (freed (droppedNow work (l .sections)) symbols (l .symbols) cells) (symbolCell symbols cells) 0 (l .symbols) 0 rows q (λ j a b e d. omega arith)
 
     purged-symbols-long : length (p .rows .symbols) ≡ length symbols
     purged-symbols-long =
-        ap (λ (s : Purged). length (s .rows .symbols)) (purged-is l work symbols cells rows refl)
+        ap (λ (s : Purged). length (s .rows .symbols)) (purged-is l work symbols rows room)
         ∙ length-painted (gone (droppedNow work (l .sections)) symbols (l .symbols)) stateCell 2 (l .symbols) 0 symbols
 
     purged-long : length (p .rows .sections) ≡ length rows
     purged-long =
-        ap (λ (s : Purged). length (s .rows .sections)) (purged-is l work symbols cells rows refl)
+        ap (λ (s : Purged). length (s .rows .sections)) (purged-is l work symbols rows room)
         ∙ length-painted (freed (droppedNow work (l .sections)) symbols (l .symbols) cells) (symbolCell symbols cells) 0 (l .symbols) 0 rows
 
-  sweep-past : (work : List ℕ) → Past (sweepOf l symbols sections work)
+  sweep-past : l .slots ≤ sectionSlots (length sections) → (work : List ℕ) → Past (sweepOf l symbols sections work)
   unfolding sweepOf purgeOf
-  sweep-past work =
+  sweep-past room work =
       let s : Swept = sweepSections (l .sections) sections work in
+      let r : l .slots ≤ sectionSlots (length (s .sections)) = rw (swept-long work) room in
       record {
         link = refl;
-        symbols-past = λ q h. purged-symbols (s .work) (s .sections) q h;
-        sections-past = λ q h k. purged-sections (s .work) (s .sections) q (rw (swept-long work) k) ∙ swept-past work q h;
-        symbols-long = purged-symbols-long (s .work) (s .sections);
-        sections-long = purged-long (s .work) (s .sections) ∙ swept-long work;
+        symbols-past = λ q h. purged-symbols (s .work) (s .sections) r q h;
+        sections-past = λ q h k. purged-sections (s .work) (s .sections) r q k ∙ swept-past work q h;
+        symbols-long = purged-symbols-long (s .work) (s .sections) r;
+        sections-long = purged-long (s .work) (s .sections) r ∙ swept-long work;
       }
 
   module _ (x : Lists) (entry : EntryPoint) (work : List ℕ) where
@@ -97,12 +100,12 @@ module _ (l : Link) (symbols sections : List ℕ) where
     pub run-past : Past (runOf l x symbols sections entry work)
     unfolding runOf collectOf finished
     run-past =
-        pick Past (eqb (judged l x symbols sections work .number) 0) _ _ (λ t. go (w .visitor .unbuilt))
+        pick Past (eqb (judged l x symbols sections work .number) 0) _ _ (λ t. go (slots-fit l x symbols sections work (eqb-true _ _ t)) (w .visitor .unbuilt))
         (λ t. record { link = refl; symbols-past = λ q h. refl; sections-past = λ q h k. refl; symbols-long = refl; sections-long = refl })
       where
-        go : (u : Unbuilt) → Past (finishOf l symbols sections (w .work) u)
-        go None = sweep-past (w .work)
-        go (Lowest id) = record { link = refl; symbols-past = λ q h. refl; sections-past = λ q h k. refl; symbols-long = refl; sections-long = refl }
+        go : l .slots ≤ sectionSlots (length sections) → (u : Unbuilt) → Past (finishOf l symbols sections (w .work) u)
+        go room None = sweep-past room (w .work)
+        go room (Lowest id) = record { link = refl; symbols-past = λ q h. refl; sections-past = λ q h k. refl; symbols-long = refl; sections-long = refl }
 
 pub collect-past : (s : State) (x : Lists) (entry : EntryPoint) (work : List ℕ)
     → let r = runOf (s .link) x (s .symbols) (s .sections) entry work in
@@ -124,27 +127,24 @@ collect-past s x entry work =
 
 -- ---- a remove
 
-dropped-long : (sections : List ℕ) (kind n : ℕ) → length (dropSection sections kind n) ≡ length sections
+dropped-long : (l : Link) (sections : List ℕ) (kind n : ℕ) → length (dropSection l sections kind n) ≡ length sections
 unfolding dropSection setSectionSymbol
-dropped-long sections kind n =
-    by-test (eqb kind 2)
-    (λ a. by-test (ltb n (sectionCells (length sections))) (λ b. rw (a, b) (length-set sections (sectionCells (length sections) * 8 + n) 0)) (λ b. rw (a, b)))
-    (λ a. rw a)
+dropped-long l sections kind n = by-test (eqb kind 2) (λ a. rw a (length-set sections (sectionCell l (length sections) n) 0)) (λ a. rw a)
 
 abbrev SameLengths : Rows → Rows → Type 0
 SameLengths x y = (length (x .symbols) ≡ length (y .symbols)) × (length (x .sections) ≡ length (y .sections))
 
-removed-long : (x : Rows) (id : SymbolId) → SameLengths (removeRowOf x id) x
+removed-long : (l : Link) (x : Rows) (id : SymbolId) → SameLengths (removeRowOf l x id) x
 unfolding removeRowOf
-removed-long x id =
+removed-long l x id =
     by-test (eqb (stateAt (x .symbols) (id .0)) 2) (λ a. rw a (refl, refl))
-    (λ a. rw a (length-set (x .symbols) (id .0 * 8 + 0) 2, dropped-long (x .sections) (field (x .symbols) (id .0) 5) (field (x .symbols) (id .0) 6)))
+    (λ a. rw a (length-set (x .symbols) (id .0 * 8 + 0) 2, dropped-long l (x .sections) (field (x .symbols) (id .0) 5) (field (x .symbols) (id .0) 6)))
 
 remove-long : (l : Link) (x : Rows) (id : SymbolId) → SameLengths (removeOf l x id .rows) x
 unfolding removeOf
 remove-long l x id =
-    by-test (eqb (changeOf l (lentOf notLent (length (x .symbols)) (length (x .sections))) .number) 0)
-    (λ a. by-test (leb (l .symbols) (id .0)) (λ b. rw (a, b) (refl, refl)) (λ b. rw (a, b) (removed-long x id))) (λ a. rw a (refl, refl))
+    by-test (eqb (changeOf l (lentOf (l .chains) (length (x .symbols)) (sectionSlots (length (x .sections)))) .number) 0)
+    (λ a. by-test (leb (l .symbols) (id .0)) (λ b. rw (a, b) (refl, refl)) (λ b. rw (a, b) (removed-long l x id))) (λ a. rw a (refl, refl))
 
 pub remove-past : (s : State) (id : SymbolId) → TablePast s (History.callNext (History.remove id) s)
 remove-past s id =

@@ -103,11 +103,11 @@ module _ (index : List ℕ) where
       P : Open.Left → Type 0
       P o = o .opened .refusal .number ≡ 1 → CutShort (o .opened .refusal .place)
 
-  begun-short : (n : ℕ) (o : Opened) → (o .refusal .number ≡ 1 → CutShort (o .refusal .place)) → begunNumber (begunOf n o .begun) ≡ 1 → CutShort (begunPlace (begunOf n o .begun))
+  begun-short : (key n : ℕ) (o : Opened) → (o .refusal .number ≡ 1 → CutShort (o .refusal .place)) → begunNumber (begunOf key n o .begun) ≡ 1 → CutShort (begunPlace (begunOf key n o .begun))
   unfolding begunOf
-  begun-short n o f =
+  begun-short key n o f =
       pick (λ (x : Started). begunNumber (x .begun) ≡ 1 → CutShort (begunPlace (x .begun))) (eqb (o .refusal .number) 0) _ _ (λ a e. differ 0 1 refl e) (λ a. f)
 
-  pub start-row : (cells : List ℕ) (s : Linked) → callNumber (archiveStart index cells) s ≡ 1 → CutShort (callRefusal (archiveStart index cells) s .place)
+  pub start-row : (key : ℕ) (cells : List ℕ) (s : Linked) → callNumber (archiveStart key index cells) s ≡ 1 → CutShort (callRefusal (archiveStart key index cells) s .place)
   unfolding startOf
-  start-row cells s = begun-short (length index) (openOf index cells .opened) (opened-short cells)
+  start-row key cells s = begun-short key (length index) (openOf index cells .opened) (opened-short cells)

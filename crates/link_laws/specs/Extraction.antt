@@ -28,7 +28,7 @@ use Rattle.link_laws.specs.Undefined.{symbolsUnder, weakReferences, unde
 -- the pass queues the member of entry e, and admission over its required names says yes to the object
 abbrev pub chosenIn : List ℕ → Run → ℕ → List ℕ → List ℕ → List ℕ → Bool
 chosenIn index r e headers entries file =
-    among index e (queueIn r) && hasGlobalSymbol headers entries file (requiredOf index (r .cells) (countOf index) e)
+    among index e (queueIn r) && hasGlobalSymbol headers entries file (requiredOf index (r .cells) (r .walk) e)
 
 module _ (s : Linked) (past : List Entry) (inv : Inv (s .table) past) where
   -- what the gABI wants from an archive, by the symbols that were accepted under a name
@@ -38,9 +38,9 @@ module _ (s : Linked) (past : List Entry) (inv : Inv (s .table) past) where
   abbrev pub weaklyIn : List ℕ → Bool
   weaklyIn x = weakReferences (symbolsUnder (s .table) past x)
 
-  module _ (index cells : List ℕ) (begun : begunNumber (startOf index cells .started .begun) ≡ 0) (ts : List Table) where
+  module _ (key : ℕ) (index cells : List ℕ) (begun : begunNumber (startOf key index cells .started .begun) ≡ 0) (ts : List Table) where
     abbrev pub before : Run
-    before = history index ts (startRun index cells)
+    before = history index ts (startRun key index cells)
 
     abbrev pub after : Run
     after = nextIn index before s
@@ -57,7 +57,7 @@ module _ (s : Linked) (past : List Entry) (inv : Inv (s .table) past) where
           → chosenIn index after e headers entries file || weakOffers wanted member ≡ extracts member wanted || taken weaklyIn member
       differences wanted same =
           ap (λ (r : Run). chosenIn index r e headers entries file || weakOffers wanted member) (next-is index before s)
-          ∙ Extraction.both-differences index cells begun ts (viewIn (s .table)) passed e low new headers entries file listed wanted weaklyIn
+          ∙ Extraction.both-differences key index cells begun ts (viewIn (s .table)) passed e low new headers entries file listed wanted weaklyIn
           (λ x l. undefined-is (s .table) past inv x ∙ ap (λ (b : Bool). b || weaklyIn x) (sym (same x l)))
 
       pub agrees : (wanted : List (List ℕ)) → ((x : List ℕ) → lists member x ≡ true → Strings.among x wanted ≡ wantedIn x)

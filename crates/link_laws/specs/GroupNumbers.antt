@@ -16,7 +16,7 @@ use Rattle.elf_object.specs.Judge as Elf
 use Rattle.section_groups.specs.Group as Group
 use Rattle.section_groups.specs.Group.{groupOf, groupSectionOf, go}
 use Rattle.add_group.specs.AddGroup as AddGroup
-use Rattle.add_group.specs.AddGroup.{headOf, headIn, rowsRefusal, marksRefusal, answerOf, addGroupOf}
+use Rattle.add_group.specs.AddGroup.{headOf, headIn, rowsRefusal, marksRefusal, answerOf, loadedIn, addGroupOf}
 use Rattle.symbol_laws.specs.History.{State}
 use Rattle.merge_laws.specs.Refusals.{group-left}
 use Rattle.link_laws.specs.Calls.{groupIn}
@@ -49,12 +49,12 @@ module _ (o : Group.Object) (t : State) (work : List ℕ) (n : ℕ) where
   unfolding answerOf
   answered-number s e = by-test (eqb (s .number) 0) (λ a. rw a) (λ a. rw a e)
 
-  section-number : InGroup (groupSectionOf o (go at) n .stage .number)
+  section-number : InGroup (groupSectionOf (loadedIn o) (go at) n .stage .number)
   section-number =
-      by-test (eqb (groupSectionOf o (go at) n .stage .number) 0) (λ a. rw a)
+      by-test (eqb (groupSectionOf (loadedIn o) (go at) n .stage .number) 0) (λ a. rw a)
       (λ a.
-      one-within (groupSectionOf o (go at) n .stage .number) (2 ∷ 4 ∷ 5 ∷ 6 ∷ 7 ∷ []) (0 ∷ 22 ∷ 1 ∷ 2 ∷ 4 ∷ 5 ∷ 6 ∷ 7 ∷ []) refl
-      (group-left o (go at) n refl (eqb-false _ _ a) .number))
+      one-within (groupSectionOf (loadedIn o) (go at) n .stage .number) (2 ∷ 4 ∷ 5 ∷ 6 ∷ 7 ∷ []) (0 ∷ 22 ∷ 1 ∷ 2 ∷ 4 ∷ 5 ∷ 6 ∷ 7 ∷ []) refl
+      (group-left (loadedIn o) (go at) n refl (eqb-false _ _ a) .number))
 
   pub group-numbers : InGroup (addGroupOf o at n .said .number)
   unfolding addGroupOf
@@ -62,6 +62,6 @@ module _ (o : Group.Object) (t : State) (work : List ℕ) (n : ℕ) where
       by-test (eqb (headIn o at n .number) 0)
       (λ a.
       rw a
-      (answered-number (groupOf o at n .stage)
+      (answered-number (groupOf (loadedIn o) at n .stage)
       (subst (λ (g : Group.Step). InGroup (g .stage .number)) (section-is o t work n (head-loaded o t work n (eqb-true _ _ a))) section-number)))
       (λ a. rw a group-head)

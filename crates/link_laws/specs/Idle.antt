@@ -71,7 +71,7 @@ purge-turn : (l : Link) (work : List ℕ) (i : ℕ) (s : Purged) → Turn purged
 unfolding purgeSymbol
 purge-turn l work i s = go (leadOf (s .rows .symbols) (l .symbols) (symbolId i))
   where
-    go : (k : Lead) → Turn purgedCount s (purgeLead work (l .sections) i k s)
+    go : (k : Lead) → Turn purgedCount s (purgeLead l work i k s)
     go Nowhere = idle refl
     go (Section x) = pick (Turn purgedCount s) (droppedNow work (l .sections) (x .0)) _ _ (λ a. counts refl) (λ a. idle refl)
 

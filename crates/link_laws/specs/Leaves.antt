@@ -14,7 +14,7 @@ use Rattle.link.specs.declared.Stage.{Stage}
 use Rattle.section_groups.specs.Group as Group
 use Rattle.section_groups.specs.Group.{groupOf, groupSectionOf, go}
 use Rattle.add_group.specs.AddGroup as AddGroup
-use Rattle.add_group.specs.AddGroup.{answerOf, addGroupOf}
+use Rattle.add_group.specs.AddGroup.{answerOf, loadedIn, addGroupOf}
 use Rattle.merge_stages.specs.Stages as Stages
 use Rattle.merge_elf.specs.Merge as Merge
 use Rattle.shared_objects.specs.declared.Answer.{Answer}
@@ -48,7 +48,7 @@ byElements (sectionSymbol section) = false
 byElements (addGroup o work n) = false
 byElements (merge o work ids) = true
 byElements (load o marks) = true
-byElements (archiveStart index cells) = false
+byElements (archiveStart key index cells) = false
 byElements (archiveNext index cells w) = false
 byElements (matches headers entries contents file index cells w e) = false
 byElements (collect marks entry work) = false
@@ -73,12 +73,12 @@ module _ (o : Group.Object) (t : State) (work : List ℕ) (n : ℕ) where
   group-refused =
       pick (λ (x : AddGroup.Left). x .said .number ≢ 0 → GroupLeft x) (eqb (AddGroup.headIn o at n .number) 0) _ _
       (λ a u.
-      let same : groupSectionOf o (go at) n ≡ groupOf o at n = section-is o t work n (head-loaded o t work n (eqb-true _ _ a)) in
+      let same : groupSectionOf (loadedIn o) (go at) n ≡ groupOf (loadedIn o) at n = section-is o t work n (head-loaded o t work n (eqb-true _ _ a)) in
       let e =
-      group-left o (go at) n refl
-      (λ z. u (answered-zero (groupOf o at n .stage) (sym (ap (λ (g : Group.Step). g .stage .number) same) ∙ z))) .as-it-was in
+      group-left (loadedIn o) (go at) n refl
+      (λ z. u (answered-zero (groupOf (loadedIn o) at n .stage) (sym (ap (λ (g : Group.Step). g .stage .number) same) ∙ z))) .as-it-was in
       let f = sym same ∙ e in (
-        answered-is o t work n (groupOf o at n)
+        answered-is o t work n (groupOf (loadedIn o) at n)
             ∙ ap (λ (g : Group.Step). record { bytes = g .bytes; names = g .names; symbols = t .symbols; sections = t .sections; link = g .stage .link }) f,
         ap (λ (g : Group.Step). g .work) f,
       ))
@@ -95,7 +95,7 @@ refused-leaves (sectionSymbol section) s g u = refl
 refused-leaves (addGroup o work n) s g u = ap (λ (t : State). linked t (s .inputs) (s .lists)) (group-refused o (s .table) work n u .0)
 refused-leaves (merge o work ids) s g u = absurd (apart (sym g))
 refused-leaves (load o marks) s g u = absurd (apart (sym g))
-refused-leaves (archiveStart index cells) s g u = refl
+refused-leaves (archiveStart key index cells) s g u = refl
 refused-leaves (archiveNext index cells w) s g u = refl
 refused-leaves (matches headers entries contents file index cells w e) s g u = refl
 refused-leaves (collect marks entry work) s g u =

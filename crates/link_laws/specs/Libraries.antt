@@ -27,14 +27,14 @@ use Rattle.link_laws.specs.NamesStay.{calls-stay}
 
 -- ---- counted inputs and lists stay, over any calls
 
-record Stay (s t : Linked) : Type 0 where
-  inputs-more : s .table .link .inputs ≤ t .table .link .inputs
-  inputs-same : (q : ℕ) → q < s .table .link .inputs * 8 → getD (t .inputs) q 0 ≡ getD (s .inputs) q 0
-  lists-more : s .table .link .lists ≤ t .table .link .lists
-  lists-same : (q : ℕ) → q < s .table .link .lists → getD (t .lists) q 0 ≡ getD (s .lists) q 0
-  lists-long : length (t .lists) ≡ length (s .lists)
+pub record Stay (s t : Linked) : Type 0 where
+  pub inputs-more : s .table .link .inputs ≤ t .table .link .inputs
+  pub inputs-same : (q : ℕ) → q < s .table .link .inputs * 8 → getD (t .inputs) q 0 ≡ getD (s .inputs) q 0
+  pub lists-more : s .table .link .lists ≤ t .table .link .lists
+  pub lists-same : (q : ℕ) → q < s .table .link .lists → getD (t .lists) q 0 ≡ getD (s .lists) q 0
+  pub lists-long : length (t .lists) ≡ length (s .lists)
 
-stay-all : (ks : List Call) (s : Linked) → length (s .lists) ≤ notLent → Stay s (runCalls ks s)
+pub stay-all : (ks : List Call) (s : Linked) → length (s .lists) ≤ notLent → Stay s (runCalls ks s)
 stay-all [] s n =
     record { inputs-more = le-refl _; inputs-same = λ q h. refl; lists-more = le-refl _; lists-same = λ q h. refl; lists-long = refl }
 stay-all (k ∷ ks) s n =

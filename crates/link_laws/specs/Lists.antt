@@ -80,7 +80,7 @@ call-listed (addGroup o work n) s h =
     (group-count o (s .table) work n (λ (l : Link). l .lists) keep-lists) (group-count o (s .table) work n (λ (l : Link). l .inputs) keep-inputs)
 call-listed (merge o work ids) s h = merge-left o (allIn s work ids)
 call-listed (load o marks) s h = load-listed o (libraryIn s marks) h
-call-listed (archiveStart index cells) s h = none-listed s
+call-listed (archiveStart key index cells) s h = none-listed s
 call-listed (archiveNext index cells w) s h = none-listed s
 call-listed (matches headers entries contents file index cells w e) s h = none-listed s
 call-listed (collect marks entry work) s h =

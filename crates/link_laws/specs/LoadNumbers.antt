@@ -76,18 +76,18 @@ record-numbers : (s : Recorded) (x : List ℕ) (place : ℕ) → In (recordOf s 
 unfolding recordOf recordAs keepName
 record-numbers s x place =
     pick (λ (r : Recorded). In (r .stage .number))
-    (recordFits (s .stage .link) (s .bytes) (s .names) (length (s .lists)) (record { 0 = findOf (s .bytes) (s .names) (s .stage .link .names) x }) (length x)) _ _
+    (recordFits (s .stage .link) (s .bytes) (s .names) (length (s .lists)) (record { 0 = findOf (s .bytes) (s .names) (s .stage .link) x }) (length x)) _ _
     (λ a. refl) (λ a. refl)
 
 plan-numbers : (v : View) (x : List ℕ) (binding visibility : ℕ) → In (refusalOf (planOf v x binding visibility .decision))
 unfolding planOf externalOf rowedOf judgedOf
 plan-numbers v x binding visibility =
-    let id : Interned = record { 0 = findOf (v .bytes) (v .names) (v .link .names) x } in
+    let id : Interned = record { 0 = findOf (v .bytes) (v .names) (v .link) x } in
     let r = externalRowOf id binding visibility in
     pick (λ (d : Decision). In (refusalOf d)) (fitsOf (storeOf (v .bytes) (v .names) (v .link)) (r .name) (length x)) _ _
     (λ a.
     AddNumbers.decide-numbers In refl refl refl refl (v .link) (v .symbols) (v .sections) r
-    (AddNumbers.external-fields In refl refl refl refl refl refl refl id binding visibility) (holderOf (v .names) (v .symbols) (v .link .names) (r .name)))
+    (AddNumbers.external-fields In refl refl refl refl refl refl refl id binding visibility) (holderOf (v .link) (v .names) (v .symbols) (r .name)))
     (λ a. refl)
 
 commit-numbers : (s : Added) (x : List ℕ) (p : Definition) (i : ℕ) → In (refusalOf (p .decision)) → In (commitOf s x p i .stage .number)
@@ -164,7 +164,7 @@ library-numbers : (entries file needs : List ℕ) (s : Links) (x : List ℕ) →
 unfolding libraryOf issuedOf Stages.keptOf
 library-numbers entries file needs s x =
     pick (λ (t : Links). In (t .stage .number))
-    (fitsOf (storeOf (s .bytes) (s .names) (s .stage .link)) (record { 0 = findOf (s .bytes) (s .names) (s .stage .link .names) x }) (length x)) _ _
+    (fitsOf (storeOf (s .bytes) (s .names) (s .stage .link)) (record { 0 = findOf (s .bytes) (s .names) (s .stage .link) x }) (length x)) _ _
     (λ a. contents-numbers entries file needs _ _ refl) (λ a. refl)
 
 ended-numbers : (s : Stage) → In (s .number) → In (numberIn (saidOf (endedAs s .answer)))

@@ -146,6 +146,5 @@ module _ (s : Linked) (met : List (List ℕ)) (m : Marked (s .table) met) (x : L
         symbols-in = h .below .few;
         inputs-in = w .inputs-in;
         lists-in = w .lists-in;
-        chains-are = w .chains-are;
       })
       given x on-issued

@@ -11,11 +11,10 @@ use lib.ListN.{length}
 use borrow.Author.Tests.{eq-eqb, eqb-false, le-ltb}
 use Rattle.cells.specs.Split.{by-test}
 use Rattle.byte_slices.specs.Ways.{pick, apart}
-use Rattle.link.specs.Bounds.{notLent, lesser, nameRows, nameBytes, sectionSlots}
+use Rattle.link.specs.Bounds.{notLent, lesser, nameRows, nameBytes}
 use Rattle.link.specs.Judge.{none, judgeOf, judgeSections, judgeNames, judgeLists}
 use Rattle.link.specs.Ways as Link
 use Rattle.interner.specs.Names.{findOf}
-use Rattle.interner_laws.specs.Judged.{same-length}
 use Rattle.symbol_rows.specs.Holder.{holderOf}
 use Rattle.archive_index.specs.Rows.{storedName}
 use Rattle.archive_index.specs.Index.{nameOf}
@@ -46,24 +45,21 @@ pub record Whole (t : Table) : Type 0 where
   pub kept : (x : List ℕ) → removedName t x ≡ false
 
 module _ (s : State) (past : List Entry) (inv : Inv s past) (met : List (List ℕ)) (marked : Marked s met) (w : Within (s .link) (s .names)) where
-  sections-judged : none ≡ judgeSections (s .link) notLent
-  sections-judged =
-      Link.sections-fine (s .link) notLent none false _ (Link.length-unlent notLent (sectionSlots notLent) (s .link .slots) false refl refl) refl
-      refl (lesser-most 65535 (notLent / 9) (s .link .sections) (w .sections-in) (omega (arith, w .sections-in))) refl
+  sections-judged : none ≡ judgeSections (s .link) (s .link .slots)
+  sections-judged = Link.sections-fine (s .link) (s .link .slots) none _ (omega arith) refl (w .sections-in) refl
 
-  names-judged : none ≡ judgeNames (s .link) (length (s .names)) (length (s .bytes))
+  names-judged : none ≡ judgeNames (s .link) (nameRows (length (s .names))) (length (s .bytes))
   names-judged =
-      Link.names-fine (s .link) (length (s .names)) (length (s .bytes)) none (nameRows (length (s .names))) false (nameBytes (length (s .bytes))) refl
-      (same-length (length (s .names)) (nameRows (length (s .names))) (s .link .chains) (w .chains-are)) refl (omega (arith, inv .names-room, w .chains-are))
-      refl (marked .good .chained .bytes-in) refl
+      Link.names-fine (s .link) (nameRows (length (s .names))) (length (s .bytes)) none (nameBytes (length (s .bytes))) (w .chains-lent) (w .names-in) refl
+      (marked .good .chained .bytes-in) refl
 
   lists-judged : none ≡ judgeLists (s .link) notLent notLent
   lists-judged =
       Link.lists-fine (s .link) notLent notLent none _ refl (lesser-most 4095 (notLent / 8) (s .link .inputs) (w .inputs-in) (omega (arith, w .inputs-in))) (w .lists-in) refl
 
-  judged : none ≡ judgeOf (s .link) (lentOf (length (s .bytes)) (length (s .names)) (length (s .symbols)))
+  judged : none ≡ judgeOf (s .link) (lentOf (s .link) (length (s .bytes)) (length (s .names)) (length (s .symbols)))
   judged =
-      Link.over-rest (s .link) (lentOf (length (s .bytes)) (length (s .names)) (length (s .symbols))) none none _ none sections-judged refl
+      Link.over-rest (s .link) (lentOf (s .link) (length (s .bytes)) (length (s .names)) (length (s .symbols))) none none _ none sections-judged refl
       refl (lesser-most 65535 (length (s .symbols) / 8) (s .link .symbols) (inv .few) (omega (arith, inv .room))) names-judged refl lists-judged
 
   table-judged : judgeTable (viewIn s) .number ≡ 0
@@ -71,16 +67,16 @@ module _ (s : State) (past : List Entry) (inv : Inv s past) (met : List (List �
   table-judged = simp (← judged)
 
   -- no holder was removed
-  holds : (n : ℕ) → wasRemoved (holderOf (s .names) (s .symbols) (s .link .names) (record { 0 = n })) ≡ false
+  holds : (n : ℕ) → wasRemoved (holderOf (s .link) (s .names) (s .symbols) (record { 0 = n })) ≡ false
   holds n = go (only n past) refl
     where
-      go : (l : List Entry) → only n past ≡ l → wasRemoved (holderOf (s .names) (s .symbols) (s .link .names) (record { 0 = n })) ≡ false
+      go : (l : List Entry) → only n past ≡ l → wasRemoved (holderOf (s .link) (s .names) (s .symbols) (record { 0 = n })) ≡ false
       go [] e = ap wasRemoved (holder-none s past inv n e)
       go (x ∷ xs) e = ap wasRemoved (holder-known s past inv n x xs e)
 
   none-removed : (x : List ℕ) → removedName (viewIn s) x ≡ false
   unfolding removedName nameHolder
-  none-removed x = holds (findOf (s .bytes) (s .names) (s .link .names) x)
+  none-removed x = holds (findOf (s .bytes) (s .names) (s .link) x)
 
   pub table-whole : Whole (viewIn s)
   table-whole = record { judged = table-judged; kept = none-removed }

@@ -20,27 +20,27 @@ use Rattle.symbol_rows.specs.Apply.{tableOf}
 use Rattle.symbols.specs.Calls.{noRows}
 use Rattle.symbols.specs.New.{NewLeft, newLeft, nullOf, newOf}
 
-module _ (bytes names symbols sections : List ℕ) where
+module _ (key : ℕ) (bytes names symbols sections : List ℕ) where
   abbrev pub unopened : NewLeft
   unopened = newLeft bytes (tableOf names symbols sections noRows) (refusing (refused 2 0))
 
   -- without a name's row the table of names was refused
-  no-names : Names.newOf bytes names .store .link .names ≡ 0 → Names.newOf bytes names .store ≡ storeOf bytes names noRows
+  no-names : Names.newOf key bytes names .store .link .names ≡ 0 → Names.newOf key bytes names .store ≡ storeOf bytes names noRows
   no-names e =
-      by-test (eqb (Interns.number (Names.newOf bytes names)) 0)
-      (λ a. let g = Interns.new-good bytes names (eqb-true _ _ a) .some in absurd (omega (arith, g, e)))
-      (λ a. Interns.new-refused bytes names (eqb-false _ _ a))
+      by-test (eqb (Interns.number (Names.newOf key bytes names)) 0)
+      (λ a. let g = Interns.new-good key bytes names (eqb-true _ _ a) .some in absurd (omega (arith, g, e)))
+      (λ a. Interns.new-refused key bytes names (eqb-false _ _ a))
 
-  null-leaves : numberIn (nullOf symbols sections (Names.newOf bytes names .store) .said) ≢ 0 → nullOf symbols sections (Names.newOf bytes names .store) ≡ unopened
+  null-leaves : numberIn (nullOf symbols sections (Names.newOf key bytes names .store) .said) ≢ 0 → nullOf symbols sections (Names.newOf key bytes names .store) ≡ unopened
   unfolding nullOf
   null-leaves z =
-      by-test (eqb (Names.newOf bytes names .store .link .names) 0)
+      by-test (eqb (Names.newOf key bytes names .store .link .names) 0)
       (λ a.
-      let e : Names.newOf bytes names .store ≡ storeOf bytes names noRows = no-names (eqb-true _ _ a) in
+      let e : Names.newOf key bytes names .store ≡ storeOf bytes names noRows = no-names (eqb-true _ _ a) in
       rw a (ap (λ (s : Store). newLeft (s .bytes) (tableOf (s .names) symbols sections (s .link)) (refusing (refused 2 0))) e))
       (λ a. absurd (z (rw a)))
 
-  pub new-leaves : numberIn (newOf bytes names symbols sections .said) ≢ 0 → newOf bytes names symbols sections ≡ unopened
+  pub new-leaves : numberIn (newOf key bytes names symbols sections .said) ≢ 0 → newOf key bytes names symbols sections ≡ unopened
   unfolding newOf
   new-leaves =
       pick (λ (x : NewLeft). numberIn (x .said) ≢ 0 → x ≡ unopened) (eqb (symbolRows (length symbols)) 0) _ _ (λ a z. refl) (λ a. null-leaves)

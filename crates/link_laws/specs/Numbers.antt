@@ -14,7 +14,7 @@ use Rattle.link.specs.declared.Lent.{Lent}
 use Rattle.link.specs.declared.Refusal.{Refusal}
 use Rattle.link.specs.declared.Interned.{Interned}
 use Rattle.link.specs.declared.SymbolId.{SymbolId}
-use Rattle.link.specs.Bounds.{notLent, symbolRows}
+use Rattle.link.specs.Bounds.{symbolRows, sectionSlots, nameRows}
 use Rattle.link.specs.Judge.{refused, changeOf}
 use Rattle.link.specs.Judge as Link
 use Rattle.link.specs.Said.{numberIn}
@@ -70,7 +70,7 @@ unfolding internOf issueOf
 intern-numbers s x =
     pick (λ (o : Names.Left). P (numberIn (o .said))) (eqb (changeOf (s .link) (Names.lent s) .number) 0) _ _
     (λ a.
-    pick (λ (o : Names.Left). P (numberIn (o .said))) (fitsOf s (record { 0 = findOf (s .bytes) (s .names) (s .link .names) x }) (length x)) _ _
+    pick (λ (o : Names.Left). P (numberIn (o .said))) (fitsOf s (record { 0 = findOf (s .bytes) (s .names) (s .link) x }) (length x)) _ _
     (λ b. refl) (λ b. refl))
     (λ a. changed (λ (r : Refusal). P (r .number)) refl (λ k. refl) refl (s .link) (Names.lent s))
   where
@@ -126,7 +126,7 @@ add-numbers t conversion u =
 remove-numbers : (l : Link) (x : Rows) (id : SymbolId) → Among (22 ∷ 1 ∷ 21 ∷ []) (numberIn (removeOf l x id .said))
 unfolding removeOf
 remove-numbers l x id =
-    pick P (eqb (changeOf l (lentOf notLent (length (x .symbols)) (length (x .sections))) .number) 0) _ _
+    pick P (eqb (changeOf l (lentOf (l .chains) (length (x .symbols)) (sectionSlots (length (x .sections)))) .number) 0) _ _
     (λ a. pick P (leb (l .symbols) (id .0)) _ _ (λ b. refl) (λ b. refl))
     (λ a. changed (λ (r : Refusal). Among (22 ∷ 1 ∷ 21 ∷ []) (r .number)) refl (λ k. refl) refl l _)
   where
@@ -136,7 +136,7 @@ remove-numbers l x id =
 get-numbers : (l : Link) (symbols : List ℕ) (id : SymbolId) → Among (1 ∷ 21 ∷ []) (Lookup.refusalOf (getOf l symbols id) .number)
 unfolding getOf foundAt
 get-numbers l symbols id =
-    pick P (eqb (Link.judgeOf l (lentOf notLent (length symbols) notLent) .number) 0) _ _
+    pick P (eqb (Link.judgeOf l (lentOf (l .chains) (length symbols) (l .slots)) .number) 0) _ _
     (λ a. pick P (leb (l .symbols) (id .0)) _ _ (λ b. refl) (λ b. pick P (eqb (stateAt symbols (id .0)) 2) _ _ (λ c. refl) (λ c. refl)))
     (λ a. judge-gives (λ (r : Refusal). Among (1 ∷ 21 ∷ []) (r .number)) (λ k. refl) refl l _)
   where
@@ -146,8 +146,8 @@ get-numbers l symbols id =
 global-numbers : (l : Link) (names symbols : List ℕ) (name : Interned) → Among (1 ∷ 23 ∷ 21 ∷ []) (Lookup.refusalOf (getGlobalOf l names symbols name) .number)
 unfolding getGlobalOf
 global-numbers l names symbols name =
-    pick P (eqb (Link.judgeOf l (lentOf (length names) (length symbols) notLent) .number) 0) _ _
-    (λ a. held (holderOf names symbols (l .names) name))
+    pick P (eqb (Link.judgeOf l (lentOf (nameRows (length names)) (length symbols) (l .slots)) .number) 0) _ _
+    (λ a. held (holderOf l names symbols name))
     (λ a. judge-gives (λ (r : Refusal). Among (1 ∷ 23 ∷ 21 ∷ []) (r .number)) (λ k. refl) refl l _)
   where
     P : Found → Type 0
@@ -202,7 +202,7 @@ numbers (sectionSymbol section) s = refl
 numbers (addGroup o work n) s = group-numbers o (s .table) work n
 numbers (merge o work ids) s = merge-numbers o (allIn s work ids)
 numbers (load o marks) s = load-numbers o (libraryIn s marks)
-numbers (archiveStart index cells) s = start-numbers index cells
+numbers (archiveStart key index cells) s = start-numbers key index cells
 numbers (archiveNext index cells w) s = next-numbers index cells w (viewIn (s .table))
 numbers (matches headers entries contents file index cells w e) s = matches-numbers headers entries contents file index cells w e
 numbers (collect marks entry work) s = collect-numbers (s .table .link) (listsIn s marks) (s .table .symbols) (s .table .sections) entry work
@@ -219,7 +219,7 @@ in-table (sectionSymbol section) = refl
 in-table (addGroup o work n) = refl
 in-table (merge o work ids) = refl
 in-table (load o marks) = refl
-in-table (archiveStart index cells) = refl
+in-table (archiveStart key index cells) = refl
 in-table (archiveNext index cells w) = refl
 in-table (matches headers entries contents file index cells w e) = refl
 in-table (collect marks entry work) = refl
@@ -235,8 +235,8 @@ null-numbers : (symbols sections : List ℕ) (s : Store) → Among (2 ∷ []) (n
 unfolding nullOf
 null-numbers symbols sections s = pick (λ (x : NewLeft). Among (2 ∷ []) (numberIn (x .said))) (eqb (s .link .names) 0) _ _ (λ a. refl) (λ a. refl)
 
-pub new-numbers : (bytes names symbols sections : List ℕ) → Among (2 ∷ []) (numberIn (newOf bytes names symbols sections .said))
+pub new-numbers : (key : ℕ) (bytes names symbols sections : List ℕ) → Among (2 ∷ []) (numberIn (newOf key bytes names symbols sections .said))
 unfolding newOf
-new-numbers bytes names symbols sections =
+new-numbers key bytes names symbols sections =
     pick (λ (x : NewLeft). Among (2 ∷ []) (numberIn (x .said))) (eqb (symbolRows (length symbols)) 0) _ _ (λ a. refl)
-    (λ a. null-numbers symbols sections (Names.newOf bytes names .store))
+    (λ a. null-numbers symbols sections (Names.newOf key bytes names .store))

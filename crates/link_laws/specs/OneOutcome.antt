@@ -1,4 +1,4 @@
--- "that its contract admits no second outcome": a contract says that the outcome is what its definition gives.
+-- What an answer says, in document 01's terms, is the whole answer.
 -- Assumes nothing.
 use Prim.Native.Nat.{ℕ}
 use native.Mathlib.Omega.{arith}
@@ -11,12 +11,6 @@ use Rattle.interner.specs.Calls as Names
 use Rattle.symbols.specs.declared.Answer as SymbolsAnswer
 use Rattle.symbols.specs.declared.Answer.the-variants as InSymbols
 use Rattle.symbols.specs.Calls as Symbols
-use Rattle.merge_laws.specs.Calls.{Linked}
-use Rattle.link_laws.specs.Calls.{Call, LeftBy, callLeft}
-
--- of every call
-pub one-outcome : (k : Call) (s : Linked) (x y : LeftBy k) → x ≡ callLeft k s → y ≡ callLeft k s → x ≡ y
-one-outcome k s x y e f = e ∙ sym f
 
 -- an outcome names the call's answer whole; where it names what the answer says, in document 01's terms, that is the answer: the calls on names and
 -- on the table

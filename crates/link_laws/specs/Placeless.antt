@@ -14,7 +14,7 @@ use Rattle.link.specs.declared.Link.{Link}
 use Rattle.link.specs.declared.Lent.{Lent}
 use Rattle.link.specs.declared.SymbolId.{SymbolId}
 use Rattle.link.specs.declared.Refusal.{Refusal}
-use Rattle.link.specs.Bounds.{notLent}
+use Rattle.link.specs.Bounds.{sectionSlots}
 use Rattle.link.specs.Judge.{changeOf}
 use Rattle.link.specs.Passed.{judge-gives}
 use Rattle.link.specs.Said.{numberIn, placeIn}
@@ -82,7 +82,7 @@ unfolding internOf issueOf
 intern-only s x =
     pick P (eqb (changeOf (s .link) (Names.lent s) .number) 0) _ _
     (λ a.
-    pick P (fitsOf s (record { 0 = findOf (s .bytes) (s .names) (s .link .names) x }) (length x)) _ _ (λ b e. differ 0 22 refl e) (λ b e. differ 2 22 refl e))
+    pick P (fitsOf s (record { 0 = findOf (s .bytes) (s .names) (s .link) x }) (length x)) _ _ (λ b e. differ 0 22 refl e) (λ b e. differ 2 22 refl e))
     (λ a. change-only (s .link) (Names.lent s))
   where
     P : Names.Left → Type 0
@@ -130,7 +130,7 @@ add-only t conversion u =
 remove-only : (l : Link) (x : Rows) (id : SymbolId) → numberIn (removeOf l x id .said) ≡ 22 → l .broken ≡ true
 unfolding removeOf
 remove-only l x id =
-    pick P (eqb (changeOf l (lentOf notLent (length (x .symbols)) (length (x .sections))) .number) 0) _ _
+    pick P (eqb (changeOf l (lentOf (l .chains) (length (x .symbols)) (sectionSlots (length (x .sections)))) .number) 0) _ _
     (λ a. pick P (leb (l .symbols) (id .0)) _ _ (λ b e. differ 21 22 refl e) (λ b e. differ 0 22 refl e)) (λ a. change-only l _)
   where
     P : RemoveLeft → Type 0
@@ -241,7 +241,7 @@ broken-only (sectionSymbol section) s e = differ 0 22 refl e
 broken-only (addGroup o work n) s e = (refl, group-only o (s .table) work n e)
 broken-only (merge o work ids) s e = (refl, stopped-only (merge o work ids) s refl (merge-head-only o (allIn s work ids)) e)
 broken-only (load o marks) s e = (refl, stopped-only (load o marks) s refl (load-head-only o (libraryIn s marks)) e)
-broken-only (archiveStart index cells) s e = never (archiveStart index cells) s 22 refl e
+broken-only (archiveStart key index cells) s e = never (archiveStart key index cells) s 22 refl e
 broken-only (archiveNext index cells w) s e = never (archiveNext index cells w) s 22 refl e
 broken-only (matches headers entries contents file index cells w x) s e = never (matches headers entries contents file index cells w x) s 22 refl e
 broken-only (collect marks entry work) s e =
@@ -292,7 +292,7 @@ zero-places (sectionSymbol section) s p = refl
 zero-places (addGroup o work n) s p = only-22 (addGroup o work n) s (0 ∷ 1 ∷ 2 ∷ 4 ∷ 5 ∷ 6 ∷ 7 ∷ []) refl refl p
 zero-places (merge o work ids) s p = only-22 (merge o work ids) s (0 ∷ 1 ∷ 2 ∷ starred) refl refl p
 zero-places (load o marks) s p = load-at o marks s p
-zero-places (archiveStart index cells) s p = start-place index cells s (other (callNumber (archiveStart index cells) s) 1 refl p)
+zero-places (archiveStart key index cells) s p = start-place key index cells s (other (callNumber (archiveStart key index cells) s) 1 refl p)
 zero-places (archiveNext index cells w) s p = none-of (archiveNext index cells w) s refl p
 zero-places (matches headers entries contents file index cells w e) s p = none-of (matches headers entries contents file index cells w e) s refl p
 zero-places (collect marks entry work) s p = only-22 (collect marks entry work) s (0 ∷ 1 ∷ 2 ∷ 21 ∷ []) refl refl p
@@ -329,7 +329,7 @@ head-two-place (merge o work ids) s e =
 head-two-place (load o marks) s e =
     ap (λ (x : Shared.Left). placeIn (x .said)) (Unneeded.head-leaves o (libraryIn s marks) (λ z. differ 0 2 refl (sym z ∙ e)))
     ∙ head-gives (λ (r : Refusal). r .number ≡ 2 → r .place ≡ 0) (λ k q. differ 1 2 refl q) (λ q. refl) (λ q. refl) (λ q. refl) (λ q. refl) o (libraryIn s marks) e
-head-two-place (archiveStart index cells) s e = differ 0 2 refl e
+head-two-place (archiveStart key index cells) s e = differ 0 2 refl e
 head-two-place (archiveNext index cells w) s e = differ 0 2 refl e
 head-two-place (matches headers entries contents file index cells w x) s e = differ 0 2 refl e
 head-two-place (collect marks entry work) s e = differ 0 2 refl e

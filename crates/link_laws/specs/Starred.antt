@@ -15,7 +15,7 @@ use Rattle.link.specs.declared.Link.{Link}
 use Rattle.link.specs.declared.Interned.{Interned}
 use Rattle.link.specs.declared.SymbolId.{SymbolId}
 use Rattle.link.specs.declared.Refusal.{Refusal}
-use Rattle.link.specs.Bounds.{notLent}
+use Rattle.link.specs.Bounds.{sectionSlots}
 use Rattle.link.specs.Judge.{none, changeOf}
 use Rattle.link.specs.Said.{numberIn}
 use Rattle.interner.specs.Names.{Store, findOf, fitsOf, keepOf}
@@ -109,7 +109,7 @@ headRefusal (sectionSymbol section) s = none
 headRefusal (addGroup o work n) s = none
 headRefusal (merge o work ids) s = Merge.headIn o (allIn s work ids)
 headRefusal (load o marks) s = Shared.headIn o (libraryIn s marks)
-headRefusal (archiveStart index cells) s = none
+headRefusal (archiveStart key index cells) s = none
 headRefusal (archiveNext index cells w) s = none
 headRefusal (matches headers entries contents file index cells w e) s = none
 headRefusal (collect marks entry work) s = none
@@ -146,7 +146,7 @@ stopped (sectionSymbol section) s g u = absurd (apart g)
 stopped (addGroup o work n) s g u = absurd (apart g)
 stopped (merge o work ids) s g u = merge-stopped o work ids s (merge-leaves o work ids s u)
 stopped (load o marks) s g u = load-stopped o marks s (load-leaves o marks s u)
-stopped (archiveStart index cells) s g u = absurd (apart g)
+stopped (archiveStart key index cells) s g u = absurd (apart g)
 stopped (archiveNext index cells w) s g u = absurd (apart g)
 stopped (matches headers entries contents file index cells w e) s g u = absurd (apart g)
 stopped (collect marks entry work) s g u = absurd (apart g)
@@ -195,7 +195,7 @@ unfolding internOf issueOf
 intern-same s x =
     pick P (eqb (changeOf (s .link) (Names.lent s) .number) 0) _ _
     (λ a.
-    pick P (fitsOf s (record { 0 = findOf (s .bytes) (s .names) (s .link .names) x }) (length x)) _ _ (λ b. keep-broken s _ x) (λ b. refl))
+    pick P (fitsOf s (record { 0 = findOf (s .bytes) (s .names) (s .link) x }) (length x)) _ _ (λ b. keep-broken s _ x) (λ b. refl))
     (λ a. refl)
   where
     P : Names.Left → Type 0
@@ -220,7 +220,7 @@ add-same t conversion u =
 remove-same : (l : Link) (x : Rows) (id : SymbolId) → removeOf l x id .link ≡ l
 unfolding removeOf
 remove-same l x id =
-    pick P (eqb (changeOf l (lentOf notLent (length (x .symbols)) (length (x .sections))) .number) 0) _ _
+    pick P (eqb (changeOf l (lentOf (l .chains) (length (x .symbols)) (sectionSlots (length (x .sections)))) .number) 0) _ _
     (λ a. pick P (leb (l .symbols) (id .0)) _ _ (λ b. refl) (λ b. refl)) (λ a. refl)
   where
     P : RemoveLeft → Type 0
@@ -253,7 +253,7 @@ direct-same (sectionSymbol section) s g = refl
 direct-same (addGroup o work n) s g = group-count o (s .table) work n (λ (l : Link). l .broken) keep-broken
 direct-same (merge o work ids) s g = absurd (apart (sym g))
 direct-same (load o marks) s g = absurd (apart (sym g))
-direct-same (archiveStart index cells) s g = refl
+direct-same (archiveStart key index cells) s g = refl
 direct-same (archiveNext index cells w) s g = refl
 direct-same (matches headers entries contents file index cells w e) s g = refl
 direct-same (collect marks entry work) s g =
@@ -284,7 +284,7 @@ accepted-whole (sectionSymbol section) s w z = w
 accepted-whole (addGroup o work n) s w z = direct-same (addGroup o work n) s refl ∙ w
 accepted-whole (merge o work ids) s w z = merge-whole o work ids s (merges o work ids s) w z
 accepted-whole (load o marks) s w z = load-whole o marks s (ways o marks s) w z
-accepted-whole (archiveStart index cells) s w z = w
+accepted-whole (archiveStart key index cells) s w z = w
 accepted-whole (archiveNext index cells x) s w z = w
 accepted-whole (matches headers entries contents file index cells x e) s w z = w
 accepted-whole (collect marks entry work) s w z = direct-same (collect marks entry work) s refl ∙ w
@@ -319,7 +319,7 @@ broken-leaves k s b =
     idle (addGroup o work n) s c = absurd (apart (sym c))
     idle (merge o work ids) s c = absurd (apart (sym c))
     idle (load o marks) s c = absurd (apart (sym c))
-    idle (archiveStart index cells) s c = refl
+    idle (archiveStart key index cells) s c = refl
     idle (archiveNext index cells w) s c = refl
     idle (matches headers entries contents file index cells w e) s c = refl
     idle (collect marks entry work) s c = absurd (apart (sym c))

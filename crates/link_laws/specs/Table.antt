@@ -44,7 +44,7 @@ callNumbers (merge o work ids) =
 -- 25 "follows and marks nothing broken"; a library's symbols have no value or type that is judged
 callNumbers (load o marks) = 22 ∷ 1 ∷ 25 ∷ 2 ∷ 9 ∷ 10 ∷ 11 ∷ 12 ∷ 21 ∷ 17 ∷ []
 -- "An empty index slice gives 20 before 1"; "Fewer cells lent than entries give 2"
-callNumbers (archiveStart index cells) = 20 ∷ 1 ∷ 2 ∷ []
+callNumbers (archiveStart key index cells) = 20 ∷ 1 ∷ 2 ∷ []
 callNumbers (archiveNext index cells w) = 1 ∷ 21 ∷ []
 callNumbers (matches headers entries contents file index cells w e) = 1 ∷ []
 callNumbers (collect marks entry work) = 22 ∷ 1 ∷ 2 ∷ 21 ∷ []

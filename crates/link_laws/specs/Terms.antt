@@ -2,14 +2,16 @@
 -- 01's numbers; the proofs stand in the other files.
 -- Assumes nothing.
 use Prim.Native.Nat.{ℕ, suc, _+_, _<_, _≤_}
-use mathlib.Core.Path.{_≡_, sym, _∙_}
-use mathlib.Core.Bool.{Bool, true, false, not, _||_}
+use native.Mathlib.Omega.{arith}
+use mathlib.Core.Path.{_≡_, sym, _∙_, subst}
+use mathlib.Core.Bool.{Bool, true, false, cond, not, _||_}
 use mathlib.Core.List.{List, [], _∷_, _++_, append-nil}
 use mathlib.Core.Logic.{_≢_, _↔_}
-use lib.Dec.{leb}
-use lib.ListN.{length}
+use lib.Dec.{eqb, leb}
+use lib.ListN.{getD, length}
 use Rattle.gabi.specs.StringTable as Strings
-use Rattle.gabi.specs.SymbolTable.{Sym}
+use Rattle.gabi.specs.SymbolTable.{Sym, stvDefault, stvHidden}
+use Rattle.gabi.specs.Visibility.{combined}
 use Rattle.gabi.specs.Resolution as Resolution
 use Rattle.gabi.specs.Archive.{Named, wants, extracts}
 use Rattle.gabi.specs.Groups as Gabi
@@ -23,13 +25,14 @@ use Rattle.interner_laws.specs.Good.{find}
 use Rattle.interner_laws.specs.Interns.{Accepted, id}
 use Rattle.symbol.specs.declared.Row.{Row}
 use Rattle.symbol.specs.declared.SttFile.the-variants as File
+use Rattle.symbol.specs.Row.{symbolAt}
 use Rattle.symbol.specs.RowLaws.{symbolOf}
 use Rattle.upcoming_symbol.specs.declared.UpcomingSymbol.{UpcomingSymbol}
 use Rattle.upcoming_symbol.specs.Judge.{inRange}
 use Rattle.upcoming_symbol.specs.Upcoming.{nameOf}
 use Rattle.symbol_rows.specs.Holder.{globalAt}
 use Rattle.symbols.specs.declared.Found.the-variants as Fd
-use Rattle.symbols.specs.New.{NewLeft, newOf}
+use Rattle.symbols.specs.New.{newOf}
 use Rattle.symbols.specs.Add.{fileOf, fileIssued}
 use Rattle.symbols.specs.Lookup.{notFound}
 use Rattle.elf_object.specs.Rows.{rowsIn, isLoaded, elfAt}
@@ -43,14 +46,18 @@ use Rattle.merge_stages.specs.Stages as Stages
 use Rattle.merge_elf.specs.Merge as Merge
 use Rattle.shared_objects.specs.declared.Answer.the-variants.{Loaded, NotNeeded}
 use Rattle.shared_objects.specs.Load as Shared
-use Rattle.shared_laws.specs.Needed.{Needed}
+use Rattle.library_need.specs.Need.{inputKindAt}
+use Rattle.shared_laws.specs.Needed.{libraryKind, Needed}
 use Rattle.shared_laws.specs.Unneeded as Unneeded
 use Rattle.archive_index.specs.Index.{countOf}
 use Rattle.archive_walk.specs.declared.Walk.{Walk}
 use Rattle.archive_walk.specs.Look.{Table, undefinedName}
 use Rattle.archive_laws.specs.Rounds.{among, members}
 use Rattle.archive_laws.specs.Runs.{Run, history, startRun}
-use Rattle.archive_laws.specs.Walked.{inIndex, Walked}
+use Rattle.archive_laws.specs.Walked.{inIndex, queueIn, Walked}
+use Rattle.archive_laws.specs.WalkLaws.{walked}
+use Rattle.archive_laws.specs.PassList.{Over, offered, without, firstSeen, tiedMembers}
+use Rattle.object_requirement.specs.declared.Admission.the-variants.{Yes}
 use Rattle.gc_sections.specs.declared.EntryPoint.{EntryPoint}
 use Rattle.gc_sections.specs.declared.Answer.{Answer}
 use Rattle.gc_sections.specs.declared.Answer.the-variants.{Dropped, Refused}
@@ -66,11 +73,16 @@ use Rattle.symbol_laws.specs.Within as Within
 use Rattle.symbol_laws.specs.Writes as Writes
 use Rattle.symbol_laws.specs.Gabi.{Means, AllMean, symOf, symOfRow, means-own, symsOf, all-mean-own}
 use Rattle.symbol_laws.specs.Duplicate as Duplicate
+use Rattle.symbol_laws.specs.Hidden as Hidden
+use Rattle.symbol_laws.specs.Hidden.{isHidden, notPassedOn}
+use Rattle.symbol_laws.specs.ObjectWords.{sectionsIn, program, uninitialized, loadedAs}
 use Rattle.symbol_laws.specs.Agreement as Agreement
 use Rattle.extraction_laws.specs.Member.{memberOf}
 use Rattle.extraction_laws.specs.Taken as Taken
 use Rattle.extraction_laws.specs.Taken.{taken, weakOffers, wantedNames}
 use Rattle.extraction_laws.specs.Wanted.{weakOnly}
+use Rattle.extraction_laws.specs.MemberWords.{symbolsOf}
+use Rattle.extraction_laws.specs.Answer.{says, admitted}
 use Rattle.merge_laws.specs.Refusals.{oneOf}
 use Rattle.merge_laws.specs.Stops as Merging
 use Rattle.merge_laws.specs.Stops.{object, groupsTo}
@@ -83,6 +95,7 @@ use Rattle.merge_laws.specs.Accepted as Merged
 use Rattle.merge_laws.specs.Placed.{rowOf}
 use Rattle.merge_laws.specs.RowStays as RowStays
 use Rattle.merge_laws.specs.Terms as MergeTerms
+use Rattle.merge_laws.specs.MergeWords.{namedBy, ownSignatures, isRemoved}
 use Rattle.load_laws.specs.Accepted as LoadRows
 use Rattle.load_laws.specs.Terms as LoadTerms
 use Rattle.merge_laws.specs.Lookups as Lookups
@@ -93,6 +106,9 @@ use Rattle.merge_laws.specs.SymbolDuplicates as InMerge
 use Rattle.load_laws.specs.SymbolDuplicates as InLoad
 use Rattle.link_laws.specs.Calls.{Call, intern, resolve, add, remove, get, getGlobal, addGroup, merge, load, archiveStart, archiveNext, matches, collect, viewIn, groupIn, libraryIn, listsIn, LeftBy, callLeft, callRefusal, callNumber, callNext, callNotes, runCalls, logCalls, Removes, RemovesNothing}
 use Rattle.link_laws.specs.Table.{refusals, callNumbers}
+use Rattle.link_laws.specs.Rules as Rules
+use Rattle.link_laws.specs.CallRules.{rules}
+use Rattle.link_laws.specs.ExactTerms as ExactTerms
 use Rattle.link_laws.specs.Numbers as Numbers
 use Rattle.link_laws.specs.Leaves as Leaves
 use Rattle.link_laws.specs.Leaves.{byElements}
@@ -117,7 +133,10 @@ use Rattle.link_laws.specs.Placeless as Placeless
 use Rattle.link_laws.specs.RowPlaces as RowPlaces
 use Rattle.link_laws.specs.RowPlaces.{libraryLent}
 use Rattle.link_laws.specs.CutShort as CutShort
-use Rattle.link_laws.specs.OneOutcome as OneOutcome
+use Rattle.link_laws.specs.Contracts as Contracts
+use Rattle.link_laws.specs.Contracts.{Exit, Meets, NewExit, NewMeets, StringExit, StringMeets, FilterMeets}
+use Rattle.link_laws.specs.KeyFree as KeyFree
+use Rattle.link_laws.specs.KeyFree.{Alike, SameAnswers}
 use Rattle.link_laws.specs.Idle as Idle
 use Rattle.link_laws.specs.CallPast as CallPast
 use Rattle.link_laws.specs.Lists as Lists
@@ -125,12 +144,28 @@ use Rattle.link_laws.specs.Kept as Kept
 use Rattle.link_laws.specs.Kept.{signatures, meetsGroups, calls-keep, calls-marked, calls-below, Lasting, lasting-on, Reached, reached-within, reached-on}
 use Rattle.link_laws.specs.NamesStay as NamesStay
 use Rattle.link_laws.specs.Libraries as Libraries
+use Rattle.link_laws.specs.LibraryLoads as LibraryLoads
+use Rattle.link_laws.specs.LibraryLoads.{LoadedAt, new-inputs}
+use Rattle.link_laws.specs.Removal.{Ready}
+use Rattle.link_laws.specs.LookedUp as LookedUp
+use Rattle.link_laws.specs.LookedUp.{calls-later, calls-whole, inv-ready, new-whole}
+use Rattle.link_laws.specs.Growth.{Turn, Quiet, runTurns, logTurns, Some, turns-reached}
+use Rattle.link_laws.specs.NeededIn as NeededIn
+use Rattle.link_laws.specs.NeededIn.{NeededIn}
 use Rattle.link_laws.specs.Walks as Walks
 use Rattle.link_laws.specs.Walks.{nextIn, withWalk, walkAfter, tablesAt, joined}
 use Rattle.link_laws.specs.WalkIn as WalkIn
 use Rattle.link_laws.specs.Undefined as Undefined
 use Rattle.link_laws.specs.Undefined.{isUndefinedRow, weakReferences}
 use Rattle.link_laws.specs.Extraction as Extraction
+use Rattle.link_laws.specs.BuiltSections.{SparesAll}
+use Rattle.link_laws.specs.ObjectSections as ObjectSections
+use Rattle.link_laws.specs.ObjectSections.{sectionId}
+use Rattle.link_laws.specs.Contents as Contents
+use Rattle.link_laws.specs.Contents.{FromCalls}
+use Rattle.link_laws.specs.OwnEntries.{entryOf, AllFrom, entriesOf, all-mean, all-show}
+use Rattle.link_laws.specs.Admitted as Admitted
+use Rattle.link_laws.specs.Admitted.{answerIn}
 
 -- ---- 1. "The answer to every call is a result or, exactly where document 01's rules in their order give it, one of the refusals 1 to 25"
 
@@ -141,7 +176,7 @@ answers = Numbers.numbers
 pub refusals-only : (k : Call) (s : Linked) → callNumber k s ≢ 0 → oneOf (callNumber k s) refusals ≡ true
 refusals-only = Numbers.refusals-only
 
-pub new-answers : (bytes names symbols sections : List ℕ) → oneOf (numberIn (newOf bytes names symbols sections .said)) (0 ∷ 2 ∷ []) ≡ true
+pub new-answers : (key : ℕ) (bytes names symbols sections : List ℕ) → oneOf (numberIn (newOf key bytes names symbols sections .said)) (0 ∷ 2 ∷ []) ≡ true
 new-answers = Numbers.new-numbers
 
 -- "Each returns number and place (symbol, section or row; else 0, as for a direct add but 21)"
@@ -157,7 +192,7 @@ zero-places = Placeless.zero-places
 pub intern-place : (x : List ℕ) (s : Linked) → callNumber (intern x) s ≢ 1 → callRefusal (intern x) s .place ≡ 0
 intern-place = CallPlaces.intern-place
 
-pub start-place : (index cells : List ℕ) (s : Linked) → callNumber (archiveStart index cells) s ≢ 1 → callRefusal (archiveStart index cells) s .place ≡ 0
+pub start-place : (key : ℕ) (index cells : List ℕ) (s : Linked) → callNumber (archiveStart key index cells) s ≢ 1 → callRefusal (archiveStart key index cells) s .place ≡ 0
 start-place = CallPlaces.start-place
 
 pub collect-work-place : (marks : List ℕ) (entry : EntryPoint) (work : List ℕ) (s : Linked) → callNumber (collect marks entry work) s ≡ 2
@@ -235,9 +270,9 @@ pub collect-link-place : (marks : List ℕ) (entry : EntryPoint) (work : List �
 collect-link-place = CallPlaces.collect-link-place
 
 -- an index "of 1 to 3 bytes gives 1 at 0, a longer one at the first entry whose offset, else whose name, is cut short"
-pub start-row : (index cells : List ℕ) (s : Linked) → callNumber (archiveStart index cells) s ≡ 1
-    → CutShort.CutShort index (callRefusal (archiveStart index cells) s .place)
-start-row = CutShort.start-row
+pub start-row : (key : ℕ) (index cells : List ℕ) (s : Linked) → callNumber (archiveStart key index cells) s ≡ 1
+    → CutShort.CutShort index (callRefusal (archiveStart key index cells) s .place)
+start-row key index cells s = CutShort.start-row index key cells s
 
 -- "and leaves behind what that table says": a refused call leaves every row, name, mark and count of the link; a merge and a load may leave "that call's
 -- earlier elements"
@@ -245,16 +280,16 @@ pub refused-leaves : (k : Call) (s : Linked) → byElements k ≡ false → call
 refused-leaves = Leaves.refused-leaves
 
 -- a new table leaves every lent cell, and a link without rows
-pub new-leaves : (bytes names symbols sections : List ℕ) → numberIn (newOf bytes names symbols sections .said) ≢ 0
-    → newOf bytes names symbols sections ≡ unopened bytes names symbols sections
+pub new-leaves : (key : ℕ) (bytes names symbols sections : List ℕ) → numberIn (newOf key bytes names symbols sections .said) ≢ 0
+    → newOf key bytes names symbols sections ≡ unopened key bytes names symbols sections
 new-leaves = NewTable.new-leaves
 
 -- and the marks of an object, where it is a group; the cells of an archive, where it is a start; the walk, where it is a call for the next member
 pub group-leaves : (o : Group.Object) (work : List ℕ) (n : ℕ) (s : Linked) → callNumber (addGroup o work n) s ≢ 0 → callLeft (addGroup o work n) s .work ≡ work
 group-leaves o work n s u = Leaves.group-refused o (s .table) work n u .1
 
-pub start-leaves : (index cells : List ℕ) (s : Linked) → callNumber (archiveStart index cells) s ≢ 0 → callLeft (archiveStart index cells) s .cells ≡ cells
-start-leaves index cells s = ArchiveLeaves.start-leaves index cells
+pub start-leaves : (key : ℕ) (index cells : List ℕ) (s : Linked) → callNumber (archiveStart key index cells) s ≢ 0 → callLeft (archiveStart key index cells) s .cells ≡ cells
+start-leaves key index cells s = ArchiveLeaves.start-leaves key index cells
 
 pub walk-leaves : (index cells : List ℕ) (w : Walk) (s : Linked) → callNumber (archiveNext index cells w) s ≢ 0
     → (callLeft (archiveNext index cells w) s .cells ≡ cells) × (callLeft (archiveNext index cells w) s .moved .walk ≡ w)
@@ -328,21 +363,57 @@ broken-only = Placeless.broken-only
 pub broken-stays : (ks : List Call) (s : Linked) → s .table .link .broken ≡ true → runCalls ks s ≡ s
 broken-stays = Starred.broken-stays
 
+-- which of them, exactly: CallRules.antt has each call's rules in document 01's order. Of a new table after any calls, those that remove too: number and
+-- place are those of the first rule that holds, and it is a result just where none does
+module _ (key : ℕ) (bytes names symbols sections inputs lists : List ℕ) (new : numberIn (newOf key bytes names symbols sections .said) ≡ 0) (ks : List Call) (k : Call) where
+  abbrev after-calls : Linked
+  after-calls = ExactTerms.on key bytes names symbols sections inputs lists new ks
+
+  pub exactly : callRefusal k after-calls ≡ Rules.firstOf (rules k after-calls)
+  exactly = ExactTerms.exactly key bytes names symbols sections inputs lists new ks k
+
+  pub accepted : eqb (callNumber k after-calls) 0 ≡ not (Rules.someHolds (rules k after-calls))
+  accepted = ExactTerms.accepted key bytes names symbols sections inputs lists new ks k
+
+-- and of a walk that a start began, by the index' own names: ExactTerms.exactly-next
+
 -- ---- a. "A public call's result and every lent cell after it, refusal or not, follow from its inputs alone"
 
--- two outcomes that both meet a call's contract are equal
-pub one-outcome : (k : Call) (s : Linked) (x y : LeftBy k) → x ≡ callLeft k s → y ≡ callLeft k s → x ≡ y
-one-outcome = OneOutcome.one-outcome
+-- what a caller sees of a call are its result and every cell lent to be written (Exit); its contract is Meets, whose left side stands in the `ensures`. Two
+-- outcomes that meet it are equal: of every call on a link, of a new table, of a string lookup and of the filter of a symbol table
+pub one-outcome : (k : Call) (s : Linked) (x y : Exit k) → Meets k s x → Meets k s y → x ≡ y
+one-outcome = Contracts.one-outcome
 
-pub new-one-outcome : (bytes names symbols sections : List ℕ) (x y : NewLeft) → x ≡ newOf bytes names symbols sections → y ≡ newOf bytes names symbols sections
+pub new-one-outcome : (key : ℕ) (bytes names symbols sections : List ℕ) (x y : NewExit) → NewMeets key bytes names symbols sections x → NewMeets key bytes names symbols sections y
     → x ≡ y
-new-one-outcome bytes names symbols sections x y e f = e ∙ sym f
+new-one-outcome = Contracts.new-one-outcome
+
+pub string-one-outcome : (table : List ℕ) (offset : ℕ) (x y : StringExit) → StringMeets table offset x → StringMeets table offset y → x ≡ y
+string-one-outcome = Contracts.string-one-outcome
+
+pub filter-one-outcome : (work entries : List ℕ) (x y : ℕ) → FilterMeets work entries x → FilterMeets work entries y → x ≡ y
+filter-one-outcome = Contracts.filter-one-outcome
+
+-- ---- "Ids, symbol rows and answers don't depend on" the key of the hash
+
+-- the same calls, those that remove too, on new tables of the same lent lists under two keys: the same answers, with every value and every cell lent
+-- beside the link's own; and links that differ at most in the key, the heads of the hash chains and the chains' links
+module _ (key other : ℕ) (bytes names symbols sections inputs lists : List ℕ) where
+  abbrev pub startUnder : ℕ → Linked
+  startUnder k = linked (opened (newOf k bytes names symbols sections)) inputs lists
+
+  pub new-alike : newOf other bytes names symbols sections .said ≡ newOf key bytes names symbols sections .said
+  new-alike = KeyFree.new-alike key other bytes names symbols sections inputs lists
+
+  pub keys-alike : numberIn (newOf key bytes names symbols sections .said) ≡ 0 → (ks : List Call)
+      → SameAnswers ks (startUnder key) (startUnder other) × Alike other (runCalls ks (startUnder key)) (runCalls ks (startUnder other))
+  keys-alike = KeyFree.keys-alike key other bytes names symbols sections inputs lists
 
 -- ---- "Let a link be a new table"
 
-module _ (bytes names symbols sections inputs lists : List ℕ) (new : numberIn (newOf bytes names symbols sections .said) ≡ 0) where
+module _ (key : ℕ) (bytes names symbols sections inputs lists : List ℕ) (new : numberIn (newOf key bytes names symbols sections .said) ≡ 0) where
   abbrev pub start : Linked
-  start = linked (opened (newOf bytes names symbols sections)) inputs lists
+  start = linked (opened (newOf key bytes names symbols sections)) inputs lists
 
   -- ---- any sequence of calls, those that remove too
 
@@ -351,11 +422,11 @@ module _ (bytes names symbols sections inputs lists : List ℕ) (new : numberIn 
     after = runCalls ks start
 
     marked : Marked (after .table) (signatures ks start)
-    marked = calls-marked ks start [] (new-marked bytes names symbols sections new)
+    marked = calls-marked ks start [] (new-marked key bytes names symbols sections new)
 
     -- "Rows past the count are never written": by one more call, whichever it is
     pub past-the-count : (k : Call) → Past.TablePast (after .table) (callNext k after .table)
-    past-the-count = CallPast.call-past after (calls-below ks start (inv-below (start .table) [] (new-inv bytes names symbols sections new)))
+    past-the-count = CallPast.call-past after (calls-below ks start (inv-below (start .table) [] (new-inv key bytes names symbols sections new)))
 
     -- "Interning equal bytes gives the same id", different bytes different ones: an accepted intern, any calls, another one
     pub names-agree : (x y : List ℕ) → Accepted (callLeft (intern x) after) → (ls : List Call)
@@ -438,17 +509,28 @@ module _ (bytes names symbols sections inputs lists : List ℕ) (new : numberIn 
       lasting =
           lasting-on ks start []
           (record {
-            marked = new-marked bytes names symbols sections new;
-            counted = Lookups.counted (start .table .link) (start .table .names) (Within.new-within bytes names symbols sections new);
-            below = inv-below (start .table) [] (new-inv bytes names symbols sections new);
+            marked = new-marked key bytes names symbols sections new;
+            counted = Lookups.counted (start .table .link) (start .table .names) (Within.new-within key bytes names symbols sections new);
+            below = inv-below (start .table) [] (new-inv key bytes names symbols sections new);
             lent = lent;
-            inside = new-lists bytes names symbols sections lists;
+            inside = new-lists key bytes names symbols sections lists;
           })
 
       -- an id gives its bytes back for ever
       pub names-stay : (x : List ℕ) → Accepted (callLeft (intern x) after) → (ls : List Call)
           → callLeft (resolve (record { 0 = id (callLeft (intern x) after) })) (runCalls ls (callNext (intern x) after)) ≡ resolved x 0 0
       names-stay x ok ls = NamesStay.resolves-on after (signatures ks start) marked x ok ls lasting
+
+      -- ---- lookups by a symbol's id: 21 at it where there is no such row yet, and where it was removed, for ever
+
+      ready : Ready (after .table)
+      ready = calls-later ks start (inv-ready (start .table) [] (new-inv key bytes names symbols sections new)) .ready
+
+      pub get-absent : (i : SymbolId) → after .table .link .symbols ≤ i .0 → callLeft (get i) after ≡ notFound 21 (i .0)
+      get-absent = LookedUp.got-absent after _ lasting ready
+
+      pub get-removed : (i : SymbolId) → callNumber (remove i) after ≡ 0 → (ls : List Call) → callLeft (get i) (runCalls ls (callNext (remove i) after)) ≡ notFound 21 (i .0)
+      get-removed = LookedUp.removed-got after _ lasting ready
 
       -- "Rows past the count are never written", of inputs and lists; and one that was counted before the call isn't written either
       pub lists-past : (k : Call) → Lists.ListsLeft after (callNext k after)
@@ -461,10 +543,116 @@ module _ (bytes names symbols sections inputs lists : List ℕ) (new : numberIn 
           → Libraries.Remembered o (libraryIn after marks) (runCalls ls (callNext (load o marks) after))
       library-remembered o marks ok ls = Libraries.library-remembered after _ lasting o marks ok ls
 
+      -- and no other call takes a library's row: it comes from a load that was answered "loaded"
+      pub library-loaded : (k : ℕ) → k < after .table .link .inputs → inputKindAt (after .inputs) k ≡ libraryKind → LoadedAt k ks start
+      library-loaded k = LibraryLoads.from-loads ks start lent k (new-inputs key bytes names symbols sections k)
+
+      -- so need, which goes by the link's rows (IsNeeded, below), can be told without a cell: by what a lookup answers for a name that the library defines, and
+      -- by the libraries that were loaded, their undefined symbols of binding 1 and their dependencies
+      pub needed-in : (o : Shared.Input)
+          → Needed (after .table .link) (after .table .bytes) (after .table .names) (after .table .symbols) (after .inputs) (after .lists) (o .entries) (o .file) (Shared.nameOf o)
+          ↔ NeededIn start ks o
+      needed-in =
+          NeededIn.needed-in start []
+          (record {
+            marked = new-marked key bytes names symbols sections new;
+            counted = Lookups.counted (start .table .link) (start .table .names) (Within.new-within key bytes names symbols sections new);
+            below = inv-below (start .table) [] (new-inv key bytes names symbols sections new);
+            lent = lent;
+            inside = new-lists key bytes names symbols sections lists;
+          })
+          (inv-ready (start .table) [] (new-inv key bytes names symbols sections new)) (omega (arith, new-inputs key bytes names symbols sections 0)) ks
+
       -- and these stand for the names
       pub library-named : (o : Shared.Input) (marks : List ℕ) → callLeft (load o marks) after .answer ≡ Loaded → (ls : List Call)
           → Libraries.Named o (libraryIn after marks) (runCalls ls (callNext (load o marks) after))
       library-named o marks ok ls = Libraries.library-named after _ lasting o marks ok ls
+
+      -- ---- "Objects": what a merge built, after any calls
+
+      -- each loaded program and uninitialized section that no repeated group removes: its name, kind, retain and read, and the ids of the symbols that its
+      -- last loaded relocation table names, in order. So its row stays, through all calls but a collection that doesn't reach it
+      module _ (o : Stages.Object) (work ids : List ℕ) (ok : callNumber (merge o work ids) after ≡ 0) where
+        pub rows-taken : callNext (merge o work ids) after .table .link .sections ≡ sectionId o after (sectionsIn (o .headers))
+        rows-taken = ObjectSections.rows-taken after _ lasting o work ids ok
+
+        -- and later merges find the signatures of its groups met
+        pub signatures-own : signatures (merge o work ids ∷ []) after ≡ ownSignatures (o .headers) (o .entries) (o .contents) (o .file) (sectionsIn (o .headers))
+        signatures-own = ObjectSections.signatures-own after _ lasting o work ids ok
+
+        module _ (n : ℕ) (unremoved : isRemoved (o .headers) (o .entries) (o .contents) (o .file) (signatures ks start) (sectionsIn (o .headers)) n ≡ false) (ls : List Call)
+            (spared : SparesAll ls (callNext (merge o work ids) after) (sectionId o after n)) where
+          abbrev pub then : Linked
+          then = runCalls ls (callNext (merge o work ids) after)
+
+          pub program-built : loadedAs (o .headers) n program ≡ true
+              → ObjectSections.ObjectSection o work ids after then n program (namedBy (o .headers) (o .contents) n (sectionsIn (o .headers)))
+          program-built = ObjectSections.program-built after _ lasting o work ids ok n unremoved ls spared
+
+          pub uninitialized-built : loadedAs (o .headers) n uninitialized ≡ true → ObjectSections.ObjectSection o work ids after then n uninitialized []
+          uninitialized-built = ObjectSections.uninitialized-built after _ lasting o work ids ok n unremoved ls spared
+
+          -- so collection goes by the objects' relocations: such a section names another just if one of the ids that its table's symbols were given lies there
+          pub lists-in : then .table .link .lists ≤ length (then .lists)
+          lists-in = lasting-on ls (callNext (merge o work ids) after) _ (lasting-on (merge o work ids ∷ []) after _ lasting) .inside
+
+          module _ (kind : ℕ) (named : List ℕ) (x : ObjectSections.ObjectSection o work ids after then n kind named) (marks : List ℕ) (z : ℕ) where
+            abbrev pub LeadsTo : ℕ → Type 0
+            LeadsTo = ObjectSections.LeadsTo o work ids after then n kind named lists-in x marks z
+
+            pub names-lead : ObjectSections.NamesIn o work ids after then n kind named lists-in x marks z → (j : ℕ) × (j < length (x .given)) × LeadsTo (getD (x .given) j 0)
+            names-lead = ObjectSections.names-lead o work ids after then n kind named lists-in x marks z
+
+            pub lead-named : (j : ℕ) → j < length (x .given) → LeadsTo (getD (x .given) j 0) → ObjectSections.NamesIn o work ids after then n kind named lists-in x marks z
+            lead-named = ObjectSections.lead-named o work ids after then n kind named lists-in x marks z
+
+  -- ---- the same where lists grow between calls
+
+  -- "any sequence of calls that removes nothing", before each of which cells may be lent more, behind those that the link has (Growth.antt). What is
+  -- said above of one call, its refusals and what they leave, is about any link, so of these too
+  module _ (ts : List Turn) (calm : Quiet ts start) (lent : length lists ≤ notLent) where
+    abbrev pub grownEnd : Linked
+    grownEnd = runTurns ts start
+
+    abbrev pub grownAdds : ℕ → List Entry
+    grownAdds n = only n (logTurns ts start)
+
+    some : Some grownEnd (logTurns ts start)
+    some =
+        turns-reached ts start [] calm
+        (record {
+          met = [];
+          reached =
+              record {
+                held = new-inv key bytes names symbols sections new;
+                marked = new-marked key bytes names symbols sections new;
+                counted = Lookups.counted (start .table .link) (start .table .names) (Within.new-within key bytes names symbols sections new);
+                lent = lent;
+                inside = new-lists key bytes names symbols sections lists;
+              };
+        })
+
+    -- demand 3a, and what a lookup answers
+    pub grown-3a : (n : ℕ) (x : Entry) (xs : List Entry) → grownAdds n ≡ x ∷ xs → Demand.Resolved (grownEnd .table) n x xs
+    grown-3a n x xs e = Demand.resolved (grownEnd .table) _ (some .reached .held) n x xs e
+
+    pub grown-row : (n : ℕ) (x : Entry) (xs : List Entry) → grownAdds n ≡ x ∷ xs
+        → callLeft (getGlobal (record { 0 = n })) grownEnd ≡ Fd.Row (symbolOf (record { 0 = x .id }) (firstOf (x .row) (rows xs)))
+    grown-row = Within.lookup-row (grownEnd .table) _ (some .reached .held) (reached-within grownEnd _ _ (some .reached))
+
+    pub grown-none : (n : ℕ) → grownAdds n ≡ [] → callLeft (getGlobal (record { 0 = n })) grownEnd ≡ notFound 23 0
+    grown-none = Within.lookup-none (grownEnd .table) _ (some .reached .held) (reached-within grownEnd _ _ (some .reached))
+
+    -- the gABI's resolution
+    pub grown-gabi : (n : ℕ) (x : Entry) (xs : List Entry) → grownAdds n ≡ x ∷ xs
+        → Agreement.Agrees (x .row) (rows xs) (symOfRow (x .row)) (rowAt (grownEnd .table .symbols) (x .id)) (Resolution.resolve (symsOf (rows (x ∷ xs))))
+    grown-gabi n x xs e = Agreement.accepted (grownEnd .table) _ (some .reached .held) n x xs e _ _ (all-mean-own (rows (x ∷ xs)))
+
+    -- demand 3b: Walked is over every sequence of tables, those of such a history too; no call of a walk over it is refused
+    pub grown-walk : (walkKey : ℕ) (index cells : List ℕ) → callNumber (archiveStart walkKey index cells) grownEnd ≡ 0 → (us : List Table)
+        → let r = history index us (startRun walkKey index cells) in
+        Walked index (countOf index) us r × (callNumber (archiveNext index (r .cells) (r .walk)) grownEnd ≡ 0)
+    grown-walk walkKey index cells begun us = (walked walkKey index cells begun us, WalkIn.next-goes index walkKey cells begun grownEnd _ _ (some .reached) us)
 
   -- ---- 3. the demands
 
@@ -478,22 +666,22 @@ module _ (bytes names symbols sections inputs lists : List ℕ) (new : numberIn 
     acceptedAdds n = only n (logCalls ks start)
 
     held : Inv (end .table) (logCalls ks start)
-    held = calls-keep ks start [] quiet (new-inv bytes names symbols sections new)
+    held = calls-keep ks start [] quiet (new-inv key bytes names symbols sections new)
 
     sectioned : Sectioned (end .table)
-    sectioned = calls-sectioned ks start [] quiet (new-inv bytes names symbols sections new) (new-sectioned bytes names symbols sections new)
+    sectioned = calls-sectioned ks start [] quiet (new-inv key bytes names symbols sections new) (new-sectioned key bytes names symbols sections new)
 
     -- a lent list has fewer than 2^64 cells
     module _ (lent : length lists ≤ notLent) where
-      reached : Reached end (logCalls ks start) (signatures ks start)
+      pub reached : Reached end (logCalls ks start) (signatures ks start)
       reached =
           reached-on ks start [] [] quiet
           (record {
-            held = new-inv bytes names symbols sections new;
-            marked = new-marked bytes names symbols sections new;
-            counted = Lookups.counted (start .table .link) (start .table .names) (Within.new-within bytes names symbols sections new);
+            held = new-inv key bytes names symbols sections new;
+            marked = new-marked key bytes names symbols sections new;
+            counted = Lookups.counted (start .table .link) (start .table .names) (Within.new-within key bytes names symbols sections new);
             lent = lent;
-            inside = new-lists bytes names symbols sections lists;
+            inside = new-lists key bytes names symbols sections lists;
           })
 
       within : Within.Within (end .table .link) (end .table .names)
@@ -536,6 +724,30 @@ module _ (bytes names symbols sections inputs lists : List ℕ) (new : numberIn 
     pub resolve-own : (rs : List Row) (ss : List Sym) → AllMean rs ss → Resolution.resolve ss ≡ Resolution.resolve (symsOf rs)
     resolve-own = Agreement.resolve-own
 
+    -- ---- the inputs' own entries
+
+    -- the row that a name has is that of an entry of an object, of a library or of a direct add: its type, section, value, weak and hidden are what the entry
+    -- says, in document 01's words (FromSymbol, FromLibrary, FromAdd)
+    pub contents : (n : ℕ) (x : Entry) (xs : List Entry) → acceptedAdds n ≡ x ∷ xs → FromCalls (rowAt (end .table .symbols) (x .id)) ks start []
+    contents = Contents.held-from ks start [] (new-marked key bytes names symbols sections new) held
+
+    -- and so is each of its accepted adds
+    pub adds-from : (n : ℕ) (x : Entry) (xs : List Entry) → acceptedAdds n ≡ x ∷ xs → AllFrom ks start [] (rows (x ∷ xs))
+    adds-from n x xs e = subst (λ (l : List Entry). AllFrom ks start [] (rows l)) e (Contents.adds-from ks start [] (new-marked key bytes names symbols sections new) n)
+
+    module _ (n : ℕ) (x : Entry) (xs : List Entry) (e : acceptedAdds n ≡ x ∷ xs) (from : AllFrom ks start [] (rows (x ∷ xs))) where
+      abbrev pub ownEntries : List Sym
+      ownEntries = entriesOf ks start [] (rows (x ∷ xs)) from
+
+      -- the gABI's resolution of these entries
+      pub gabi-agrees-own : Agreement.Agrees (x .row) (rows xs) (entryOf (x .row) ks start [] (from .0)) (rowAt (end .table .symbols) (x .id)) (Resolution.resolve ownEntries)
+      gabi-agrees-own = gabi-agrees-any n x xs e _ _ (all-mean ks start [] (rows (x ∷ xs)) from)
+
+      -- the gABI's combined visibility of them is hidden just if the row is, or, "hidden isn't passed on to another holder", another entry of the name is
+      pub hidden-differs : combined ownEntries
+          ≡ cond (isHidden (rowAt (end .table .symbols) (x .id)) || notPassedOn (demand-3a n x xs e .content)) stvHidden stvDefault
+      hidden-differs = Hidden.hidden-differs (rows (x ∷ xs)) ownEntries (all-show ks start [] (rows (x ∷ xs)) from) _ (demand-3a n x xs e .content)
+
     -- a further add, global, of a symbol whose binding, visibility and value pass, is refused with 17 exactly where the gABI sees a duplicate, those of
     -- shared objects counted like any other (see gabi-agrees)
     module _ (conversion : List ℕ) (u : UpcomingSymbol) (x : Entry) (xs : List Entry) where
@@ -553,7 +765,7 @@ module _ (bytes names symbols sections inputs lists : List ℕ) (new : numberIn 
           pub duplicate-refused-any : length lists ≤ notLent → end .table .link .broken ≡ false → inRange u ≡ true → fileIssued (end .table .link) (fileOf u) ≡ true
               → Resolution.resolve ((s ∷ ss) ++ (g ∷ [])) ≡ Resolution.duplicate → callNumber (add conversion u) end ≡ 17
           duplicate-refused-any lent whole ranged issued d =
-              let fits = sections-judged (end .table) sectioned in
+              let fits = sections-judged (end .table) (within lent) sectioned in
               AddCall.row-answers (end .table) conversion u (AddCall.head-passes (end .table) conversion u _ held (within lent) whole fits ranged) issued
               ∙ Duplicate.duplicate-refused (end .table) _ held row x xs e global passes valued s ss m g own d
 
@@ -635,6 +847,31 @@ module _ (bytes names symbols sections inputs lists : List ℕ) (new : numberIn 
       pub lookup-none : (n : ℕ) → acceptedAdds n ≡ [] → callLeft (getGlobal (record { 0 = n })) end ≡ notFound 23 0
       lookup-none = Within.lookup-none (end .table) _ held (within lent)
 
+      -- the same by a name's bytes: interned, and looked up by the id that was answered
+      module _ (b : List ℕ) where
+        abbrev pub idNow : ℕ
+        idNow = id (callLeft (intern b) end)
+
+        pub lookup-interned : (x : Entry) (xs : List Entry) → acceptedAdds idNow ≡ x ∷ xs
+            → callLeft (getGlobal (record { 0 = idNow })) (callNext (intern b) end) ≡ Fd.Row (symbolOf (record { 0 = x .id }) (firstOf (x .row) (rows xs)))
+        lookup-interned = LookedUp.interned-row end _ _ (reached lent) b
+
+        pub lookup-interned-none : acceptedAdds idNow ≡ [] → callLeft (getGlobal (record { 0 = idNow })) (callNext (intern b) end) ≡ notFound 23 0
+        lookup-interned-none = LookedUp.interned-none end _ _ (reached lent) b
+
+      -- "never forgets a global name": once its row is removed it gives 21 at the name, after any calls
+      pub lookup-removed : (n : ℕ) (x : Entry) (xs : List Entry) → acceptedAdds n ≡ x ∷ xs → callNumber (remove (record { 0 = x .id })) end ≡ 0 → (ls : List Call)
+          → callLeft (getGlobal (record { 0 = n })) (runCalls ls (callNext (remove (record { 0 = x .id })) end)) ≡ notFound 21 n
+      lookup-removed n x xs e ok ls =
+          let r = demand-3a n x xs e in
+          LookedUp.removed-global end _ (lasting ks lent) (ready ks lent) (record { 0 = x .id }) ok ls n (r .issued) (r .id) (λ z. omega (arith, r .real, z))
+
+      -- every id that was given out has its row
+      pub get-present : (i : SymbolId) → i .0 < end .table .link .symbols → callLeft (get i) end ≡ Fd.Row (symbolAt (end .table .symbols) i)
+      get-present i h =
+          LookedUp.got-present end _ (lasting ks lent) (ready ks lent) i h
+          (calls-whole ks start quiet (inv-ready (start .table) [] (new-inv key bytes names symbols sections new)) (new-whole key bytes names symbols sections new) (i .0) h)
+
     -- ---- "Under as-needed, an unneeded library answers "not needed" and changes nothing"
 
     module _ (o : Shared.Input) (marks : List ℕ) where
@@ -676,23 +913,35 @@ module _ (bytes names symbols sections inputs lists : List ℕ) (new : numberIn 
         → undefinedName (viewIn (end .table)) b ≡ wants (s ∷ ss) || weakOnly (s ∷ ss)
     undefined-wanted = Undefined.undefined-wanted (end .table) _ held
 
-    module _ (index cells : List ℕ) (begun : callNumber (archiveStart index cells) end ≡ 0) where
+    module _ (walkKey : ℕ) (index cells : List ℕ) (begun : callNumber (archiveStart walkKey index cells) end ≡ 0) where
       -- its calls for the next member stand anywhere: the history goes on in parts, with such a call behind each (withWalk). "makes at most m + 1
       -- passes, each pass offers exactly the members not yet offered that the index ties to a name undefined at its start, and no name undefined
       -- at the last pass is tied to an unoffered member" (bound, pass, last; the tables are the link's at those calls)
-      pub demand-3b : (kss : List (List Call)) → Walked index (countOf index) (tablesAt kss end) (walkAfter index kss (startRun index cells) end)
-      demand-3b = WalkIn.walked-in index cells begun end
+      pub demand-3b : (kss : List (List Call)) → Walked index (countOf index) (tablesAt kss end) (walkAfter index kss (startRun walkKey index cells) end)
+      demand-3b = WalkIn.walked-in index walkKey cells begun end
+
+      -- the same as one equation of lists, by members' offsets: what one pass offered, behind what was offered before it, are the members that the index ties
+      -- to a name undefined in the link at its first call, in first-seen order, without those offered before. The call behind the parts kss and the
+      -- calls ks makes the pass, those behind the parts lss none, and then it is over: the walk is done, or the next call makes another pass
+      pub exactly-3b : (kss : List (List Call)) (ks : List Call) (lss : List (List Call))
+          → let before = WalkIn.runBefore index walkKey cells begun end kss ks lss in
+          let link = WalkIn.linkThen index walkKey cells begun end kss ks lss in
+          let then = WalkIn.runThen index walkKey cells begun end kss ks lss in
+          let after = WalkIn.runAfter index walkKey cells begun end kss ks lss in
+          then .walk .passes ≡ before .walk .passes + 1 → after .walk .passes ≡ then .walk .passes → Over walkKey index cells begun after
+          → offered index after ≡ offered index before ++ without (offered index before) (firstSeen (tiedMembers index (viewIn (link .table))))
+      exactly-3b = WalkIn.pass-in index walkKey cells begun end
 
       -- "walks don't change a link": the history with its calls leads where the history without them does
-      pub walk-aside : (kss : List (List Call)) → runCalls (withWalk index kss (startRun index cells) end) end ≡ runCalls (joined kss) end
-      walk-aside kss = Walks.walk-aside index kss (startRun index cells) end
+      pub walk-aside : (kss : List (List Call)) → runCalls (withWalk index kss (startRun walkKey index cells) end) end ≡ runCalls (joined kss) end
+      walk-aside kss = Walks.walk-aside index kss (startRun walkKey index cells) end
 
       -- against the gABI: one more call for the next member, over this link, that makes a pass. The walk's earlier calls were lent whatever tables; where
       -- they stand in the history, those are tablesAt, and before is walkAfter (walk-is, Walks.antt). The member of entry e, not offered before, is this
       -- object; the index lists its global and weak definitions, as an archive's index does
       module _ (ts : List Table) where
         abbrev pub before : Run
-        before = history index ts (startRun index cells)
+        before = history index ts (startRun walkKey index cells)
 
         abbrev pub stepped : Run
         stepped = nextIn index before end
@@ -711,28 +960,51 @@ module _ (bytes names symbols sections inputs lists : List ℕ) (new : numberIn 
             -- the member is chosen where the gABI extracts it, but for the two known places: "a weak definition doesn't admit one", "Weak references
             -- pull members"
             pub extraction-differs : chosen || weakOffers wanted member ≡ extracts member wanted || taken (λ x. weakReferences (symbolsUnder x)) member
-            extraction-differs = Extraction.differences end _ held index cells begun ts made e low unoffered headers entries file listed wanted same
+            extraction-differs = Extraction.differences end _ held walkKey index cells begun ts made e low unoffered headers entries file listed wanted same
 
             -- so without these just where the gABI extracts it
             pub extraction-agrees : weakOffers wanted member ≡ false → taken (λ x. weakReferences (symbolsUnder x)) member ≡ false
                 → chosen ≡ extracts member wanted
-            extraction-agrees = Extraction.agrees end _ held index cells begun ts made e low unoffered headers entries file listed wanted same
+            extraction-agrees = Extraction.agrees end _ held walkKey index cells begun ts made e low unoffered headers entries file listed wanted same
 
           pub wanted-names : (x : List ℕ) → Taken.lists member x ≡ true
               → Strings.among x (wantedNames (λ y. wants (symbolsUnder y)) member) ≡ wants (symbolsUnder x)
-          wanted-names = Extraction.own-names end _ held index cells begun ts made e low unoffered headers entries file listed
+          wanted-names = Extraction.own-names end _ held walkKey index cells begun ts made e low unoffered headers entries file listed
+
+        -- what `matches` itself answers about it, after the pass, and if it is queued after any further calls: exactly what the gABI extracts, but for the
+        -- two known places, each a term: onlyWeaklyOffered, pulledWeakly. The object's fields are in range; its symbols in document 01's words
+        module _ (made : stepped .walk .passes ≡ before .walk .passes + 1) (e : ℕ) (low : e < countOf index) (unoffered : among index e (before .offers) ≡ false)
+            (headers entries contents file : List ℕ) (ranged : Elf.judgeOf headers entries (length contents) (length file) .number ≡ 0)
+            (listed : (x : List ℕ) → inIndex index (countOf index) e x ≡ Taken.lists (symbolsOf headers entries file) x) where
+          module _ (wanted : List (List ℕ)) (same : (x : List ℕ) → Taken.lists (symbolsOf headers entries file) x ≡ true → Strings.among x wanted ≡ wants (symbolsUnder x)) where
+            pub matches-exactly : (on : Linked) → answerIn headers entries contents file index stepped e on
+                ≡ says (admitted wanted (λ x. weakReferences (symbolsUnder x)) (symbolsOf headers entries file))
+            matches-exactly = Admitted.matches-is end _ held walkKey index cells begun ts made e low unoffered headers entries contents file ranged listed wanted same
+
+            pub matches-stays : among index e (queueIn stepped) ≡ true → (us : List Table) (on : Linked)
+                → answerIn headers entries contents file index (history index us stepped) e on
+                ≡ says (admitted wanted (λ x. weakReferences (symbolsUnder x)) (symbolsOf headers entries file))
+            matches-stays = Admitted.matches-later end _ held walkKey index cells begun ts made e low unoffered headers entries contents file ranged listed wanted same
+
+          -- a member that is let in was queued by the pass, so it is offered
+          pub let-in-queued : (on : Linked) → answerIn headers entries contents file index stepped e on ≡ Yes → among index e (queueIn stepped) ≡ true
+          let-in-queued = Admitted.let-in-queued end _ held walkKey index cells begun ts made e low unoffered headers entries contents file ranged listed
+
+          pub wanted-own : (x : List ℕ) → Taken.lists (symbolsOf headers entries file) x ≡ true
+              → Strings.among x (wantedNames (λ y. wants (symbolsUnder y)) (symbolsOf headers entries file)) ≡ wants (symbolsUnder x)
+          wanted-own = Admitted.own-names end _ held walkKey index cells begun ts made e low unoffered headers entries contents file ranged listed
 
       module _ (lent : length lists ≤ notLent) where
         -- no such call is refused, whatever tables the walk's earlier ones were lent: no 1, and no 21, since no row was removed
         pub walk-goes : (ts : List Table)
-            → let r = history index ts (startRun index cells) in
+            → let r = history index ts (startRun walkKey index cells) in
             callNumber (archiveNext index (r .cells) (r .walk)) end ≡ 0
-        walk-goes = WalkIn.next-goes index cells begun end _ _ (reached lent)
+        walk-goes = WalkIn.next-goes index walkKey cells begun end _ _ (reached lent)
 
         -- and it ends: of m + 1 calls the last answers "done"
-        pub walk-ends : (kss : List (List Call)) → RemovesNothing (withWalk index kss (startRun index cells) end) end → members index (countOf index) < length kss
-            → walkAfter index kss (startRun index cells) end .walk .done ≡ true
-        walk-ends = WalkIn.walk-done index cells begun end _ _ (reached lent)
+        pub walk-ends : (kss : List (List Call)) → RemovesNothing (withWalk index kss (startRun walkKey index cells) end) end → members index (countOf index) < length kss
+            → walkAfter index kss (startRun walkKey index cells) end .walk .done ≡ true
+        walk-ends = WalkIn.walk-done index walkKey cells begun end _ _ (reached lent)
 
     -- ---- "Collection, unless refused, keeps exactly what relocations reach from the roots"
 

@@ -38,7 +38,7 @@ use Rattle.load_laws.specs.Stops.{linkId, named, end, number, symbolsTo,
 
 -- ---- lists add no row
 
-record-none : (sections : List ℕ) (s : Recorded) (x : List ℕ) (place : ℕ) → addedRows (recordSteps sections s x place) ≡ []
+pub record-none : (sections : List ℕ) (s : Recorded) (x : List ℕ) (place : ℕ) → addedRows (recordSteps sections s x place) ≡ []
 unfolding recordSteps
 record-none sections s x place = by-test (eqb (recordOf s x place .stage .number) 0) (λ a. rw a) (λ a. rw a)
 
@@ -46,7 +46,7 @@ dependency-none : (sections file needs : List ℕ) (s : Recorded) (j : ℕ) → 
 unfolding dependencySteps
 dependency-none sections file needs s j = record-none sections _ (lookUp file (getD needs j 0) .name) j
 
-lists-none : (file needs inputs : List ℕ) (s : State) (id : Interned) (first : ℕ) → addedRows (listStageSteps file needs inputs s id first) ≡ []
+pub lists-none : (file needs inputs : List ℕ) (s : State) (id : Interned) (first : ℕ) → addedRows (listStageSteps file needs inputs s id first) ≡ []
 unfolding listStageSteps listsSteps inputSteps
 lists-none file needs inputs s id first =
     let l : ListLinks = listsIn inputs s in

@@ -10,3 +10,4 @@ pub mod Unmarked
 pub mod Accepted
 pub mod Lists
 pub mod Counts
+pub mod LibraryContents

@@ -58,7 +58,7 @@ record-listed : (i : List ℕ) (s : Recorded) (x : List ℕ) (place : ℕ) → l
 unfolding recordOf recordAs keepName
 record-listed i s x place fit =
     let st : Store = storeOf (s .bytes) (s .names) (s .stage .link) in
-    let id : Interned = record { 0 = findOf (s .bytes) (s .names) (s .stage .link .names) x } in
+    let id : Interned = record { 0 = findOf (s .bytes) (s .names) (s .stage .link) x } in
     let k : Store = keepOf st id x in
     by-test (recordFits (s .stage .link) (s .bytes) (s .names) (length (s .lists)) id (length x))
     (λ t.
@@ -179,7 +179,7 @@ module _ (entries file needs : List ℕ) where
   unfolding libraryOf issuedOf Stages.keptOf
   library-listed s x fit =
       let st : Store = storeOf (s .bytes) (s .names) (s .stage .link) in
-      let id : Interned = record { 0 = findOf (s .bytes) (s .names) (s .stage .link .names) x } in
+      let id : Interned = record { 0 = findOf (s .bytes) (s .names) (s .stage .link) x } in
       let k : Store = keepOf st id x in
       by-test (fitsOf st id (length x))
       (λ a.

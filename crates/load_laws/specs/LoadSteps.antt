@@ -105,7 +105,7 @@ issuedSteps entries file needs s x id =
 
 unfoldable pub librarySteps : List ℕ → List ℕ → List ℕ → Links → List ℕ → List Step
 librarySteps entries file needs s x =
-    issuedSteps entries file needs s x (record { 0 = findOf (s .bytes) (s .names) (s .stage .link .names) x })
+    issuedSteps entries file needs s x (record { 0 = findOf (s .bytes) (s .names) (s .stage .link) x })
 
 -- ---- the load
 

@@ -30,7 +30,7 @@ use Rattle.load_laws.specs.LoadSteps.{recording, adding}
 -- ---- a symbol
 
 abbrev pub idIn : State → List ℕ → Interned
-idIn s x = record { 0 = findOf (s .bytes) (s .names) (s .stage .link .names) x }
+idIn s x = record { 0 = findOf (s .bytes) (s .names) (s .stage .link) x }
 
 -- the name x issued
 abbrev pub namedIn : State → List ℕ → Store
@@ -68,13 +68,13 @@ external-fields id binding visibility =
 
 module _ (v : View) (x : List ℕ) (binding visibility : ℕ) where
   abbrev id : Interned
-  id = record { 0 = findOf (v .bytes) (v .names) (v .link .names) x }
+  id = record { 0 = findOf (v .bytes) (v .names) (v .link) x }
 
   abbrev row : Row
   row = externalRowOf id binding visibility
 
   -- whatever holds of a decision on the row under its name
-  judged-decided : (numbers : List ℕ) → DecidedIn numbers (decideOf (v .link) (v .symbols) (v .sections) row (holderOf (v .names) (v .symbols) (v .link .names) id))
+  judged-decided : (numbers : List ℕ) → DecidedIn numbers (decideOf (v .link) (v .symbols) (v .sections) row (holderOf (v .link) (v .names) (v .symbols) id))
       → DecidedIn numbers (planOf v x binding visibility .decision)
   unfolding planOf externalOf rowedOf judgedOf externalRowOf
   judged-decided numbers f =
@@ -84,14 +84,14 @@ module _ (v : View) (x : List ℕ) (binding visibility : ℕ) where
   plan-decided =
       judged-decided (newNumbers ++ knownNumbers)
       (decide-decided (newNumbers ++ knownNumbers) refl refl (v .link) (v .symbols) (v .sections) row
-      (fields-more newNumbers knownNumbers row (external-fields id binding visibility)) (holderOf (v .names) (v .symbols) (v .link .names) id))
+      (fields-more newNumbers knownNumbers row (external-fields id binding visibility)) (holderOf (v .link) (v .names) (v .symbols) id))
 
   -- the name isn't issued yet
   plan-new : leb (v .link .names) (id .0) ≡ true → DecidedIn newNumbers (planOf v x binding visibility .decision)
   unfolding holderOf
   plan-new n = judged-decided newNumbers (rw n (nobody-decided newNumbers (v .link) (v .symbols) (v .sections) row (external-fields id binding visibility)))
 
-plan-id : (v : View) (x : List ℕ) (binding visibility : ℕ) → planOf v x binding visibility .id ≡ record { 0 = findOf (v .bytes) (v .names) (v .link .names) x }
+plan-id : (v : View) (x : List ℕ) (binding visibility : ℕ) → planOf v x binding visibility .id ≡ record { 0 = findOf (v .bytes) (v .names) (v .link) x }
 unfolding planOf externalOf rowedOf
 plan-id v x binding visibility = refl
 
@@ -160,5 +160,5 @@ pub dependency-left : (file needs : List ℕ) (s : Recorded) (j : ℕ) → depen
 unfolding dependencyOf recordOf recordAs keepName
 dependency-left file needs s j u =
     let x : List ℕ = lookUp file (getD needs j 0) .name in
-    by-test (recordFits (s .stage .link) (s .bytes) (s .names) (length (s .lists)) (record { 0 = findOf (s .bytes) (s .names) (s .stage .link .names) x }) (length x))
+    by-test (recordFits (s .stage .link) (s .bytes) (s .names) (length (s .lists)) (record { 0 = findOf (s .bytes) (s .names) (s .stage .link) x }) (length x))
     (λ t. absurd (u (rw t))) (λ t. rw t (record { as-it-was = refl }))

@@ -42,7 +42,7 @@ define-sections : (s : Added) (x : List ℕ) (binding visibility i : ℕ) → de
 unfolding defineOf commitOf keptOf acceptOf planOf externalOf rowedOf
 define-sections s x binding visibility i =
     let st : Store = storeOf (s .bytes) (s .names) (s .stage .link) in
-    let id : Interned = record { 0 = findOf (s .bytes) (s .names) (s .stage .link .names) x } in
+    let id : Interned = record { 0 = findOf (s .bytes) (s .names) (s .stage .link) x } in
     let p : Definition = planOf (view s) x binding visibility in
     let k : Store = keepOf st id x in
     by-test (eqb (refusalOf (p .decision)) 2) (λ a. rw a)
@@ -78,7 +78,7 @@ library-sections : (entries file needs : List ℕ) (s : Links) (x : List ℕ) �
 unfolding libraryOf issuedOf Stages.keptOf contentsOf
 library-sections entries file needs s x =
     let st : Store = storeOf (s .bytes) (s .names) (s .stage .link) in
-    let id : Interned = record { 0 = findOf (s .bytes) (s .names) (s .stage .link .names) x } in
+    let id : Interned = record { 0 = findOf (s .bytes) (s .names) (s .stage .link) x } in
     let k : Store = keepOf st id x in
     let named : Links = withName s k (goingOf (k .link)) in
     by-test (fitsOf st id (length x))

@@ -36,7 +36,7 @@ use Rattle.load_laws.specs.Refusals as Refusals
 
 module _ (entries file needs : List ℕ) (s : Links) (x : List ℕ) where
   abbrev pub linkId : Links → List ℕ → Interned
-  linkId b y = record { 0 = findOf (b .bytes) (b .names) (b .stage .link .names) y }
+  linkId b y = record { 0 = findOf (b .bytes) (b .names) (b .stage .link) y }
 
   abbrev linkStore : Links → Store
   linkStore b = storeOf (b .bytes) (b .names) (b .stage .link)

@@ -88,7 +88,7 @@ module _ (s : Added) (x : List ℕ) (binding visibility i : ℕ) where
 record-other : (s : Recorded) (x : List ℕ) (place : ℕ) → recordOf s x place .stage .number ≡ 17 → ⊥
 unfolding recordOf recordAs keepName
 record-other s x place q =
-    by-test (recordFits (s .stage .link) (s .bytes) (s .names) (length (s .lists)) (record { 0 = findOf (s .bytes) (s .names) (s .stage .link .names) x }) (length x))
+    by-test (recordFits (s .stage .link) (s .bytes) (s .names) (length (s .lists)) (record { 0 = findOf (s .bytes) (s .names) (s .stage .link) x }) (length x))
     (λ t. let z : _≡_ {A = ℕ} 0 17 = rw t at q in omega arith) (λ t. let z : _≡_ {A = ℕ} 2 17 = rw t at q in omega arith)
 
 module _ (entries file : List ℕ) (s : State) (i : ℕ) where

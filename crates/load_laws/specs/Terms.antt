@@ -54,7 +54,7 @@ module _ (o : Input) (a : All) where
 
   -- with no more names than rows, as after every history from a new table: names issued and rows added one by one, as direct calls do it, leave the
   -- same names, symbols, sections' symbols and counts of names and symbols; each is accepted where it is made, and the log is the same
-  pub load-is-its-parts : a .link .names ≤ nameRows (length (a .names)) → MadeAlone (tableIn a) (loadSteps o a) (tableIn after) (partsIn (loadSteps o a))
+  pub load-is-its-parts : a .link .names ≤ a .link .chains → MadeAlone (tableIn a) (loadSteps o a) (tableIn after) (partsIn (loadSteps o a))
   load-is-its-parts r = makes-parts (tableIn a) (tableIn after) (loadSteps o a) r (load-makes o a)
 
   -- after a history in which nothing was removed

@@ -52,12 +52,12 @@ module _ {A : Type 0} (count : Link → A) (same : (s : Store) (id : Interned) (
       (applied-count count same also (tableOf (k .names) (s .symbols) (s .sections) (k .link)) (p .row) (p .decision) ∙ same st (p .id) x))
       (λ b. rw (a, b) (same st (p .id) x)))
 
-  module _ (listed : (l : Link) (n : ℕ) → count (listsAt l n) ≡ count l) (rowed : (l : Link) → count (moreInputs l) ≡ count l) where
+  module _ (listed : (l : Link) (n : ℕ) → count (listsAt l n) ≡ count l) where
     record-count : (s : Recorded) (x : List ℕ) (place : ℕ) → count (recordOf s x place .stage .link) ≡ count (s .stage .link)
     unfolding recordOf recordAs keepName
     record-count s x place =
         let st : Store = storeOf (s .bytes) (s .names) (s .stage .link) in
-        let id : Interned = record { 0 = findOf (s .bytes) (s .names) (s .stage .link .names) x } in
+        let id : Interned = record { 0 = findOf (s .bytes) (s .names) (s .stage .link) x } in
         by-test (recordFits (s .stage .link) (s .bytes) (s .names) (length (s .lists)) id (length x))
         (λ t. rw t (listed (keepOf st id x .link) _ ∙ same st id x)) (λ t. rw t)
 
@@ -74,7 +74,7 @@ module _ {A : Type 0} (count : Link → A) (same : (s : Store) (id : Interned) (
         let x : Looked = lookUp file (field entries i 0) in
         by-test (x .found) (λ a. rw a (named-count entries (staged s (goingOf (s .stage .link))) (x .name) i)) (λ a. rw a)
 
-    symbols-count : (entries file : List ℕ) (s : State) → count (symbolsOf entries file s .stage .link) ≡ count (s .stage .link)
+    pub symbols-count : (entries file : List ℕ) (s : State) → count (symbolsOf entries file s .stage .link) ≡ count (s .stage .link)
     unfolding symbolsOf
     symbols-count entries file s =
         rw (symbols-loop entries file (rowsIn entries) 0 s)
@@ -86,46 +86,47 @@ module _ {A : Type 0} (count : Link → A) (same : (s : Store) (id : Interned) (
     dependency-count file needs s j =
         record-count (recordedOf (s .bytes) (s .names) (s .lists) (goingOf (s .stage .link))) (lookUp file (getD needs j 0) .name) j
 
-    dependencies-count : (file needs : List ℕ) (s : Recorded) → count (dependenciesOf file needs s .stage .link) ≡ count (s .stage .link)
+    pub dependencies-count : (file needs : List ℕ) (s : Recorded) → count (dependenciesOf file needs s .stage .link) ≡ count (s .stage .link)
     unfolding dependenciesOf
     dependencies-count file needs s =
         rw (dependencies-loop file needs (length needs) 0 s)
         (loop-holds (λ t. t .stage .number) (dependencyOf file needs) (λ t. count (t .stage .link) ≡ count (s .stage .link))
         (λ t j e. dependency-count file needs t j ∙ e) (length needs) 0 s refl)
 
-    input-count : (inputs : List ℕ) (r : Recorded) (id : Interned) (first middle : ℕ)
-        → count (inputStage inputs r id first middle .stage .link) ≡ count (r .stage .link)
-    unfolding inputStage inputOf
-    input-count inputs r id first middle =
-        by-test (eqb (r .stage .number) 0)
-        (λ a.
-        by-test (ltb (r .stage .link .inputs) (inputRows (length inputs))) (λ b. rw (a, b) (rowed (r .stage .link))) (λ b. rw (a, b)))
-        (λ a. rw a)
+    module _ (rowed : (l : Link) → count (moreInputs l) ≡ count l) where
+      input-count : (inputs : List ℕ) (r : Recorded) (id : Interned) (first middle : ℕ)
+          → count (inputStage inputs r id first middle .stage .link) ≡ count (r .stage .link)
+      unfolding inputStage inputOf
+      input-count inputs r id first middle =
+          by-test (eqb (r .stage .number) 0)
+          (λ a.
+          by-test (ltb (r .stage .link .inputs) (inputRows (length inputs))) (λ b. rw (a, b) (rowed (r .stage .link))) (λ b. rw (a, b)))
+          (λ a. rw a)
 
-    lists-count : (file needs : List ℕ) (s : ListLinks) (id : Interned) (first : ℕ) → count (listsOf file needs s id first .stage .link) ≡ count (s .stage .link)
-    unfolding listsOf
-    lists-count file needs s id first =
-        input-count (s .inputs) (dependenciesOf file needs (listFirst s)) id first (s .stage .link .lists) ∙ dependencies-count file needs (listFirst s)
+      lists-count : (file needs : List ℕ) (s : ListLinks) (id : Interned) (first : ℕ) → count (listsOf file needs s id first .stage .link) ≡ count (s .stage .link)
+      unfolding listsOf
+      lists-count file needs s id first =
+          input-count (s .inputs) (dependenciesOf file needs (listFirst s)) id first (s .stage .link .lists) ∙ dependencies-count file needs (listFirst s)
 
-    list-stage-count : (file needs inputs : List ℕ) (s : State) (id : Interned) (first : ℕ)
-        → count (listStage file needs inputs s id first .stage .link) ≡ count (s .stage .link)
-    unfolding listStage
-    list-stage-count file needs inputs s id first =
-        by-test (eqb (s .stage .number) 0) (λ a. rw a (lists-count file needs (listsIn inputs s) id first)) (λ a. rw a)
+      list-stage-count : (file needs inputs : List ℕ) (s : State) (id : Interned) (first : ℕ)
+          → count (listStage file needs inputs s id first .stage .link) ≡ count (s .stage .link)
+      unfolding listStage
+      list-stage-count file needs inputs s id first =
+          by-test (eqb (s .stage .number) 0) (λ a. rw a (lists-count file needs (listsIn inputs s) id first)) (λ a. rw a)
 
-    pub library-count : (entries file needs : List ℕ) (s : Links) (x : List ℕ) → count (libraryOf entries file needs s x .stage .link) ≡ count (s .stage .link)
-    unfolding libraryOf issuedOf Stages.keptOf contentsOf
-    library-count entries file needs s x =
-        let st : Store = storeOf (s .bytes) (s .names) (s .stage .link) in
-        let id : Interned = record { 0 = findOf (s .bytes) (s .names) (s .stage .link .names) x } in
-        let k : Store = keepOf st id x in
-        let named : Links = withName s k (goingOf (k .link)) in
-        by-test (fitsOf st id (length x))
-        (λ a.
-        rw a
-        (list-stage-count file needs (s .inputs) (symbolsOf entries file (symbolFirst named)) id (k .link .lists)
-        ∙ symbols-count entries file (symbolFirst named) ∙ same st id x))
-        (λ a. rw a)
+      pub library-count : (entries file needs : List ℕ) (s : Links) (x : List ℕ) → count (libraryOf entries file needs s x .stage .link) ≡ count (s .stage .link)
+      unfolding libraryOf issuedOf Stages.keptOf contentsOf
+      library-count entries file needs s x =
+          let st : Store = storeOf (s .bytes) (s .names) (s .stage .link) in
+          let id : Interned = record { 0 = findOf (s .bytes) (s .names) (s .stage .link) x } in
+          let k : Store = keepOf st id x in
+          let named : Links = withName s k (goingOf (k .link)) in
+          by-test (fitsOf st id (length x))
+          (λ a.
+          rw a
+          (list-stage-count file needs (s .inputs) (symbolsOf entries file (symbolFirst named)) id (k .link .lists)
+          ∙ symbols-count entries file (symbolFirst named) ∙ same st id x))
+          (λ a. rw a)
 
 keep-broken : (s : Store) (id : Interned) (x : List ℕ) → keepOf s id x .link .broken ≡ s .link .broken
 keep-broken s id x = keeps (λ (k : Store). k .link .broken ≡ s .link .broken) s id x refl (λ h r. refl)

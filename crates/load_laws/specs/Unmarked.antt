@@ -82,7 +82,7 @@ module _ (entries file needs : List ℕ) where
   library-markless : (s : Links) (x : List ℕ) → Markless (librarySteps entries file needs s x)
   unfolding librarySteps issuedSteps keptSteps
   library-markless s x =
-      let id : Interned = record { 0 = findOf (s .bytes) (s .names) (s .stage .link .names) x } in
+      let id : Interned = record { 0 = findOf (s .bytes) (s .names) (s .stage .link) x } in
       let k : Store = keepOf (storeOf (s .bytes) (s .names) (s .stage .link)) id x in
       by-test (fitsOf (storeOf (s .bytes) (s .names) (s .stage .link)) id (length x))
       (λ a. rw a (contents-markless (withName s k (goingOf (k .link))) id)) (λ a. rw a tt)

@@ -81,7 +81,7 @@ module _ (symbols sections : List ℕ) where
       → Makes (recordTable symbols sections s) (recordSteps sections s x place) (recordTable symbols sections (recordOf s x place))
   unfolding recordOf recordAs keepName recordSteps
   record-makes s x place =
-      let id : Interned = record { 0 = findOf (s .bytes) (s .names) (s .stage .link .names) x } in
+      let id : Interned = record { 0 = findOf (s .bytes) (s .names) (s .stage .link) x } in
       let k : Store = keepOf (storeOf (s .bytes) (s .names) (s .stage .link)) id x in
       let named : History.State = withStore (recordTable symbols sections s) k in
       let l : Link = listsAt (k .link) (successor (s .stage .link .lists)) in
@@ -107,7 +107,7 @@ module _ (s : Added) (x : List ℕ) (binding visibility i : ℕ) where
   plan = planOf (view s) x binding visibility
 
   abbrev room : Bool
-  room = fitsOf (storeOf (s .bytes) (s .names) (s .stage .link)) (record { 0 = findOf (s .bytes) (s .names) (s .stage .link .names) x }) (length x)
+  room = fitsOf (storeOf (s .bytes) (s .names) (s .stage .link)) (record { 0 = findOf (s .bytes) (s .names) (s .stage .link) x }) (length x)
 
   fair : Fair (addTable s) x (plan .id) (plan .row) (plan .decision) true
   unfolding planOf externalOf rowedOf judgedOf externalRowOf addsOf
@@ -247,7 +247,7 @@ module _ (entries file needs : List ℕ) where
   library-makes : (s : Links) (x : List ℕ) → Makes (libraryTable s) (librarySteps entries file needs s x) (libraryTable (libraryOf entries file needs s x))
   unfolding libraryOf issuedOf Stages.keptOf librarySteps issuedSteps keptSteps
   library-makes s x =
-      let id : Interned = record { 0 = findOf (s .bytes) (s .names) (s .stage .link .names) x } in
+      let id : Interned = record { 0 = findOf (s .bytes) (s .names) (s .stage .link) x } in
       let k : Store = keepOf (storeOf (s .bytes) (s .names) (s .stage .link)) id x in
       let named : Links = withName s k (goingOf (k .link)) in
       by-test (fitsOf (storeOf (s .bytes) (s .names) (s .stage .link)) id (length x))

@@ -79,7 +79,7 @@ planWith l bytes names lists ids limit relocations x id =
 
 unfoldable pub planOf : Link → List ℕ → List ℕ → ℕ → List ℕ → ℕ → List ℕ → List ℕ → Plan
 planOf l bytes names lists ids limit relocations x =
-    planWith l bytes names lists ids limit relocations x (record { 0 = findOf bytes names (l .names) x })
+    planWith l bytes names lists ids limit relocations x (record { 0 = findOf bytes names l x })
 
 -- the row that was reserved, from the conversion's cell; a section to be built has one, so its cell is at least 2
 unfoldable pub sectionIdOf : ℕ → SectionId
@@ -96,6 +96,7 @@ moreLists l n =
       lists = l .lists + n;
       chains = l .chains;
       slots = l .slots;
+      key = l .key;
       broken = l .broken;
     }
 

@@ -47,25 +47,25 @@ module _ (used all more : ℕ) (b : Bool) where
   lists-sum e f g = let h : used + more ≤ all = lists-within e f in omega arith
 
 module _ (l : Link) (bytes names : List ℕ) (lists : ℕ) (ids : List ℕ) (limit : ℕ) (relocations x : List ℕ) (t : Plan) (id : ℕ) (fits : Bool) where
-  pub plan-nameless : id ≡ findOf bytes names (l .names) x → fits ≡ fitsOf (storeOf bytes names l) (record { 0 = id }) (length x) → fits ≡ false
+  pub plan-nameless : id ≡ findOf bytes names l x → fits ≡ fitsOf (storeOf bytes names l) (record { 0 = id }) (length x) → fits ≡ false
       → t ≡ planned 2 (record { 0 = id }) → t ≡ planOf l bytes names lists ids limit relocations x
   unfolding planOf planWith
   plan-nameless e f g q = simp (q, ← e, ← f, g)
 
   module _ (known : Bool) where
-    pub plan-unknown : id ≡ findOf bytes names (l .names) x → fits ≡ fitsOf (storeOf bytes names l) (record { 0 = id }) (length x) → fits ≡ true
+    pub plan-unknown : id ≡ findOf bytes names l x → fits ≡ fitsOf (storeOf bytes names l) (record { 0 = id }) (length x) → fits ≡ true
         → known ≡ symbolsOk ids limit relocations → known ≡ false → t ≡ planned 19 (record { 0 = id }) → t ≡ planOf l bytes names lists ids limit relocations x
     unfolding planOf planWith
     plan-unknown e f g h a q = simp (q, ← e, ← f, g, ← h, a)
 
     module _ (room : Bool) where
-      pub plan-full : id ≡ findOf bytes names (l .names) x → fits ≡ fitsOf (storeOf bytes names l) (record { 0 = id }) (length x) → fits ≡ true
+      pub plan-full : id ≡ findOf bytes names l x → fits ≡ fitsOf (storeOf bytes names l) (record { 0 = id }) (length x) → fits ≡ true
           → known ≡ symbolsOk ids limit relocations → known ≡ true → room ≡ listsFit (l .lists) lists (length relocations) → room ≡ false
           → t ≡ planned 2 (record { 0 = id }) → t ≡ planOf l bytes names lists ids limit relocations x
       unfolding planOf planWith
       plan-full e f g h a b c q = simp (q, ← e, ← f, g, ← h, a, ← b, c)
 
-      pub plan-fine : id ≡ findOf bytes names (l .names) x → fits ≡ fitsOf (storeOf bytes names l) (record { 0 = id }) (length x) → fits ≡ true
+      pub plan-fine : id ≡ findOf bytes names l x → fits ≡ fitsOf (storeOf bytes names l) (record { 0 = id }) (length x) → fits ≡ true
           → known ≡ symbolsOk ids limit relocations → known ≡ true → room ≡ listsFit (l .lists) lists (length relocations) → room ≡ true
           → t ≡ planned 0 (record { 0 = id }) → t ≡ planOf l bytes names lists ids limit relocations x
       unfolding planOf planWith

@@ -121,7 +121,7 @@ fn plan_section(
 ) -> Plan
     ensures { λ r. ⌜ r ≡ planOf l (now (bytes .entry)) (now (names .entry)) lists (now (ids .entry)) limit (now (relocations .entry)) (now (x .entry)) ⌝ }
 {
-    let id = Interned(interner::find(bytes, names, l.names, x));
+    let id = interner::find(l, bytes, names, x);
     if interner_issue::fits(l, bytes, names, id, x.len()) {
         if symbols_ok(ids, limit, relocations) {
             if lists_fit(l.lists, lists, relocations.len()) {
@@ -169,6 +169,7 @@ fn more_lists(l: Link, more: usize) -> Link
         lists: l.lists + more,
         chains: l.chains,
         slots: l.slots,
+        key: l.key,
         broken: l.broken,
     }
 }

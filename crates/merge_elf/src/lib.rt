@@ -142,10 +142,10 @@ pub fn merge_elf(
         (allOf (now (bytes .entry)) (now (names .entry)) (now (symbols .entry)) (now (sections .entry)) (now (inputs .entry)) (now (lists .entry)) (now (work .entry)) (now (ids .entry)) (goingOf l)) ⌝ }
 {
     let lent = Lent {
-        names: names.len(),
+        names: names.len() / link::NAME_CELLS,
         bytes: bytes.len(),
         symbols: symbols.len(),
-        sections: sections.len(),
+        sections: sections.len() / link::SECTION_CELLS,
         inputs: inputs.len(),
         lists: lists.len(),
     };

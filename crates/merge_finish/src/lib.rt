@@ -21,6 +21,7 @@ fn input_row(l: Link, inputs: &mut [u64]) -> Stage
             lists: l.lists,
             chains: l.chains,
             slots: l.slots,
+            key: l.key,
             broken: l.broken,
         });
     }

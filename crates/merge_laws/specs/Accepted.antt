@@ -96,7 +96,7 @@ module _ (o : Tabled) (work : List ℕ) (s : SymbolLinks) where
       by-test (eqb (s .stage .number) 0)
       (λ t. rw t (both (buildSteps b (building (buildFirst s)) 2) _ (build-markless b (building (buildFirst s)) 2) (program-markless b _))) (λ t. rw t tt)
 
-  built-none : addedRows (buildStageSteps o work s) ≡ []
+  pub built-none : addedRows (buildStageSteps o work s) ≡ []
   unfolding buildStageSteps bothSteps
   built-none =
       let b : Build.Object = buildObject o work (s .ids) in
@@ -124,7 +124,7 @@ filter-markless o a =
 
 -- ---- groups add no row
 
-group-none : (o : Group.Object) (s : Group.Step) (n : ℕ) → addedRows (groupSectionSteps o s n) ≡ []
+pub group-none : (o : Group.Object) (s : Group.Step) (n : ℕ) → addedRows (groupSectionSteps o s n) ≡ []
 unfolding groupSectionSteps signedSteps
 group-none o s n =
     by-test (isLoaded (o .headers) n 7) (λ a. by-test (eqb (groupSectionOf o s n .stage .number) 0) (λ b. rw (a, b)) (λ b. rw (a, b))) (λ a. rw a)
@@ -162,13 +162,13 @@ module _ (o : Object) (a : All) where
     abbrev first : Group.Step
     first = groupFirst (prepared o a)
 
-    going : (n : ℕ) → n ≤ rowsIn (o .headers) → groupsTo o a n .stage .number ≡ 0
+    pub going : (n : ℕ) → n ≤ rowsIn (o .headers) → groupsTo o a n .stage .number ≡ 0
     unfolding groupsOf
     going n h =
         ap numberOf (groups-loop (reader o a) n 0 first)
         ∙ loop-going numberOf (groupSectionOf (reader o a)) (rowsIn (o .headers)) 0 n first refl (ap numberOf (sym (groups-loop (reader o a) (rowsIn (o .headers)) 0 first)) ∙ passes) h
 
-    next-going : (n : ℕ) → n < rowsIn (o .headers) → groupSectionOf (reader o a) (groupsTo o a n) n .stage .number ≡ 0
+    pub next-going : (n : ℕ) → n < rowsIn (o .headers) → groupSectionOf (reader o a) (groupsTo o a n) n .stage .number ≡ 0
     next-going n h =
         let e : groupsTo o a n ≡ loop numberOf (groupSectionOf (reader o a)) n 0 first = groups-loop (reader o a) n 0 first in
         let z : numberOf (loop numberOf (groupSectionOf (reader o a)) n 0 first) ≡ 0 = ap numberOf (sym e) ∙ going n (omega arith) in

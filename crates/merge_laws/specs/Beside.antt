@@ -9,14 +9,13 @@ use lib.ListN.{getD, set, length, take, drop, take-append-drop}
 use lib.Seq.{sets, drop-set-lt, getD-set-other}
 use Rattle.cells.specs.Rows.{putRow, length-putRow}
 use Rattle.link.specs.declared.Link.{Link}
-use Rattle.symbol_rows.specs.Decide.{sectionCells}
 use Rattle.symbol_laws.specs.History.{State}
 use Rattle.merge_laws.specs.Steps.{others, rowsFrom, countsFrom, withOthers, Bounded, Makes}
 
 -- from the rows x and the counts k to y and l
 pub record Beside (x : List ℕ) (k : Link) (y : List ℕ) (l : Link) : Type 0 where
   pub long : length y ≡ length x
-  pub behind : drop (sectionCells (length x) * 8) y ≡ drop (sectionCells (length x) * 8) x
+  pub behind : drop (k .slots * 8) y ≡ drop (k .slots * 8) x
   pub counts : countsFrom l k ≡ l
   -- no row past the count is written
   pub more : k .sections ≤ l .sections
@@ -31,7 +30,7 @@ beside-both x y z k l m p q =
     record {
       long = q .long ∙ p .long;
       behind =
-          subst (λ (n : ℕ). drop (sectionCells n * 8) z ≡ drop (sectionCells n * 8) y) (p .long) (q .behind) ∙ p .behind;
+          subst (λ (n : ℕ). drop (n * 8) z ≡ drop (n * 8) y) (sym (ap (λ (l : Link). l .slots) (p .counts))) (q .behind) ∙ p .behind;
       counts = ap (countsFrom m) (p .counts) ∙ q .counts;
       more = le-trans (p .more) (q .more);
       past = λ i h. q .past i h ∙ p .past i (omega (arith, q .more));
@@ -40,12 +39,12 @@ beside-both x y z k l m p q =
 
 pub others-make : (s : State) (y : List ℕ) (l : Link) → Beside (s .sections) (s .link) y l → Makes s (others y l ∷ []) (withOthers s y l)
 others-make s y l b =
-    let n : ℕ = sectionCells (length (s .sections)) * 8 in
-    let e : rowsFrom y (s .sections) ≡ y = ap (_++_ (take n y)) (sym (b .behind)) ∙ take-append-drop n y in
+    let n : ℕ = s .link .slots * 8 in
+    let e : rowsFrom (s .link .slots) y (s .sections) ≡ y = ap (_++_ (take n y)) (sym (b .behind)) ∙ take-append-drop n y in
     record {
       leads =
           ap (λ (x : List ℕ). withOthers s x (countsFrom l (s .link))) e ∙ ap (withOthers s y) (b .counts);
-      accepted = ((b .more, b .long, b .past, b .bounded), tt);
+      accepted = ((b .more, b .long, b .past, λ p. subst Bounded (sym (b .counts)) (b .bounded p)), tt);
     }
 
 -- ---- a row stored among the rows
@@ -58,13 +57,13 @@ pub sets-past : (vs l : List ℕ) (a q : ℕ) → a + length vs ≤ q → getD (
 sets-past [] l a q h = refl
 sets-past (v ∷ vs) l a q h = sets-past vs (set l a v) (suc a) q (omega arith) ∙ getD-set-other l a q v 0 (λ e. omega arith)
 
-pub row-beside : (x : List ℕ) (i : ℕ) (vs : List ℕ) (k l : Link) → length vs ≡ 8 → i < sectionCells (length x) → i < l .sections → k .sections ≤ l .sections
+pub row-beside : (x : List ℕ) (i : ℕ) (vs : List ℕ) (k l : Link) → length vs ≡ 8 → i < k .slots → i < l .sections → k .sections ≤ l .sections
     → countsFrom l k ≡ l → (Bounded k → Bounded l) → Beside x k (putRow x i vs) l
 unfolding putRow
 row-beside x i vs k l e h f m c b =
     record {
       long = length-putRow x i vs;
-      behind = drop-sets vs x (i * 8) (sectionCells (length x) * 8) (omega arith);
+      behind = drop-sets vs x (i * 8) (k .slots * 8) (omega arith);
       counts = c;
       more = m;
       past = λ q g. sets-past vs x (i * 8) q (omega arith);

@@ -16,7 +16,6 @@ use Rattle.link.specs.declared.Link.{Link}
 use Rattle.link.specs.declared.Interned.{Interned}
 use Rattle.strings.specs.Lookup.{Looked}
 use Rattle.interner.specs.Names.{Store, storeOf, findOf, fitsOf, keepOf}
-use Rattle.symbol_rows.specs.Decide.{sectionCells}
 use Rattle.sections.specs.Rows.{builtOf}
 use Rattle.elf_object.specs.Rows.{rowsIn, nameOffsetAt, retainAt, readAt, nameIn}
 use Rattle.merge_sections.specs.Reserve.{kindClass}
@@ -26,8 +25,8 @@ use Rattle.merge_build.specs.Build.{Object, State, LinkState, RowState, rowStat
 use Rattle.symbol_laws.specs.History as History
 use Rattle.symbol_laws.specs.History.{withStore, issue}
 use Rattle.merge_laws.specs.Steps.{part, others, Makes, makes-none, makes-both}
-use Rattle.merge_laws.specs.Issue.{keep-sections}
-use Rattle.merge_laws.specs.More.{makes-more}
+use Rattle.merge_laws.specs.Issue.{keep-slots, keep-sections}
+use Rattle.merge_laws.specs.More.{makes-more, makes-slots}
 use Rattle.merge_laws.specs.Beside.{Beside, beside-none, others-make, row-beside}
 use Rattle.merge_laws.specs.Loop.{loop, loop-makes, loop-holds}
 use Rattle.merge_laws.specs.Placed.{Placed, rowOf, built-placed}
@@ -37,7 +36,7 @@ use Rattle.merge_laws.specs.MergeSteps.{builtSteps, sectionSteps, buildS
 
 module _ (l : Link) (bytes names : List ℕ) (lists : ℕ) (ids : List ℕ) (limit : ℕ) (relocations x : List ℕ) where
   abbrev id : Interned
-  id = record { 0 = findOf bytes names (l .names) x }
+  id = record { 0 = findOf bytes names l x }
 
   abbrev plan : Plan
   plan = planOf l bytes names lists ids limit relocations x
@@ -67,7 +66,7 @@ tableIn symbols s = record { bytes = s .bytes; names = s .names; symbols = symbo
 abbrev tableAt : List ℕ → LinkState → History.State
 tableAt symbols s = record { bytes = s .bytes; names = s .names; symbols = symbols; sections = s .sections; link = s .link }
 
-row-built : (headers work ids : List ℕ) (s : RowState) (relocations : List ℕ) (id : Interned) (n kind : ℕ) → rowOf work n < sectionCells (length (s .sections))
+row-built : (headers work ids : List ℕ) (s : RowState) (relocations : List ℕ) (id : Interned) (n kind : ℕ) → rowOf work n < s .link .slots
     → rowOf work n < s .link .sections → Beside (s .sections) (s .link) (buildRowOf headers work ids s relocations id n kind .sections) (buildRowOf headers work ids s relocations id n kind .link)
 unfolding buildRowOf builtOf
 row-built headers work ids s relocations id n kind h c =
@@ -76,9 +75,9 @@ row-built headers work ids s relocations id n kind h c =
     (λ t. rw t (beside-none (s .sections) (s .link)))
 
 module _ (symbols : List ℕ) (headers work ids : List ℕ) (s : LinkState) (relocations x : List ℕ) (n kind : ℕ) (p : Plan)
-    (named : p .id ≡ record { 0 = findOf (s .bytes) (s .names) (s .link .names) x })
-    (room : p .number ≢ 2 → fitsOf (storeOf (s .bytes) (s .names) (s .link)) (record { 0 = findOf (s .bytes) (s .names) (s .link .names) x }) (length x) ≡ true)
-    (low : rowOf work n < sectionCells (length (s .sections))) (counted : rowOf work n < s .link .sections) where
+    (named : p .id ≡ record { 0 = findOf (s .bytes) (s .names) (s .link) x })
+    (room : p .number ≢ 2 → fitsOf (storeOf (s .bytes) (s .names) (s .link)) (record { 0 = findOf (s .bytes) (s .names) (s .link) x }) (length x) ≡ true)
+    (low : rowOf work n < s .link .slots) (counted : rowOf work n < s .link .sections) where
   abbrev kept : Store
   kept = keepOf (storeOf (s .bytes) (s .names) (s .link)) (p .id) x
 
@@ -105,8 +104,8 @@ module _ (symbols : List ℕ) (headers work ids : List ℕ) (s : LinkState) (rel
       (λ z.
       rw (t, z)
       (makes-both (tableAt symbols s) after _ (part (issue x) ∷ []) (others _ _ ∷ []) (issued (eqb-false _ _ t))
-      (others-make after _ _ (row-built headers work ids (rowState (s .sections) (s .lists) (kept .link)) relocations (p .id) n kind low
-      (rw (keep-sections (storeOf (s .bytes) (s .names) (s .link)) (p .id) x) counted)))))
+      (others-make after _ _ (row-built headers work ids (rowState (s .sections) (s .lists) (kept .link)) relocations (p .id) n kind
+      (rw (keep-slots (storeOf (s .bytes) (s .names) (s .link)) (p .id) x) low) (rw (keep-sections (storeOf (s .bytes) (s .names) (s .link)) (p .id) x) counted)))))
       (λ z.
       rw (t, z, t)
       (makes-both (tableAt symbols s) after _ (part (issue x) ∷ []) (others _ _ ∷ []) (issued (eqb-false _ _ t))
@@ -137,7 +136,7 @@ section-long o kind s n =
 
 -- of the kinds that have rows
 module _ (symbols : List ℕ) (o : Object) (kind count : ℕ) (rowed : kindClass kind ≡ 2) (placed : Placed (o .headers) (o .work) count) where
-  section-makes : (s : State) (n : ℕ) → count ≤ sectionCells (length (s .sections)) → count ≤ s .stage .link .sections → Makes (tableIn symbols s) (sectionSteps o kind s n) (tableIn symbols (sectionOf o s n kind))
+  section-makes : (s : State) (n : ℕ) → count ≤ s .stage .link .slots → count ≤ s .stage .link .sections → Makes (tableIn symbols s) (sectionSteps o kind s n) (tableIn symbols (sectionOf o s n kind))
   unfolding sectionOf lookedOf namedOf tabledOf sectionSteps builtSteps
   section-makes s n c d =
       let x : Looked = nameIn (o .headers) (o .file) (o .strings) (nameOffsetAt (o .headers) n) in
@@ -169,23 +168,23 @@ build-loop o kind (suc k) n s =
 module _ (symbols : List ℕ) (o : Object) (kind count : ℕ) (rowed : kindClass kind ≡ 2) (placed : Placed (o .headers) (o .work) count) where
   -- kept by each section
   record Fits (s t : State) : Type 0 where
-    long : length (t .sections) ≡ length (s .sections)
+    slots : t .stage .link .slots ≡ s .stage .link .slots
     counted : count ≤ t .stage .link .sections
 
-  section-fits : (s t : State) (n : ℕ) → count ≤ sectionCells (length (s .sections)) → Fits s t → Fits s (sectionOf o t n kind)
+  section-fits : (s t : State) (n : ℕ) → count ≤ s .stage .link .slots → Fits s t → Fits s (sectionOf o t n kind)
   section-fits s t n c f =
-      let k : count ≤ sectionCells (length (t .sections)) = omega (arith, f .long) in
-      let m = makes-more _ _ _ (section-makes symbols o kind count rowed placed t n k (f .counted)) in
-      record { long = section-long o kind t n ∙ f .long; counted = le-trans (f .counted) m }
+      let k : count ≤ t .stage .link .slots = omega (arith, f .slots) in
+      let m = section-makes symbols o kind count rowed placed t n k (f .counted) in
+      record { slots = makes-slots _ _ _ m ∙ f .slots; counted = le-trans (f .counted) (makes-more _ _ _ m) }
 
-  pub build-makes : (s : State) → count ≤ sectionCells (length (s .sections)) → count ≤ s .stage .link .sections
+  pub build-makes : (s : State) → count ≤ s .stage .link .slots → count ≤ s .stage .link .sections
       → Makes (tableIn symbols s) (buildSteps o s kind) (tableIn symbols (buildOf o s kind))
   unfolding buildOf
   build-makes s c d =
       rw (build-loop o kind (rowsIn (o .headers)) 0 s)
       (loop-makes numberOf (λ t n. sectionOf o t n kind) (sectionSteps o kind) (tableIn symbols) (Fits s) (λ t n f. section-fits s t n c f)
-      (λ t n f. section-makes symbols o kind count rowed placed t n (omega (arith, f .long)) (f .counted)) (rowsIn (o .headers)) 0 s
-      (record { long = refl; counted = d }))
+      (λ t n f. section-makes symbols o kind count rowed placed t n (omega (arith, f .slots)) (f .counted)) (rowsIn (o .headers)) 0 s
+      (record { slots = refl; counted = d }))
 
 pub build-long : (o : Object) (kind : ℕ) (s : State) → length (buildOf o s kind .sections) ≡ length (s .sections)
 unfolding buildOf

@@ -20,7 +20,6 @@ use Rattle.link.specs.Judge as Link
 use Rattle.link.specs.Passed.{judge-gives}
 use Rattle.strings.specs.Lookup.{Looked, looked}
 use Rattle.interner.specs.Names.{Store, storeOf, findOf, keepOf}
-use Rattle.symbol_rows.specs.Decide.{sectionCells}
 use Rattle.elf_object.specs.Rows.{rowsIn}
 use Rattle.elf_object.specs.Judge as Elf
 use Rattle.merge_sections.specs.Reserve as Reserve
@@ -122,7 +121,7 @@ abbrev withStore : All → Store → All
 withStore b k = allOf (k .bytes) (k .names) (b .symbols) (b .sections) (b .inputs) (b .lists) (b .work) (b .ids) (Link.goingOf (k .link))
 
 abbrev pub idIn : All → List ℕ → Interned
-idIn b x = record { 0 = findOf (b .bytes) (b .names) (b .stage .link .names) x }
+idIn b x = record { 0 = findOf (b .bytes) (b .names) (b .stage .link) x }
 
 -- where no refusal leaves a name issued
 abbrev nameless : Looked
@@ -284,7 +283,7 @@ module _ (o : Object) (a : All) where
     pub rows : b .symbols ≡ a .symbols
     pub count : b .stage .link .symbols ≡ a .stage .link .symbols
     pub long : length (b .sections) ≡ length (a .sections)
-    pub behind : drop (sectionCells (length (a .sections)) * 8) (b .sections) ≡ drop (sectionCells (length (a .sections)) * 8) (a .sections)
+    pub behind : drop (a .stage .link .slots * 8) (b .sections) ≡ drop (a .stage .link .slots * 8) (a .sections)
 
   -- and names
   pub record NamesLeft (b : All) : Type 0 where

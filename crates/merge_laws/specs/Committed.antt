@@ -36,7 +36,7 @@ module _ (s : State) (x : List ℕ) (id : Interned) (r : Row) (d : Decision) whe
   kept = keepOf (store s) id x
 
   abbrev before : Decision
-  before = decideOf (s .link) (s .symbols) (s .sections) r (holderOf (s .names) (s .symbols) (s .link .names) (r .name))
+  before = decideOf (s .link) (s .symbols) (s .sections) r (holderOf (s .link) (s .names) (s .symbols) (r .name))
 
   abbrev named : State
   named = withStore s kept

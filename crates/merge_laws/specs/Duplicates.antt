@@ -38,7 +38,7 @@ use Rattle.merge_laws.specs.Refusals.{oneOf, JudgedIn, Fields, new-decid
 -- the row r of the name x
 module _ (s : State) (x : List ℕ) (r : Row) (own : r .name ≡ idOf s x) where
   abbrev pub judged : Decision
-  judged = decideOf (s .link) (s .symbols) (s .sections) r (holderOf (s .names) (s .symbols) (s .link .names) (r .name))
+  judged = decideOf (s .link) (s .symbols) (s .sections) r (holderOf (s .link) (s .names) (s .symbols) (r .name))
 
   -- with the name issued
   abbrev named : State
@@ -100,7 +100,7 @@ module _ (numbers : List ℕ) (other : oneOf 17 numbers ≡ false) where
         by-test (leb 13 (r .value .kind)) (λ v. absurd (not-here (r .value .kind) (f .valued v) (rw (p, z, v) at q))) (λ v. (eqb-false _ _ z, p, v))))
 
   pub seventeen-held : (s : State) (past : List Entry) → Inv s past → (r : Row) → Fields numbers r
-      → refusalOf (decideOf (s .link) (s .symbols) (s .sections) r (holderOf (s .names) (s .symbols) (s .link .names) (r .name))) ≡ 17 → Held s past r
+      → refusalOf (decideOf (s .link) (s .symbols) (s .sections) r (holderOf (s .link) (s .names) (s .symbols) (r .name))) ≡ 17 → Held s past r
   seventeen-held s past inv r f q = by (only (r .name .0) past) refl
     where
       by : (l : List Entry) → only (r .name .0) past ≡ l → Held s past r

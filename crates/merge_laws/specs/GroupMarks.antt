@@ -83,7 +83,7 @@ module _ (symbols sections : List ℕ) (o : Object) (s : Group.Step) (met : List
       (λ b. absurd (eqb-false _ _ b (rw (group, b) at accepted)))
 
   -- a mark is lent for a section that is removed
-  mark-lent : among signature met ≡ true → listed < length (s .work) / 8
+  pub mark-lent : among signature met ≡ true → listed < length (s .work) / 8
   unfolding groupSectionOf groupOf shapedOf signedOf namedOf decidedOf planOf planWith markRefusal
   mark-lent r =
       let x : Looked = signatureOf (o .headers) (o .entries) (o .file) (o .table) n in

@@ -30,7 +30,7 @@ use Rattle.merge_laws.specs.MergeSteps.{signedSteps, groupSectionSteps}
 
 module _ (l : Link) (bytes names : List ℕ) (marks : ℕ) (x : List ℕ) (listed : ℕ) where
   abbrev id : Interned
-  id = record { 0 = findOf bytes names (l .names) x }
+  id = record { 0 = findOf bytes names l x }
 
   abbrev plan : Plan
   plan = planOf l bytes names marks x listed
@@ -39,7 +39,7 @@ module _ (l : Link) (bytes names : List ℕ) (marks : ℕ) (x : List ℕ) (liste
   unfolding planOf planWith
   plan-signature = by-test (fitsOf (storeOf bytes names l) id (length x)) (λ t. rw t) (λ t. rw t)
 
-  pub plan-repeated : plan .repeated ≡ repeatedOf names (l .names) (findOf bytes names (l .names) x)
+  pub plan-repeated : plan .repeated ≡ repeatedOf names (l .names) (findOf bytes names l x)
   unfolding planOf planWith
   plan-repeated = by-test (fitsOf (storeOf bytes names l) id (length x)) (λ t. rw t) (λ t. rw t)
 

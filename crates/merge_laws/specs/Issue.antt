@@ -19,7 +19,7 @@ use Rattle.symbol_rows.specs.declared.Holder.{Holder}
 use Rattle.symbol_rows.specs.declared.Holder.the-variants.{Unissued, Nobody, Removed, Known}
 use Rattle.symbol_rows.specs.Holder.{heldBy, holderOf}
 use Rattle.symbol_rows.specs.Decide as Rows
-use Rattle.symbol_rows.specs.Decide.{newOf, decideOf}
+use Rattle.symbol_rows.specs.Decide.{newOf, decideOf, sectionRoom, sectionCell}
 use Rattle.symbol_rows.specs.Apply.{tableOf}
 use Rattle.symbols.specs.Add.{issuedOf, directHolderOf, decidedOf}
 use Rattle.symbol_laws.specs.Issue.{linked-new, room-free}
@@ -39,6 +39,9 @@ module _ (s : Store) (id : Interned) (x : List ℕ) where
   pub keep-sections : keepOf s id x .link .sections ≡ s .link .sections
   keep-sections = keeps (λ (k : Store). k .link .sections ≡ s .link .sections) s id x refl (λ h r. refl)
 
+  pub keep-slots : keepOf s id x .link .slots ≡ s .link .slots
+  keep-slots = keeps (λ (k : Store). k .link .slots ≡ s .link .slots) s id x refl (λ h r. refl)
+
   -- a name that fits is issued
   pub keep-low : fitsOf s id (length x) ≡ true → id .0 ≤ s .link .names → id .0 < keepOf s id x .link .names
   unfolding fitsOf keepOf
@@ -48,26 +51,26 @@ module _ (s : Store) (id : Interned) (x : List ℕ) where
 
   module _ (symbols : List ℕ) where
     holder-added : id .0 ≡ s .link .names → roomOf s (length x) ≡ true
-        → holderOf (added s x .names) symbols (added s x .link .names) id ≡ holderOf (s .names) symbols (s .link .names) id
+        → holderOf (added s x .link) (added s x .names) symbols id ≡ holderOf (s .link) (s .names) symbols id
     unfolding holderOf heldBy
     holder-added e r =
         simp (
           e,
           lt-leb (s .link .names + 1) (s .link .names) (omega arith),
           le-leb (s .link .names) (s .link .names) (omega arith),
-          linked-new (s .names) (s .link .names) (s .link .bytes) (length x) x (room-free s (length x) r),
+          linked-new (s .link) (s .names) (s .link .bytes) (length x) x (room-free s (length x) r),
         )
 
     holder-kept : id .0 ≤ s .link .names
-        → holderOf (keepOf s id x .names) symbols (keepOf s id x .link .names) id ≡ holderOf (s .names) symbols (s .link .names) id
+        → holderOf (keepOf s id x .link) (keepOf s id x .names) symbols id ≡ holderOf (s .link) (s .names) symbols id
     holder-kept h =
-        keeps (λ (k : Store). holderOf (k .names) symbols (k .link .names) id ≡ holderOf (s .names) symbols (s .link .names) id) s id x refl
+        keeps (λ (k : Store). holderOf (k .link) (k .names) symbols id ≡ holderOf (s .link) (s .names) symbols id) s id x refl
         (λ g r. holder-added (omega arith) r)
 
-module _ (l m : Link) (symbols sections : List ℕ) (r : Row) (e : l .symbols ≡ m .symbols) where
+module _ (l m : Link) (symbols sections : List ℕ) (r : Row) (e : l .symbols ≡ m .symbols) (f : l .slots ≡ m .slots) where
   new-link : newOf l symbols sections r ≡ newOf m symbols sections r
-  unfolding newOf Rows.roomOf
-  new-link = simp e
+  unfolding newOf Rows.roomOf sectionRoom sectionCell
+  new-link = simp (e, f)
 
   decide-link : (h : Holder) → decideOf l symbols sections r h ≡ decideOf m symbols sections r h
   unfolding decideOf
@@ -78,7 +81,7 @@ module _ (l m : Link) (symbols sections : List ℕ) (r : Row) (e : l .symbols �
 
 -- under an issued name a direct add judges by the name's holder
 direct-holder : (l : Link) (names symbols : List ℕ) (name : Interned) → name .0 < l .names
-    → directHolderOf l names symbols name File.None ≡ holderOf names symbols (l .names) name
+    → directHolderOf l names symbols name File.None ≡ holderOf l names symbols name
 unfolding directHolderOf issuedOf
 direct-holder l names symbols name h = simp (lt-leb _ _ h)
 
@@ -87,9 +90,9 @@ module _ (s : Store) (x symbols sections : List ℕ) (r : Row) (fits : fitsOf s 
   k = keepOf s (r .name) x
 
   pub decided-kept : decidedOf (tableOf (k .names) symbols sections (k .link)) r File.None
-      ≡ decideOf (s .link) symbols sections r (holderOf (s .names) symbols (s .link .names) (r .name))
+      ≡ decideOf (s .link) symbols sections r (holderOf (s .link) (s .names) symbols (r .name))
   unfolding decidedOf
   decided-kept =
       ap (decideOf (k .link) symbols sections r)
       (direct-holder (k .link) (k .names) symbols (r .name) (keep-low s (r .name) x fits low) ∙ holder-kept s (r .name) x symbols low)
-      ∙ decide-link (k .link) (s .link) symbols sections r (keep-symbols s (r .name) x) (holderOf (s .names) symbols (s .link .names) (r .name))
+      ∙ decide-link (k .link) (s .link) symbols sections r (keep-symbols s (r .name) x) (keep-slots s (r .name) x) (holderOf (s .link) (s .names) symbols (r .name))

@@ -33,3 +33,14 @@ pub mod RowStays
 pub mod Past
 pub mod Lists
 pub mod Seen
+pub mod MergeWords
+pub mod WorkRows
+pub mod WorkNotes
+pub mod WorkGroups
+pub mod BuiltRow
+pub mod Built
+pub mod GivenIds
+pub mod RowsBelow
+pub mod BuiltNames
+pub mod ObjectContents
+pub mod LogContents

@@ -209,7 +209,7 @@ module _ (count : Link → ℕ) (more : (l : Link) → count (Sections.moreSecti
       (λ b. by-test (Sections.roomOf (s .reserved .link) (s .sections)) (λ c. rw (a, b, c) (more (s .reserved .link))) (λ c. rw (a, b, c))) (λ b. rw (a, b)))
       (λ a. rw a)
 
-  reserve-count : (headers : List ℕ) (s : Reserve.State) → count (Reserve.reserveAllOf headers s .reserved .link) ≡ count (s .reserved .link)
+  pub reserve-count : (headers : List ℕ) (s : Reserve.State) → count (Reserve.reserveAllOf headers s .reserved .link) ≡ count (s .reserved .link)
   unfolding Reserve.reserveAllOf
   reserve-count headers s =
       rw (reserve-loop headers (rowsIn headers) 0 s)

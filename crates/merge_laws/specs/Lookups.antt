@@ -11,7 +11,7 @@ use borrow.Author.Tests.{ltb-false}
 use Rattle.cells.specs.Split.{by-test}
 use Rattle.link.specs.declared.Link.{Link}
 use Rattle.link.specs.Bounds.{notLent, lesser, nameRows, nameBytes, symbolRows}
-use Rattle.interner.specs.Hash.{headCell}
+use Rattle.interner.specs.Hash.{headOf}
 use Rattle.interner.specs.Names.{Store, storeOf, roomOf}
 use Rattle.interner.specs.Calls as Names
 use Rattle.symbols.specs.New.{nullOf, newOf}
@@ -28,6 +28,7 @@ use Rattle.symbol_laws.specs.Within.{Within}
 use Rattle.symbol_laws.specs.Calls.{historyParts, history-run}
 use Rattle.symbol_laws.specs.History as History
 use Rattle.symbol_laws.specs.History.{State, table, store, Part, issue, put, idOf, partNext, runParts}
+use Rattle.symbol_laws.specs.Issue.{room-free}
 use Rattle.merge_laws.specs.Steps.{Step, part, mark, others, stepNext, Bounded, Goes, AllGo, runSteps}
 use Rattle.merge_laws.specs.MergeSteps.{mergeSteps}
 use Rattle.merge_laws.specs.Whole.{merge-makes}
@@ -40,7 +41,8 @@ use Rattle.merge_laws.specs.Calls.{Linked, allIn, Call, direct, merge, c
 pub record Counted (l : Link) (names : List ℕ) : Type 0 where
   pub bytes-in : l .bytes ≤ 1048576
   pub bounded : Bounded l
-  pub chains-are : nameRows (length names) ≡ l .chains
+  pub names-in : l .names ≤ l .chains
+  pub chains-lent : l .chains ≤ nameRows (length names)
 
 abbrev pub CountedIn : State → Type 0
 CountedIn s = Counted (s .link) (s .names)
@@ -50,16 +52,18 @@ CountedIn s = Counted (s .link) (s .names)
 room-bytes : (s : Store) (n : ℕ) → roomOf s n ≡ true → s .link .bytes + n ≤ 1048576
 unfolding roomOf
 room-bytes s n e =
-    by-test (leb (nameRows (length (s .names))) (s .link .names)) (λ a. absurd (false≢true (rw a at e)))
+    by-test (ltb (nameRows (length (s .names))) (s .link .chains)) (λ z. absurd (false≢true (rw z at e)))
+    (λ z.
+    by-test (leb (s .link .chains) (s .link .names)) (λ a. absurd (false≢true (rw (z, a) at e)))
     (λ a.
-    by-test (ltb (nameBytes (length (s .bytes))) (s .link .bytes)) (λ b. absurd (false≢true (rw (a, b) at e)))
+    by-test (ltb (nameBytes (length (s .bytes))) (s .link .bytes)) (λ b. absurd (false≢true (rw (z, a, b) at e)))
     (λ b.
-    by-test (ltb (nameBytes (length (s .bytes)) - s .link .bytes) n) (λ c. absurd (false≢true (rw (a, b, c) at e)))
+    by-test (ltb (nameBytes (length (s .bytes)) - s .link .bytes) n) (λ c. absurd (false≢true (rw (z, a, b, c) at e)))
     (λ c.
     let h : s .link .bytes ≤ lesser 1048576 (length (s .bytes)) = ltb-false _ _ b in
     let k : n ≤ lesser 1048576 (length (s .bytes)) - s .link .bytes = ltb-false _ _ c in
     let m : lesser 1048576 (length (s .bytes)) ≤ 1048576 = lesser-first _ _ in
-    omega arith)))
+    omega arith))))
 
 issue-counted : (s : State) (x : List ℕ) → CountedIn s → CountedIn (partNext (issue x) s)
 issue-counted s x c =
@@ -68,7 +72,8 @@ issue-counted s x c =
     record {
       bytes-in = room-bytes (store s) (length x) r;
       bounded = c .bounded;
-      chains-are = ap nameRows (linked-long (s .names) (s .link .names) (s .link .bytes) (length x) (headCell (length (s .names)) x)) ∙ c .chains-are;
+      names-in = omega (arith, room-free (store s) (length x) r .free);
+      chains-lent = rw (linked-long (s .names) (s .link .names) (s .link .bytes) (length x) (headOf (s .link) (s .names) x)) (c .chains-lent);
     })
 
 -- ---- a row added
@@ -83,7 +88,12 @@ applied-counted t r (Refuse n) c = c
 applied-counted t r Nothing c = c
 applied-counted t r (Keep id) c = c
 applied-counted t r Append c =
-    record { bytes-in = c .bytes-in; bounded = c .bounded; chains-are = ap nameRows (noted-long (t .names) r (t .link .symbols)) ∙ c .chains-are }
+    record {
+      bytes-in = c .bytes-in;
+      bounded = c .bounded;
+      names-in = c .names-in;
+      chains-lent = rw (noted-long (t .names) r (t .link .symbols)) (c .chains-lent);
+    }
 applied-counted t r (Replace id) c = c
 
 put-counted : (t : Table) (r : Row) → Counted (t .link) (t .names) → Counted (addRowOf t r File.None .table .link) (addRowOf t r File.None .table .names)
@@ -105,8 +115,13 @@ parts-counted (p ∷ ps) s c = parts-counted ps (partNext p s) (part-counted p s
 step-counted : (k : Step) (s : State) → Goes k s → CountedIn s → CountedIn (stepNext k s)
 step-counted (part p) s g c = part-counted p s c
 step-counted (mark n) s g c =
-    record { bytes-in = c .bytes-in; bounded = c .bounded; chains-are = ap nameRows (length-set (s .names) (n * 8 + 4) 1) ∙ c .chains-are }
-step-counted (others x l) s g c = record { bytes-in = c .bytes-in; bounded = g .3 (c .bounded); chains-are = c .chains-are }
+    record {
+      bytes-in = c .bytes-in;
+      bounded = c .bounded;
+      names-in = c .names-in;
+      chains-lent = rw (length-set (s .names) (n * 8 + 4) 1) (c .chains-lent);
+    }
+step-counted (others x l) s g c = record { bytes-in = c .bytes-in; bounded = g .3 (c .bounded); names-in = c .names-in; chains-lent = c .chains-lent }
 
 pub steps-counted : (ks : List Step) (s : State) → AllGo ks s → CountedIn s → CountedIn (runSteps ks s)
 steps-counted [] s g c = c
@@ -124,11 +139,18 @@ calls-counted [] s q c = c
 calls-counted (k ∷ ks) s q c = calls-counted ks (callNext k s) (q .1) (call-counted k s (q .0) c)
 
 pub counted : (l : Link) (names : List ℕ) → Within l names → Counted l names
-counted l names w = record { bytes-in = w .bytes-in; bounded = (w .sections-in, w .inputs-in); chains-are = w .chains-are }
+counted l names w = record { bytes-in = w .bytes-in; bounded = (w .sections-in, w .inputs-in); names-in = w .names-in; chains-lent = w .chains-lent }
 
 pub within : (l : Link) (names : List ℕ) → Counted l names → l .lists ≤ notLent → Within l names
 within l names c h =
-    record { bytes-in = c .bytes-in; sections-in = c .bounded .0; inputs-in = c .bounded .1; lists-in = h; chains-are = c .chains-are }
+    record {
+      bytes-in = c .bytes-in;
+      sections-in = c .bounded .0;
+      inputs-in = c .bounded .1;
+      lists-in = h;
+      names-in = c .names-in;
+      chains-lent = c .chains-lent;
+    }
 
 -- ---- the count of the lists
 
@@ -180,14 +202,14 @@ null-lists : (symbols sections : List ℕ) (s : Store) → nullOf symbols sectio
 unfolding nullOf
 null-lists symbols sections s = by-test (eqb (s .link .names) 0) (λ a. rw a) (λ a. rw a)
 
-names-lists : (bytes names : List ℕ) → Names.newOf bytes names .store .link .lists ≡ 0
+names-lists : (key : ℕ) (bytes names : List ℕ) → Names.newOf key bytes names .store .link .lists ≡ 0
 unfolding Names.newOf
-names-lists bytes names =
+names-lists key bytes names =
     by-test (eqb (nameRows (length names)) 0) (λ a. rw a)
-    (λ a. rw a (keep-lists (storeOf bytes (Names.clearHeads names) (Names.noNames (nameRows (length names)))) (record { 0 = 0 }) []))
+    (λ a. rw a (keep-lists (storeOf bytes (Names.clearHeads names) (Names.noNames key (nameRows (length names)))) (record { 0 = 0 }) []))
 
-pub new-lists : (bytes names symbols sections lists : List ℕ) → newOf bytes names symbols sections .table .link .lists ≤ length lists
+pub new-lists : (key : ℕ) (bytes names symbols sections lists : List ℕ) → newOf key bytes names symbols sections .table .link .lists ≤ length lists
 unfolding newOf
-new-lists bytes names symbols sections lists =
+new-lists key bytes names symbols sections lists =
     by-test (eqb (symbolRows (length symbols)) 0) (λ a. rw a (omega arith))
-    (λ a. rw a (omega (arith, null-lists symbols sections (Names.newOf bytes names .store), names-lists bytes names)))
+    (λ a. rw a (omega (arith, null-lists symbols sections (Names.newOf key bytes names .store), names-lists key bytes names)))

@@ -12,9 +12,9 @@ use lib.Seq.{getD-set-same, getD-set-other}
 use borrow.Author.Tests.{eqb-true, eqb-false, ltb-true, ltb-false, eq-eqb, ne-eqb}
 use Rattle.cells.specs.Split.{by-test}
 use Rattle.gabi.specs.StringTable.{sameName, among, same-eq, same-refl}
-use Rattle.link.specs.Bounds.{nameRows, symbolRows}
+use Rattle.link.specs.Bounds.{nameRows, symbolRows, sectionSlots}
 use Rattle.link.specs.Said.{numberIn}
-use Rattle.interner.specs.Hash.{headCell}
+use Rattle.interner.specs.Hash.{headOf}
 use Rattle.interner.specs.Names.{Store, storeOf, roomOf, added, keepOf}
 use Rattle.interner.specs.Calls as Names
 use Rattle.interner_laws.specs.Good.{Good, Stays, Untouched, Alike, name, find}
@@ -31,10 +31,9 @@ use Rattle.symbol_rows.specs.Apply.{Table, noteName, appendOf, applyOf}
 use Rattle.symbols.specs.Calls.{Left}
 use Rattle.symbols.specs.Add.{committedOf, addRowOf}
 use Rattle.symbols.specs.New.{oneSymbol, nullOf, newOf}
-use Rattle.symbol_rows.specs.Decide.{sectionCells}
 use Rattle.symbol_laws.specs.View.{View, refused, kept, replaced, appended, local, view, decided}
 use Rattle.symbol_laws.specs.Refused.{commit-refused}
-use Rattle.symbol_laws.specs.Issue.{room-free}
+use Rattle.symbol_laws.specs.Issue.{FreeRow, room-free}
 use Rattle.symbol_laws.specs.History.{State, table, store, withTable, withStore, opened, Part, issue, put, putOf, idOf, partNext, runParts}
 use Rattle.merge_laws.specs.Issue.{keeps}
 use Rattle.merge_laws.specs.Steps.{Step, part, mark, others, stepNext, Goes, AllGo, runSteps}
@@ -100,12 +99,14 @@ cellSet s n f v = record { bytes = s .bytes; names = set (s .names) (n * 8 + f) 
 -- a cell behind the first three of an issued row
 set-alike : (s : State) (n f v : ℕ) → Good (store s) → n < s .link .names → 3 ≤ f → f < 8 → Alike (store s) (store (cellSet s n f v))
 set-alike s n f v g h lo hi =
-    let r : s .link .names ≤ nameRows (length (s .names)) = g .chained .rows-in in
+    let r : s .link .names ≤ s .link .chains = g .chained .rows-in in
     record {
       bytes = refl;
       long = length-set (s .names) (n * 8 + f) v;
       cells = λ i k l u. getD-set-other (s .names) (n * 8 + f) (i * 8 + k) v 0 (λ e. omega arith);
       heads = λ q l u. getD-set-other (s .names) (n * 8 + f) q v 0 (λ e. omega arith);
+      chains = refl;
+      key = refl;
       counted = refl;
       filled = refl;
     }
@@ -123,10 +124,11 @@ module _ (s : State) (met : List (List ℕ)) (m : Marked s met) (r : Row) where
   abbrev tabled : List ℕ → Table → State
   tabled names t = record { bytes = s .bytes; names = names; symbols = t .symbols; sections = t .sections; link = t .link }
 
-  same-names : (t : Table) → t .names ≡ s .names → t .link .names ≡ s .link .names → t .link .bytes ≡ s .link .bytes → Marked (withTable s t) met
-  same-names t a b c =
+  same-names : (t : Table) → t .names ≡ s .names → t .link .names ≡ s .link .names → t .link .bytes ≡ s .link .bytes → t .link .chains ≡ s .link .chains
+      → t .link .key ≡ s .link .key → Marked (withTable s t) met
+  same-names t a b c d e =
       marked-alike s (withTable s t) met
-      (record { bytes = refl; long = ap length a; cells = λ i f h l. rw a; heads = λ q h l. rw a; counted = b; filled = c }) (λ n h. rw a) m
+      (record { bytes = refl; long = ap length a; cells = λ i f h l. rw a; heads = λ q h l. rw a; chains = d; key = e; counted = b; filled = c }) (λ n h. rw a) m
 
   appended-names : r .visibility ≢ 0 → r .name .0 < s .link .names → Marked (withTable s (appendOf (table s) r)) met
   unfolding appendOf noteName
@@ -139,6 +141,8 @@ module _ (s : State) (met : List (List ℕ)) (m : Marked s met) (r : Row) where
         long = ap length e ∙ a .long;
         cells = λ i f k l. ap (λ (n : List ℕ). getD n (i * 8 + f) 0) e ∙ a .cells i f k l;
         heads = λ q k l. ap (λ (n : List ℕ). getD n q 0) e ∙ a .heads q k l;
+        chains = refl;
+        key = refl;
         counted = refl;
         filled = refl;
       })
@@ -149,7 +153,7 @@ module _ (s : State) (met : List (List ℕ)) (m : Marked s met) (r : Row) where
 
   local-names : r .visibility ≡ 0 → Marked (withTable s (appendOf (table s) r)) met
   unfolding appendOf noteName
-  local-names v = same-names (appendOf (table s) r) (rw (eq-eqb (r .visibility) 0 v)) refl refl
+  local-names v = same-names (appendOf (table s) r) (rw (eq-eqb (r .visibility) 0 v)) refl refl refl refl
 
   viewed : View (table s) r → Fine (putOf s r)
   unfolding committedOf applyOf
@@ -157,7 +161,7 @@ module _ (s : State) (met : List (List ℕ)) (m : Marked s met) (r : Row) where
       decides (Refuse n) e
       (subst (λ (t : Table). Marked (withTable s t) met) (sym (commit-refused (table s) r File.None n z .0)) m)
   viewed (kept e k z o w) = decides _ e m
-  viewed (replaced e k z o) = decides _ e (same-names _ refl refl refl)
+  viewed (replaced e k z o) = decides _ e (same-names _ refl refl refl refl refl)
   viewed (appended e f k z) = decides _ e (appended-names (k .global) (k .issued))
   viewed (local e f v) = decides _ e (local-names v)
 
@@ -176,17 +180,17 @@ module _ (s : State) (met : List (List ℕ)) (m : Marked s met) (x : List ℕ) w
       keeps (λ (k : Store). n < k .link .names → getD (k .names) (n * 8 + 4) 0 ≡ 0) (store s) (idOf s x) x (λ h. absurd (omega arith))
       (λ g r h.
       let e : n ≡ s .link .names = omega arith in
-      let free : s .link .names < nameRows (length (s .names)) = room-free (store s) (length x) r in
+      let row : FreeRow (s .link) (s .names) = room-free (store s) (length x) r in
       rw e
-      (row-new (s .names) (s .link .names) (s .link .bytes) (length x) (headCell (length (s .names)) x) free
-      (head-behind (length (s .names)) x (omega arith)) 4 (omega arith)))
+      (row-new (s .names) (s .link .names) (s .link .bytes) (length x) (headOf (s .link) (s .names) x) (s .link .chains) (row .lent) (row .free)
+      (head-behind (s .link) (length (s .names)) x (row .lent)) 4 (omega arith)))
 
   issue-marked : Marked (withStore s t) met
   issue-marked =
       let g : Good t = keep-good (store s) x (m .good) in
       let st : Stays (store s) t = keep-stays (store s) x (m .good) (idOf s x) in
       let u : Untouched (store s) t = keep-untouched (store s) (idOf s x) x in
-      let r : s .link .names ≤ nameRows (length (s .names)) = m .good .chained .rows-in in
+      let r : s .link .names ≤ s .link .chains = m .good .chained .rows-in in
       record {
         good = g;
         marks = λ n h.
@@ -229,7 +233,7 @@ module _ (s : State) (met : List (List ℕ)) (m : Marked s met) (n : ℕ) (h : n
       let a = set-alike s n 4 1 (m .good) h (omega arith) (omega arith) in
       let u : State = stepNext (mark n) s in
       let same : Stays (store s) (store u) = alike-stays (store s) (store u) a in
-      let r : s .link .names ≤ nameRows (length (s .names)) = m .good .chained .rows-in in
+      let r : s .link .names ≤ s .link .chains = m .good .chained .rows-in in
       record {
         good = good-same (store s) (store u) a (m .good);
         marks = λ k l.
@@ -261,7 +265,7 @@ step-marked (mark n) s met g m = mark-marked s met m n g
 step-marked (others x l) s met g m =
     subst (Marked (stepNext (others x l) s)) (sym (append-nil met))
     (marked-alike s (stepNext (others x l) s) met
-    (record { bytes = refl; long = refl; cells = λ i f h l. refl; heads = λ q h l. refl; counted = refl; filled = refl }) (λ n h. refl) m)
+    (record { bytes = refl; long = refl; cells = λ i f h l. refl; heads = λ q h l. refl; chains = refl; key = refl; counted = refl; filled = refl }) (λ n h. refl) m)
 
 pub steps-marked : (ks : List Step) (s : State) (met : List (List ℕ)) → AllGo ks s → Marked s met → Marked (runSteps ks s) (met ++ marksOf ks s)
 steps-marked [] s met g m = subst (Marked s) (sym (append-nil met)) m
@@ -276,27 +280,28 @@ record Unmarked (s : Store) : Type 0 where
   one : s .link .names ≡ 1
   none : getD (s .names) (0 * 8 + 4) 0 ≡ 0
 
-added-unmarked : (s : Store) → s .link .names ≡ 0 → s .link .names < nameRows (length (s .names)) → Unmarked (added s [])
-added-unmarked s z free =
+added-unmarked : (s : Store) → s .link .names ≡ 0 → FreeRow (s .link) (s .names) → Unmarked (added s [])
+added-unmarked s z row =
     record {
       one = omega arith;
       none =
           subst (λ (n : ℕ). getD (added s [] .names) (n * 8 + 4) 0 ≡ 0) z
-          (row-new (s .names) (s .link .names) (s .link .bytes) 0 (headCell (length (s .names)) []) free (head-behind (length (s .names)) [] (omega arith)) 4 (omega arith));
+          (row-new (s .names) (s .link .names) (s .link .bytes) 0 (headOf (s .link) (s .names) []) (s .link .chains) (row .lent) (row .free)
+          (head-behind (s .link) (length (s .names)) [] (row .lent)) 4 (omega arith));
     }
 
-names-unmarked : (bytes names : List ℕ) → Names.newOf bytes names .store .link .names ≢ 0 → Unmarked (Names.newOf bytes names .store)
+names-unmarked : (key : ℕ) (bytes names : List ℕ) → Names.newOf key bytes names .store .link .names ≢ 0 → Unmarked (Names.newOf key bytes names .store)
 unfolding Names.newOf keepOf
-names-unmarked bytes names z =
+names-unmarked key bytes names z =
     by-test (eqb (nameRows (length names)) 0) (λ a. absurd (z (rw a)))
     (λ a.
-    let s : Store = storeOf bytes (Names.clearHeads names) (Names.noNames (nameRows (length names))) in
+    let s : Store = storeOf bytes (Names.clearHeads names) (Names.noNames key (nameRows (length names))) in
     by-test (roomOf s 0) (λ b. rw (a, b) (added-unmarked s refl (room-free s 0 b))) (λ b. absurd (z (rw (a, b)))))
 
-names-good : (bytes names : List ℕ) → Names.newOf bytes names .store .link .names ≢ 0 → Good (Names.newOf bytes names .store)
-names-good bytes names z =
-    by-test (eqb (Interns.number (Names.newOf bytes names)) 0) (λ a. Interns.new-good bytes names (eqb-true _ _ a))
-    (λ a. absurd (z (ap (λ (s : Store). s .link .names) (Interns.new-refused bytes names (eqb-false _ _ a)))))
+names-good : (key : ℕ) (bytes names : List ℕ) → Names.newOf key bytes names .store .link .names ≢ 0 → Good (Names.newOf key bytes names .store)
+names-good key bytes names z =
+    by-test (eqb (Interns.number (Names.newOf key bytes names)) 0) (λ a. Interns.new-good key bytes names (eqb-true _ _ a))
+    (λ a. absurd (z (ap (λ (s : Store). s .link .names) (Interns.new-refused key bytes names (eqb-false _ _ a)))))
 
 null-marked : (symbols sections : List ℕ) (s : Store) → (s .link .names ≢ 0 → Good s) → (s .link .names ≢ 0 → Unmarked s)
     → numberIn (nullOf symbols sections s .said) ≡ 0 → Marked (opened (nullOf symbols sections s)) []
@@ -305,17 +310,17 @@ null-marked symbols sections s g u e =
     by-test (eqb (s .link .names) 0) (λ a. let q : _≡_ {A = ℕ} 2 0 = rw a at e in absurd (omega arith))
     (λ a.
     let k : Unmarked s = u (eqb-false _ _ a) in
-    let t : Store = storeOf (s .bytes) (s .names) (oneSymbol (s .link) (sectionCells (length sections))) in
+    let t : Store = storeOf (s .bytes) (s .names) (oneSymbol (s .link) (sectionSlots (length sections))) in
     rw a
     (record {
-      good = good-same s t (record { bytes = refl; long = refl; cells = λ i f h l. refl; heads = λ q h l. refl; counted = refl; filled = refl }) (g (eqb-false _ _ a));
+      good = good-same s t (record { bytes = refl; long = refl; cells = λ i f h l. refl; heads = λ q h l. refl; chains = refl; key = refl; counted = refl; filled = refl }) (g (eqb-false _ _ a));
       marks = λ n h. let q : n ≡ 0 = omega (arith, k .one) in rw (q, k .none);
       known = λ x f. absurd (false≢true f);
     }))
 
-pub new-marked : (bytes names symbols sections : List ℕ) → numberIn (newOf bytes names symbols sections .said) ≡ 0
-    → Marked (opened (newOf bytes names symbols sections)) []
+pub new-marked : (key : ℕ) (bytes names symbols sections : List ℕ) → numberIn (newOf key bytes names symbols sections .said) ≡ 0
+    → Marked (opened (newOf key bytes names symbols sections)) []
 unfolding newOf
-new-marked bytes names symbols sections e =
+new-marked key bytes names symbols sections e =
     by-test (eqb (symbolRows (length symbols)) 0) (λ a. let q : _≡_ {A = ℕ} 2 0 = rw a at e in absurd (omega arith))
-    (λ a. rw a (null-marked symbols sections (Names.newOf bytes names .store) (names-good bytes names) (names-unmarked bytes names) (rw a at e)))
+    (λ a. rw a (null-marked symbols sections (Names.newOf key bytes names .store) (names-good key bytes names) (names-unmarked key bytes names) (rw a at e)))

@@ -63,7 +63,7 @@ symbolsSteps o s = loopSteps (λ t. t .stage .number) (Symbols.symbolOf o) (symb
 
 -- the signature's name is issued and marked
 unfoldable pub signedSteps : List ℕ → List ℕ → Link → List ℕ → List Step
-signedSteps bytes names l x = part (issue x) ∷ mark (findOf bytes names (l .names) x) ∷ []
+signedSteps bytes names l x = part (issue x) ∷ mark (findOf bytes names l x) ∷ []
 
 -- of an accepted group
 unfoldable pub groupSectionSteps : Group.Object → Group.Step → ℕ → List Step

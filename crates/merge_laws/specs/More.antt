@@ -3,7 +3,7 @@
 use Prim.Native.Nat.{_≤_}
 use native.Mathlib.Omega.{arith}
 use native.Mathlib.Nat.{le-refl, le-trans}
-use mathlib.Core.Path.{_≡_, subst}
+use mathlib.Core.Path.{_≡_, refl, ap, _∙_, subst}
 use mathlib.Core.List.{List, [], _∷_}
 use lib.Dec.{eqb, ltb}
 use Rattle.cells.specs.Split.{by-test}
@@ -27,9 +27,12 @@ pub record More (k l : Link) : Type 0 where
   pub bytes : k .bytes ≤ l .bytes
   pub symbols : k .symbols ≤ l .symbols
   pub sections : k .sections ≤ l .sections
+  -- a new table's numbers stay
+  pub slots : l .slots ≡ k .slots
+  pub chains : l .chains ≡ k .chains
 
 pub more-none : (l : Link) → More l l
-more-none l = record { names = le-refl _; bytes = le-refl _; symbols = le-refl _; sections = le-refl _ }
+more-none l = record { names = le-refl _; bytes = le-refl _; symbols = le-refl _; sections = le-refl _; slots = refl; chains = refl }
 
 pub more-both : (k l m : Link) → More k l → More l m → More k m
 more-both k l m p q =
@@ -38,6 +41,8 @@ more-both k l m p q =
       bytes = le-trans (p .bytes) (q .bytes);
       symbols = le-trans (p .symbols) (q .symbols);
       sections = le-trans (p .sections) (q .sections);
+      slots = q .slots ∙ p .slots;
+      chains = q .chains ∙ p .chains;
     }
 
 applied-more : (t : Table) (r : Row) (d : Decision) → More (t .link) (applyOf t r d .link)
@@ -51,6 +56,8 @@ applied-more t r Append =
       bytes = le-refl _;
       symbols = by-test (ltb (t .link .symbols) 0xffffffffffffffff) (λ a. rw a (omega arith)) (λ a. rw a (le-refl _));
       sections = le-refl _;
+      slots = refl;
+      chains = refl;
     }
 applied-more t r (Replace id) = more-none (t .link)
 
@@ -66,13 +73,20 @@ part-more (issue x) s =
     let u = keep-untouched (store s) (idOf s x) x in
     let e : partNext (issue x) s .link .symbols ≡ s .link .symbols = keep-symbols (store s) (idOf s x) x in
     let f : partNext (issue x) s .link .sections ≡ s .link .sections = keep-sections (store s) (idOf s x) x in
-    record { names = u .more-names; bytes = u .more-bytes; symbols = omega arith; sections = omega arith }
+    record {
+      names = u .more-names;
+      bytes = u .more-bytes;
+      symbols = omega arith;
+      sections = omega arith;
+      slots = ap (λ (l : Link). l .slots) (u .others);
+      chains = ap (λ (l : Link). l .chains) (u .others);
+    }
 part-more (put r from) s = put-more (table s) r
 
 pub step-more : (k : Step) (s : State) → Goes k s → More (s .link) (stepNext k s .link)
 step-more (part p) s g = part-more p s
 step-more (mark n) s g = more-none (s .link)
-step-more (others x l) s g = record { names = le-refl _; bytes = le-refl _; symbols = le-refl _; sections = g .0 }
+step-more (others x l) s g = record { names = le-refl _; bytes = le-refl _; symbols = le-refl _; sections = g .0; slots = refl; chains = refl }
 
 pub steps-more : (ks : List Step) (s : State) → AllGo ks s → More (s .link) (runSteps ks s .link)
 steps-more [] s g = more-none (s .link)
@@ -81,3 +95,6 @@ steps-more (k ∷ ks) s g =
 
 pub makes-more : (s t : State) (ks : List Step) → Makes s ks t → s .link .sections ≤ t .link .sections
 makes-more s t ks m = subst (λ (u : State). s .link .sections ≤ u .link .sections) (m .leads) (steps-more ks s (m .accepted) .sections)
+
+pub makes-slots : (s t : State) (ks : List Step) → Makes s ks t → t .link .slots ≡ s .link .slots
+makes-slots s t ks m = subst (λ (u : State). u .link .slots ≡ s .link .slots) (m .leads) (steps-more ks s (m .accepted) .slots)

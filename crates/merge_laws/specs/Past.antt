@@ -2,11 +2,12 @@
 -- Assumes nothing.
 use Prim.Native.Nat.{ℕ, _+_, _*_, _<_, _≤_}
 use native.Mathlib.Omega.{arith}
-use mathlib.Core.Path.{_≡_, refl, _∙_, subst}
-use mathlib.Core.List.{List, [], _∷_}
-use lib.Dec.{eqb}
-use lib.ListN.{getD, set, take, drop, length, length-set, length-append, length-drop, List·getD-append}
-use lib.Seq.{getD-set-other, getD-take, length-take-le}
+use mathlib.Core.Path.{_≡_, refl, _∙_, subst, ap}
+use mathlib.Core.List.{List, [], _∷_, append-nil}
+use lib.Dec.{eqb, leb}
+use lib.ListN.{getD, set, take, drop, length, length-set, length-append, length-drop, drop-of-length-le, List·getD-append}
+use lib.Seq.{getD-set-other, getD-take, length-take-le, take-all}
+use borrow.Author.Tests.{leb-true, leb-false}
 use Rattle.cells.specs.Split.{by-test}
 use Rattle.cells.specs.Rows.{length-putRow}
 use Rattle.link.specs.Bounds.{nameRows}
@@ -17,22 +18,22 @@ use Rattle.symbol.specs.declared.SttFile.the-variants as File
 use Rattle.symbol_rows.specs.Holder.{globalAt}
 use Rattle.symbol_rows.specs.declared.Decision.{Decision}
 use Rattle.symbol_rows.specs.declared.Decision.the-variants.{Refuse, Nothing, Keep, Append, Replace}
-use Rattle.symbol_rows.specs.Decide.{sectionCells, refusalOf}
+use Rattle.symbol_rows.specs.Decide.{refusalOf}
 use Rattle.symbol_rows.specs.Apply.{Table, noteName, appendOf, applyOf}
 use Rattle.symbols.specs.Add.{committedOf, addRowOf, decidedOf}
 use Rattle.symbol_laws.specs.History.{State, table, store, Part, issue, put, idOf, partNext}
 use Rattle.symbol_laws.specs.Below.{Below, part-below}
 use Rattle.symbol_laws.specs.Writes.{put-past, issue-past}
 use Rattle.merge_laws.specs.Steps.{Step, part, mark, others, rowsFrom, stepNext, Goes, AllGo, runSteps, Makes}
-use Rattle.merge_laws.specs.More.{More, steps-more}
+use Rattle.merge_laws.specs.More.{More, step-more, steps-more}
 use Rattle.merge_laws.specs.SymbolStage.{applied-long}
 
 -- from s to t: rows and bytes past t's counts stand as they stood
 pub record TablePast (s t : State) : Type 0 where
   pub symbols : (q : ℕ) → t .link .symbols * 8 ≤ q → getD (t .symbols) q 0 ≡ getD (s .symbols) q 0
-  pub names : (q : ℕ) → t .link .names * 8 ≤ q → q < nameRows (length (s .names)) * 8 → getD (t .names) q 0 ≡ getD (s .names) q 0
+  pub names : (q : ℕ) → t .link .names * 8 ≤ q → q < s .link .chains * 8 → getD (t .names) q 0 ≡ getD (s .names) q 0
   pub bytes : (q : ℕ) → t .link .bytes ≤ q → getD (t .bytes) q 0 ≡ getD (s .bytes) q 0
-  pub sections : (q : ℕ) → t .link .sections * 8 ≤ q → q < sectionCells (length (s .sections)) * 8 → getD (t .sections) q 0 ≡ getD (s .sections) q 0
+  pub sections : (q : ℕ) → t .link .sections * 8 ≤ q → q < s .link .slots * 8 → getD (t .sections) q 0 ≡ getD (s .sections) q 0
   pub symbols-long : length (t .symbols) ≡ length (s .symbols)
   pub names-long : length (t .names) ≡ length (s .names)
   pub bytes-long : length (t .bytes) ≡ length (s .bytes)
@@ -51,13 +52,13 @@ past-none s =
       sections-long = refl;
     }
 
-past-both : (s t u : State) → More (t .link) (u .link) → TablePast s t → TablePast t u → TablePast s u
-past-both s t u m a b =
+past-both : (s t u : State) → More (s .link) (t .link) → More (t .link) (u .link) → TablePast s t → TablePast t u → TablePast s u
+past-both s t u n m a b =
     record {
       symbols = λ q h. b .symbols q h ∙ a .symbols q (omega (arith, m .symbols));
-      names = λ q h l. b .names q h (rw (a .names-long) l) ∙ a .names q (omega (arith, m .names)) l;
+      names = λ q h l. b .names q h (rw (n .chains) l) ∙ a .names q (omega (arith, m .names)) l;
       bytes = λ q h. b .bytes q h ∙ a .bytes q (omega (arith, m .bytes));
-      sections = λ q h l. b .sections q h (rw (a .sections-long) l) ∙ a .sections q (omega (arith, m .sections)) l;
+      sections = λ q h l. b .sections q h (rw (n .slots) l) ∙ a .sections q (omega (arith, m .sections)) l;
       symbols-long = b .symbols-long ∙ a .symbols-long;
       names-long = b .names-long ∙ a .names-long;
       bytes-long = b .bytes-long ∙ a .bytes-long;
@@ -122,15 +123,25 @@ part-past (put r from) s b =
       sections-long = y;
     }
 
-pub rows-long : (x old : List ℕ) → length x ≡ length old → length (rowsFrom x old) ≡ length old
-rows-long x old e =
-    let n : ℕ = sectionCells (length old) * 8 in
-    length-append (take n x) (drop n old) ∙ omega (arith, length-take-le n x (omega arith), length-drop n old)
+-- more slots than rows are lent: all of x
+pub rows-all : (slots : ℕ) (x old : List ℕ) → length x ≡ length old → length x ≤ slots * 8 → rowsFrom slots x old ≡ x
+rows-all slots x old e h = rw (take-all (slots * 8) x h, drop-of-length-le old (rw e at h)) (append-nil x)
 
-rows-front : (x old : List ℕ) (q : ℕ) → length x ≡ length old → q < sectionCells (length old) * 8 → getD (rowsFrom x old) q 0 ≡ getD x q 0
-rows-front x old q e h =
-    let n : ℕ = sectionCells (length old) * 8 in
-    List·getD-append (take n x) (drop n old) 0 q (omega (arith, length-take-le n x (omega arith))) ∙ getD-take n x q 0 h
+pub rows-long : (slots : ℕ) (x old : List ℕ) → length x ≡ length old → length (rowsFrom slots x old) ≡ length old
+rows-long slots x old e =
+    let n : ℕ = slots * 8 in
+    by-test (leb n (length x))
+    (λ b. let k : n ≤ length x = leb-true _ _ b in
+    length-append (take n x) (drop n old) ∙ omega (arith, length-take-le n x k, length-drop n old))
+    (λ b. let k : length x < n = leb-false _ _ b in ap length (rows-all slots x old e (omega arith)) ∙ e)
+
+rows-front : (slots : ℕ) (x old : List ℕ) (q : ℕ) → length x ≡ length old → q < slots * 8 → getD (rowsFrom slots x old) q 0 ≡ getD x q 0
+rows-front slots x old q e h =
+    let n : ℕ = slots * 8 in
+    by-test (leb n (length x))
+    (λ b. let k : n ≤ length x = leb-true _ _ b in
+    List·getD-append (take n x) (drop n old) 0 q (omega (arith, length-take-le n x k)) ∙ getD-take n x q 0 h)
+    (λ b. let k : length x < n = leb-false _ _ b in ap (λ (y : List ℕ). getD y q 0) (rows-all slots x old e (omega arith)))
 
 step-past : (k : Step) (s : State) → Below s → Goes k s → TablePast s (stepNext k s)
 step-past (part p) s b g = part-past p s b
@@ -150,11 +161,11 @@ step-past (others x l) s b g =
       symbols = λ q h. refl;
       names = λ q h l. refl;
       bytes = λ q h. refl;
-      sections = λ q h k. rows-front x (s .sections) q (g .1) k ∙ g .2 q h;
+      sections = λ q h k. rows-front (s .link .slots) x (s .sections) q (g .1) k ∙ g .2 q h;
       symbols-long = refl;
       names-long = refl;
       bytes-long = refl;
-      sections-long = rows-long x (s .sections) (g .1);
+      sections-long = rows-long (s .link .slots) x (s .sections) (g .1);
     }
 
 -- ---- what holds of the counts, whatever was removed
@@ -177,7 +188,7 @@ steps-below (k ∷ ks) s b = steps-below ks (stepNext k s) (step-below k s b)
 steps-past : (ks : List Step) (s : State) → Below s → AllGo ks s → TablePast s (runSteps ks s)
 steps-past [] s b g = past-none s
 steps-past (k ∷ ks) s b g =
-    past-both s (stepNext k s) (runSteps ks (stepNext k s)) (steps-more ks (stepNext k s) (g .1)) (step-past k s b (g .0))
+    past-both s (stepNext k s) (runSteps ks (stepNext k s)) (step-more k s (g .0)) (steps-more ks (stepNext k s) (g .1)) (step-past k s b (g .0))
     (steps-past ks (stepNext k s) (step-below k s b) (g .1))
 
 pub makes-past : (s t : State) (ks : List Step) → Below s → Makes s ks t → TablePast s t

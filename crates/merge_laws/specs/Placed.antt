@@ -9,11 +9,12 @@ use mathlib.Core.Logic.{_≢_}
 use lib.Dec.{eqb, ltb, leb}
 use lib.ListN.{getD, length}
 use lib.Seq.{getD-set-other}
-use borrow.Author.Tests.{eqb-true, eqb-false, ltb-true, leb-true, leb-false, eq-eqb, lt-ltb, le-ltb}
+use borrow.Author.Tests.{eqb-true, eqb-false, ltb-true, ltb-false, leb-true, leb-false, eq-eqb, lt-ltb, le-ltb}
 use Rattle.cells.specs.Split.{by-test}
 use Rattle.cells.specs.Rows.{putRow, length-putRow, row-same, row-other}
 use Rattle.link.specs.declared.Link.{Link}
-use Rattle.link.specs.Bounds.{sectionSlots, sectionRows}
+use native.Mathlib.Nat.{le-trans}
+use Rattle.link.specs.Bounds.{lesser, sectionSlots, sectionRows}
 use Rattle.symbol.specs.Codes.{successor}
 use Rattle.sections.specs.Rows as Sections
 use Rattle.elf_object.specs.Rows.{rowsIn, field, kindAt, infoAt, isExcluded, isLoaded}
@@ -90,27 +91,36 @@ linkIn s = s .reserved .link
 -- what holds before the n-th section
 record Held (headers : List ℕ) (n : ℕ) (s : State) : Type 0 where
   room : rowsIn headers ≤ length (s .work) / 8
-  counted : linkIn s .sections ≤ sectionRows (length (s .sections))
+  lent : linkIn s .slots ≤ sectionSlots (length (s .sections))
+  counted : linkIn s .sections ≤ sectionRows (linkIn s .slots)
   placed : PlacedTo n headers (s .work) (linkIn s .sections)
   apart : ApartTo n headers (s .work)
   held : HeldTo n headers (s .work) (s .sections)
 
-few : (n : ℕ) → sectionRows n ≤ 65535
-few n = lesser-first 65535 (sectionSlots n)
+pub few : (n : ℕ) → sectionRows n ≤ 65535
+few n = lesser-first 65535 n
 
-pub slots : (n : ℕ) → sectionRows n ≤ sectionSlots n
-slots n = lesser-second 65535 (sectionSlots n)
+pub slots : (n : ℕ) → sectionRows n ≤ n
+slots n = lesser-second 65535 n
 
 -- where its row goes: the id and 2
-converted : (id : ℕ) → id < 65535 → sectionIdOf (conversionOf 2 id) .0 ≡ id
+pub converted : (id : ℕ) → id < 65535 → sectionIdOf (conversionOf 2 id) .0 ≡ id
 unfolding sectionIdOf conversionOf successor
 converted id h =
     rw (lt-ltb id 0xffffffffffffffff (omega arith), lt-ltb (id + 1) 0xffffffffffffffff (omega arith), le-ltb (id + 1 + 1) 2 (omega arith)) (omega arith)
 
-has-room : (l : Link) (rows : List ℕ) → Sections.roomOf l rows ≡ true → l .sections < sectionRows (length rows)
+lesser-grows : (a b c : ℕ) → b ≤ c → lesser a b ≤ lesser a c
+unfolding lesser
+lesser-grows a b c h =
+    by-test (ltb a b) (λ t. let k : a < b = ltb-true _ _ t in rw (t, lt-ltb a c (omega arith)) (omega arith))
+    (λ t. let k : b ≤ a = ltb-false _ _ t in by-test (ltb a c) (λ u. rw (t, u) k) (λ u. rw (t, u) h))
+
+has-room : (l : Link) (rows : List ℕ) → Sections.roomOf l rows ≡ true → l .sections < sectionRows (l .slots)
 unfolding Sections.roomOf
 has-room l rows e =
-    by-test (ltb (l .sections) (sectionRows (length rows))) (λ t. ltb-true _ _ t) (λ t. absurd (false≢true (rw t at e)))
+    let n : ℕ = lesser (l .slots) (sectionSlots (length rows)) in
+    by-test (ltb (l .sections) (sectionRows n)) (λ t. le-trans (ltb-true _ _ t) (lesser-grows 65535 n (l .slots) (lesser-first (l .slots) _)))
+    (λ t. absurd (false≢true (rw t at e)))
 
 -- one section: its row is beside the table, and where its work row says
 module _ (headers : List ℕ) (s : State) (n : ℕ) where
@@ -134,10 +144,10 @@ module _ (headers : List ℕ) (s : State) (n : ℕ) where
       (λ c.
       by-test (Sections.roomOf (linkIn s) (s .sections))
       (λ r.
-      let k : linkIn s .sections < sectionRows (length (s .sections)) = has-room (linkIn s) (s .sections) r in
-      let m : sectionRows (length (s .sections)) ≤ sectionSlots (length (s .sections)) = slots (length (s .sections)) in
+      let k : linkIn s .sections < sectionRows (linkIn s .slots) = has-room (linkIn s) (s .sections) r in
+      let m : sectionRows (linkIn s .slots) ≤ linkIn s .slots = slots (linkIn s .slots) in
       rw (t, c, r) (row-beside (s .sections) (linkIn s .sections) _ (linkIn s) (Sections.moreSections (linkIn s)) refl (omega arith) (omega arith) (omega arith) refl
-      (λ b. (omega (arith, few (length (s .sections))), b .1))))
+      (λ b. (omega arith, b .1))))
       (λ r. rw (t, c, r) (beside-none (s .sections) (linkIn s))))
       (λ c. rw (t, c) (beside-none (s .sections) (linkIn s))))
       (λ t. rw t (beside-none (s .sections) (linkIn s)))
@@ -227,20 +237,21 @@ module _ (headers : List ℕ) (s : State) (n : ℕ) where
         (λ c.
         let c′ : class ≡ 2 = eqb-true _ _ c in
         let r : Sections.roomOf (linkIn s) (s .sections) ≡ true = class-room c′ goes in
-        let k : here < sectionRows (length (s .sections)) = has-room (linkIn s) (s .sections) r in
-        let z : sectionRows (length (s .sections)) ≤ 65535 = few (length (s .sections)) in
+        let k : here < sectionRows (linkIn s .slots) = has-room (linkIn s) (s .sections) r in
+        let z : sectionRows (linkIn s .slots) ≤ 65535 = few (linkIn s .slots) in
         rw (eq-eqb _ _ goes, c, r)
         (record {
           room = omega (arith, noted-long, h .room);
-          counted = rw (length-putRow (s .sections) here (1 ∷ 0 ∷ 0 ∷ 0 ∷ 0 ∷ 0 ∷ 0 ∷ 0 ∷ [])) (omega arith);
+          lent = rw (length-putRow (s .sections) here (1 ∷ 0 ∷ 0 ∷ 0 ∷ 0 ∷ 0 ∷ 0 ∷ 0 ∷ [])) (h .lent);
+          counted = omega arith;
           placed = more (here + 1) (omega arith) (λ e. omega arith) (λ e. omega arith);
           apart = more-apart (λ e. omega arith);
-          held = more-held c′ (omega arith) (omega (arith, slots (length (s .sections))));
+          held = more-held c′ (omega arith) (omega (arith, slots (linkIn s .slots), h .lent));
         }))
         (λ c.
         let u : class ≢ 2 = eqb-false _ _ c in
         rw (eq-eqb _ _ goes, c)
-        (record { room = omega (arith, noted-long, h .room); counted = h .counted; placed = more here (omega arith) (λ e. absurd (u e)) (λ e. absurd (u e)); apart = more-apart (λ e. absurd (u e)); held = same-held u }))
+        (record { room = omega (arith, noted-long, h .room); lent = h .lent; counted = h .counted; placed = more here (omega arith) (λ e. absurd (u e)) (λ e. absurd (u e)); apart = more-apart (λ e. absurd (u e)); held = same-held u }))
 
 one-number : (headers : List ℕ) (s : State) (n : ℕ) → reserveOneOf headers s n .reserved .number ≡ 0 → number headers s n ≡ 0
 unfolding reserveOneOf reserveClassOf
@@ -275,25 +286,25 @@ unfolding reserveAllOf
 reserve-beside headers s = from-beside headers (rowsIn headers) 0 s
 
 -- after all sections
-pub record Reserved (headers work sections : List ℕ) (count : ℕ) : Type 0 where
-  pub counted : count ≤ sectionRows (length sections)
+pub record Reserved (headers work : List ℕ) (slots count : ℕ) : Type 0 where
+  pub counted : count ≤ sectionRows slots
   pub placed : Placed headers work count
 
-pub reserve-placed : (headers : List ℕ) (s : State) → rowsIn headers ≤ length (s .work) / 8 → linkIn s .sections ≤ sectionRows (length (s .sections))
+pub reserve-placed : (headers : List ℕ) (s : State) → rowsIn headers ≤ length (s .work) / 8 → linkIn s .slots ≤ sectionSlots (length (s .sections)) → linkIn s .sections ≤ sectionRows (linkIn s .slots)
     → reserveAllOf headers s .reserved .number ≡ 0
-    → Reserved headers (reserveAllOf headers s .work) (reserveAllOf headers s .sections) (linkIn (reserveAllOf headers s) .sections)
+    → Reserved headers (reserveAllOf headers s .work) (linkIn (reserveAllOf headers s) .slots) (linkIn (reserveAllOf headers s) .sections)
 unfolding reserveAllOf
-reserve-placed headers s r c z =
-    let h = from-held headers (rowsIn headers) 0 s (omega arith) (record { room = r; counted = c; placed = λ m k e. absurd (omega arith); apart = λ m k l e. absurd (omega arith); held = λ m k e. absurd (omega arith) }) z in
+reserve-placed headers s r g c z =
+    let h = from-held headers (rowsIn headers) 0 s (omega arith) (record { room = r; lent = g; counted = c; placed = λ m k e. absurd (omega arith); apart = λ m k l e. absurd (omega arith); held = λ m k e. absurd (omega arith) }) z in
     record { counted = h .counted; placed = h .placed }
 
 -- each in a row of its own
-pub reserve-rows : (headers : List ℕ) (s : State) → rowsIn headers ≤ length (s .work) / 8 → linkIn s .sections ≤ sectionRows (length (s .sections))
+pub reserve-rows : (headers : List ℕ) (s : State) → rowsIn headers ≤ length (s .work) / 8 → linkIn s .slots ≤ sectionSlots (length (s .sections)) → linkIn s .sections ≤ sectionRows (linkIn s .slots)
     → reserveAllOf headers s .reserved .number ≡ 0
     → ApartTo (rowsIn headers) headers (reserveAllOf headers s .work) × HeldTo (rowsIn headers) headers (reserveAllOf headers s .work) (reserveAllOf headers s .sections)
 unfolding reserveAllOf
-reserve-rows headers s r c z =
-    let h = from-held headers (rowsIn headers) 0 s (omega arith) (record { room = r; counted = c; placed = λ m k e. absurd (omega arith); apart = λ m k l e. absurd (omega arith); held = λ m k e. absurd (omega arith) }) z in
+reserve-rows headers s r g c z =
+    let h = from-held headers (rowsIn headers) 0 s (omega arith) (record { room = r; lent = g; counted = c; placed = λ m k e. absurd (omega arith); apart = λ m k l e. absurd (omega arith); held = λ m k e. absurd (omega arith) }) z in
     (h .apart, h .held)
 
 -- ---- a section that is built has a row

@@ -94,7 +94,7 @@ plan-numbers : (l : Link) (bytes names : List ℕ) (marks : ℕ) (x : List ℕ) 
     → oneOf (Group.planOf l bytes names marks x listed .number) groupNumbers ≡ true
 unfolding Group.planOf Group.planWith Group.markRefusal
 plan-numbers l bytes names marks x listed =
-    let id : ℕ = findOf bytes names (l .names) x in
+    let id : ℕ = findOf bytes names l x in
     pick (λ (p : GroupPlan.Plan). p .number ≢ 0 → oneOf (p .number) groupNumbers ≡ true) (fitsOf (storeOf bytes names l) (record { 0 = id }) (length x)) _ _
     (λ t.
     pick P (Group.repeatedOf names (l .names) id) _ _ (λ t. pick P (leb marks listed) _ _ (λ t u. refl) (λ t u. absurd (u refl))) (λ t u. absurd (u refl)))
@@ -274,14 +274,14 @@ module _ (v : View) (o : Input) (x : List ℕ) (i file : ℕ) where
   e = filteredAt (o .entries) (o .work) i
 
   abbrev id : Interned
-  id = record { 0 = findOf (v .bytes) (v .names) (v .link .names) x }
+  id = record { 0 = findOf (v .bytes) (v .names) (v .link) x }
 
   abbrev row : Row
   row = elfRowOf (conversionAt (o .work) (e .section)) e id (eqb (length x) 0) file
 
   -- whatever holds of a decision on a row under a name, but of type 4
   planned-decided : (numbers : List ℕ)
-      → (eqb (e .kind) 4 ≡ false → DecidedIn numbers (decideOf (v .link) (v .symbols) (v .sections) row (holderOf (v .names) (v .symbols) (v .link .names) id)))
+      → (eqb (e .kind) 4 ≡ false → DecidedIn numbers (decideOf (v .link) (v .symbols) (v .sections) row (holderOf (v .link) (v .names) (v .symbols) id)))
       → DecidedIn numbers (plannedOf v o x i file .decision)
   unfolding plannedOf readOf rowedOf judgedOf ruleOf elfRowOf
   planned-decided numbers f =
@@ -301,19 +301,19 @@ module _ (v : View) (o : Input) (x : List ℕ) (i file : ℕ) where
       planned-decided (newNumbers ++ knownNumbers)
       (λ k.
       decide-decided (newNumbers ++ knownNumbers) refl refl (v .link) (v .symbols) (v .sections) row (fields-more newNumbers knownNumbers row (row-fields k))
-      (holderOf (v .names) (v .symbols) (v .link .names) id))
+      (holderOf (v .link) (v .names) (v .symbols) id))
 
   -- the name isn't issued yet
   planned-new : leb (v .link .names) (id .0) ≡ true → DecidedIn newNumbers (plannedOf v o x i file .decision)
   unfolding holderOf
   planned-new n = planned-decided newNumbers (λ k. rw n (nobody-decided newNumbers (v .link) (v .symbols) (v .sections) row (row-fields k)))
 
-planned-id : (v : View) (o : Input) (x : List ℕ) (i file : ℕ) → plannedOf v o x i file .id ≡ record { 0 = findOf (v .bytes) (v .names) (v .link .names) x }
+planned-id : (v : View) (o : Input) (x : List ℕ) (i file : ℕ) → plannedOf v o x i file .id ≡ record { 0 = findOf (v .bytes) (v .names) (v .link) x }
 unfolding plannedOf readOf rowedOf
 planned-id v o x i file = refl
 
 abbrev pub idIn : Symbols.State → List ℕ → Interned
-idIn s x = record { 0 = findOf (s .bytes) (s .names) (s .stage .link .names) x }
+idIn s x = record { 0 = findOf (s .bytes) (s .names) (s .stage .link) x }
 
 -- the name x issued
 abbrev pub namedIn : Symbols.State → List ℕ → Store
@@ -373,7 +373,7 @@ symbol-left o s i u =
 
 build-numbers : (l : Link) (bytes names : List ℕ) (lists : ℕ) (ids : List ℕ) (limit : ℕ) (relocations x : List ℕ)
     → let p = Build.planOf l bytes names lists ids limit relocations x in
-    (p .id ≡ record { 0 = findOf bytes names (l .names) x }) × (p .number ≢ 0 → p .number ≢ 2 → (p .number ≡ 19) × (symbolsOk ids limit relocations ≡ false))
+    (p .id ≡ record { 0 = findOf bytes names l x }) × (p .number ≢ 0 → p .number ≢ 2 → (p .number ≡ 19) × (symbolsOk ids limit relocations ≡ false))
 unfolding Build.planOf Build.planWith
 build-numbers l bytes names lists ids limit relocations x =
     pick P (fitsOf (storeOf bytes names l) id (length x)) _ _
@@ -385,7 +385,7 @@ build-numbers l bytes names lists ids limit relocations x =
     (λ t. (refl, λ u w. absurd (w refl)))
   where
     id : Interned
-    id = record { 0 = findOf bytes names (l .names) x }
+    id = record { 0 = findOf bytes names l x }
 
     P : BuildPlan.Plan → Type 0
     P p = (p .id ≡ id) × (p .number ≢ 0 → p .number ≢ 2 → (p .number ≡ 19) × (symbolsOk ids limit relocations ≡ false))
@@ -397,7 +397,7 @@ unfolding tableFor relocationsOf symbolsOk
 none-without headers contents work ids limit n kind e = by-test (eqb kind 1) (λ t. eqb-true _ _ t) (λ t. absurd (false≢true (sym (rw t at e))))
 
 abbrev pub nameKept : Build.State → List ℕ → Store
-nameKept s x = keepOf (storeOf (s .bytes) (s .names) (s .stage .link)) (record { 0 = findOf (s .bytes) (s .names) (s .stage .link .names) x }) x
+nameKept s x = keepOf (storeOf (s .bytes) (s .names) (s .stage .link)) (record { 0 = findOf (s .bytes) (s .names) (s .stage .link) x }) x
 
 -- what the string table says of section n's name
 abbrev pub sectionName : Build.Object → ℕ → Looked
@@ -414,7 +414,7 @@ pub data BuildLeft (o : Build.Object) (kind : ℕ) (s t : Build.State) (n : ℕ)
       → t ≡ refuseBuild s (nameKept s (sectionName o n .name)) n → BuildLeft o kind s t n
 
 build-commit-left : (o : Build.Object) (headers work ids : List ℕ) (s : Build.State) (relocations x : List ℕ) (n kind : ℕ) (p : BuildPlan.Plan)
-    → sectionName o n .found ≡ true → x ≡ sectionName o n .name → p .id ≡ record { 0 = findOf (s .bytes) (s .names) (s .stage .link .names) x } → (p .number ≢ 0 → p .number ≢ 2 → (p .number ≡ 19) × (kind ≡ 1))
+    → sectionName o n .found ≡ true → x ≡ sectionName o n .name → p .id ≡ record { 0 = findOf (s .bytes) (s .names) (s .stage .link) x } → (p .number ≢ 0 → p .number ≢ 2 → (p .number ≡ 19) × (kind ≡ 1))
     → Build.commitOf headers work ids (Build.linked s) relocations x n kind p .stage .number ≢ 0
     → BuildLeft o kind s (Build.commitOf headers work ids (Build.linked s) relocations x n kind p) n
 unfolding Build.commitOf Build.keptOf

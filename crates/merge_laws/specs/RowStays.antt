@@ -11,13 +11,13 @@ use lib.ListN.{getD, length}
 use borrow.Author.Tests.{ltb-true, ltb-false, eq-eqb}
 use Rattle.cells.specs.Split.{by-test}
 use Rattle.cells.specs.Rows.{row-other}
-use Rattle.link.specs.Passed.{passed-sections}
+use Rattle.link.specs.Passed.{passed-sections, passed-slots}
 use Rattle.strings.specs.Lookup.{Looked}
 use Rattle.interner.specs.Names.{Store, storeOf, keepOf}
 use Rattle.symbol.specs.declared.Row.{Row}
 use Rattle.symbol_rows.specs.declared.Decision.{Decision}
 use Rattle.symbol_rows.specs.declared.Decision.the-variants.{Refuse, Nothing, Keep, Append, Replace}
-use Rattle.symbol_rows.specs.Decide.{sectionCells, refusalOf}
+use Rattle.symbol_rows.specs.Decide.{refusalOf}
 use Rattle.symbol_rows.specs.Apply.{Table, tableOf, appendOf, applyOf}
 use Rattle.sections.specs.Rows.{stateAt, builtOf}
 use Rattle.elf_object.specs.Rows.{rowsIn, field, nameOffsetAt, retainAt, readAt, nameIn, isLoaded}
@@ -36,9 +36,12 @@ use Rattle.merge_elf.specs.Merge.{headIn, lent, finishedOf, mergeOf}
 use Rattle.symbol_laws.specs.Writes.{section-behind}
 use Rattle.merge_laws.specs.Loop.{loop-holds}
 use Rattle.merge_laws.specs.MergeSteps.{groupFirst, symbolFirst, reserveFirst}
+use Rattle.merge_laws.specs.Issue.{keep-slots}
+use Rattle.merge_laws.specs.More.{makes-slots}
+use Rattle.merge_laws.specs.GroupStage.{groups-make}
 use Rattle.merge_laws.specs.Placed.{rowOf, noted-firsts, slots, reserve-placed, reserve-rows, loaded-class}
 use Rattle.merge_laws.specs.GroupStage.{groups-firsts}
-use Rattle.merge_laws.specs.SymbolStage.{symbols-loop, symbol-long}
+use Rattle.merge_laws.specs.SymbolStage.{symbols-loop, symbol-long, symbol-makes}
 use Rattle.merge_laws.specs.BuildStage.{build-loop}
 use Rattle.merge_laws.specs.Whole.{Passed, passed}
 use Rattle.merge_laws.specs.Stops.{reserved, object, prepared, marked, symbolReader, added, builder, before2, before1, before0, withBuild, end, number, sections-pass, filter-pass, symbols-pass}
@@ -47,15 +50,15 @@ use Rattle.merge_laws.specs.Accepted.{sections-going, filter-passes, sym
 
 -- ---- symbols write behind the rows
 
-applied-front : (t : Table) (r : Row) (d : Decision) (q : ℕ) → q < sectionCells (length (t .sections)) * 8 → getD (applyOf t r d .sections) q 0 ≡ getD (t .sections) q 0
+applied-front : (t : Table) (r : Row) (d : Decision) (q : ℕ) → q < t .link .slots * 8 → getD (applyOf t r d .sections) q 0 ≡ getD (t .sections) q 0
 unfolding applyOf appendOf
 applied-front t r (Refuse n) q h = refl
 applied-front t r Nothing q h = refl
 applied-front t r (Keep id) q h = refl
-applied-front t r Append q h = section-behind (t .sections) r (t .link .symbols) q h
+applied-front t r Append q h = section-behind (t .link) (t .sections) r (t .link .symbols) q h
 applied-front t r (Replace id) q h = refl
 
-symbol-front : (o : Symbols.Object) (s : Symbols.State) (i q : ℕ) → q < sectionCells (length (s .sections)) * 8 → getD (symbolOf o s i .sections) q 0 ≡ getD (s .sections) q 0
+pub symbol-front : (o : Symbols.Object) (s : Symbols.State) (i q : ℕ) → q < s .stage .link .slots * 8 → getD (symbolOf o s i .sections) q 0 ≡ getD (s .sections) q 0
 unfolding symbolOf lookedOf namedOf commitOf keptOf acceptRow
 symbol-front o s i q h =
     let x : Looked = nameIn (o .headers) (o .file) (o .strings) (field (o .entries) i 0) in
@@ -66,7 +69,7 @@ symbol-front o s i q h =
     by-test (eqb (refusalOf (p .decision)) 2) (λ b. rw (a, b))
     (λ b.
     by-test (eqb (refusalOf (p .decision)) 0)
-    (λ c. rw (a, b, c) (applied-front (tableOf (k .names) (s .symbols) (s .sections) (k .link)) (p .row) (p .decision) q h)) (λ c. rw (a, b, c))))
+    (λ c. rw (a, b, c) (applied-front (tableOf (k .names) (s .symbols) (s .sections) (k .link)) (p .row) (p .decision) q (rw (keep-slots (storeOf (s .bytes) (s .names) (s .stage .link)) (p .id) (x .name)) h))) (λ c. rw (a, b, c))))
     (λ a. rw a)
 
 -- ---- a section that is built writes its own row
@@ -144,7 +147,7 @@ module _ (o : Object) (a : All) (ok : mergeOf o a .said .number ≡ 0) where
 
     others-apart : (kind : ℕ) → kindClass kind ≡ 2 → (n : ℕ) → builtFrom (o .headers) (marked o a .work) n kind ≡ true → r ≢ rowOf (marked o a .work) n
     others-apart kind c n b e =
-        let (apart, held) = reserve-rows (o .headers) (reserveFirst a) (p .work) (passed-sections (a .stage .link) (lent a) (p .counts)) (sections-going o a whole) in
+        let (apart, held) = reserve-rows (o .headers) (reserveFirst a) (p .work) (passed-slots (a .stage .link) (lent a) (p .counts)) (passed-sections (a .stage .link) (lent a) (p .counts)) (sections-going o a whole) in
         let (h, k) = loaded-class (o .headers) n kind c (built-loaded (o .headers) (marked o a .work) n kind b) in
         let f : rowOf (reserved o a .work) m ≡ rowOf (reserved o a .work) n = sym (same-row m low) ∙ e ∙ same-row n h in
         by-test (ltb m n) (λ t. let q = apart m n (ltb-true _ _ t) h rowed k in omega arith)
@@ -156,25 +159,28 @@ module _ (o : Object) (a : All) (ok : mergeOf o a .said .number ≡ 0) where
 
     first : stateAt (reserved o a .sections) r ≡ 1
     first =
-        let (apart, held) = reserve-rows (o .headers) (reserveFirst a) (p .work) (passed-sections (a .stage .link) (lent a) (p .counts)) (sections-going o a whole) in
+        let (apart, held) = reserve-rows (o .headers) (reserveFirst a) (p .work) (passed-slots (a .stage .link) (lent a) (p .counts)) (passed-sections (a .stage .link) (lent a) (p .counts)) (sections-going o a whole) in
         ap (stateAt (reserved o a .sections)) (same-row m low) ∙ held m low rowed
 
-    front : r * 8 + 0 < sectionCells (length (reserved o a .sections)) * 8
+    abbrev own : ℕ
+    own = reserved o a .reserved .link .slots
+
+    front : r * 8 + 0 < own * 8
     front =
-        let x = reserve-placed (o .headers) (reserveFirst a) (p .work) (passed-sections (a .stage .link) (lent a) (p .counts)) (sections-going o a whole) in
+        let x = reserve-placed (o .headers) (reserveFirst a) (p .work) (passed-slots (a .stage .link) (lent a) (p .counts)) (passed-sections (a .stage .link) (lent a) (p .counts)) (sections-going o a whole) in
         let e : r ≡ rowOf (reserved o a .work) m = same-row m low in
-        omega (arith, x .placed m low rowed, x .counted, slots (length (reserved o a .sections)))
+        omega (arith, x .placed m low rowed, x .counted, slots own)
 
     Fits : Symbols.State → Type 0
-    Fits t = (length (t .sections) ≡ length (reserved o a .sections)) × (stateAt (t .sections) r ≡ 1)
+    Fits t = (t .stage .link .slots ≡ own) × (stateAt (t .sections) r ≡ 1)
 
     symbols-stay : Fits (added o a)
     unfolding Fits symbolsOf
     symbols-stay =
         rw (symbols-loop (symbolReader o a) (rowsIn (object o a .entries)) 0 (symbolFirst (symbolsIn (marked o a))))
         (loop-holds (λ (t : Symbols.State). t .stage .number) (symbolOf (symbolReader o a)) Fits
-        (λ t i f. (symbol-long (symbolReader o a) t i ∙ f .0, symbol-front (symbolReader o a) t i (r * 8 + 0) (rw (f .0) front) ∙ f .1))
-        (rowsIn (object o a .entries)) 0 (symbolFirst (symbolsIn (marked o a))) (refl, first))
+        (λ t i f. (makes-slots _ _ _ (symbol-makes (symbolReader o a) t i) ∙ f .0, symbol-front (symbolReader o a) t i (r * 8 + 0) (rw (f .0) front) ∙ f .1))
+        (rowsIn (object o a .entries)) 0 (symbolFirst (symbolsIn (marked o a))) (makes-slots _ _ _ (groups-make (a .symbols) (reserved o a .sections) (groupObject (object o a)) (groupFirst (prepared o a))), first))
 
     built1 : stateAt (before1 o a .sections) r ≡ 1
     unfolding Fits kindClass

@@ -5,19 +5,20 @@ use native.Mathlib.Omega.{arith}
 use mathlib.Core.Path.{_≡_, refl, sym, ap, _∙_, subst}
 use mathlib.Core.List.{List, [], _∷_, _++_}
 use mathlib.Core.Logic.{_≢_}
-use lib.Dec.{eqb, ltb}
-use lib.ListN.{getD, set, take, drop, length, length-set}
+use lib.Dec.{eqb, ltb, leb}
+use lib.ListN.{getD, set, take, drop, length, length-set, drop-of-length-le, List·getD-eq-default}
 use lib.Seq.{getD-set-same, getD-set-other, set-out, drop-set-add, drop-at, length-take-le}
-use borrow.Author.Tests.{eqb-true, eqb-false, ltb-true, ltb-false}
+use borrow.Author.Tests.{eqb-true, eqb-false, ltb-true, ltb-false, leb-true, leb-false}
 use Rattle.cells.specs.Split.{by-test}
 use Rattle.link.specs.declared.Link.{Link}
 use Rattle.link.specs.Said.{accepted, refusing, numberIn}
 use Rattle.link.specs.Judge.{refused}
-use Rattle.link.specs.Bounds.{nameRows}
-use Rattle.interner.specs.Hash.{headCell}
-use Rattle.interner.specs.Names.{Store, chase, seekOf, findOf, roomOf, fitsOf, linked, added, keepOf, headAt, nextAt}
-use Rattle.interner_laws.specs.Written.{head-behind, head-within, linked-long, row-old, row-new, head-new, head-old}
+use Rattle.link.specs.Bounds.{nameRows, sectionSlots}
+use Rattle.interner.specs.Hash.{headCell, headOf}
+use Rattle.interner.specs.Names.{Store, chase, seekOf, findFrom, findOf, roomOf, fitsOf, linked, added, keepOf, nextAt}
+use Rattle.interner_laws.specs.Written.{head-behind, head-within, head-out, linked-long, row-old, row-new, head-new, head-old}
 use Rattle.symbol.specs.declared.Row.{Row}
+use Rattle.symbol.specs.Codes.{successor}
 use Rattle.symbol.specs.declared.SttFile.the-variants as File
 use Rattle.symbol_rows.specs.declared.Holder.{Holder}
 use Rattle.symbol_rows.specs.declared.Holder.the-variants.{Unissued, Nobody, Removed, Known}
@@ -25,17 +26,17 @@ use Rattle.symbol_rows.specs.declared.Decision.{Decision}
 use Rattle.symbol_rows.specs.declared.Decision.the-variants.{Refuse, Nothing, Keep, Append, Replace}
 use Rattle.symbol_rows.specs.Holder.{holderOf}
 use Rattle.symbol_rows.specs.Decide as Rows
-use Rattle.symbol_rows.specs.Decide.{sectionCells, sectionRoom, newOf, decideOf, refusalOf, idOf}
+use Rattle.symbol_rows.specs.Decide.{sectionCell, sectionRoom, newOf, decideOf, refusalOf, idOf}
 use Rattle.symbol_rows.specs.Apply.{Table, noteName, setSectionSymbol, noteSection, appendOf, applyOf}
 use Rattle.symbols.specs.Add.{issuedOf, directHolderOf, decidedOf, placeOf, committedOf, addRowOf}
-use Rattle.symbol_laws.specs.Issue.{room-free}
+use Rattle.symbol_laws.specs.Issue.{FreeRow, room-free}
 use Rattle.symbol_laws.specs.History as History
 use Rattle.symbol_laws.specs.History.{State, table, store, Entry, Part, issue, put, partNext, partNotes, runParts, logParts}
 use Rattle.merge_laws.specs.Steps.{Step, mark, others, rowsFrom, stepNext, PartGoes, Goes, AllGo, runSteps, logSteps, Makes}
 use Rattle.merge_laws.specs.Steps as Steps
 use Rattle.merge_laws.specs.SymbolStage.{noted-long}
 use Rattle.merge_laws.specs.Issue.{keeps}
-use Rattle.merge_laws.specs.Past.{put-long, rows-long}
+use Rattle.merge_laws.specs.Past.{rows-long, rows-all}
 
 -- the parts among the steps
 abbrev pub partsIn : List Step → List Part
@@ -44,21 +45,21 @@ partsIn (Steps.part p ∷ ks) = p ∷ partsIn ks
 partsIn (mark n ∷ ks) = partsIn ks
 partsIn (others x l ∷ ks) = partsIn ks
 
-abbrev rowsOf : List ℕ → ℕ
-rowsOf names = nameRows (length names)
-
 -- t is s but for marks, section rows and the counts of sections, inputs and lists
 pub record Seen (s t : State) : Type 0 where
   pub bytes : t .bytes ≡ s .bytes
   pub symbols : t .symbols ≡ s .symbols
   pub names-long : length (t .names) ≡ length (s .names)
   pub names : (i f : ℕ) → f < 8 → f ≢ 4 → getD (t .names) (i * 8 + f) 0 ≡ getD (s .names) (i * 8 + f) 0
-  pub heads : (q : ℕ) → nameRows (length (s .names)) * 8 ≤ q → getD (t .names) q 0 ≡ getD (s .names) q 0
+  pub heads : (q : ℕ) → s .link .chains * 8 ≤ q → getD (t .names) q 0 ≡ getD (s .names) q 0
   pub sections-long : length (t .sections) ≡ length (s .sections)
-  pub section-symbols : drop (sectionCells (length (s .sections)) * 8) (t .sections) ≡ drop (sectionCells (length (s .sections)) * 8) (s .sections)
+  pub section-symbols : drop (s .link .slots * 8) (t .sections) ≡ drop (s .link .slots * 8) (s .sections)
   pub names-count : t .link .names ≡ s .link .names
   pub bytes-count : t .link .bytes ≡ s .link .bytes
   pub symbols-count : t .link .symbols ≡ s .link .symbols
+  pub chains : t .link .chains ≡ s .link .chains
+  pub key : t .link .key ≡ s .link .key
+  pub slots : t .link .slots ≡ s .link .slots
 
 -- ---- names are found alike
 
@@ -76,28 +77,37 @@ module _ (s t : State) (e : Seen s t) where
         e .names-count,
       )
 
-  head-low : (x : List ℕ) → rowsOf (s .names) * 8 ≤ headCell (length (s .names)) x
-  head-low x =
-      by-test (ltb 0 (rowsOf (s .names))) (λ a. head-behind (length (s .names)) x (ltb-true _ _ a))
-      (λ a. omega (arith, ltb-false 0 (rowsOf (s .names)) a))
+  cell-same : (x : List ℕ) → headOf (t .link) (t .names) x ≡ headOf (s .link) (s .names) x
+  unfolding headCell
+  cell-same x = simp (e .names-long, e .chains, e .key)
 
-  head-same : (x : List ℕ) → headAt (t .names) x ≡ headAt (s .names) x
+  -- behind the rows, or behind all cells
+  head-same : (x : List ℕ) → getD (t .names) (headOf (t .link) (t .names) x) 0 ≡ getD (s .names) (headOf (s .link) (s .names) x) 0
   head-same x =
-      ap (λ (n : ℕ). getD (t .names) (headCell n x) 0) (e .names-long) ∙ e .heads (headCell (length (s .names)) x) (head-low x)
+      ap (λ (k : ℕ). getD (t .names) k 0) (cell-same x)
+      ∙ by-test (ltb (nameRows (length (s .names))) (s .link .chains))
+      (λ a.
+      let out : headOf (s .link) (s .names) x ≡ length (s .names) = head-out (s .link) (length (s .names)) x (ltb-true _ _ a) in
+      List·getD-eq-default (t .names) 0 (omega (arith, out, e .names-long)) ∙ sym (List·getD-eq-default (s .names) 0 (omega (arith, out))))
+      (λ a. e .heads (headOf (s .link) (s .names) x) (head-behind (s .link) (length (s .names)) x (ltb-false _ _ a)))
 
-  find-same : (x : List ℕ) → findOf (t .bytes) (t .names) (t .link .names) x ≡ findOf (s .bytes) (s .names) (s .link .names) x
-  unfolding findOf seekOf
-  find-same x = rw (head-same x, chase-same x (t .link .names) (headAt (s .names) x), e .names-count)
+  find-same : (x : List ℕ) → findOf (t .bytes) (t .names) (t .link) x ≡ findOf (s .bytes) (s .names) (s .link) x
+  unfolding findOf findFrom seekOf
+  find-same x =
+      rw (head-same x, e .names-long, chase-same x (nameRows (length (s .names))) (getD (s .names) (headOf (s .link) (s .names) x) 0), e .names-count)
 
   room-same : (n : ℕ) → roomOf (store t) n ≡ roomOf (store s) n
   unfolding roomOf
-  room-same n = rw (e .names-long, e .names-count, e .bytes, e .bytes-count)
+  room-same n = rw (e .names-long, e .names-count, e .bytes, e .bytes-count, e .chains)
 
   -- ---- a name issued
 
-  module _ (x : List ℕ) (free : s .link .names < rowsOf (s .names)) where
+  module _ (x : List ℕ) (r : FreeRow (s .link) (s .names)) where
     abbrev head : ℕ
-    head = headCell (length (s .names)) x
+    head = headOf (s .link) (s .names) x
+
+    abbrev rows : ℕ
+    rows = s .link .chains
 
     abbrev count : ℕ
     count = s .link .names
@@ -105,78 +115,77 @@ module _ (s t : State) (e : Seen s t) where
     abbrev row : List ℕ → List ℕ
     row names = linked names count (s .link .bytes) (length x) head
 
-    low : rowsOf (s .names) * 8 ≤ head
-    low = head-behind (length (s .names)) x (omega arith)
+    low : rows * 8 ≤ head
+    low = head-behind (s .link) (length (s .names)) x (r .lent)
 
-    free′ : count < rowsOf (t .names)
-    free′ = rw (e .names-long) free
+    lent′ : rows ≤ nameRows (length (t .names))
+    lent′ = rw (e .names-long) (r .lent)
 
-    low′ : rowsOf (t .names) * 8 ≤ head
-    low′ = rw (e .names-long) low
-
-    row-heads : (q : ℕ) → rowsOf (s .names) * 8 ≤ q → getD (row (t .names)) q 0 ≡ getD (row (s .names)) q 0
+    row-heads : (q : ℕ) → rows * 8 ≤ q → getD (row (t .names)) q 0 ≡ getD (row (s .names)) q 0
     row-heads q h =
-        let h′ : rowsOf (t .names) * 8 ≤ q = rw (e .names-long) h in
-        let k : head < length (s .names) = head-within (length (s .names)) x (omega arith) in
+        let k : head < length (s .names) = head-within (s .link) (length (s .names)) x (r .lent) (omega (arith, r .free)) in
         by-test (eqb q head)
         (λ a.
         let z : q ≡ head = eqb-true _ _ a in
         rw z
-        (head-new (t .names) count (s .link .bytes) (length x) head free′ low′ (rw (e .names-long) k)
-        ∙ sym (head-new (s .names) count (s .link .bytes) (length x) head free low k)))
+        (head-new (t .names) count (s .link .bytes) (length x) head rows lent′ (r .free) low (rw (e .names-long) k)
+        ∙ sym (head-new (s .names) count (s .link .bytes) (length x) head rows (r .lent) (r .free) low k)))
         (λ a.
         let z : q ≢ head = eqb-false _ _ a in
-        head-old (t .names) count (s .link .bytes) (length x) head free′ low′ q h′ z
+        head-old (t .names) count (s .link .bytes) (length x) head rows lent′ (r .free) low q h z
         ∙ e .heads q h
-        ∙ sym (head-old (s .names) count (s .link .bytes) (length x) head free low q h z))
+        ∙ sym (head-old (s .names) count (s .link .bytes) (length x) head rows (r .lent) (r .free) low q h z))
 
     row-cells : (i f : ℕ) → f < 8 → f ≢ 4 → getD (row (t .names)) (i * 8 + f) 0 ≡ getD (row (s .names)) (i * 8 + f) 0
     row-cells i f h u =
-        by-test (ltb i (rowsOf (s .names)))
+        by-test (ltb i rows)
         (λ a.
-        let l : i < rowsOf (s .names) = ltb-true _ _ a in
-        let l′ : i < rowsOf (t .names) = rw (e .names-long) l in
+        let l : i < rows = ltb-true _ _ a in
         by-test (eqb i count)
         (λ b.
         let z : i ≡ count = eqb-true _ _ b in
         rw z
-        (row-new (t .names) count (s .link .bytes) (length x) head free′ low′ f h
+        (row-new (t .names) count (s .link .bytes) (length x) head rows lent′ (r .free) low f h
         ∙ ap (λ (k : ℕ). getD (s .link .bytes ∷ length x ∷ k ∷ 0 ∷ 0 ∷ 0 ∷ 0 ∷ 0 ∷ []) f 0) (e .heads head low)
-        ∙ sym (row-new (s .names) count (s .link .bytes) (length x) head free low f h)))
+        ∙ sym (row-new (s .names) count (s .link .bytes) (length x) head rows (r .lent) (r .free) low f h)))
         (λ b.
         let z : i ≢ count = eqb-false _ _ b in
-        row-old (t .names) count (s .link .bytes) (length x) head free′ low′ i f l′ z h
+        row-old (t .names) count (s .link .bytes) (length x) head rows lent′ (r .free) low i f l z h
         ∙ e .names i f h u
-        ∙ sym (row-old (s .names) count (s .link .bytes) (length x) head free low i f l z h)))
-        (λ a. row-heads (i * 8 + f) (omega (arith, ltb-false i (rowsOf (s .names)) a)))
+        ∙ sym (row-old (s .names) count (s .link .bytes) (length x) head rows (r .lent) (r .free) low i f l z h)))
+        (λ a. row-heads (i * 8 + f) (omega (arith, ltb-false i rows a)))
 
     added-seen : Seen (History.withStore s (added (store s) x)) (History.withStore t (added (store t) x))
+    unfolding headCell
     added-seen =
         let n : added (store t) x .names ≡ row (t .names) =
-        rw (e .names-count, e .bytes-count, e .names-long) in
+        rw (e .names-count, e .bytes-count) (ap (λ (h : ℕ). linked (t .names) count (s .link .bytes) (length x) h) (cell-same x)) in
         let long : length (row (s .names)) ≡ length (s .names) = linked-long (s .names) count (s .link .bytes) (length x) head in
         record {
           bytes = rw (e .bytes, e .bytes-count);
           symbols = e .symbols;
           names-long = ap length n ∙ linked-long (t .names) count (s .link .bytes) (length x) head ∙ e .names-long ∙ sym long;
           names = λ i f h u. ap (λ (l : List ℕ). getD l (i * 8 + f) 0) n ∙ row-cells i f h u;
-          heads = λ q h. ap (λ (l : List ℕ). getD l q 0) n ∙ row-heads q (rw long at h);
+          heads = λ q h. ap (λ (l : List ℕ). getD l q 0) n ∙ row-heads q h;
           sections-long = e .sections-long;
           section-symbols = e .section-symbols;
           names-count = rw (e .names-count);
           bytes-count = rw (e .bytes-count);
           symbols-count = e .symbols-count;
+          chains = e .chains;
+          key = e .key;
+          slots = e .slots;
         }
 
-  known-same : (x : List ℕ) → ltb (findOf (t .bytes) (t .names) (t .link .names) x) (t .link .names) ≡ ltb (findOf (s .bytes) (s .names) (s .link .names) x) (s .link .names)
+  known-same : (x : List ℕ) → ltb (findOf (t .bytes) (t .names) (t .link) x) (t .link .names) ≡ ltb (findOf (s .bytes) (s .names) (s .link) x) (s .link .names)
   known-same x =
       ap (λ (k : ℕ). ltb k (t .link .names)) (find-same x)
-      ∙ ap (ltb (findOf (s .bytes) (s .names) (s .link .names) x)) (e .names-count)
+      ∙ ap (ltb (findOf (s .bytes) (s .names) (s .link) x)) (e .names-count)
 
   issue-seen : (x : List ℕ) → Seen (partNext (issue x) s) (partNext (issue x) t)
   unfolding keepOf
   issue-seen x =
-      by-test (ltb (findOf (s .bytes) (s .names) (s .link .names) x) (s .link .names)) (λ a. rw (a, known-same x ∙ a) e)
+      by-test (ltb (findOf (s .bytes) (s .names) (s .link) x) (s .link .names)) (λ a. rw (a, known-same x ∙ a) e)
       (λ a.
       by-test (roomOf (store s) (length x))
       (λ b. rw (a, known-same x ∙ a, b, room-same (length x) ∙ b) (added-seen x (room-free (store s) (length x) b)))
@@ -185,8 +194,8 @@ module _ (s t : State) (e : Seen s t) where
   -- ---- a row added
 
   new-same : (r : Row) → newOf (t .link) (t .symbols) (t .sections) r ≡ newOf (s .link) (s .symbols) (s .sections) r
-  unfolding newOf Rows.roomOf sectionRoom
-  new-same r = simp (e .symbols, e .symbols-count, e .sections-long)
+  unfolding newOf Rows.roomOf sectionRoom sectionCell
+  new-same r = simp (e .symbols, e .symbols-count, e .sections-long, e .slots)
 
   decide-same : (r : Row) (h : Holder) → decideOf (t .link) (t .symbols) (t .sections) r h ≡ decideOf (s .link) (s .symbols) (s .sections) r h
   unfolding decideOf
@@ -197,7 +206,7 @@ module _ (s t : State) (e : Seen s t) where
 
   holder-same : (r : Row) → directHolderOf (t .link) (t .names) (t .symbols) (r .name) File.None ≡ directHolderOf (s .link) (s .names) (s .symbols) (r .name) File.None
   unfolding directHolderOf issuedOf holderOf
-  holder-same r = simp (e .names-count, e .symbols, e .names (r .name .0) 3 (omega arith) (λ z. omega arith))
+  holder-same r = simp (e .names-count, e .symbols-count, e .symbols, e .names (r .name .0) 3 (omega arith) (λ z. omega arith))
 
   decided-same : (r : Row) → decidedOf (table t) r File.None ≡ decidedOf (table s) r File.None
   unfolding decidedOf
@@ -227,18 +236,24 @@ module _ (s t : State) (e : Seen s t) (r : Row) where
   unfolding noteName
   note-long l id = by-test (eqb (r .visibility) 0) (λ a. rw a) (λ a. rw a (length-set l (r .name .0 * 8 + 3) id))
 
+  out-same : (n : ℕ) → length (s .sections) ≤ n → (id : ℕ)
+      → drop (s .link .slots * 8) (set (t .sections) n id) ≡ drop (s .link .slots * 8) (set (s .sections) n id)
+  out-same n h id = rw (set-out (t .sections) n id (rw (e .sections-long) h), set-out (s .sections) n id h) (e .section-symbols)
+
   symbol-behind : (a id : ℕ)
-      → drop (sectionCells (length (s .sections)) * 8) (setSectionSymbol (t .sections) a id) ≡ drop (sectionCells (length (s .sections)) * 8) (setSectionSymbol (s .sections) a id)
-  unfolding setSectionSymbol
+      → drop (s .link .slots * 8) (setSectionSymbol (t .link) (t .sections) a id) ≡ drop (s .link .slots * 8) (setSectionSymbol (s .link) (s .sections) a id)
+  unfolding setSectionSymbol sectionCell
   symbol-behind a id =
-      let n : ℕ = sectionCells (length (s .sections)) in
-      rw (e .sections-long)
-      (by-test (ltb a n)
-      (λ b. rw b (drop-set-add (n * 8) (t .sections) a id ∙ ap (λ (l : List ℕ). set l a id) (e .section-symbols) ∙ sym (drop-set-add (n * 8) (s .sections) a id)))
-      (λ b. rw b (e .section-symbols)))
+      let n : ℕ = s .link .slots in
+      rw (e .sections-long, e .slots)
+      (by-test (ltb (sectionSlots (length (s .sections))) n) (λ c. rw c (out-same (length (s .sections)) (omega arith) id))
+      (λ c.
+      by-test (ltb a n)
+      (λ b. rw (c, b) (drop-set-add (n * 8) (t .sections) a id ∙ ap (λ (l : List ℕ). set l a id) (e .section-symbols) ∙ sym (drop-set-add (n * 8) (s .sections) a id)))
+      (λ b. rw (c, b) (out-same (length (s .sections)) (omega arith) id))))
 
   section-behind : (id : ℕ)
-      → drop (sectionCells (length (s .sections)) * 8) (noteSection (t .sections) r id) ≡ drop (sectionCells (length (s .sections)) * 8) (noteSection (s .sections) r id)
+      → drop (s .link .slots * 8) (noteSection (t .link) (t .sections) r id) ≡ drop (s .link .slots * 8) (noteSection (s .link) (s .sections) r id)
   unfolding noteSection
   section-behind id =
       by-test (eqb (r .visibility) 0)
@@ -248,21 +263,23 @@ module _ (s t : State) (e : Seen s t) (r : Row) where
   unfolding appendOf
   append-seen =
       let id : ℕ = s .link .symbols in
-      let ls : length (noteSection (s .sections) r id) ≡ length (s .sections) = noted-long (s .sections) r id in
-      let lt : length (noteSection (t .sections) r id) ≡ length (t .sections) = noted-long (t .sections) r id in
-      rw (e .symbols-count)
-      (record {
+      let next : ℕ = t .link .symbols in
+      let named : (j : ℕ) → getD (noteName (t .names) r next) j 0 ≡ getD (noteName (t .names) r id) j 0 = λ j. ap (λ (k : ℕ). getD (noteName (t .names) r k) j 0) (e .symbols-count) in
+      record {
         bytes = e .bytes;
-        symbols = rw (e .symbols);
-        names-long = note-long (t .names) id ∙ e .names-long ∙ sym (note-long (s .names) id);
-        names = λ i f h u. note-cell id (i * 8 + f) (e .names i f h u);
-        heads = λ q h. note-cell id q (e .heads q (rw (note-long (s .names) id) at h));
-        sections-long = lt ∙ e .sections-long ∙ sym ls;
-        section-symbols = rw ls (section-behind id);
+        symbols = rw (e .symbols, e .symbols-count);
+        names-long = note-long (t .names) next ∙ e .names-long ∙ sym (note-long (s .names) id);
+        names = λ i f h u. named (i * 8 + f) ∙ note-cell id (i * 8 + f) (e .names i f h u);
+        heads = λ q h. named q ∙ note-cell id q (e .heads q h);
+        sections-long = noted-long (t .link) (t .sections) r next ∙ e .sections-long ∙ sym (noted-long (s .link) (s .sections) r id);
+        section-symbols = ap (λ (k : ℕ). drop (s .link .slots * 8) (noteSection (t .link) (t .sections) r k)) (e .symbols-count) ∙ section-behind id;
         names-count = e .names-count;
         bytes-count = e .bytes-count;
-        symbols-count = refl;
-      })
+        symbols-count = ap successor (e .symbols-count);
+        chains = e .chains;
+        key = e .key;
+        slots = e .slots;
+      }
 
   applied-seen : (d : Decision) → Seen (History.withTable s (applyOf (table s) r d)) (History.withTable t (applyOf (table t) r d))
   unfolding applyOf
@@ -282,6 +299,9 @@ module _ (s t : State) (e : Seen s t) (r : Row) where
         names-count = e .names-count;
         bytes-count = e .bytes-count;
         symbols-count = e .symbols-count;
+        chains = e .chains;
+        key = e .key;
+        slots = e .slots;
       }
 
   place-same : placeOf (t .link) (r .name) File.None ≡ placeOf (s .link) (r .name) File.None
@@ -328,6 +348,21 @@ put-names t r =
     by-test (eqb (refusalOf d) 21) (λ a. rw a)
     (λ a. by-test (eqb (refusalOf d) 0) (λ b. rw (a, b) (names-kept t r d)) (λ b. rw (a, b)))
 
+chains-kept : (t : Table) (r : Row) (d : Decision) → applyOf t r d .link .chains ≡ t .link .chains
+unfolding applyOf appendOf
+chains-kept t r (Refuse n) = refl
+chains-kept t r Nothing = refl
+chains-kept t r (Keep id) = refl
+chains-kept t r Append = refl
+chains-kept t r (Replace id) = refl
+
+put-chains : (t : Table) (r : Row) → addRowOf t r File.None .table .link .chains ≡ t .link .chains
+unfolding addRowOf committedOf
+put-chains t r =
+    let d : Decision = decidedOf t r File.None in
+    by-test (eqb (refusalOf d) 21) (λ a. rw a)
+    (λ a. by-test (eqb (refusalOf d) 0) (λ b. rw (a, b) (chains-kept t r d)) (λ b. rw (a, b)))
+
 part-seen : (p : Part) (s t : State) → Seen s t → Seen (partNext p s) (partNext p t)
 part-seen (issue x) s t e = issue-seen s t e x
 part-seen (put r from) s t e = put-seen s t e r
@@ -336,14 +371,13 @@ part-notes : (p : Part) (s t : State) → Seen s t → partNotes p t ≡ partNot
 part-notes (issue x) s t e = refl
 part-notes (put r from) s t e = ap (History.noted r from) (put-said s t e r)
 
-put-roomy : (t : Table) (r : Row) → t .link .names ≤ nameRows (length (t .names))
-    → addRowOf t r File.None .table .link .names ≤ nameRows (length (addRowOf t r File.None .table .names))
-put-roomy t r h = omega (arith, put-long t r .0, put-names t r)
+put-roomy : (t : Table) (r : Row) → t .link .names ≤ t .link .chains → addRowOf t r File.None .table .link .names ≤ addRowOf t r File.None .table .link .chains
+put-roomy t r h = omega (arith, put-chains t r, put-names t r)
 
 fits-seen : (x : List ℕ) (s t : State) → Seen s t → fitsOf (store t) (History.idOf t x) (length x) ≡ fitsOf (store s) (History.idOf s x) (length x)
 unfolding fitsOf
 fits-seen x s t e =
-    by-test (ltb (findOf (s .bytes) (s .names) (s .link .names) x) (s .link .names)) (λ a. rw (a, known-same s t e x ∙ a))
+    by-test (ltb (findOf (s .bytes) (s .names) (s .link) x) (s .link .names)) (λ a. rw (a, known-same s t e x ∙ a))
     (λ a. rw (a, known-same s t e x ∙ a) (room-same s t e (length x)))
 
 part-goes : (p : Part) (s t : State) → Seen s t → PartGoes p t → PartGoes p s
@@ -357,7 +391,7 @@ PartsGo (p ∷ ps) s = PartGoes p s × PartsGo ps (partNext p s)
 
 -- as many names as rows
 abbrev Roomy : State → Type 0
-Roomy t = t .link .names ≤ nameRows (length (t .names))
+Roomy t = t .link .names ≤ t .link .chains
 
 mark-seen : (s t : State) (n : ℕ) → Seen s t → n < t .link .names → Roomy t → Seen s (stepNext (mark n) t)
 mark-seen s t n e h r =
@@ -366,43 +400,57 @@ mark-seen s t n e h r =
       symbols = e .symbols;
       names-long = length-set (t .names) (n * 8 + 4) 1 ∙ e .names-long;
       names = λ i f k u. getD-set-other (t .names) (n * 8 + 4) (i * 8 + f) 1 0 (λ z. u (omega arith)) ∙ e .names i f k u;
-      heads = λ q k. getD-set-other (t .names) (n * 8 + 4) q 1 0 (λ z. omega (arith, e .names-long)) ∙ e .heads q k;
+      heads = λ q k. getD-set-other (t .names) (n * 8 + 4) q 1 0 (λ z. omega (arith, e .chains)) ∙ e .heads q k;
       sections-long = e .sections-long;
       section-symbols = e .section-symbols;
       names-count = e .names-count;
       bytes-count = e .bytes-count;
       symbols-count = e .symbols-count;
+      chains = e .chains;
+      key = e .key;
+      slots = e .slots;
     }
+
+rows-behind : (slots : ℕ) (x old : List ℕ) → length x ≡ length old → drop (slots * 8) (rowsFrom slots x old) ≡ drop (slots * 8) old
+rows-behind slots x old e =
+    let n : ℕ = slots * 8 in
+    by-test (leb n (length x)) (λ b. drop-at (take n x) (drop n old) n (length-take-le n x (leb-true _ _ b)))
+    (λ b.
+    let k : length x < n = leb-false _ _ b in
+    let a : length x ≤ n = omega arith in
+    let b : length old ≤ n = omega (arith, e) in
+    ap (drop n) (rows-all slots x old e a) ∙ drop-of-length-le x a ∙ sym (drop-of-length-le old b))
 
 others-seen : (s t : State) (x : List ℕ) (l : Link) → Seen s t → length x ≡ length (t .sections) → Seen s (stepNext (others x l) t)
 others-seen s t x l e h =
-    let n : ℕ = sectionCells (length (t .sections)) * 8 in
-    let k : sectionCells (length (s .sections)) * 8 ≡ n = ap (λ (n : ℕ). sectionCells n * 8) (sym (e .sections-long)) in
+    let n : ℕ = t .link .slots * 8 in
+    let k : s .link .slots * 8 ≡ n = ap (λ (n : ℕ). n * 8) (sym (e .slots)) in
     record {
       bytes = e .bytes;
       symbols = e .symbols;
       names-long = e .names-long;
       names = e .names;
       heads = e .heads;
-      sections-long = rows-long x (t .sections) h ∙ e .sections-long;
+      sections-long = rows-long (t .link .slots) x (t .sections) h ∙ e .sections-long;
       section-symbols =
-          ap (λ (k : ℕ). drop k (rowsFrom x (t .sections))) k
-          ∙ drop-at (take n x) (drop n (t .sections)) n (length-take-le n x (omega arith))
+          ap (λ (k : ℕ). drop k (rowsFrom (t .link .slots) x (t .sections))) k
+          ∙ rows-behind (t .link .slots) x (t .sections) h
           ∙ ap (λ (k : ℕ). drop k (t .sections)) (sym k)
           ∙ e .section-symbols;
       names-count = e .names-count;
       bytes-count = e .bytes-count;
       symbols-count = e .symbols-count;
+      chains = e .chains;
+      key = e .key;
+      slots = e .slots;
     }
 
 step-roomy : (k : Step) (t : State) → Goes k t → Roomy t → Roomy (stepNext k t)
 step-roomy (Steps.part (issue x)) t g r =
-    keeps (λ (k : Store). k .link .names ≤ nameRows (length (k .names))) (store t) (History.idOf t x) x r
-    (λ h b.
-    let f : t .link .names < nameRows (length (t .names)) = room-free (store t) (length x) b in
-    omega (arith, linked-long (t .names) (t .link .names) (t .link .bytes) (length x) (headCell (length (t .names)) x)))
+    keeps (λ (k : Store). k .link .names ≤ k .link .chains) (store t) (History.idOf t x) x r
+    (λ h b. omega (arith, room-free (store t) (length x) b .free))
 step-roomy (Steps.part (put w from)) t g r = put-roomy (table t) w r
-step-roomy (mark n) t g r = omega (arith, length-set (t .names) (n * 8 + 4) 1)
+step-roomy (mark n) t g r = r
 step-roomy (others x l) t g r = r
 
 -- the parts ps made alone, from s, beside the steps ks from t: they leave the same but for marks, section rows and other counts, are accepted, and
@@ -441,6 +489,9 @@ seen-same s =
       names-count = refl;
       bytes-count = refl;
       symbols-count = refl;
+      chains = refl;
+      key = refl;
+      slots = refl;
     }
 
 -- steps from s to t, and the parts ps made alone
@@ -449,7 +500,7 @@ pub record MadeAlone (s : State) (ks : List Step) (t : State) (ps : List Part) :
   pub accepted : PartsGo ps s
   pub logged : logSteps ks s ≡ logParts ps s
 
-pub makes-parts : (s t : State) (ks : List Step) → s .link .names ≤ nameRows (length (s .names)) → Makes s ks t → MadeAlone s ks t (partsIn ks)
+pub makes-parts : (s t : State) (ks : List Step) → s .link .names ≤ s .link .chains → Makes s ks t → MadeAlone s ks t (partsIn ks)
 makes-parts s t ks r m =
     let p = parts-alone ks s s (seen-same s) r (m .accepted) in
     record { seen = subst (Seen (runParts (partsIn ks) s)) (m .leads) (p .seen); accepted = p .accepted; logged = p .logged }

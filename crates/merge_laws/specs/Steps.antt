@@ -8,7 +8,7 @@ use lib.ListN.{getD, set, take, drop, length}
 use Rattle.link.specs.Said.{numberIn}
 use Rattle.link.specs.declared.Link.{Link}
 use Rattle.interner.specs.Names.{fitsOf}
-use Rattle.symbol_rows.specs.Decide.{sectionCells}
+use Rattle.link.specs.Bounds.{sectionRows}
 use Rattle.symbol_laws.specs.History.{State, store, Entry, run, log, run-append, Part, issue, put, putOf, idOf, partNext, partNotes}
 
 pub data Step : Type 0 where
@@ -20,8 +20,8 @@ pub data Step : Type 0 where
   others : List ℕ → Link → Step
 
 -- the rows of x; what lies behind them, the sections' symbols, stays
-abbrev pub rowsFrom : List ℕ → List ℕ → List ℕ
-rowsFrom x old = take (sectionCells (length old) * 8) x ++ drop (sectionCells (length old) * 8) old
+abbrev pub rowsFrom : ℕ → List ℕ → List ℕ → List ℕ
+rowsFrom slots x old = take (slots * 8) x ++ drop (slots * 8) old
 
 -- the counts of names, of their bytes and of symbols stay
 abbrev pub countsFrom : Link → Link → Link
@@ -35,6 +35,7 @@ countsFrom l old =
       lists = l .lists;
       chains = old .chains;
       slots = old .slots;
+      key = old .key;
       broken = l .broken;
     }
 
@@ -47,7 +48,7 @@ withOthers s x l = record { bytes = s .bytes; names = s .names; symbols = s .sym
 abbrev pub stepNext : Step → State → State
 stepNext (part p) s = partNext p s
 stepNext (mark n) s = withNames s (set (s .names) (n * 8 + 4) 1)
-stepNext (others x l) s = withOthers s (rowsFrom x (s .sections)) (countsFrom l (s .link))
+stepNext (others x l) s = withOthers s (rowsFrom (s .link .slots) x (s .sections)) (countsFrom l (s .link))
 
 -- the accepted adds that aren't local
 abbrev pub stepNotes : Step → State → List Entry
@@ -66,7 +67,7 @@ logSteps = log stepNext stepNotes
 
 -- document 01, "Bounds", of sections and inputs
 abbrev pub Bounded : Link → Type 0
-Bounded l = (l .sections ≤ 65535) × (l .inputs ≤ 4095)
+Bounded l = (l .sections ≤ sectionRows (l .slots)) × (l .inputs ≤ 4095)
 
 abbrev pub PartGoes : Part → State → Type 0
 PartGoes (issue x) s = fitsOf (store s) (idOf s x) (length x) ≡ true
@@ -79,7 +80,7 @@ Goes (others x l) s =
     (s .link .sections ≤ l .sections)
     × (length x ≡ length (s .sections))
     × ((q : ℕ) → l .sections * 8 ≤ q → getD x q 0 ≡ getD (s .sections) q 0)
-    × (Bounded (s .link) → Bounded l)
+    × (Bounded (s .link) → Bounded (countsFrom l (s .link)))
 
 abbrev pub AllGo : List Step → State → Type 0
 AllGo [] s = Unit {0}

@@ -165,19 +165,19 @@ module _ (o : Object) (a : All) where
   unfolding buildStage builtOf
   symbols-pass z = rw (eq-eqb (added .stage .number) 0 z)
 
-  program-stop : before1 .stage .number ≢ 0 → programStage builder before1 ≡ before1
+  pub program-stop : before1 .stage .number ≢ 0 → programStage builder before1 ≡ before1
   unfolding programStage
   program-stop u = rw (ne-eqb (before1 .stage .number) 0 u)
 
-  program-pass : before1 .stage .number ≡ 0 → programStage builder before1 ≡ inputStage before0
+  pub program-pass : before1 .stage .number ≡ 0 → programStage builder before1 ≡ inputStage before0
   unfolding programStage
   program-pass z = rw (eq-eqb (before1 .stage .number) 0 z)
 
-  input-stop : before0 .stage .number ≢ 0 → inputStage before0 ≡ before0
+  pub input-stop : before0 .stage .number ≢ 0 → inputStage before0 ≡ before0
   unfolding inputStage
   input-stop u = rw (ne-eqb (before0 .stage .number) 0 u)
 
-  input-pass : before0 .stage .number ≡ 0 → inputStage before0 ≡ withInput before0 (inputOf (before0 .inputs) (before0 .stage .link))
+  pub input-pass : before0 .stage .number ≡ 0 → inputStage before0 ≡ withInput before0 (inputOf (before0 .inputs) (before0 .stage .link))
   unfolding inputStage
   input-pass z = rw (eq-eqb (before0 .stage .number) 0 z)
 

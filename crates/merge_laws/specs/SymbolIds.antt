@@ -58,13 +58,13 @@ module _ (o : Input) (s : Symbols.State) (x : List ℕ) (i : ℕ) where
   abbrev named : State
   named = partNext (issue x) (tableIn s)
 
-  commit-number : namedOf o s x i .stage .number ≡ 0 → refusalOf (plan .decision) ≡ 0
+  pub commit-number : namedOf o s x i .stage .number ≡ 0 → refusalOf (plan .decision) ≡ 0
   unfolding namedOf commitOf keptOf acceptRow
   commit-number e =
       by-test (eqb (refusalOf (plan .decision)) 2) (λ t. let z : _≡_ {A = ℕ} 2 0 = rw t at e in absurd (omega arith))
       (λ t. by-test (eqb (refusalOf (plan .decision)) 0) (λ z. eqb-true _ _ z) (λ z. rw (t, z) at e))
 
-  ids-set : refusalOf (plan .decision) ≡ 0 → namedOf o s x i .ids ≡ set (s .ids) i (cellOf (plan .decision) (named .link .symbols))
+  pub ids-set : refusalOf (plan .decision) ≡ 0 → namedOf o s x i .ids ≡ set (s .ids) i (cellOf (plan .decision) (named .link .symbols))
   unfolding namedOf commitOf keptOf acceptRow
   ids-set z = rw z (ap (λ (k : Interned). set (s .ids) i (cellOf (plan .decision) (keepOf (storeOf (s .bytes) (s .names) (s .stage .link)) k x .link .symbols))) (plan-id o s x i))
 

@@ -16,7 +16,7 @@ use Rattle.symbol.specs.declared.SttFile.the-variants as File
 use Rattle.upcoming_symbol.specs.Upcoming.{elfRowOf}
 use Rattle.symbol_rows.specs.declared.Decision.{Decision}
 use Rattle.symbol_rows.specs.declared.Decision.the-variants.{Refuse, Nothing, Keep, Append, Replace}
-use Rattle.symbol_rows.specs.Decide.{sectionCells, refusalOf}
+use Rattle.symbol_rows.specs.Decide.{sectionCell, refusalOf}
 use Rattle.symbol_rows.specs.Apply.{Table, tableOf, moreSymbols, setSectionSymbol, noteSection, appendOf, applyOf}
 use Rattle.symbols.specs.Add.{decidedOf}
 use Rattle.elf_object.specs.Rows.{rowsIn, field, nameIn}
@@ -78,7 +78,7 @@ module _ (o : Input) (s : Symbols.State) (x : List ℕ) (i : ℕ) where
   plan = plannedOf (view s) o x i (s .stage .file)
 
   abbrev id : Interned
-  id = record { 0 = findOf (s .bytes) (s .names) (s .stage .link .names) x }
+  id = record { 0 = findOf (s .bytes) (s .names) (s .stage .link) x }
 
   abbrev room : Bool
   room = fitsOf (storeOf (s .bytes) (s .names) (s .stage .link)) id (length x)
@@ -150,23 +150,18 @@ symbols-make o s = symbols-make-to o (rowsIn (o .entries)) s
 
 -- ---- the list of sections keeps its length
 
-pub noted-long : (l : List ℕ) (r : Row) (id : ℕ) → length (noteSection l r id) ≡ length l
+pub noted-long : (k : Link) (l : List ℕ) (r : Row) (id : ℕ) → length (noteSection k l r id) ≡ length l
 unfolding noteSection setSectionSymbol
-noted-long l r id =
+noted-long k l r id =
     by-test (eqb (r .visibility) 0)
-    (λ a.
-    by-test (eqb (r .value .kind) 2)
-    (λ b.
-    by-test (ltb (r .value .a) (sectionCells (length l))) (λ c. rw (a, b, c) (length-set l (sectionCells (length l) * 8 + r .value .a) id)) (λ c. rw (a, b, c)))
-    (λ b. rw (a, b)))
-    (λ a. rw a)
+    (λ a. by-test (eqb (r .value .kind) 2) (λ b. rw (a, b) (length-set l (sectionCell k (length l) (r .value .a)) id)) (λ b. rw (a, b))) (λ a. rw a)
 
 pub applied-long : (t : Table) (r : Row) (d : Decision) → length (applyOf t r d .sections) ≡ length (t .sections)
 unfolding applyOf appendOf
 applied-long t r (Refuse n) = refl
 applied-long t r Nothing = refl
 applied-long t r (Keep id) = refl
-applied-long t r Append = noted-long (t .sections) r (t .link .symbols)
+applied-long t r Append = noted-long (t .link) (t .sections) r (t .link .symbols)
 applied-long t r (Replace id) = refl
 
 pub symbol-long : (o : Object) (s : Symbols.State) (i : ℕ) → length (symbolOf o s i .sections) ≡ length (s .sections)

@@ -85,7 +85,7 @@ merge-log-whole o a ok = merge-log o a ∙ Accepted.merge-rows o a ok
 -- with no more names than rows, as after every history from a new table: names issued and rows added one by one, as direct calls do it, leave the
 -- same names but for the groups' marks, the same symbols, sections' symbols and counts of names and symbols; each is accepted where it is made,
 -- and the log is the same
-pub merge-is-its-parts : (o : Object) (a : All) → a .stage .link .names ≤ nameRows (length (a .names))
+pub merge-is-its-parts : (o : Object) (a : All) → a .stage .link .names ≤ a .stage .link .chains
     → MadeAlone (tableIn a) (mergeSteps o a) (tableIn (mergeOf o a .cells)) (partsIn (mergeSteps o a))
 merge-is-its-parts o a r = makes-parts (tableIn a) (tableIn (mergeOf o a .cells)) (mergeSteps o a) r (merge-makes o a)
 
@@ -97,9 +97,9 @@ pub symbol-ids : (o : Symbols.Object) (s : Symbols.State) (i : ℕ) → nameOf o
 symbol-ids = SymbolIds.symbol-id
 
 -- "Let a link be a new table", and inputs and lists
-module _ (bytes names symbols sections inputs lists : List ℕ) (new : numberIn (newOf bytes names symbols sections .said) ≡ 0) where
+module _ (key : ℕ) (bytes names symbols sections inputs lists : List ℕ) (new : numberIn (newOf key bytes names symbols sections .said) ≡ 0) where
   abbrev pub start : Linked
-  start = linked (opened (newOf bytes names symbols sections)) inputs lists
+  start = linked (opened (newOf key bytes names symbols sections)) inputs lists
 
   -- "and any sequence of calls that removes nothing": adds, interns and merges, refused ones too
   module _ (ks : List Call) (quiet : RemovesNothing ks start) where
@@ -111,10 +111,10 @@ module _ (bytes names symbols sections inputs lists : List ℕ) (new : numberIn 
     acceptedAdds n = only n (logCalls ks start)
 
     kept : Inv (end .table) (logCalls ks start)
-    kept = calls-keep-inv ks start [] quiet (new-inv bytes names symbols sections new)
+    kept = calls-keep-inv ks start [] quiet (new-inv key bytes names symbols sections new)
 
     marked : Marked (end .table) (signatures ks start)
-    marked = calls-marked ks start [] quiet (new-marked bytes names symbols sections new)
+    marked = calls-marked ks start [] quiet (new-marked key bytes names symbols sections new)
 
     -- "each global name has the id of its first accepted add and the content of its first accepted strong definition, else weak
     -- definition, else add"
@@ -128,7 +128,7 @@ module _ (bytes names symbols sections inputs lists : List ℕ) (new : numberIn 
     -- what a lookup by a name then answers; a lent list has fewer than 2^64 cells
     module _ (lent : length lists ≤ notLent) where
       within : Within.Within (end .table .link) (end .table .names)
-      within = Lookups.calls-within ks start quiet (Within.new-within bytes names symbols sections new) (new-lists bytes names symbols sections lists) lent
+      within = Lookups.calls-within ks start quiet (Within.new-within key bytes names symbols sections new) (new-lists key bytes names symbols sections lists) lent
 
       pub lookup-row : (n : ℕ) (x : Entry) (xs : List Entry) → acceptedAdds n ≡ x ∷ xs
           → getGlobalOf (end .table .link) (end .table .names) (end .table .symbols) (record { 0 = n }) ≡ Fd.Row (symbolOf (record { 0 = x .id }) (firstOf (x .row) (rows xs)))

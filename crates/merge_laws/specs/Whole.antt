@@ -15,10 +15,9 @@ use Rattle.link.specs.declared.Link.{Link}
 use Rattle.link.specs.declared.Lent.{Lent}
 use Rattle.link.specs.declared.Refusal.{Refusal}
 use Rattle.link.specs.declared.Stage.{Stage}
-use Rattle.link.specs.Bounds.{inputRows, sectionRows}
+use Rattle.link.specs.Bounds.{inputRows, sectionSlots, sectionRows}
 use Rattle.link.specs.Judge.{refused, changeOf, judgeOf}
-use Rattle.link.specs.Passed.{passed-sections}
-use Rattle.symbol_rows.specs.Decide.{sectionCells}
+use Rattle.link.specs.Passed.{passed-sections, passed-slots}
 use Rattle.elf_object.specs.Rows.{rowsIn}
 use Rattle.elf_object.specs.Judge as Elf
 use Rattle.merge_sections.specs.Reserve as Reserve
@@ -33,7 +32,7 @@ use Rattle.symbol_laws.specs.View.{lesser-first}
 use Rattle.symbol_laws.specs.History as History
 use Rattle.merge_laws.specs.Steps.{Step, others, Makes, makes-none, makes-both}
 use Rattle.merge_laws.specs.Beside.{Beside, beside-none, others-make}
-use Rattle.merge_laws.specs.More.{makes-more}
+use Rattle.merge_laws.specs.More.{makes-more, makes-slots}
 use Rattle.merge_laws.specs.Placed.{Placed, placed-firsts, Reserved, noted-firsts, reserve-beside, reserve-placed, slots}
 use Rattle.merge_laws.specs.SymbolStage.{symbols-make, symbols-long}
 use Rattle.merge_laws.specs.GroupStage.{groups-make, groups-firsts}
@@ -72,7 +71,7 @@ module _ (symbols : List ℕ) where
       (λ t. rw t (makes-none (builtTable symbols s)))
 
   module _ (o : Build.Object) (count : ℕ) (placed : Placed (o .headers) (o .work) count) where
-    program-makes : (s : BuildLinks) → count ≤ sectionCells (length (s .sections)) → count ≤ s .stage .link .sections → Makes (builtTable symbols s) (programSteps o s) (builtTable symbols (programStage o s))
+    program-makes : (s : BuildLinks) → count ≤ s .stage .link .slots → count ≤ s .stage .link .sections → Makes (builtTable symbols s) (programSteps o s) (builtTable symbols (programStage o s))
     unfolding programStage programSteps Reserve.kindClass
     program-makes s c d =
         by-test (eqb (s .stage .number) 0)
@@ -83,43 +82,43 @@ module _ (symbols : List ℕ) where
         (input-makes (afterBuild s (Build.buildOf o (building s) 1)))))
         (λ t. rw t (makes-none (builtTable symbols s)))
 
-    both-make : (s : BuildLinks) → count ≤ sectionCells (length (s .sections)) → count ≤ s .stage .link .sections → Makes (builtTable symbols s) (bothSteps o s) (builtTable symbols (builtOf o s))
+    both-make : (s : BuildLinks) → count ≤ s .stage .link .slots → count ≤ s .stage .link .sections → Makes (builtTable symbols s) (bothSteps o s) (builtTable symbols (builtOf o s))
     unfolding builtOf bothSteps Reserve.kindClass
     both-make s c d =
         let first = build-makes symbols o 2 count refl placed (building s) c d in
         makes-both (builtTable symbols s) (builtTable symbols (afterBuild s (Build.buildOf o (building s) 2))) _ (buildSteps o (building s) 2) _ first
-        (program-makes (afterBuild s (Build.buildOf o (building s) 2)) (rw (build-long o 2 (building s)) c) (le-trans d (makes-more _ _ _ first)))
+        (program-makes (afterBuild s (Build.buildOf o (building s) 2)) (rw (makes-slots _ _ _ first) c) (le-trans d (makes-more _ _ _ first)))
 
 module _ (o : Tabled) (work : List ℕ) (count : ℕ) (placed : Placed (o .headers) work count) where
-  build-stage-makes : (s : SymbolLinks) → count ≤ sectionCells (length (s .sections)) → count ≤ s .stage .link .sections → Makes (symbolTable s) (buildStageSteps o work s) (symbolTable (buildStage o work s))
+  build-stage-makes : (s : SymbolLinks) → count ≤ s .stage .link .slots → count ≤ s .stage .link .sections → Makes (symbolTable s) (buildStageSteps o work s) (symbolTable (buildStage o work s))
   unfolding buildStage buildStageSteps
   build-stage-makes s c d =
       by-test (eqb (s .stage .number) 0) (λ t. rw t (both-make (s .symbols) (buildObject o work (s .ids)) count placed (buildFirst s) c d))
       (λ t. rw t (makes-none (symbolTable s)))
 
-  table-makes : (s : SymbolLinks) → count ≤ sectionCells (length (s .sections)) → count ≤ s .stage .link .sections → Makes (symbolTable s) (tableSteps o work s) (symbolTable (mergeTableOf o work s))
+  table-makes : (s : SymbolLinks) → count ≤ s .stage .link .slots → count ≤ s .stage .link .sections → Makes (symbolTable s) (tableSteps o work s) (symbolTable (mergeTableOf o work s))
   unfolding mergeTableOf tableSteps
   table-makes s c d =
       let m : Symbols.State = Symbols.symbolsOf (symbolObject o work) (symbolFirst s) in
       let first = symbols-make (symbolObject o work) (symbolFirst s) in
       makes-both (symbolTable s) (symbolTable (afterSymbols s m)) _ (symbolsSteps (symbolObject o work) (symbolFirst s)) _ first
-      (build-stage-makes (afterSymbols s m) (rw (symbols-long (symbolObject o work) (symbolFirst s)) c) (le-trans d (makes-more _ _ _ first)))
+      (build-stage-makes (afterSymbols s m) (rw (makes-slots _ _ _ first) c) (le-trans d (makes-more _ _ _ first)))
 
 module _ (o : Tabled) (count : ℕ) where
-  filtered-makes : (a : All) (i : ℕ) → Reserved (o .headers) (a .work) (a .sections) count → count ≤ a .stage .link .sections → Makes (tableIn a) (filteredSteps o a i) (tableIn (filteredOf o a i))
+  filtered-makes : (a : All) (i : ℕ) → Reserved (o .headers) (a .work) (a .stage .link .slots) count → count ≤ a .stage .link .sections → Makes (tableIn a) (filteredSteps o a i) (tableIn (filteredOf o a i))
   unfolding filteredOf filteredSteps
   filtered-makes a i r d =
       by-test (ltb i (rowsIn (o .entries))) (λ t. rw t (makes-none (tableIn a)))
       (λ t.
       rw t
-      (table-makes o (a .work) count (r .placed) (symbolsIn a) (omega (arith, r .counted, slots (length (a .sections)))) d))
+      (table-makes o (a .work) count (r .placed) (symbolsIn a) (omega (arith, r .counted, slots (a .stage .link .slots))) d))
 
-  filter-makes : (a : All) → Reserved (o .headers) (a .work) (a .sections) count → count ≤ a .stage .link .sections → Makes (tableIn a) (filterSteps o a) (tableIn (filterStage o a))
+  filter-makes : (a : All) → Reserved (o .headers) (a .work) (a .stage .link .slots) count → count ≤ a .stage .link .sections → Makes (tableIn a) (filterSteps o a) (tableIn (filterStage o a))
   unfolding filterStage filterSteps
   filter-makes a r d =
       by-test (eqb (a .stage .number) 0) (λ t. rw t (filtered-makes a (filterOf (a .work) (o .entries)) r d)) (λ t. rw t (makes-none (tableIn a)))
 
-  groups-then : (a : All) → Reserved (o .headers) (a .work) (a .sections) count → count ≤ a .stage .link .sections → Makes (tableIn a) (mergeGroupsSteps o a) (tableIn (mergeGroupsOf o a))
+  groups-then : (a : All) → Reserved (o .headers) (a .work) (a .stage .link .slots) count → count ≤ a .stage .link .sections → Makes (tableIn a) (mergeGroupsSteps o a) (tableIn (mergeGroupsOf o a))
   unfolding mergeGroupsOf mergeGroupsSteps
   groups-then a r d =
       let g : Group.Step = Group.groupsOf (groupObject o) (groupFirst a) in
@@ -127,13 +126,13 @@ module _ (o : Tabled) (count : ℕ) where
       makes-both (tableIn a) (tableIn (afterGroups a g)) _ (groupsSteps (groupObject o) (groupFirst a)) (filterSteps o (afterGroups a g)) first
       (filter-makes (afterGroups a g)
       (record {
-        counted = r .counted;
+        counted = rw (makes-slots _ _ _ first) (r .counted);
         placed = placed-firsts (o .headers) (a .work) (g .work) count (groups-firsts (groupObject o) (rowsIn (o .headers)) (groupFirst a)) (r .placed);
       })
       (le-trans d (makes-more _ _ _ first)))
 
 module _ (o : Object) where
-  group-stage-makes : (table count : ℕ) (a : All) → (a .stage .number ≡ 0 → Reserved (o .headers) (a .work) (a .sections) count) → count ≤ a .stage .link .sections
+  group-stage-makes : (table count : ℕ) (a : All) → (a .stage .number ≡ 0 → Reserved (o .headers) (a .work) (a .stage .link .slots) count) → count ≤ a .stage .link .sections
       → Makes (tableIn a) (groupStageSteps o table a) (tableIn (groupStage o table a))
   unfolding groupStage groupStageSteps
   group-stage-makes table count a f d =
@@ -152,14 +151,14 @@ module _ (o : Object) where
     abbrev reserved : Reserve.State
     reserved = Reserve.reserveAllOf (o .headers) (reserveFirst a)
 
-    pub stages-make : rowsIn (o .headers) ≤ length (a .work) / 8 → a .stage .link .sections ≤ sectionRows (length (a .sections))
+    pub stages-make : rowsIn (o .headers) ≤ length (a .work) / 8 → a .stage .link .slots ≤ sectionSlots (length (a .sections)) → a .stage .link .sections ≤ sectionRows (a .stage .link .slots)
         → Makes (tableIn a) (stagesSteps o a) (tableIn (stagesOf o a))
     unfolding stagesOf reservedStages stagesSteps reservedSteps
-    stages-make w c =
+    stages-make w g c =
         makes-both (tableIn a) (tableIn (afterSections a reserved)) _ (others (reserved .sections) (reserved .reserved .link) ∷ []) _
         (others-make (tableIn a) (reserved .sections) (reserved .reserved .link) (reserve-beside (o .headers) (reserveFirst a)))
         (group-stage-makes (reserved .reserved .table) (reserved .reserved .link .sections) (afterSections a reserved)
-        (λ z. reserve-placed (o .headers) (reserveFirst a) w c z) (le-refl _))
+        (λ z. reserve-placed (o .headers) (reserveFirst a) w g c z) (le-refl _))
 
 -- ---- the head
 
@@ -211,6 +210,6 @@ module _ (o : Object) (a : All) where
       let u : All = stagesOf o a in
       rw t
       (makes-both (tableIn a) (tableIn u) _ (stagesSteps o a) (others (u .sections) (endedAs (u .stage) .link) ∷ [])
-      (stages-make o a (p .work) (passed-sections (a .stage .link) (lent a) (p .counts)))
+      (stages-make o a (p .work) (passed-slots (a .stage .link) (lent a) (p .counts)) (passed-sections (a .stage .link) (lent a) (p .counts)))
       (others-make (tableIn u) (u .sections) (endedAs (u .stage) .link) (ended-beside (u .sections) (u .stage)))))
       (λ t. rw t (makes-none (tableIn a)))

@@ -44,7 +44,7 @@ unfoldable pub ruleOf : Link → List ℕ → List ℕ → List ℕ → List ℕ
 ruleOf l names symbols sections work i empty e r =
     cond (isFirst i empty e) (Keep (record { 0 = 0 }))
     (cond (eqb (e .kind) 4) Nothing
-    (cond (definesOf work (e .section)) Nothing (decideOf l symbols sections r (holderOf names symbols (l .names) (r .name)))))
+    (cond (definesOf work (e .section)) Nothing (decideOf l symbols sections r (holderOf l names symbols (r .name)))))
 
 -- the link as it is read; the table's entries and the sections' work rows
 pub record View : Type 0 where
@@ -82,7 +82,7 @@ readOf v o x i file id e = rowedOf v o x i id e (elfRowOf (conversionAt (o .work
 -- the name's id, known or to come; the row that the symbol would become; the decision
 unfoldable pub plannedOf : View → Input → List ℕ → ℕ → ℕ → Planned
 plannedOf v o x i file =
-    readOf v o x i file (record { 0 = findOf (v .bytes) (v .names) (v .link .names) x }) (filteredAt (o .entries) (o .work) i)
+    readOf v o x i file (record { 0 = findOf (v .bytes) (v .names) (v .link) x }) (filteredAt (o .entries) (o .work) i)
 
 -- "21's id: the name's for an add"
 unfoldable pub placeOf : ℕ → Interned → ℕ → ℕ

@@ -81,7 +81,7 @@ module _ (l : Link) (names symbols sections work : List ℕ) (i : ℕ) (empty : 
     rule-group a b c d f q = simp (q, ← a, b, ne-eqb _ _ c, ← d, f)
 
     pub rule-add : (h : Holder) → first ≡ isFirst i empty e → first ≡ false → (e .kind ≡ 4 → ⊥) → group ≡ definesOf work (e .section) → group ≡ false
-        → h ≡ holderOf names symbols (l .names) (r .name) → t ≡ decideOf l symbols sections r h → t ≡ ruleOf l names symbols sections work i empty e r
+        → h ≡ holderOf l names symbols (r .name) → t ≡ decideOf l symbols sections r h → t ≡ ruleOf l names symbols sections work i empty e r
     unfolding ruleOf
     rule-add h a b c d f g q = simp (q, ← a, b, ne-eqb _ _ c, ← d, f, g)
 
@@ -96,7 +96,7 @@ module _ (v : View) (work : List ℕ) (i n : ℕ) (e : ElfSymbol) (r : Row) (t :
   judged-fits f g q = simp (q, ← f, g)
 
 pub planned-done : (v : View) (o : Input) (x : List ℕ) (i file id cell : ℕ) (e : ElfSymbol) (r : Row) (d : Decision) (t : Planned)
-    → id ≡ findOf (v .bytes) (v .names) (v .link .names) x → e ≡ filteredAt (o .entries) (o .work) i → cell ≡ getD (o .work) (e .section * 8 + 0) 0
+    → id ≡ findOf (v .bytes) (v .names) (v .link) x → e ≡ filteredAt (o .entries) (o .work) i → cell ≡ getD (o .work) (e .section * 8 + 0) 0
     → r ≡ elfRowOf cell e (record { 0 = id }) (eqb (length x) 0) file → d ≡ judgedOf v (o .work) i (length x) e r
     → t ≡ planned (record { 0 = id }) e r d → t ≡ plannedOf v o x i file
 unfolding plannedOf readOf rowedOf

@@ -86,7 +86,7 @@ fn rule(
         return Decision::Nothing;
     }
     let name = row.name;
-    let holder = symbol_rows::holder_of(names, symbols, l.names, name);
+    let holder = symbol_rows::holder_of(l, names, symbols, name);
     symbol_resolution::decide(l, symbols, sections, row, holder)
 }
 
@@ -127,7 +127,7 @@ pub fn plan_symbol(
 ) -> Planned
     ensures { λ r. ⌜ r ≡ plannedOf (viewOf (now (bytes .entry)) (now (names .entry)) (now (symbols .entry)) (now (sections .entry)) l) (inputOf (now (entries .entry)) (now (work .entry))) (now (x .entry)) i file ⌝ }
 {
-    let id = Interned(interner::find(bytes, names, l.names, x));
+    let id = interner::find(l, bytes, names, x);
     let e = filtered_at(entries, work, i);
     let cell = cells::row_get(work, e.section as usize, 0);
     let row = upcoming_row::elf_row(cell, e, id, x.len() == 0, file);

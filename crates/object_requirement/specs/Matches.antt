@@ -84,4 +84,4 @@ offeredIn s l w e = cond (ltb (length s) (w .length)) false (cond (ltb (length l
 unfoldable pub matchesOf : List ℕ → List ℕ → List ℕ → List ℕ → List ℕ → List ℕ → Walk → ℕ → Admission
 matchesOf headers entries contents file s l w e =
     afterJudging (judgeOf headers entries (length contents) (length file))
-    (cond (offeredIn s l w e) (admission (hasGlobalSymbol headers entries file (requiredOf s l (w .entries) e))) (Refused (refused 1 0)))
+    (cond (offeredIn s l w e) (admission (hasGlobalSymbol headers entries file (requiredOf s l w e))) (Refused (refused 1 0)))

@@ -146,11 +146,11 @@ module _ (headers entries contents file s l : List ℕ) (w : Walk) (k : ℕ) (t 
 
     module _ (b : Bool) where
       pub matches-yes : r ≡ judgeOf headers entries (length contents) (length file) → r .number ≡ 0 → o ≡ offeredIn s l w k → o ≡ true
-          → b ≡ hasGlobalSymbol headers entries file (requiredOf s l (w .entries) k) → b ≡ true → t ≡ Yes → t ≡ matchesOf headers entries contents file s l w k
+          → b ≡ hasGlobalSymbol headers entries file (requiredOf s l w k) → b ≡ true → t ≡ Yes → t ≡ matchesOf headers entries contents file s l w k
       unfolding matchesOf
       matches-yes e f g h i j q = q ∙ sym (rw (← e, eq-eqb _ _ f, ← g, h, ← i, j))
 
       pub matches-no : r ≡ judgeOf headers entries (length contents) (length file) → r .number ≡ 0 → o ≡ offeredIn s l w k → o ≡ true
-          → b ≡ hasGlobalSymbol headers entries file (requiredOf s l (w .entries) k) → b ≡ false → t ≡ No → t ≡ matchesOf headers entries contents file s l w k
+          → b ≡ hasGlobalSymbol headers entries file (requiredOf s l w k) → b ≡ false → t ≡ No → t ≡ matchesOf headers entries contents file s l w k
       unfolding matchesOf
       matches-no e f g h i j q = q ∙ sym (rw (← e, eq-eqb _ _ f, ← g, h, ← i, j))

@@ -65,19 +65,19 @@ fn bears_required(
     names: usize,
     symbols: &[u64],
     i: usize,
+    w: Walk,
     index: &[u8],
     cells: &[u64],
-    count: usize,
     entry: usize,
 ) -> bool
-    ensures { λ r. ⌜ r ≡ bearsRequired (now (headers .entry)) (now (file .entry)) names (now (symbols .entry)) (requiredOf (now (index .entry)) (now (cells .entry)) count entry) i ⌝ }
+    ensures { λ r. ⌜ r ≡ bearsRequired (now (headers .entry)) (now (file .entry)) names (now (symbols .entry)) (requiredOf (now (index .entry)) (now (cells .entry)) w entry) i ⌝ }
 {
     if cells::row_get(symbols, i, 1) == 1 {
         let mut found = false;
         let offset = cells::row_get(symbols, i, 0) as usize;
         let name = name_anywhere(headers, file, names, offset, &mut found);
         if found {
-            return archive_walk::is_required(index, cells, count, entry, name);
+            return archive_walk::is_required(w, index, cells, entry, name);
         }
     }
     false
@@ -88,17 +88,17 @@ fn in_table(
     file: &[u8],
     names: usize,
     symbols: &[u64],
+    w: Walk,
     index: &[u8],
     cells: &[u64],
-    count: usize,
     entry: usize,
 ) -> bool
-    ensures { λ r. ⌜ r ≡ inTable (now (headers .entry)) (now (file .entry)) names (now (symbols .entry)) (requiredOf (now (index .entry)) (now (cells .entry)) count entry) ⌝ }
+    ensures { λ r. ⌜ r ≡ inTable (now (headers .entry)) (now (file .entry)) names (now (symbols .entry)) (requiredOf (now (index .entry)) (now (cells .entry)) w entry) ⌝ }
 {
     let rows = symbols.len() / 8;
     let mut i = 0;
     while i < rows {
-        if bears_required(headers, file, names, symbols, i, index, cells, count, entry) {
+        if bears_required(headers, file, names, symbols, i, w, index, cells, entry) {
             return true;
         }
         i += 1;
@@ -121,18 +121,18 @@ fn in_section(
     entries: &[u64],
     file: &[u8],
     n: usize,
+    w: Walk,
     index: &[u8],
     cells: &[u64],
-    count: usize,
     entry: usize,
 ) -> bool
     requires { ⌜ n < 0xffffffffffffffff ⌝ }
-    ensures { λ r. ⌜ r ≡ inSection (now (headers .entry)) (now (entries .entry)) (now (file .entry)) (requiredOf (now (index .entry)) (now (cells .entry)) count entry) n ⌝ }
+    ensures { λ r. ⌜ r ≡ inSection (now (headers .entry)) (now (entries .entry)) (now (file .entry)) (requiredOf (now (index .entry)) (now (cells .entry)) w entry) n ⌝ }
 {
     if is_table(headers, n) {
         let names = cells::row_get(headers, n, 3) as usize;
         let symbols = elf_object::table_entries(headers, entries, (n + 1) as u64);
-        return in_table(headers, file, names, symbols, index, cells, count, entry);
+        return in_table(headers, file, names, symbols, w, index, cells, entry);
     }
     false
 }
@@ -141,17 +141,17 @@ fn has_global_symbol(
     headers: &[u64],
     entries: &[u64],
     file: &[u8],
+    w: Walk,
     index: &[u8],
     cells: &[u64],
-    count: usize,
     entry: usize,
 ) -> bool
-    ensures { λ r. ⌜ r ≡ hasGlobalSymbol (now (headers .entry)) (now (entries .entry)) (now (file .entry)) (requiredOf (now (index .entry)) (now (cells .entry)) count entry) ⌝ }
+    ensures { λ r. ⌜ r ≡ hasGlobalSymbol (now (headers .entry)) (now (entries .entry)) (now (file .entry)) (requiredOf (now (index .entry)) (now (cells .entry)) w entry) ⌝ }
 {
     let rows = headers.len() / 8;
     let mut n = 0;
     while n < rows {
-        if in_section(headers, entries, file, n, index, cells, count, entry) {
+        if in_section(headers, entries, file, n, w, index, cells, entry) {
             return true;
         }
         n += 1;
@@ -194,7 +194,7 @@ pub fn matches(
         return Admission::Refused { refusal: judged };
     }
     if is_offered(w, index, cells, entry) {
-        if has_global_symbol(headers, entries, file, index, cells, w.entries, entry) {
+        if has_global_symbol(headers, entries, file, w, index, cells, entry) {
             return Admission::Yes;
         }
         return Admission::No;

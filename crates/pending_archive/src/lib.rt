@@ -1,4 +1,4 @@
-// The walk lent by reference and moved on in place: the Rust's `PendingArchive::next(&mut self)`. Thin functions over `archive_walk::next`, proved by
+// The walk lent by reference and moved on in place: the Rust's `PendingArchive::next(&mut self)`. Thin functions over `archive_pass::next`, proved by
 // hand.
 ghost use mathlib.Core.Path.{_≡_};
 ghost use Rattle.archive_walk.specs.Look.{tableOf};

@@ -2,6 +2,7 @@
 // that were worked out by hand, may also lend less of each store (replay_lend) and ask for a link's counts (replay_changes).
 use archive_walk::Begun;
 use archive_walk::Moved;
+use archive_walk::Offer;
 use archive_walk::Walk;
 use link::Link;
 use object_requirement::Admission;
@@ -147,8 +148,46 @@ fn with_lend(s: State, lend: Lend) -> State {
     }
 }
 
+fn no_archive() -> Archive {
+    Archive {
+        length: 0,
+        entries: 0,
+        offered: 0,
+    }
+}
+
+fn index_of(file: &[u8], at: usize, a: Archive) -> &[u8] {
+    byte_slices::part_of(file, at, a.length)
+}
+
+fn offered_by(a: Archive, offered: usize) -> Archive {
+    Archive {
+        length: a.length,
+        entries: a.entries,
+        offered: offered,
+    }
+}
+
+// `require ..` sets the names by hand, which no walk does: nothing is offered then.
+fn unoffered(a: Archive) -> Archive {
+    offered_by(a, 0)
+}
+
+fn after_offer(a: Archive, offer: Offer) -> Archive {
+    match offer {
+        Offer::Member {
+            offset: _,
+            entry,
+            passes: _,
+        } => offered_by(a, symbol::next(entry)),
+        Offer::Done { passes: _ } => a,
+        Offer::Refused { refusal: _ } => offered_by(a, 0),
+    }
+}
+
 fn no_walk() -> Walk {
     Walk {
+        key: 0,
         entries: 0,
         length: 0,
         passes: 0,
@@ -164,6 +203,148 @@ fn after(s: State, to: usize) -> Ran {
 
 // ---- what a line is
 
+// The part of an expected answer behind `> `.
+fn expected(line: &[u8]) -> &[u8] {
+    if line.len() < 2 {
+        return byte_slices::part_of(line, 0, 0);
+    }
+    byte_slices::part_of(line, 2, line.len() - 2)
+}
+
+// 0 for a line that says nothing, 1 for an expected answer, 2 for an operation.
+fn line_kind(line: &[u8]) -> u64 {
+    if line.len() == 0 {
+        return 0;
+    }
+    if line[0] == b'#' {
+        return 0;
+    }
+    if line[0] == b'>' {
+        return 1;
+    }
+    2
+}
+
+// 1 for a line that is told and makes no call, 2 a direct change, 3 a merge or a load, 4 a collection, 5 a walk, 6 a lookup, 7 a dump; 0 isn't replayed.
+fn operation_class(line: &[u8]) -> u64 {
+    if replay_words::is(line, 0, b"merge") {
+        return 3;
+    }
+    if replay_words::is(line, 0, b"load") {
+        return 3;
+    }
+    if replay_words::is(line, 0, b"collect") {
+        return 4;
+    }
+    if replay_words::is(line, 0, b"dump") {
+        return 7;
+    }
+    let told = told_class(line);
+    if told != 0 {
+        return told;
+    }
+    let changed = changed_class(line);
+    if changed != 0 {
+        return changed;
+    }
+    looked_class(line)
+}
+
+fn told_class(line: &[u8]) -> u64 {
+    if replay_words::is(line, 0, b"section") {
+        return 1;
+    }
+    if replay_words::is(line, 0, b"symbol") {
+        return 1;
+    }
+    if replay_words::is(line, 0, b"object") {
+        return 1;
+    }
+    if replay_words::is(line, 0, b"conversion") {
+        return 1;
+    }
+    if replay_words::is(line, 0, b"lend") {
+        return 1;
+    }
+    if is_library(line) {
+        return 1;
+    }
+    archive_class(line)
+}
+
+// Does a line tell of a shared object, its symbols apart?
+fn is_library(line: &[u8]) -> bool {
+    if replay_words::is(line, 0, b"library") {
+        return true;
+    }
+    if replay_words::is(line, 0, b"strings") {
+        return true;
+    }
+    replay_words::is(line, 0, b"needs")
+}
+
+fn archive_class(line: &[u8]) -> u64 {
+    if replay_words::is(line, 0, b"archive") {
+        return 1;
+    }
+    if replay_words::is(line, 0, b"entry") {
+        return 1;
+    }
+    if replay_words::is(line, 0, b"index") {
+        return 1;
+    }
+    if replay_words::is(line, 0, b"require") {
+        return 1;
+    }
+    0
+}
+
+fn changed_class(line: &[u8]) -> u64 {
+    if replay_words::is(line, 0, b"link") {
+        return 2;
+    }
+    if replay_words::is(line, 0, b"add") {
+        return 2;
+    }
+    if replay_words::is(line, 0, b"remove") {
+        return 2;
+    }
+    0
+}
+
+fn looked_class(line: &[u8]) -> u64 {
+    if replay_words::is(line, 0, b"counts") {
+        return 6;
+    }
+    if replay_words::is(line, 0, b"get") {
+        return 6;
+    }
+    if replay_words::is(line, 0, b"global") {
+        return 6;
+    }
+    if replay_words::is(line, 0, b"sectionsymbol") {
+        return 6;
+    }
+    if replay_words::is(line, 0, b"start") {
+        return 5;
+    }
+    if replay_words::is(line, 0, b"next") {
+        return 5;
+    }
+    if replay_words::is(line, 0, b"admit") {
+        return 5;
+    }
+    0
+}
+
+// Does an operation that isn't replayed leave the link?
+fn leaves(line: &[u8]) -> bool {
+    if replay_words::is(line, 0, b"member") {
+        return true;
+    }
+    replay_words::is(line, 0, b"admit")
+}
+
 // Admission by names that were set by hand, or without a member.
 fn is_unoffered(a: Archive, line: &[u8]) -> bool {
     if replay_words::is(line, 0, b"admit") {
@@ -172,9 +353,9 @@ fn is_unoffered(a: Archive, line: &[u8]) -> bool {
     false
 }
 
-// The class of an operation (replay_class) as things stand: calls on a link after one that wasn't replayed aren't either.
+// The class of an operation as things stand: calls on a link after one that wasn't replayed aren't either.
 fn class_in(s: State, p: Passing, line: &[u8]) -> u64 {
-    let k = replay_class::class(line);
+    let k = operation_class(line);
     if k == 1 {
         return 1;
     }
@@ -194,7 +375,7 @@ fn class_in(s: State, p: Passing, line: &[u8]) -> u64 {
 fn line_class(r: Replay, line: &[u8]) -> u64 {
     let s = r.state;
     let p = r.passing;
-    let k = replay_words::kind(line);
+    let k = line_kind(line);
     match k {
         0 => 8,
         1 => 9,
@@ -240,7 +421,7 @@ fn answered(r: Replay, t: Tally, o: Ran, line: &[u8]) -> Replay {
 
 fn passing_after(p: Passing, line: &[u8]) -> Passing {
     let count = std::num::wrapping_add_u64(p.count, 1);
-    if replay_class::leaves(line) {
+    if leaves(line) {
         return Passing {
             count: count,
             link: p.link,
@@ -271,7 +452,7 @@ fn compared(r: Replay, out: &[u8], line: &[u8]) -> Replay {
     if passing.last {
         return r;
     }
-    let t = replay_tally::compare(r.tally, out, replay_words::expected(line));
+    let t = replay_tally::compare(r.tally, out, expected(line));
     Replay {
         state: state,
         tally: t,
@@ -353,7 +534,7 @@ fn is_shared(s: State, line: &[u8]) -> bool {
     if replay_words::is(line, 0, b"symbol") {
         return s.shared;
     }
-    replay_class::is_library(line)
+    is_library(line)
 }
 
 fn tell_input(s: State, rows: &mut [u64], file: &mut [u8], line: &[u8]) -> State {
@@ -372,7 +553,7 @@ fn tell(s: State, rows: &mut [u64], file: &mut [u8], line: &[u8]) -> State {
         return s;
     }
     if replay_words::is(line, 0, b"require") {
-        return with_archive(s, replay_archive::unoffered(s.archive), s.walk);
+        return with_archive(s, unoffered(s.archive), s.walk);
     }
     tell_input(s, rows, file, line)
 }
@@ -395,7 +576,7 @@ fn changed(r: Replay, out: &mut [u8], c: Changed, s: State, line: &[u8]) -> Repl
 // A new link: the archive and its walk are gone with the old one.
 fn before_change(s: State, line: &[u8]) -> State {
     if replay_words::is(line, 0, b"link") {
-        return with_archive(s, replay_archive::none(), no_walk());
+        return with_archive(s, no_archive(), no_walk());
     }
     s
 }
@@ -552,7 +733,7 @@ fn put_begun(out: &mut [u8], begun: Begun) -> usize {
 }
 
 fn start(s: State, out: &mut [u8], cells: &mut [u64], index: &[u8]) -> Ran {
-    let o = archive_walk::start(index, cells);
+    let o = archive_walk::start(0, index, cells);
     let begun = o.begun;
     let archive = s.archive;
     after(with_archive(s, archive, o.walk), put_begun(out, begun))
@@ -576,7 +757,7 @@ fn moved(s: State, out: &mut [u8], cells: &[u64], index: &[u8], o: Moved) -> Ran
     let walk = o.walk;
     let offer = o.offer;
     let n = replay_archive::put_offer(out, index, cells, walk.entries, offer);
-    let archive = replay_archive::after_offer(s.archive, offer);
+    let archive = after_offer(s.archive, offer);
     after(with_archive(s, archive, walk), n)
 }
 
@@ -628,7 +809,7 @@ fn walk(
         return after(s, 0);
     }
     let archive = s.archive;
-    let index = replay_archive::index(file, INDEX, archive);
+    let index = index_of(file, INDEX, archive);
     if replay_words::is(line, 0, b"start") {
         return start(s, out, &mut rows[WALK..], index);
     }
@@ -925,6 +1106,7 @@ fn no_link() -> Symbols {
             lists: 0,
             chains: 0,
             slots: 0,
+            key: 0,
             broken: false,
         },
     }
@@ -936,7 +1118,7 @@ fn first_state() -> State {
         object: replay_object::empty(),
         library: replay_load::empty(),
         shared: false,
-        archive: replay_archive::none(),
+        archive: no_archive(),
         walk: no_walk(),
         lend: replay_lend::all(),
     }
@@ -963,10 +1145,22 @@ fn unread() -> Reading {
     }
 }
 
+fn print_tally(t: Tally) {
+    io::write_all(1, b"links ");
+    io::print_decimal(1, t.links);
+    io::write_all(1, b" operations ");
+    io::print_decimal(1, t.operations);
+    io::write_all(1, b" answers ");
+    io::print_decimal(1, t.answers);
+    io::write_all(1, b" differences ");
+    io::print_decimal(1, t.differences);
+    io::write_all(1, b"\n");
+}
+
 fn print(g: Reading, out: &[u8]) {
     let r = g.replay;
     let p = r.passing;
-    replay_tally::print(replay_tally::settle(r.tally, out));
+    print_tally(replay_tally::settle(r.tally, out));
     io::write_all(1, b"passed over ");
     io::print_decimal(1, p.count);
     io::write_all(1, b"\n");

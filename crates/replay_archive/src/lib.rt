@@ -9,43 +9,6 @@ pub struct Archive {
     pub offered: usize,
 }
 
-pub fn none() -> Archive {
-    Archive {
-        length: 0,
-        entries: 0,
-        offered: 0,
-    }
-}
-
-pub fn index(file: &[u8], at: usize, a: Archive) -> &[u8] {
-    byte_slices::part_of(file, at, a.length)
-}
-
-fn offered_by(a: Archive, offered: usize) -> Archive {
-    Archive {
-        length: a.length,
-        entries: a.entries,
-        offered: offered,
-    }
-}
-
-// `require ..` sets the names by hand, which no walk does: nothing is offered then.
-pub fn unoffered(a: Archive) -> Archive {
-    offered_by(a, 0)
-}
-
-pub fn after_offer(a: Archive, offer: Offer) -> Archive {
-    match offer {
-        Offer::Member {
-            offset: _,
-            entry,
-            passes: _,
-        } => offered_by(a, symbol::next(entry)),
-        Offer::Done { passes: _ } => a,
-        Offer::Refused { refusal: _ } => offered_by(a, 0),
-    }
-}
-
 // ---- the index
 
 fn put_byte(file: &mut [u8], i: usize, v: u64) {
@@ -81,7 +44,11 @@ pub fn announce(file: &mut [u8], at: usize, line: &[u8]) -> Archive {
             offered: 0,
         };
     }
-    none()
+    Archive {
+        length: 0,
+        entries: 0,
+        offered: 0,
+    }
 }
 
 // `entry OFFSET NAME`
@@ -133,12 +100,12 @@ fn is_tied(rows: &[u64], r: u64, k: usize) -> bool {
 fn nearer(index: &[u8], rows: &[u64], last: usize, best: usize, entry: usize) -> bool {
     let x = name_of(index, rows, entry);
     if last != 0 {
-        if replay_rows::before(name_of(index, rows, last), x) {} else {
+        if replay_words::before(name_of(index, rows, last), x) {} else {
             return false;
         }
     }
     if best != 0 {
-        return replay_rows::before(x, name_of(index, rows, best));
+        return replay_words::before(x, name_of(index, rows, best));
     }
     true
 }

@@ -5,9 +5,12 @@ use link::Refusal;
 use link::SectionId;
 use link::SymbolId;
 use replay_lend::Lend;
+use symbol::SttFile;
+use symbol::SymbolValue;
 use symbols::Found;
 use symbols::SectionSymbol;
 use symbols::Symbols;
+use upcoming_symbol::ElfSymbol;
 use upcoming_symbol::UpcomingSymbol;
 
 // What a changing call answers; Silent for an operation without answer.
@@ -30,6 +33,134 @@ struct Named {
     link: Link,
     name: Interned,
     refusal: Refusal,
+}
+
+// ---- the symbol that an add adds
+
+// A sign and a number: the fifth and sixth words.
+fn signed(line: &[u8]) -> i64 {
+    let n = replay_words::number(line, 6);
+    if replay_words::is(line, 5, b"-") {
+        return symbol::offset_of(std::num::wrapping_sub_u64(0, n));
+    }
+    symbol::offset_of(n)
+}
+
+// The value that words from the third on tell, of a section.
+fn section_value(line: &[u8]) -> SymbolValue {
+    let section = SectionId(replay_words::number(line, 4) as usize);
+    if replay_words::is(line, 3, b"sec") {
+        return SymbolValue::Section { section: section };
+    }
+    if replay_words::is(line, 3, b"rel") {
+        return SymbolValue::SectionRelative {
+            section: section,
+            offset: signed(line),
+        };
+    }
+    SymbolValue::SectionVirtualAddress {
+        section: section,
+        address: replay_words::number(line, 5),
+    }
+}
+
+fn value(line: &[u8]) -> SymbolValue {
+    if replay_words::is(line, 3, b"null") {
+        return SymbolValue::Null;
+    }
+    if replay_words::is(line, 3, b"abs") {
+        return SymbolValue::Absolute {
+            value: replay_words::number(line, 4),
+        };
+    }
+    if replay_words::is(line, 3, b"notloaded") {
+        return SymbolValue::SectionNotLoaded;
+    }
+    if replay_words::is(line, 3, b"external") {
+        return SymbolValue::ExternallyDefined;
+    }
+    if replay_words::is(line, 3, b"undef") {
+        return SymbolValue::Undefined {
+            zero: replay_words::number(line, 4) == 1,
+        };
+    }
+    section_value(line)
+}
+
+fn elf(line: &[u8]) -> ElfSymbol {
+    ElfSymbol {
+        binding: replay_words::number(line, 3),
+        visibility: replay_words::number(line, 5),
+        kind: replay_words::number(line, 4),
+        section: replay_words::number(line, 6),
+        value: replay_words::number(line, 7),
+    }
+}
+
+// The symbol that an add adds, under a name that was issued, in a file.
+fn upcoming(line: &[u8], name: Interned, file: SttFile) -> UpcomingSymbol {
+    if replay_words::is(line, 1, b"null") {
+        return UpcomingSymbol::Null;
+    }
+    if replay_words::is(line, 1, b"section") {
+        let section = SectionId(replay_words::number(line, 2) as usize);
+        return UpcomingSymbol::Section { section: section };
+    }
+    if replay_words::is(line, 1, b"unknown") {
+        return UpcomingSymbol::GlobalUnknown { name: name };
+    }
+    if replay_words::is(line, 1, b"hidden") {
+        let v = value(line);
+        return UpcomingSymbol::GlobalHidden {
+            name: name,
+            value: v,
+        };
+    }
+    if replay_words::is(line, 1, b"external") {
+        return UpcomingSymbol::ExternallyDefined {
+            name: name,
+            visibility: replay_words::number(line, 4),
+            binding: replay_words::number(line, 3),
+        };
+    }
+    let e = elf(line);
+    UpcomingSymbol::Elf {
+        elf: e,
+        name: name,
+        file: file,
+    }
+}
+
+// The name that an add is under; the empty one where it has none.
+fn added_name(line: &[u8]) -> &[u8] {
+    if replay_words::is(line, 1, b"null") {
+        return byte_slices::part_of(line, 0, 0);
+    }
+    if replay_words::is(line, 1, b"section") {
+        return byte_slices::part_of(line, 0, 0);
+    }
+    replay_words::name_at(line, 2)
+}
+
+fn has_file(line: &[u8]) -> bool {
+    if replay_words::is(line, 1, b"elf") {
+        return replay_words::is(line, 8, b"1");
+    }
+    false
+}
+
+fn file_name(line: &[u8]) -> &[u8] {
+    if has_file(line) {
+        return replay_words::name_at(line, 9);
+    }
+    byte_slices::part_of(line, 0, 0)
+}
+
+fn file(line: &[u8], id: Interned) -> SttFile {
+    if has_file(line) {
+        return SttFile::Name { id: id };
+    }
+    SttFile::None
 }
 
 // ---- adds
@@ -98,14 +229,14 @@ fn add_named(
     conversion: &[u64],
     line: &[u8],
 ) -> Changed {
-    let filed = intern(named.link, bytes, names, replay_words::file_name(line));
+    let filed = intern(named.link, bytes, names, file_name(line));
     let l = filed.link;
     let refusal = filed.refusal;
     if refusal.number != 0 {
         return refused(l, refusal);
     }
-    let f = replay_words::file(line, filed.name);
-    let u = replay_words::upcoming(line, named.name, f);
+    let f = file(line, filed.name);
+    let u = upcoming(line, named.name, f);
     let table = Symbols { link: l };
     add_upcoming(table, names, symbols, sections, conversion, u)
 }
@@ -119,7 +250,7 @@ fn add(
     conversion: &[u64],
     line: &[u8],
 ) -> Changed {
-    let named = intern(l, bytes, names, replay_words::added_name(line));
+    let named = intern(l, bytes, names, added_name(line));
     let refusal = named.refusal;
     if refusal.number != 0 {
         return refused(named.link, refusal);
@@ -158,7 +289,10 @@ fn new_link(
     symbols: &mut [u64],
     sections: &mut [u64],
 ) -> Changed {
-    done(Symbols::new(bytes, names, symbols, sections), Reply::Silent)
+    done(
+        Symbols::new(0, bytes, names, symbols, sections),
+        Reply::Silent,
+    )
 }
 
 fn change_lent(
@@ -279,8 +413,8 @@ pub fn look(
     }
     if replay_words::is(line, 0, b"global") {
         let l = table.link;
-        let id = interner::find(bytes, names, l.names, replay_words::name_at(line, 1));
-        let found = symbol_lookup::get_global(table, names, symbols, Interned(id));
+        let id = interner::find(l, bytes, names, replay_words::name_at(line, 1));
+        let found = symbol_lookup::get_global(table, names, symbols, id);
         return put_found(out, bytes, names, found);
     }
     let section = SectionId(replay_words::number(line, 1) as usize);

@@ -2,6 +2,7 @@
 use gc_sections::Answer;
 use gc_sections::EntryPoint;
 use gc_sections::Outcome;
+use link::Interned;
 use link::Link;
 use link::SymbolId;
 use replay_lend::Lend;
@@ -32,7 +33,9 @@ fn put_if_dropped(
     i: usize,
 ) -> usize {
     if cells::get(work, i) == 2 {
-        return replay_rows::put_section_name(out, n, bytes, names, sections, i);
+        let k = text_out::put(out, n, b" ");
+        let name = Interned(cells::row_get(sections, i, 1) as usize);
+        return replay_text::put_name(out, k, bytes, names, name);
     }
     n
 }

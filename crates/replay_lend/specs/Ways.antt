@@ -2,8 +2,16 @@
 -- Assumes nothing.
 use Prim.Native.Nat.{ℕ, _*_, _/_, _<_, _≤_}
 use mathlib.Core.Path.{_≡_}
+use mathlib.Core.List.{List}
 use borrow.Author.Tests.{lt-ltb, le-ltb}
-use Rattle.replay_lend.specs.Part.{cellsOf, rowsOf, wideRowsOf}
+use Rattle.replay_words.specs.Words.{numberAt}
+use Rattle.replay_lend.specs.declared.Lend.{Lend}
+use Rattle.replay_lend.specs.Part.{lendOf, toldOf, cellsOf, rowsOf, wideRowsOf}
+
+pub lend-told : (line : List ℕ) (a b c d e f g h : ℕ) (t : Lend) → a ≡ numberAt line 1 → b ≡ numberAt line 2 → c ≡ numberAt line 3 → d ≡ numberAt line 4
+    → e ≡ numberAt line 5 → f ≡ numberAt line 6 → g ≡ numberAt line 7 → h ≡ numberAt line 8 → t ≡ lendOf a b c d e f g h → t ≡ toldOf line
+unfolding toldOf
+lend-told line a b c d e f g h t i j k l m n o p q = simp (q, i, j, k, l, m, n, o, p)
 
 module _ (count len t : ℕ) where
   pub cells-some : count < len → t ≡ count → t ≡ cellsOf count len

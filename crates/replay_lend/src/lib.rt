@@ -2,7 +2,10 @@
 // no number lends all.
 ghost use mathlib.Core.Path.{_≡_};
 ghost use Prim.Native.Nat.{_≤_};
-ghost use Rattle.replay_lend.specs.Part.{cellsOf, rowsOf, wideRowsOf};
+ghost use Rattle.replay_lend.specs.Part.{toldOf, allLent, cellsOf, rowsOf, wideRowsOf};
+
+// More than any store has.
+const ALL: usize = 0xffff_ffff_ffff_ffff;
 
 pub struct Lend {
     pub symbols: usize,
@@ -15,7 +18,9 @@ pub struct Lend {
     pub ids: usize,
 }
 
-pub fn told(line: &[u8]) -> Lend {
+pub fn told(line: &[u8]) -> Lend
+    ensures { λ r. ⌜ r ≡ toldOf (now (line .entry)) ⌝ }
+{
     Lend {
         symbols: replay_words::number(line, 1) as usize,
         sections: replay_words::number(line, 2) as usize,
@@ -28,8 +33,19 @@ pub fn told(line: &[u8]) -> Lend {
     }
 }
 
-pub fn all() -> Lend {
-    told(b"lend")
+pub fn all() -> Lend
+    ensures { λ r. ⌜ r ≡ allLent ⌝ }
+{
+    Lend {
+        symbols: ALL,
+        sections: ALL,
+        inputs: ALL,
+        names: ALL,
+        bytes: ALL,
+        lists: ALL,
+        work: ALL,
+        ids: ALL,
+    }
 }
 
 // Of a slice of that length, the cells that are lent.

@@ -1,4 +1,8 @@
 // The merge of an object that a list tells, with what it is lent of each store.
+ghost use mathlib.Core.Path.{_≡_};
+ghost use Rattle.link.specs.Judge.{goingOf};
+ghost use Rattle.merge_stages.specs.Stages.{allOf};
+ghost use Rattle.replay_merge.specs.Merge.{changedAs, doneOf, mergeAll, mergeLists, mergeLent};
 use link::Link;
 use replay_changes::Changed;
 use replay_changes::Reply;
@@ -6,7 +10,9 @@ use replay_lend::Lend;
 use replay_object::Object;
 use symbols::Symbols;
 
-fn merged(o: merge_elf::Outcome) -> Changed {
+fn merged(o: merge_elf::Outcome) -> Changed
+    ensures { λ r. ⌜ r ≡ changedAs (o .link) (o .answer) ⌝ }
+{
     let l = o.link;
     let table = Symbols { link: l };
     let answer = o.answer;
@@ -35,7 +41,11 @@ fn merge_object(
     ids: &mut [u64],
     rows: &[u64],
     file: &[u8],
-) -> Changed {
+) -> Changed
+    ensures { λ r. ⌜ doneOf (now (bytes .exit)) (now (names .exit)) (now (symbols .exit)) (now (sections .exit)) (now (inputs .exit)) (now (lists .exit)) (now (work .exit)) (now (ids .exit)) r
+        ≡ mergeAll object (now (rows .entry)) (now (file .entry))
+        (allOf (now (bytes .entry)) (now (names .entry)) (now (symbols .entry)) (now (sections .entry)) (now (inputs .entry)) (now (lists .entry)) (now (work .entry)) (now (ids .entry)) (goingOf l)) ⌝ }
+{
     let headers = replay_object::headers(rows, object);
     let entries = replay_object::entries(rows, object);
     let contents = replay_object::contents(rows, object);
@@ -73,7 +83,11 @@ fn merge_lent(
     ids: &mut [u64],
     rows: &[u64],
     file: &[u8],
-) -> Changed {
+) -> Changed
+    ensures { λ r. ⌜ doneOf (now (bytes .exit)) (now (names .exit)) (now (symbols .exit)) (now (sections .exit)) (now (inputs .exit)) (now (lists .exit)) (now (work .exit)) (now (ids .exit)) r
+        ≡ mergeLists lend object (now (rows .entry)) (now (file .entry))
+        (allOf (now (bytes .entry)) (now (names .entry)) (now (symbols .entry)) (now (sections .entry)) (now (inputs .entry)) (now (lists .entry)) (now (work .entry)) (now (ids .entry)) (goingOf l)) ⌝ }
+{
     let i = replay_lend::rows(lend.inputs, inputs.len());
     let n = replay_lend::cells(lend.lists, lists.len());
     let w = replay_lend::rows(lend.work, work.len());
@@ -108,7 +122,11 @@ pub fn merge(
     ids: &mut [u64],
     rows: &[u64],
     file: &[u8],
-) -> Changed {
+) -> Changed
+    ensures { λ r. ⌜ doneOf (now (bytes .exit)) (now (names .exit)) (now (symbols .exit)) (now (sections .exit)) (now (inputs .exit)) (now (lists .exit)) (now (work .exit)) (now (ids .exit)) r
+        ≡ mergeLent lend object (now (rows .entry)) (now (file .entry))
+        (allOf (now (bytes .entry)) (now (names .entry)) (now (symbols .entry)) (now (sections .entry)) (now (inputs .entry)) (now (lists .entry)) (now (work .entry)) (now (ids .entry)) (goingOf l)) ⌝ }
+{
     let b = replay_lend::cells(lend.bytes, bytes.len());
     let n = replay_lend::wide_rows(lend.names, names.len());
     let s = replay_lend::rows(lend.symbols, symbols.len());

@@ -1,5 +1,9 @@
 // An object as a list tells it, row by row, in lent cells: headers, entries of symbol tables and contents, each from a fixed place on, and
 // behind them the conversion that direct adds are lent; the bytes of string tables in lent bytes.
+ghost use mathlib.Core.Path.{_≡_};
+ghost use Prim.Native.Nat.{_≤_};
+ghost use Rattle.replay_object.specs.Told.{announcedAs, announceOf, partCells, headersIn, entriesIn, contentsIn, conversionIn, flagOf, flagsOf, listedOf, putListOf, firstOf, countOf, headerOf, cellsAs, symbolOf, toldAs, sectionOf, moreOf};
+ghost use Rattle.replay_object.specs.Conversion.{cellOf, convertOf};
 
 // Rows and the section-name string section that were announced; rows, contents and bytes that were told so far.
 pub struct Object {
@@ -26,11 +30,15 @@ const CONVERTED: usize = 64;
 // The cells of all parts together.
 pub const CELLS: usize = 6208;
 
-pub fn empty() -> Object {
+pub fn empty() -> Object
+    ensures { λ r. ⌜ r ≡ announcedAs 0 0 0 ⌝ }
+{
     announced(0, 0, 0)
 }
 
-fn announced(sections: usize, symbols: usize, strings: usize) -> Object {
+fn announced(sections: usize, symbols: usize, strings: usize) -> Object
+    ensures { λ r. ⌜ r ≡ announcedAs sections symbols strings ⌝ }
+{
     Object {
         sections: sections,
         symbols: symbols,
@@ -43,7 +51,9 @@ fn announced(sections: usize, symbols: usize, strings: usize) -> Object {
 }
 
 // `object SECTIONS SYMBOLS NAMES`
-pub fn announce(line: &[u8]) -> Object {
+pub fn announce(line: &[u8]) -> Object
+    ensures { λ r. ⌜ r ≡ announceOf (now (line .entry)) ⌝ }
+{
     announced(
         replay_words::number(line, 1) as usize,
         replay_words::number(line, 2) as usize,
@@ -54,32 +64,45 @@ pub fn announce(line: &[u8]) -> Object {
 // ---- what is lent to a merge
 
 // Cells of that many rows, as far as a part holds them.
-fn cells_of(rows: usize) -> usize {
+fn cells_of(rows: usize) -> usize
+    ensures { λ r. ⌜ r ≡ partCells rows ⌝ }
+{
     if rows < PART / 8 {
         return rows * 8;
     }
     PART
 }
 
-pub fn headers(cells: &[u64], o: Object) -> &[u64] {
+pub fn headers(cells: &[u64], o: Object) -> &[u64]
+    ensures { λ r. ⌜ now r ≡ headersIn (now (cells .entry)) o ⌝ }
+{
     cells::part_of(cells, 0, cells_of(o.sections))
 }
 
-pub fn entries(cells: &[u64], o: Object) -> &[u64] {
+pub fn entries(cells: &[u64], o: Object) -> &[u64]
+    ensures { λ r. ⌜ now r ≡ entriesIn (now (cells .entry)) o ⌝ }
+{
     cells::part_of(cells, ENTRIES, cells_of(o.symbols))
 }
 
-pub fn contents(cells: &[u64], o: Object) -> &[u64] {
+pub fn contents(cells: &[u64], o: Object) -> &[u64]
+    ensures { λ r. ⌜ now r ≡ contentsIn (now (cells .entry)) o ⌝ }
+{
     cells::part_of(cells, CONTENTS, o.contents)
 }
 
-pub fn conversion(cells: &[u64]) -> &[u64] {
+pub fn conversion(cells: &[u64]) -> &[u64]
+    ensures { λ r. ⌜ now r ≡ conversionIn (now (cells .entry)) ⌝ }
+{
     cells::part_of(cells, CONVERSION, CONVERTED)
 }
 
 // ---- rows
 
-fn flag(line: &[u8], k: usize, value: u64) -> u64 {
+fn flag(line: &[u8], k: usize, value: u64) -> u64
+    ensures { λ r. ⌜ r ≡ flagOf (now (line .entry)) k value ⌝ }
+    ensures small { λ r. ⌜ r ≤ value ⌝ }
+{
     if replay_words::is(line, k, b"1") {
         return value;
     }
@@ -87,19 +110,23 @@ fn flag(line: &[u8], k: usize, value: u64) -> u64 {
 }
 
 // Exclude, retain, read, COMDAT.
-fn flags(line: &[u8]) -> u64 {
-    let a = std::num::wrapping_add_u64(flag(line, 3, 1), flag(line, 4, 2));
-    let b = std::num::wrapping_add_u64(flag(line, 5, 4), flag(line, 8, 8));
-    std::num::wrapping_add_u64(a, b)
+fn flags(line: &[u8]) -> u64
+    ensures { λ r. ⌜ r ≡ flagsOf (now (line .entry)) ⌝ }
+{
+    flag(line, 3, 1) + flag(line, 4, 2) + flag(line, 5, 4) + flag(line, 8, 8)
 }
 
-fn put_listed(cells: &mut [u64], at: usize, line: &[u8], j: usize) {
+fn put_listed(cells: &mut [u64], at: usize, line: &[u8], j: usize)
+    ensures { λ _. ⌜ now (cells .exit) ≡ listedOf (now (cells .entry)) at (now (line .entry)) j ⌝ }
+{
     let word = replay_words::number(line, std::num::wrapping_add_usize(11, j));
     cells::put(cells, std::num::wrapping_add_usize(at, j), word);
 }
 
 // The words of a section's LIST, at the contents' end; nothing where there is no room.
-fn put_list(cells: &mut [u64], at: usize, line: &[u8], count: usize) {
+fn put_list(cells: &mut [u64], at: usize, line: &[u8], count: usize)
+    ensures { λ _. ⌜ now (cells .exit) ≡ putListOf (now (cells .entry)) at (now (line .entry)) count ⌝ }
+{
     if PART < count {
         return;
     }
@@ -111,7 +138,9 @@ fn put_list(cells: &mut [u64], at: usize, line: &[u8], count: usize) {
 }
 
 // Where a section's contents begin and how many they are: symbols by the LIST's words, bytes in the file, else among the contents.
-fn first(o: Object, line: &[u8], kind: u64) -> u64 {
+fn first(o: Object, line: &[u8], kind: u64) -> u64
+    ensures { λ r. ⌜ r ≡ firstOf o (now (line .entry)) kind ⌝ }
+{
     match kind {
         3 => replay_words::number(line, 11),
         10 => replay_words::number(line, 11),
@@ -120,7 +149,9 @@ fn first(o: Object, line: &[u8], kind: u64) -> u64 {
     }
 }
 
-fn count(line: &[u8], kind: u64, bytes: usize) -> u64 {
+fn count(line: &[u8], kind: u64, bytes: usize) -> u64
+    ensures { λ r. ⌜ r ≡ countOf (now (line .entry)) kind bytes ⌝ }
+{
     match kind {
         3 => replay_words::number(line, 12),
         10 => replay_words::number(line, 12),
@@ -129,7 +160,9 @@ fn count(line: &[u8], kind: u64, bytes: usize) -> u64 {
     }
 }
 
-fn put_header(cells: &mut [u64], o: Object, line: &[u8], bytes: usize) {
+fn put_header(cells: &mut [u64], o: Object, line: &[u8], bytes: usize)
+    ensures { λ _. ⌜ now (cells .exit) ≡ headerOf (now (cells .entry)) o (now (line .entry)) bytes ⌝ }
+{
     let kind = replay_words::number(line, 1);
     cell_writes::row_store(
         cells,
@@ -145,30 +178,43 @@ fn put_header(cells: &mut [u64], o: Object, line: &[u8], bytes: usize) {
     );
 }
 
-// `section KIND NAMEOFFSET EXCLUDE RETAIN READ LINK INFO COMDAT BYTES LIST`
-pub fn section(cells: &mut [u64], file: &mut [u8], o: Object, line: &[u8]) -> Object {
-    let bytes = replay_words::put_bytes(file, o.bytes, text_fields::field(line, 9));
-    let listed = replay_words::number(line, 10) as usize;
-    put_list(
-        cells,
-        std::num::wrapping_add_usize(CONTENTS, o.contents),
-        line,
-        listed,
-    );
-    put_header(cells, o, line, bytes);
+// The same object with so many headers, entries, contents and bytes told.
+fn more(o: Object, headers: usize, entries: usize, contents: usize, bytes: usize) -> Object
+    ensures { λ r. ⌜ r ≡ moreOf o headers entries contents bytes ⌝ }
+{
     Object {
         sections: o.sections,
         symbols: o.symbols,
         strings: o.strings,
-        headers: symbol::next(o.headers),
-        entries: o.entries,
-        contents: std::num::wrapping_add_usize(o.contents, listed),
-        bytes: std::num::wrapping_add_usize(o.bytes, bytes),
+        headers: headers,
+        entries: entries,
+        contents: contents,
+        bytes: bytes,
     }
 }
 
+// `section KIND NAMEOFFSET EXCLUDE RETAIN READ LINK INFO COMDAT BYTES LIST`
+pub fn section(cells: &mut [u64], file: &mut [u8], o: Object, line: &[u8]) -> Object
+    ensures { λ r. ⌜ toldAs (now (cells .exit)) (now (file .exit)) r ≡ sectionOf (now (cells .entry)) (now (file .entry)) o (now (line .entry)) ⌝ }
+{
+    let bytes = replay_words::put_bytes(file, o.bytes, text_fields::field(line, 9));
+    let listed = replay_words::number(line, 10) as usize;
+    let at = std::num::wrapping_add_usize(CONTENTS, o.contents);
+    put_list(cells, at, line, listed);
+    put_header(cells, o, line, bytes);
+    more(
+        o,
+        symbol::next(o.headers),
+        o.entries,
+        std::num::wrapping_add_usize(o.contents, listed),
+        std::num::wrapping_add_usize(o.bytes, bytes),
+    )
+}
+
 // `symbol NAMEOFFSET BINDING TYPE VISIBILITY SECTION VALUE`
-pub fn symbol(cells: &mut [u64], o: Object, line: &[u8]) -> Object {
+pub fn symbol(cells: &mut [u64], o: Object, line: &[u8]) -> Object
+    ensures { λ r. ⌜ cellsAs (now (cells .exit)) r ≡ symbolOf (now (cells .entry)) o (now (line .entry)) ⌝ }
+{
     cell_writes::row_store(
         cells,
         std::num::wrapping_add_usize(ENTRIES / 8, o.entries),
@@ -181,21 +227,15 @@ pub fn symbol(cells: &mut [u64], o: Object, line: &[u8]) -> Object {
         0,
         0,
     );
-    Object {
-        sections: o.sections,
-        symbols: o.symbols,
-        strings: o.strings,
-        headers: o.headers,
-        entries: symbol::next(o.entries),
-        contents: o.contents,
-        bytes: o.bytes,
-    }
+    more(o, o.headers, symbol::next(o.entries), o.contents, o.bytes)
 }
 
 // ---- the conversion of direct adds
 
 // A cell: 0 nothing, 1 not loaded, else the id and 2.
-fn cell_of(word: &[u8]) -> u64 {
+fn cell_of(word: &[u8]) -> u64
+    ensures { λ r. ⌜ r ≡ cellOf (now (word .entry)) ⌝ }
+{
     if word.len() == 0 {
         return 0;
     }
@@ -209,7 +249,9 @@ fn cell_of(word: &[u8]) -> u64 {
 }
 
 // `conversion WORD ...`
-pub fn convert(cells: &mut [u64], line: &[u8]) {
+pub fn convert(cells: &mut [u64], line: &[u8])
+    ensures { λ _. ⌜ now (cells .exit) ≡ convertOf (now (cells .entry)) (now (line .entry)) ⌝ }
+{
     let mut i = 0;
     while i < CONVERTED {
         cells::put(

@@ -158,7 +158,7 @@ fn put_globals(
 // ---- sections
 
 // The name of the section in row i, and a space before it.
-pub fn put_section_name(
+fn put_section_name(
     out: &mut [u8],
     n: usize,
     bytes: &[u8],
@@ -236,39 +236,24 @@ fn put_sections(
 
 // ---- groups
 
-// Does a stand before b, by bytes?
-pub fn before(a: &[u8], b: &[u8]) -> bool {
-    let mut i = 0;
-    while i < a.len() {
-        if b.len() <= i {
-            return false;
-        }
-        if a[i] != b[i] {
-            return a[i] < b[i];
-        }
-        i += 1;
-    }
-    a.len() < b.len()
-}
-
 // A name is given by its id and 1; 0 is none.
 fn name_of<'a>(bytes: &'a [u8], names: &[u64], name: usize) -> &'a [u8] {
     if name == 0 {
         return byte_slices::part_of(bytes, 0, 0);
     }
-    interner::name_of(bytes, names, name - 1)
+    interner::name_of(bytes, names, Interned(name - 1))
 }
 
 // Does the name stand behind the last one, and before the best so far?
 fn nearer(bytes: &[u8], names: &[u64], last: usize, best: usize, name: usize) -> bool {
     let x = name_of(bytes, names, name);
     if last != 0 {
-        if before(name_of(bytes, names, last), x) {} else {
+        if replay_words::before(name_of(bytes, names, last), x) {} else {
             return false;
         }
     }
     if best != 0 {
-        return before(x, name_of(bytes, names, best));
+        return replay_words::before(x, name_of(bytes, names, best));
     }
     true
 }

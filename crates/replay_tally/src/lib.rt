@@ -204,15 +204,3 @@ pub fn settle(t: Tally, text: &[u8]) -> Tally
     }
     t
 }
-
-pub fn print(t: Tally) {
-    io::write_all(1, b"links ");
-    io::print_decimal(1, t.links);
-    io::write_all(1, b" operations ");
-    io::print_decimal(1, t.operations);
-    io::write_all(1, b" answers ");
-    io::print_decimal(1, t.answers);
-    io::write_all(1, b" differences ");
-    io::print_decimal(1, t.differences);
-    io::write_all(1, b"\n");
-}

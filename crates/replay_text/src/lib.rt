@@ -18,7 +18,7 @@ pub fn put_refusal(buf: &mut [u8], n: usize, r: Refusal) -> usize {
 }
 
 pub fn put_name(buf: &mut [u8], n: usize, bytes: &[u8], names: &[u64], id: Interned) -> usize {
-    let name = interner::name_of(bytes, names, id.0);
+    let name = interner::name_of(bytes, names, id);
     if name.len() == 0 {
         return text_out::put(buf, n, b"-");
     }

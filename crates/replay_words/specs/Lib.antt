@@ -1,3 +1,4 @@
 pub mod Words
 pub mod Spelled
+pub mod Order
 pub mod Ways

@@ -6,7 +6,8 @@ use native.Mathlib.Numerals.{add-one}
 use mathlib.Core.Path.{_≡_, refl, sym, ap, _∙_}
 use mathlib.Core.Bool.{Bool, true, false}
 use mathlib.Core.List.{List, [], _∷_}
-use lib.ListN.{getD, set, length, take, drop}
+use lib.ListN.{getD, set, length, take, drop, drop-of-length-le}
+use lib.Seq.{drop-cons}
 use borrow.Author.Tests.{eq-eqb, ne-eqb, lt-ltb, le-ltb}
 use Rattle.byte_slices.specs.Bytes.{same, part}
 use Rattle.text_fields.specs.Fields.{fieldOf}
@@ -14,6 +15,7 @@ use Rattle.text_fields.specs.Decimal.{decimalOf}
 use Rattle.text_fields.specs.declared.Number.{Number}
 use Rattle.text_fields.specs.declared.Number.the-variants.{None, Value}
 use Rattle.replay_words.specs.Words.{wordIs, valueOf, numberIn, numberAt, dash, nameAt}
+use Rattle.replay_words.specs.Order.{beforeOf}
 use Rattle.replay_words.specs.Spelled.{letterOf, digitOf, spelledOf, putFrom, Spelled, spelled, putBytes}
 
 -- ---- words
@@ -101,3 +103,33 @@ module _ (to₀ : List ℕ) (at : ℕ) (word : List ℕ) (count : ℕ) where
         let n : count - k ≡ 0 = omega arith in
         let z : putFrom count to₀ at word 0 ≡ to = w ∙ rw n in
         simp (q, ← e, z)
+
+-- ---- order
+
+-- from the i-th byte on, those before it being equal
+module _ (a b : List ℕ) (i : ℕ) (w : Bool) where
+  pub before-on : i < length a → i < length b → getD a i 0 ≡ getD b i 0 → w ≡ beforeOf (drop i a) (drop i b) → w ≡ beforeOf (drop (i + 1) a) (drop (i + 1) b)
+  unfolding beforeOf
+  before-on h g e q = q ∙ rw (drop-cons a i 0 h, drop-cons b i 0 g) (simp (eq-eqb _ _ e, add-one))
+
+  module _ (t : Bool) where
+    pub before-past : i < length a → length b ≤ i → w ≡ beforeOf (drop i a) (drop i b) → t ≡ false → t ≡ w
+    unfolding beforeOf
+    before-past h g q z = z ∙ sym (q ∙ rw (drop-cons a i 0 h, drop-of-length-le b g))
+
+    pub before-less : i < length a → i < length b → getD a i 0 < getD b i 0 → w ≡ beforeOf (drop i a) (drop i b) → t ≡ true → t ≡ w
+    unfolding beforeOf
+    before-less h g l q z =
+        z ∙ sym (q ∙ rw (drop-cons a i 0 h, drop-cons b i 0 g) (simp (ne-eqb (getD a i 0) (getD b i 0) (λ e. omega arith), lt-ltb _ _ l)))
+
+    pub before-more : i < length a → i < length b → (getD a i 0 ≡ getD b i 0 → ⊥) → getD b i 0 ≤ getD a i 0 → w ≡ beforeOf (drop i a) (drop i b) → t ≡ false → t ≡ w
+    unfolding beforeOf
+    before-more h g n l q z = z ∙ sym (q ∙ rw (drop-cons a i 0 h, drop-cons b i 0 g) (simp (ne-eqb _ _ n, le-ltb _ _ l)))
+
+    pub before-begins : i ≤ length a → length a ≤ i → length a < length b → w ≡ beforeOf (drop i a) (drop i b) → t ≡ true → t ≡ w
+    unfolding beforeOf
+    before-begins k h g q z = z ∙ sym (q ∙ rw (drop-of-length-le a h, drop-cons b i 0 (omega arith)))
+
+    pub before-same : length a ≤ i → length b ≤ length a → w ≡ beforeOf (drop i a) (drop i b) → t ≡ false → t ≡ w
+    unfolding beforeOf
+    before-same h g q z = let k : length b ≤ i = omega arith in z ∙ sym (q ∙ rw (drop-of-length-le a h, drop-of-length-le b k))

@@ -1,16 +1,11 @@
-// Words of an operation of a list, and what they tell: numbers, names, bytes, the symbol that an add adds.
+// Words of an operation of a list, and what they tell: numbers, names, bytes.
 ghost use mathlib.Core.Path.{_≡_};
 ghost use lib.ListN.{set};
 ghost use Prim.Native.Nat.{_<_};
 ghost use Rattle.replay_words.specs.Words.{wordIs, numberIn, numberAt, nameAt};
+ghost use Rattle.replay_words.specs.Order.{beforeOf};
 ghost use Rattle.replay_words.specs.Spelled.{letterOf, digitOf, spelledOf, spelled, putBytes};
-use link::Interned;
-use link::SectionId;
-use symbol::SttFile;
-use symbol::SymbolValue;
 use text_fields::Number;
-use upcoming_symbol::ElfSymbol;
-use upcoming_symbol::UpcomingSymbol;
 
 // ---- words
 
@@ -110,154 +105,27 @@ pub fn put_bytes(to: &mut [u8], at: usize, word: &[u8]) -> usize
     count
 }
 
-// ---- an add
+// ---- order
 
-// A sign and a number: the fifth and sixth words.
-fn signed(line: &[u8]) -> i64 {
-    let n = number(line, 6);
-    if is(line, 5, b"-") {
-        return symbol::offset_of(std::num::wrapping_sub_u64(0, n));
+// Does a stand before b, by bytes?
+pub fn before(a: &[u8], b: &[u8]) -> bool
+    ensures { λ r. ⌜ r ≡ beforeOf (now (a .entry)) (now (b .entry)) ⌝ }
+{
+    let mut i = 0;
+    while i < a.len() {
+        if b.len() <= i {
+            return false;
+        }
+        if a[i] != b[i] {
+            if a[i] < b[i] {
+                return true;
+            }
+            return false;
+        }
+        i += 1;
     }
-    symbol::offset_of(n)
-}
-
-// The value that words from the third on tell, of a section.
-fn section_value(line: &[u8]) -> SymbolValue {
-    let section = SectionId(number(line, 4) as usize);
-    if is(line, 3, b"sec") {
-        return SymbolValue::Section { section: section };
-    }
-    if is(line, 3, b"rel") {
-        return SymbolValue::SectionRelative {
-            section: section,
-            offset: signed(line),
-        };
-    }
-    SymbolValue::SectionVirtualAddress {
-        section: section,
-        address: number(line, 5),
-    }
-}
-
-fn value(line: &[u8]) -> SymbolValue {
-    if is(line, 3, b"null") {
-        return SymbolValue::Null;
-    }
-    if is(line, 3, b"abs") {
-        return SymbolValue::Absolute {
-            value: number(line, 4),
-        };
-    }
-    if is(line, 3, b"notloaded") {
-        return SymbolValue::SectionNotLoaded;
-    }
-    if is(line, 3, b"external") {
-        return SymbolValue::ExternallyDefined;
-    }
-    if is(line, 3, b"undef") {
-        return SymbolValue::Undefined {
-            zero: number(line, 4) == 1,
-        };
-    }
-    section_value(line)
-}
-
-fn elf(line: &[u8]) -> ElfSymbol {
-    ElfSymbol {
-        binding: number(line, 3),
-        visibility: number(line, 5),
-        kind: number(line, 4),
-        section: number(line, 6),
-        value: number(line, 7),
-    }
-}
-
-// The symbol that an add adds, under a name that was issued, in a file.
-pub fn upcoming(line: &[u8], name: Interned, file: SttFile) -> UpcomingSymbol {
-    if is(line, 1, b"null") {
-        return UpcomingSymbol::Null;
-    }
-    if is(line, 1, b"section") {
-        let section = SectionId(number(line, 2) as usize);
-        return UpcomingSymbol::Section { section: section };
-    }
-    if is(line, 1, b"unknown") {
-        return UpcomingSymbol::GlobalUnknown { name: name };
-    }
-    if is(line, 1, b"hidden") {
-        let v = value(line);
-        return UpcomingSymbol::GlobalHidden {
-            name: name,
-            value: v,
-        };
-    }
-    if is(line, 1, b"external") {
-        return UpcomingSymbol::ExternallyDefined {
-            name: name,
-            visibility: number(line, 4),
-            binding: number(line, 3),
-        };
-    }
-    let e = elf(line);
-    UpcomingSymbol::Elf {
-        elf: e,
-        name: name,
-        file: file,
-    }
-}
-
-// The name that an add is under; the empty one where it has none.
-pub fn added_name(line: &[u8]) -> &[u8] {
-    if is(line, 1, b"null") {
-        return byte_slices::part_of(line, 0, 0);
-    }
-    if is(line, 1, b"section") {
-        return byte_slices::part_of(line, 0, 0);
-    }
-    name_at(line, 2)
-}
-
-fn has_file(line: &[u8]) -> bool {
-    if is(line, 1, b"elf") {
-        return is(line, 8, b"1");
+    if a.len() < b.len() {
+        return true;
     }
     false
-}
-
-pub fn file_name(line: &[u8]) -> &[u8] {
-    if has_file(line) {
-        return name_at(line, 9);
-    }
-    byte_slices::part_of(line, 0, 0)
-}
-
-pub fn file(line: &[u8], id: Interned) -> SttFile {
-    if has_file(line) {
-        return SttFile::Name { id: id };
-    }
-    SttFile::None
-}
-
-// ---- lines
-
-// The part of an expected answer behind `> `.
-pub fn expected(line: &[u8]) -> &[u8] {
-    if line.len() < 2 {
-        return byte_slices::part_of(line, 0, 0);
-    }
-    byte_slices::part_of(line, 2, line.len() - 2)
-}
-
-// 0 for a line that says nothing, 1 for an expected answer, 2 for an operation.
-pub fn kind(line: &[u8]) -> u64 {
-    if line.len() == 0 {
-        return 0;
-    }
-    if line[0] == b'#' {
-        return 0;
-    }
-    if line[0] == b'>' {
-        return 1;
-    }
-    2
 }

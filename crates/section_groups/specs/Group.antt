@@ -77,8 +77,8 @@ planWith s marks len listed id repeated =
 
 unfoldable pub planOf : Link → List ℕ → List ℕ → ℕ → List ℕ → ℕ → Plan
 planOf l bytes names marks x listed =
-    planWith (storeOf bytes names l) marks (length x) listed (findOf bytes names (l .names) x)
-    (repeatedOf names (l .names) (findOf bytes names (l .names) x))
+    planWith (storeOf bytes names l) marks (length x) listed (findOf bytes names l x)
+    (repeatedOf names (l .names) (findOf bytes names l x))
 
 -- 1 defines a group; 2, removed, is stronger
 unfoldable pub markGroupOf : List ℕ → ℕ → List ℕ

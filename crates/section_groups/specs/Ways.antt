@@ -81,12 +81,12 @@ module _ (repeated : Bool) (marks listed t : ℕ) where
   mark-none e q = simp (q, e)
 
 module _ (l : Link) (bytes names : List ℕ) (marks : ℕ) (x : List ℕ) (listed : ℕ) (t : Plan) (id : ℕ) (repeated fits : Bool) where
-  pub plan-full : id ≡ findOf bytes names (l .names) x → repeated ≡ repeatedOf names (l .names) id → fits ≡ fitsOf (storeOf bytes names l) (record { 0 = id }) (length x)
+  pub plan-full : id ≡ findOf bytes names l x → repeated ≡ repeatedOf names (l .names) id → fits ≡ fitsOf (storeOf bytes names l) (record { 0 = id }) (length x)
       → fits ≡ false → t ≡ planned 2 id repeated → t ≡ planOf l bytes names marks x listed
   unfolding planOf planWith
   plan-full e f g h q = simp (q, ← e, ← f, ← g, h)
 
-  pub plan-fits : (number : ℕ) → id ≡ findOf bytes names (l .names) x → repeated ≡ repeatedOf names (l .names) id → fits ≡ fitsOf (storeOf bytes names l) (record { 0 = id }) (length x)
+  pub plan-fits : (number : ℕ) → id ≡ findOf bytes names l x → repeated ≡ repeatedOf names (l .names) id → fits ≡ fitsOf (storeOf bytes names l) (record { 0 = id }) (length x)
       → fits ≡ true → number ≡ markRefusal repeated marks listed → t ≡ planned number id repeated → t ≡ planOf l bytes names marks x listed
   unfolding planOf planWith
   plan-fits number e f g h j q = simp (q, ← e, ← f, ← g, h, j)

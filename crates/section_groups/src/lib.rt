@@ -79,18 +79,18 @@ fn mark_refusal(repeated: bool, marks: usize, listed: u64) -> u64
 fn plan_group(l: Link, bytes: &[u8], names: &[u64], marks: usize, x: &[u8], listed: u64) -> Plan
     ensures { λ r. ⌜ r ≡ planOf l (now (bytes .entry)) (now (names .entry)) marks (now (x .entry)) listed ⌝ }
 {
-    let id = interner::find(bytes, names, l.names, x);
-    let repeated = is_repeated(names, l.names, id);
-    if interner_issue::fits(l, bytes, names, Interned(id), x.len()) {
+    let id = interner::find(l, bytes, names, x);
+    let repeated = is_repeated(names, l.names, id.0);
+    if interner_issue::fits(l, bytes, names, id, x.len()) {
         return Plan {
             number: mark_refusal(repeated, marks, listed),
-            signature: Interned(id),
+            signature: id,
             repeated: repeated,
         };
     }
     Plan {
         number: 2,
-        signature: Interned(id),
+        signature: id,
         repeated: repeated,
     }
 }

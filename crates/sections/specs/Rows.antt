@@ -8,7 +8,7 @@ use lib.ListN.{getD, set, length}
 use Rattle.cells.specs.Rows.{putRow}
 use Rattle.link.specs.declared.Link.{Link}
 use Rattle.link.specs.declared.SectionId.{SectionId}
-use Rattle.link.specs.Bounds.{sectionRows}
+use Rattle.link.specs.Bounds.{lesser, sectionSlots, sectionRows}
 use Rattle.sections.specs.declared.Section.{Section}
 
 -- the lent cells and the counts
@@ -42,9 +42,9 @@ firstAt rows i = field rows i 5
 abbrev pub countAt : List ℕ → ℕ → ℕ
 countAt rows i = field rows i 6
 
--- "section rows [..] to 65,535; always also the lent length"
+-- "section rows [..] to 65,535; always also the lent length", of a new table and of this call
 unfoldable pub roomOf : Link → List ℕ → Bool
-roomOf l rows = cond (ltb (l .sections) (sectionRows (length rows))) true false
+roomOf l rows = cond (ltb (l .sections) (sectionRows (lesser (l .slots) (sectionSlots (length rows))))) true false
 
 abbrev pub moreSections : Link → Link
 moreSections l =
@@ -57,6 +57,7 @@ moreSections l =
       lists = l .lists;
       chains = l .chains;
       slots = l .slots;
+      key = l .key;
       broken = l .broken;
     }
 

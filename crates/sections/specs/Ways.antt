@@ -14,18 +14,18 @@ use Rattle.cells.specs.Rows.{putRow}
 use Rattle.cells.specs.Split.{by-test}
 use Rattle.link.specs.declared.Link.{Link}
 use Rattle.link.specs.declared.SectionId.{SectionId}
-use Rattle.link.specs.Bounds.{lesser, sectionRows}
+use Rattle.link.specs.Bounds.{lesser, sectionSlots, sectionRows}
 use Rattle.sections.specs.declared.Section.{Section}
 use Rattle.sections.specs.Rows.{Sections, sectionsOf, stateAt, roomOf, moreSections, reserveOf, builtOf, isBuilt}
 
-module _ (l : Link) (rows : List ℕ) (t : Bool) (n : ℕ) where
-  pub room-yes : n ≡ sectionRows (length rows) → l .sections < n → t ≡ true → t ≡ roomOf l rows
+module _ (l : Link) (rows : List ℕ) (t : Bool) (lent slots n : ℕ) where
+  pub room-yes : lent ≡ sectionSlots (length rows) → slots ≡ lesser (l .slots) lent → n ≡ sectionRows slots → l .sections < n → t ≡ true → t ≡ roomOf l rows
   unfolding roomOf
-  room-yes e h q = simp (q, ← e, lt-ltb _ _ h)
+  room-yes d f e h q = simp (q, ← d, ← f, ← e, lt-ltb _ _ h)
 
-  pub room-no : n ≡ sectionRows (length rows) → n ≤ l .sections → t ≡ false → t ≡ roomOf l rows
+  pub room-no : lent ≡ sectionSlots (length rows) → slots ≡ lesser (l .slots) lent → n ≡ sectionRows slots → n ≤ l .sections → t ≡ false → t ≡ roomOf l rows
   unfolding roomOf
-  room-no e h q = simp (q, ← e, le-ltb _ _ h)
+  room-no d f e h q = simp (q, ← d, ← f, ← e, le-ltb _ _ h)
 
 module _ (s t : Sections) (b : Bool) where
   pub reserve-full : b ≡ roomOf (s .link) (s .rows) → b ≡ false → t ≡ s → t ≡ reserveOf s
@@ -48,8 +48,8 @@ lesser-left a b = by-test (ltb a b) (λ t. rw t (omega arith)) (λ t. rw t (ltb-
 pub reserve-fits : (rows : List ℕ) (l : Link) (b : Bool) → b ≡ roomOf l rows → b ≡ true → Fits w64 (l .sections + 1)
 unfolding roomOf
 reserve-fits rows l b e f =
-    by-test (ltb (l .sections) (sectionRows (length rows)))
-    (λ t. omega (arith, ltb-true (l .sections) (sectionRows (length rows)) t, lesser-left 65535 (length rows / 9)))
+    let slots : ℕ = lesser (l .slots) (sectionSlots (length rows)) in
+    by-test (ltb (l .sections) (sectionRows slots)) (λ t. omega (arith, ltb-true (l .sections) (sectionRows slots) t, lesser-left 65535 slots))
     (λ t. absurd (apart (sym (e ∙ rw t) ∙ f)))
 
 pub build-done : (rows t : List ℕ) (id : SectionId) (s : Section)

@@ -20,7 +20,8 @@ pub struct Section {
 pub fn room(l: Link, sections: &[u64]) -> bool
     ensures { λ r. ⌜ r ≡ roomOf l (now (sections .entry)) ⌝ }
 {
-    if l.sections < link::section_rows(sections.len()) {
+    let slots = link::lesser_of(l.slots, link::section_slots(sections.len()));
+    if l.sections < link::section_rows(slots) {
         return true;
     }
     false
@@ -42,6 +43,7 @@ pub fn reserve(l: Link, sections: &mut [u64]) -> Link
             lists: l.lists,
             chains: l.chains,
             slots: l.slots,
+            key: l.key,
             broken: l.broken,
         };
     }

@@ -35,7 +35,7 @@ module _ (count : Link → ℕ) (keep : (s : Store) (id : Interned) (x : List �
   unfolding recordOf recordAs keepName
   record-count s x place =
       pick (λ (r : Recorded). count (r .stage .link) ≡ count (s .stage .link))
-      (recordFits (s .stage .link) (s .bytes) (s .names) (length (s .lists)) (record { 0 = findOf (s .bytes) (s .names) (s .stage .link .names) x }) (length x)) _ _
+      (recordFits (s .stage .link) (s .bytes) (s .names) (length (s .lists)) (record { 0 = findOf (s .bytes) (s .names) (s .stage .link) x }) (length x)) _ _
       (λ t. list (keepOf (storeOf (s .bytes) (s .names) (s .stage .link)) _ x .link) _ ∙ keep (storeOf (s .bytes) (s .names) (s .stage .link)) _ x) (λ t. refl)
 
   module _ (file needs : List ℕ) where

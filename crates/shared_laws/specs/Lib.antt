@@ -1,5 +1,6 @@
 pub mod Cleared
 pub mod Needed
+pub mod Own
 pub mod Lists
 pub mod Marks
 pub mod Exact

@@ -68,7 +68,7 @@ head-lists o a =
 
 -- ---- the stages, where none refuses
 
-below-rows : (k n : ℕ) → k < inputRows n → k * 8 + 8 ≤ n
+pub below-rows : (k n : ℕ) → k < inputRows n → k * 8 + 8 ≤ n
 unfolding lesser
 below-rows k n =
     pick (λ (m : ℕ). k < m → k * 8 + 8 ≤ n) (ltb 4095 (n / 8)) _ _ (λ t h. omega (arith, ltb-true 4095 (n / 8) t)) (λ t h. omega arith)
@@ -346,7 +346,7 @@ module _ (o : Input) (a : All) where
       row-kept : Kept (recordStore end) store
       row-kept =
           subst (λ (s : Store). Kept (recordStore end) s) (sym store-is)
-          (relinked (end .bytes) (end .names) (end .stage .link) (moreInputs (end .stage .link)) refl refl (dependencies-kept .0 .good))
+          (relinked (end .bytes) (end .names) (end .stage .link) (moreInputs (end .stage .link)) refl refl refl refl (dependencies-kept .0 .good))
 
       after-symbols : Kept (stateStore loaded) store
       after-symbols = kept-both (stateStore loaded) (recordStore end) store (dependencies-kept .0) row-kept

@@ -15,7 +15,6 @@ use Rattle.byte_slices.specs.Ways.{pick, apart}
 use Rattle.gabi.specs.StringTable.{hasName, nameAt}
 use Rattle.link.specs.declared.Link.{Link}
 use Rattle.link.specs.declared.Interned.{Interned}
-use Rattle.link.specs.Bounds.{nameRows}
 use Rattle.link.specs.Judge.{goingOf}
 use Rattle.interner.specs.Names.{Store, storeOf, findOf, fitsOf, keepOf}
 use Rattle.interner_laws.specs.Good.{Good, Issued, Stays, Alike, count, name}
@@ -49,22 +48,25 @@ alike-kept : (s t : Store) → Good s → Alike s t → Kept s t
 alike-kept s t g a = record { good = same-good s g t a; stays = same-names s g t a }
 
 -- other counts
-pub relinked : (bytes names : List ℕ) (l m : Link) → m .names ≡ l .names → m .bytes ≡ l .bytes → Good (storeOf bytes names l)
-    → Kept (storeOf bytes names l) (storeOf bytes names m)
-relinked bytes names l m e f g =
+pub relinked : (bytes names : List ℕ) (l m : Link) → m .names ≡ l .names → m .bytes ≡ l .bytes → m .chains ≡ l .chains → m .key ≡ l .key
+    → Good (storeOf bytes names l) → Kept (storeOf bytes names l) (storeOf bytes names m)
+relinked bytes names l m e f c k g =
     alike-kept (storeOf bytes names l) (storeOf bytes names m) g
-    (record { bytes = refl; long = refl; cells = λ i f h g. refl; heads = λ q h g. refl; counted = e; filled = f })
+    (record { bytes = refl; long = refl; cells = λ i f h g. refl; heads = λ q h g. refl; chains = c; key = k; counted = e; filled = f })
 
 -- a name's global symbol
-noted : (bytes names : List ℕ) (l m : Link) (n v : ℕ) → m .names ≡ l .names → m .bytes ≡ l .bytes → n < nameRows (length names) → Good (storeOf bytes names l)
+noted : (bytes names : List ℕ) (l m : Link) (n v : ℕ) → m .names ≡ l .names → m .bytes ≡ l .bytes → m .chains ≡ l .chains → m .key ≡ l .key
+    → n < l .chains → Good (storeOf bytes names l)
     → Kept (storeOf bytes names l) (storeOf bytes (set names (n * 8 + 3) v) m)
-noted bytes names l m n v e f h g =
+noted bytes names l m n v e f c k h g =
     alike-kept (storeOf bytes names l) (storeOf bytes (set names (n * 8 + 3) v) m) g
     (record {
       bytes = refl;
       long = length-set names (n * 8 + 3) v;
       cells = λ i f a b. getD-set-other names (n * 8 + 3) (i * 8 + f) v 0 (λ q. omega arith);
       heads = λ q a b. getD-set-other names (n * 8 + 3) q v 0 (λ z. omega arith);
+      chains = c;
+      key = k;
       counted = e;
       filled = f;
     })
@@ -104,7 +106,7 @@ record-names s x place g =
     let f = fits-name (s .stage .link) (s .bytes) (s .names) (length (s .lists)) _ (length x) t in
     let k = keepOf (recordStore s) (record { 0 = idIn (s .bytes) (s .names) (s .stage .link) x }) x in
     let p : Kept (recordStore s) k = record { good = keeps-good (recordStore s) g x; stays = keeps-names (recordStore s) g x _ } in
-    let q = relinked (k .bytes) (k .names) (k .link) _ refl refl (p .good) in
+    let q = relinked (k .bytes) (k .names) (k .link) _ refl refl refl refl (p .good) in
     (kept-both (recordStore s) k _ p q, issued-stays count name k _ _ x (q .stays) (keeps-issued (recordStore s) g x f)))
     (λ t e. absurd (omega arith))
 
@@ -142,7 +144,7 @@ module _ (file needs : List ℕ) where
 
 -- ---- symbols
 
-apply-names : (bytes : List ℕ) (t : Table) (r : Row) (d : Decision) → r .name .0 < nameRows (length (t .names)) → Good (storeOf bytes (t .names) (t .link))
+apply-names : (bytes : List ℕ) (t : Table) (r : Row) (d : Decision) → r .name .0 < t .link .chains → Good (storeOf bytes (t .names) (t .link))
     → Kept (storeOf bytes (t .names) (t .link)) (storeOf bytes (applyOf t r d .names) (applyOf t r d .link))
 unfolding applyOf appendOf noteName
 apply-names bytes t r (Refuse n) h g = kept-none _ g
@@ -151,7 +153,7 @@ apply-names bytes t r (Keep id) h g = kept-none _ g
 apply-names bytes t r (Replace id) h g = kept-none _ g
 apply-names bytes t r Append h g =
     pick (λ (names : List ℕ). Kept (storeOf bytes (t .names) (t .link)) (storeOf bytes names (appendOf t r .link))) (eqb (r .visibility) 0) _ _
-    (λ u. relinked bytes (t .names) (t .link) _ refl refl g) (λ u. noted bytes (t .names) (t .link) _ (r .name .0) _ refl refl h g)
+    (λ u. relinked bytes (t .names) (t .link) _ refl refl refl refl g) (λ u. noted bytes (t .names) (t .link) _ (r .name .0) _ refl refl refl refl h g)
 
 judged-fits : (v : View) (n : ℕ) (r : Row) → eqb (refusalOf (judgedOf v n r)) 2 ≡ false → fitsOf (storeOf (v .bytes) (v .names) (v .link)) (r .name) n ≡ true
 unfolding judgedOf
@@ -176,7 +178,7 @@ define-names s x binding visibility i g =
     let f = judged-fits (view s) (length x) row t in
     let p : Kept (addedStore s) k = record { good = keeps-good (addedStore s) g x; stays = keeps-names (addedStore s) g x _ } in
     let m = keeps-issued (addedStore s) g x f in
-    let h : id < nameRows (length (k .names)) = omega (arith, m .low, p .good .chained .rows-in) in
+    let h : id < k .link .chains = omega (arith, m .low, p .good .chained .rows-in) in
     kept-both (addedStore s) k _ p (apply-names (k .bytes) (tableOf (k .names) (s .symbols) (s .sections) (k .link)) row d h (p .good)))
     (λ u e. absurd (eqb-false _ _ u e)))
 

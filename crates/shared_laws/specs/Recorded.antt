@@ -51,7 +51,7 @@ fits-cell l bytes names lists id n =
 
 -- the id that the name has or gets
 abbrev pub idIn : List ℕ → List ℕ → Link → List ℕ → ℕ
-idIn bytes names l x = findOf bytes names (l .names) x
+idIn bytes names l x = findOf bytes names l x
 
 module _ (s : Recorded) (x : List ℕ) (place : ℕ) (fit : length (s .lists) ≤ most) where
   pub record-grown : recordOf s x place .stage .number ≡ 0

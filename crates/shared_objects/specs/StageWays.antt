@@ -65,13 +65,13 @@ module _ (entries file needs : List ℕ) (s t : Links) (id : Interned) (r : Stat
   contents-lists u e f g q = simp (q, g, ← e, eq-eqb _ _ f)
 
 module _ (entries file needs : List ℕ) (s t : Links) (x : List ℕ) (id : ℕ) (b : Bool) where
-  pub library-full : (stage : Stage) → id ≡ findOf (s .bytes) (s .names) (s .stage .link .names) x
+  pub library-full : (stage : Stage) → id ≡ findOf (s .bytes) (s .names) (s .stage .link) x
       → b ≡ fitsOf (storeOf (s .bytes) (s .names) (s .stage .link)) (record { 0 = id }) (length x) → b ≡ false → stage ≡ stoppedOf (s .stage .link) 2 0
       → t ≡ linksOf (s .bytes) (s .names) (s .symbols) (s .sections) (s .inputs) (s .lists) stage → t ≡ libraryOf entries file needs s x
   unfolding libraryOf issuedOf
   library-full stage e f g h q = simp (q, h, ← e, ← f, g)
 
-  pub library-issued : (k : Store) (going : Stage) → id ≡ findOf (s .bytes) (s .names) (s .stage .link .names) x
+  pub library-issued : (k : Store) (going : Stage) → id ≡ findOf (s .bytes) (s .names) (s .stage .link) x
       → b ≡ fitsOf (storeOf (s .bytes) (s .names) (s .stage .link)) (record { 0 = id }) (length x) → b ≡ true
       → k ≡ keepOf (storeOf (s .bytes) (s .names) (s .stage .link)) (record { 0 = id }) x → going ≡ goingOf (k .link)
       → t ≡ contentsOf entries file needs (withName s k going) (record { 0 = id }) → t ≡ libraryOf entries file needs s x

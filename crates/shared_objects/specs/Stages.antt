@@ -109,4 +109,4 @@ issuedOf entries file needs s x id =
 
 unfoldable pub libraryOf : List ℕ → List ℕ → List ℕ → Links → List ℕ → Links
 libraryOf entries file needs s x =
-    issuedOf entries file needs s x (record { 0 = findOf (s .bytes) (s .names) (s .stage .link .names) x })
+    issuedOf entries file needs s x (record { 0 = findOf (s .bytes) (s .names) (s .stage .link) x })

@@ -66,6 +66,7 @@ fn input_row(l: Link, inputs: &mut [u64], id: Interned, first: usize, middle: us
             lists: l.lists,
             chains: l.chains,
             slots: l.slots,
+            key: l.key,
             broken: l.broken,
         });
     }
@@ -139,7 +140,7 @@ fn load_library(
 ) -> Stage
     ensures { λ r. ⌜ linksOf (now (bytes .exit)) (now (names .exit)) (now (symbols .exit)) (now (sections .exit)) (now (inputs .exit)) (now (lists .exit)) r ≡ libraryOf (now (entries .entry)) (now (file .entry)) (now (needs .entry)) (linksOf (now (bytes .entry)) (now (names .entry)) (now (symbols .entry)) (now (sections .entry)) (now (inputs .entry)) (now (lists .entry)) (goingOf l)) (now (x .entry)) ⌝ }
 {
-    let id = Interned(interner::find(bytes, names, l.names, x));
+    let id = interner::find(l, bytes, names, x);
     if interner_issue::fits(l, bytes, names, id, x.len()) {
         let kept = interner_issue::keep(l, bytes, names, id, x);
         return load_contents(
@@ -290,10 +291,10 @@ pub fn load_shared_object<'a>(
     ensures { λ r. ⌜ outcome (now (bytes .exit)) (now (names .exit)) (now (symbols .exit)) (now (sections .exit)) (now (inputs .exit)) (now (lists .exit)) (now (marks .exit)) r ≡ loadOf (inputAs (now (entries .entry)) (now (file .entry)) (now (needs .entry)) (now (path .entry)) archived sonamed soname asneeded) (allOf (now (bytes .entry)) (now (names .entry)) (now (symbols .entry)) (now (sections .entry)) (now (inputs .entry)) (now (lists .entry)) (now (marks .entry)) l) ⌝ }
 {
     let lent = Lent {
-        names: names.len(),
+        names: names.len() / link::NAME_CELLS,
         bytes: bytes.len(),
         symbols: symbols.len(),
-        sections: sections.len(),
+        sections: sections.len() / link::SECTION_CELLS,
         inputs: inputs.len(),
         lists: lists.len(),
     };

@@ -1,5 +1,6 @@
 // The direct add to a symbol table: the first checks, the row, what is decided and what is written.
 ghost use mathlib.Core.Path.{_≡_};
+ghost use Rattle.link.specs.Bounds.{nameRows, sectionSlots};
 ghost use Rattle.upcoming_symbol.specs.Upcoming.{nameOf, rowOf};
 ghost use Rattle.symbol_rows.specs.Apply.{tableOf};
 ghost use Rattle.symbols.specs.Calls.{outcome, lentOf};
@@ -24,9 +25,14 @@ fn judge_add(
     sections: usize,
     upcoming: UpcomingSymbol,
 ) -> Refusal
-    ensures { λ r. ⌜ r ≡ judgeAddOf l (lentOf names symbols sections) upcoming ⌝ }
+    ensures { λ r. ⌜ r ≡ judgeAddOf l (lentOf (nameRows names) symbols (sectionSlots sections)) upcoming ⌝ }
 {
-    let head = link_judge::judge_change(l, symbols::lent_rows(names, symbols, sections));
+    let lent = symbols::lent_rows(
+        names / link::NAME_CELLS,
+        symbols,
+        sections / link::SECTION_CELLS,
+    );
+    let head = link_judge::judge_change(l, lent);
     if head.number != 0 {
         return Refusal {
             number: head.number,
@@ -124,7 +130,7 @@ fn direct_holder(l: Link, names: &[u64], symbols: &[u64], name: Interned, file: 
     ensures { λ r. ⌜ r ≡ directHolderOf l (now (names .entry)) (now (symbols .entry)) name file ⌝ }
 {
     if issued(l, name, file) {
-        return symbol_rows::holder_of(names, symbols, l.names, name);
+        return symbol_rows::holder_of(l, names, symbols, name);
     }
     Holder::Unissued
 }

@@ -26,7 +26,7 @@ use Rattle.symbol_laws.specs.View.{Free, View, refused, kept, replaced, 
 use Rattle.symbol_laws.specs.Refused.{commit-refused}
 use Rattle.symbol_laws.specs.History.{State, table, store, withTable, withStore, Entry, only, Part, issue, put, putOf, idOf, partNext}
 use Rattle.symbol_laws.specs.Held.{Held, Inv}
-use Rattle.symbol_laws.specs.Issue.{linked-new, linked-old, room-free}
+use Rattle.symbol_laws.specs.Issue.{FreeRow, linked-new, linked-old, room-free}
 
 pub record Below (s : State) : Type 0 where
   pub few : s .link .symbols ≤ 65535
@@ -107,20 +107,20 @@ module _ (s : State) (b : Below s) (r : Row) where
 -- ---- a name issued
 
 module _ (s : State) (b : Below s) (x : List ℕ) where
-  added-below : s .link .names < nameRows (length (s .names)) → Below (withStore s (added (store s) x))
-  added-below free =
+  added-below : FreeRow (s .link) (s .names) → Below (withStore s (added (store s) x))
+  added-below row =
       record {
         few = b .few;
         held = λ n h z.
             by-test (eqb n (s .link .names))
             (λ e.
             let q : n ≡ s .link .names = eqb-true _ _ e in
-            absurd (z (rw q (linked-new (s .names) (s .link .names) (s .link .bytes) (length x) x free))))
+            absurd (z (rw q (linked-new (s .link) (s .names) (s .link .bytes) (length x) x row))))
             (λ e.
             let u : n ≢ s .link .names = eqb-false _ _ e in
             let k : n < s .link .names = less n (s .link .names) u (omega arith) in
             let q : globalAt (added (store s) x .names) n ≡ globalAt (s .names) n =
-            linked-old (s .names) (s .link .names) (s .link .bytes) (length x) x free n 3 (omega arith) (omega arith) u in
+            linked-old (s .link) (s .names) (s .link .bytes) (length x) x row n 3 (omega (arith, row .free)) (omega arith) u in
             rw q (b .held n k (λ y. z (q ∙ y))));
       }
     where

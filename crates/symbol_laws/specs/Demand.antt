@@ -53,20 +53,20 @@ module _ (s : State) (past : List Entry) (inv : Inv s past) (n : ℕ) where
         terms = h .content ∙ best-terms (x .row) (rows xs);
       }
 
-  holder-held : (id : ℕ) → n < s .link .names → globalAt (s .names) n ≡ id → 1 ≤ id → stateAt (s .symbols) id ≡ 1
-      → holderOf (s .names) (s .symbols) (s .link .names) (record { 0 = n }) ≡ Known (record { 0 = id })
+  holder-held : (id : ℕ) → n < s .link .names → globalAt (s .names) n ≡ id → 1 ≤ id → id < s .link .symbols → stateAt (s .symbols) id ≡ 1
+      → holderOf (s .link) (s .names) (s .symbols) (record { 0 = n }) ≡ Known (record { 0 = id })
   unfolding holderOf heldBy
-  holder-held id i e z p = rw (lt-leb (s .link .names) n i, e, ne-eqb id 0 (λ q. omega arith), p)
+  holder-held id i e z b p = rw (lt-leb (s .link .names) n i, e, ne-eqb id 0 (λ q. omega arith), lt-leb (s .link .symbols) id b, p)
 
   pub holder-known : (x : Entry) (xs : List Entry) → only n past ≡ x ∷ xs
-      → holderOf (s .names) (s .symbols) (s .link .names) (record { 0 = n }) ≡ Known (record { 0 = x .id })
-  holder-known x xs e = let h = resolved x xs e in holder-held (x .id) (h .issued) (h .id) (h .real) (h .present)
+      → holderOf (s .link) (s .names) (s .symbols) (record { 0 = n }) ≡ Known (record { 0 = x .id })
+  holder-known x xs e = let h = resolved x xs e in holder-held (x .id) (h .issued) (h .id) (h .real) (h .counted) (h .present)
 
   -- no accepted global add: nobody holds the name, issued or not
   pub no-row : only n past ≡ [] → n < s .link .names → globalAt (s .names) n ≡ 0
   no-row e i = subst (Held s n) e (inv .held-by n i)
 
-  pub holder-none : only n past ≡ [] → holderOf (s .names) (s .symbols) (s .link .names) (record { 0 = n }) ≡ Nobody
+  pub holder-none : only n past ≡ [] → holderOf (s .link) (s .names) (s .symbols) (record { 0 = n }) ≡ Nobody
   unfolding holderOf heldBy
   holder-none e =
       by-test (leb (s .link .names) n) (λ h. rw h) (λ h. rw (h, no-row e (leb-false _ _ h)))

@@ -113,7 +113,7 @@ abbrev pub putOf : State → Row → Left
 putOf s r = addRowOf (table s) r File.None
 
 abbrev pub idOf : State → List ℕ → Interned
-idOf s x = record { 0 = findOf (s .bytes) (s .names) (s .link .names) x }
+idOf s x = record { 0 = findOf (s .bytes) (s .names) (s .link) x }
 
 abbrev pub partNext : Part → State → State
 partNext (issue x) s = withStore s (keepOf (store s) (idOf s x) x)

@@ -12,51 +12,60 @@ use borrow.Author.Tests.{ltb-true, ltb-false, leb-false, eqb-true, eqb-false}
 use Rattle.cells.specs.Split.{by-test}
 use Rattle.link.specs.declared.Interned.{Interned}
 use Rattle.link.specs.Bounds.{nameRows}
-use Rattle.interner.specs.Hash.{headCell}
+use Rattle.link.specs.declared.Link.{Link}
+use Rattle.interner.specs.Hash.{headOf}
 use Rattle.interner.specs.Names.{Store, roomOf, linked, added, keepOf}
 use Rattle.interner_laws.specs.Written.{head-behind, linked-long, row-old, row-new}
 use Rattle.symbol_rows.specs.Holder.{globalAt}
 use Rattle.symbol_laws.specs.History.{State, store, withStore, Entry, only}
 use Rattle.symbol_laws.specs.Held.{Inv, held-kept}
 
-module _ (names : List ℕ) (count start len : ℕ) (x : List ℕ) (free : count < nameRows (length names)) where
+-- a row that a new table was lent, which still is, and is free
+pub record FreeRow (l : Link) (names : List ℕ) : Type 0 where
+  pub lent : l .chains ≤ nameRows (length names)
+  pub free : l .names < l .chains
+
+module _ (l : Link) (names : List ℕ) (start len : ℕ) (x : List ℕ) (row : FreeRow l names) where
   abbrev head : ℕ
-  head = headCell (length names) x
+  head = headOf l names x
 
-  behind : nameRows (length names) * 8 ≤ head
-  behind = head-behind (length names) x (omega arith)
+  behind : l .chains * 8 ≤ head
+  behind = head-behind l (length names) x (row .lent)
 
-  pub linked-new : globalAt (linked names count start len head) count ≡ 0
-  linked-new = row-new names count start len head free behind 3 (omega arith)
+  pub linked-new : globalAt (linked names (l .names) start len head) (l .names) ≡ 0
+  linked-new = row-new names (l .names) start len head (l .chains) (row .lent) (row .free) behind 3 (omega arith)
 
-  pub linked-old : (m f : ℕ) → m < nameRows (length names) → f < 8 → m ≢ count → getD (linked names count start len head) (m * 8 + f) 0 ≡ getD names (m * 8 + f) 0
-  linked-old m f h k u = row-old names count start len head free behind m f h u k
+  pub linked-old : (m f : ℕ) → m < l .chains → f < 8 → m ≢ l .names → getD (linked names (l .names) start len head) (m * 8 + f) 0 ≡ getD names (m * 8 + f) 0
+  linked-old m f h k u = row-old names (l .names) start len head (l .chains) (row .lent) (row .free) behind m f h u k
 
-pub room-free : (s : Store) (n : ℕ) → roomOf s n ≡ true → s .link .names < nameRows (length (s .names))
+pub room-free : (s : Store) (n : ℕ) → roomOf s n ≡ true → FreeRow (s .link) (s .names)
 unfolding roomOf
 room-free s n e =
-    by-test (leb (nameRows (length (s .names))) (s .link .names)) (λ h. absurd (false≢true (rw h at e))) (λ h. leb-false _ _ h)
+    by-test (ltb (nameRows (length (s .names))) (s .link .chains)) (λ h. absurd (false≢true (rw h at e)))
+    (λ h.
+    by-test (leb (s .link .chains) (s .link .names)) (λ k. absurd (false≢true (rw (h, k) at e)))
+    (λ k. record { lent = ltb-false _ _ h; free = leb-false _ _ k }))
 
 module _ (s : State) (past : List Entry) (inv : Inv s past) (x : List ℕ) where
-  on-added : s .link .names < nameRows (length (s .names)) → Inv (withStore s (added (store s) x)) past
-  on-added free =
+  on-added : FreeRow (s .link) (s .names) → Inv (withStore s (added (store s) x)) past
+  on-added row =
       let t : State = withStore s (added (store s) x) in
       let count : ℕ = s .link .names in
-      let long : length (t .names) ≡ length (s .names) = linked-long (s .names) count (s .link .bytes) (length x) (headCell (length (s .names)) x) in
+      let long : length (t .names) ≡ length (s .names) = linked-long (s .names) count (s .link .bytes) (length x) (headOf (s .link) (s .names) x) in
       record {
         some = inv .some;
         room = inv .room;
         few = inv .few;
-        names-room = omega arith;
+        names-room = omega (arith, row .lent, row .free);
         held-by = λ m h.
             by-test (eqb m count)
             (λ e.
             let q : m ≡ count = eqb-true _ _ e in
-            rw (q, inv .unissued count (omega arith)) (linked-new (s .names) count (s .link .bytes) (length x) x free))
+            rw (q, inv .unissued count (omega arith)) (linked-new (s .link) (s .names) (s .link .bytes) (length x) x row))
             (λ e.
             let u : m ≢ count = eqb-false _ _ e in
             let k : m < count = below m count u (omega arith) in
-            held-kept s t m (only m past) (linked-old (s .names) count (s .link .bytes) (length x) x free m 3 (omega arith) (omega arith) u)
+            held-kept s t m (only m past) (linked-old (s .link) (s .names) (s .link .bytes) (length x) x row m 3 (omega (arith, row .free)) (omega arith) u)
             (omega arith) (λ i r p. (refl, refl)) (inv .held-by m k));
         unissued = λ m h. inv .unissued m (omega arith);
         once = inv .once;

@@ -17,3 +17,7 @@ pub mod Writes
 pub mod Gabi
 pub mod Agreement
 pub mod Duplicate
+pub mod ObjectWords
+pub mod ContentWords
+pub mod DirectContents
+pub mod Hidden

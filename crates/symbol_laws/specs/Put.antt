@@ -28,6 +28,7 @@ use Rattle.symbol_laws.specs.Rank.{ranked, best, strongDefinition, count
 use Rattle.symbol_laws.specs.Rows.{rowAt, stored-there, stored-row, there-kept, row-kept}
 use Rattle.symbol_laws.specs.View.{Named, Free, View, refused, kept, replaced, appended, local, view, decided, yields}
 use Rattle.symbol_laws.specs.Refused.{commit-refused}
+use Rattle.symbol_laws.specs.Below.{inv-below}
 use Rattle.symbol_laws.specs.History.{State, table, withTable, Source, Entry, noted, only, rows, putOf}
 use Rattle.symbol_laws.specs.Held.{Holds, Held, Inv, only-same, only-other, rows-snoc, after-snoc, held-kept, apart, none-held}
 
@@ -283,6 +284,13 @@ module _ (s : State) (past : List Entry) (inv : Inv s past) (r : Row) (from : So
       → Inv (withTable s t) (past ++ noted r from (accepted id))
   logged t id v i = subst (λ (l : List Entry). Inv (withTable s t) (past ++ l)) (sym (noted-global r from id v)) i
 
+  -- a row past the count isn't the name's
+  unheld : r .name .0 < s .link .names → (globalAt (s .names) (r .name .0) ≢ 0 → s .link .symbols ≤ globalAt (s .names) (r .name .0))
+      → globalAt (s .names) (r .name .0) ≡ 0
+  unheld i past =
+      by-test (eqb (globalAt (s .names) (r .name .0)) 0) (λ z. eqb-true _ _ z)
+      (λ z. let n : globalAt (s .names) (r .name .0) ≢ 0 = eqb-false _ _ z in absurd (omega (arith, past n, inv-below s _ inv .held (r .name .0) i n)))
+
   viewed : View (table s) r → Good (putOf s r)
   unfolding committedOf applyOf
   viewed (refused n e z) =
@@ -290,7 +298,7 @@ module _ (s : State) (past : List Entry) (inv : Inv s past) (r : Row) (from : So
       decides (Refuse n) e (idle (committedOf (table s) r File.None (Refuse n)) a (noted-refused r from _ b))
   viewed (kept e k z o w) = decides _ e (logged _ _ (k .global) (on-kept s past inv r from k z o w))
   viewed (replaced e k z o) = decides _ e (logged _ _ (k .global) (on-replaced s past inv r from k z o))
-  viewed (appended e f k z) = decides _ e (logged _ _ (k .global) (on-appended s past inv r from f k z))
+  viewed (appended e f k z) = decides _ e (logged _ _ (k .global) (on-appended s past inv r from f k (unheld (k .issued) z)))
   viewed (local e f v) =
       decides _ e (subst (Inv (withTable s (appendOf (table s) r))) (sym (ap (_++_ past) (noted-local r from _ v) ∙ append-nil past)) (on-local s past inv r from f v))
 

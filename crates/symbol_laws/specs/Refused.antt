@@ -9,7 +9,7 @@ use mathlib.Core.Logic.{_≢_}
 use lib.Dec.{eqb, leb}
 use lib.ListN.{length}
 use borrow.Author.Tests.{eqb-false, ne-eqb}
-use Rattle.link.specs.Bounds.{notLent}
+use Rattle.link.specs.Bounds.{sectionSlots}
 use Rattle.link.specs.Said.{numberIn}
 use Rattle.cells.specs.Split.{by-test}
 use Rattle.link.specs.declared.Link.{Link}
@@ -99,7 +99,7 @@ module _ (t : Table) (conversion : List ℕ) (u : UpcomingSymbol) where
 
 module _ (s : Store) (x : List ℕ) where
   abbrev id : Interned
-  id = record { 0 = findOf (s .bytes) (s .names) (s .link .names) x }
+  id = record { 0 = findOf (s .bytes) (s .names) (s .link) x }
 
   pub intern-refused : numberIn (Names.internOf s x .said) ≢ 0 → Names.internOf s x .store ≡ s
   unfolding Names.internOf Names.issueOf
@@ -117,7 +117,7 @@ module _ (s : Store) (x : List ℕ) where
 
 module _ (l : Link) (x : Rows) (id : SymbolId) where
   abbrev judged : Refusal
-  judged = changeOf l (lentOf notLent (length (x .symbols)) (length (x .sections)))
+  judged = changeOf l (lentOf (l .chains) (length (x .symbols)) (sectionSlots (length (x .sections))))
 
   pub remove-refused : numberIn (removeOf l x id .said) ≢ 0 → removeOf l x id .rows ≡ x
   unfolding removeOf

@@ -12,7 +12,7 @@ use Rattle.symbol.specs.RowLaws.{length-setRow}
 use Rattle.link.specs.Said.{numberIn}
 use Rattle.cells.specs.Split.{by-test}
 use Rattle.link.specs.Bounds.{lesser, nameRows, symbolRows}
-use Rattle.interner.specs.Hash.{headCell}
+use Rattle.interner.specs.Hash.{headOf}
 use Rattle.interner.specs.Names.{Store, storeOf, roomOf, added, keepOf}
 use Rattle.interner.specs.Calls as Names
 use Rattle.interner_laws.specs.Written.{linked-long}
@@ -21,7 +21,7 @@ use Rattle.symbols.specs.New.{nullRow, nullOf, newOf}
 use Rattle.symbol_laws.specs.View.{lesser-second}
 use Rattle.symbol_laws.specs.History.{opened}
 use Rattle.symbol_laws.specs.Held.{Inv}
-use Rattle.symbol_laws.specs.Issue.{linked-new, room-free}
+use Rattle.symbol_laws.specs.Issue.{FreeRow, linked-new, room-free}
 
 -- only the empty name, without a row
 record Blank (s : Store) : Type 0 where
@@ -29,21 +29,21 @@ record Blank (s : Store) : Type 0 where
   long : 9 ≤ length (s .names)
   none : globalAt (s .names) 0 ≡ 0
 
-added-blank : (s : Store) → s .link .names ≡ 0 → s .link .names < nameRows (length (s .names)) → Blank (added s [])
-added-blank s z free =
-    let long : length (added s [] .names) ≡ length (s .names) = linked-long (s .names) (s .link .names) (s .link .bytes) 0 (headCell (length (s .names)) []) in
+added-blank : (s : Store) → s .link .names ≡ 0 → FreeRow (s .link) (s .names) → Blank (added s [])
+added-blank s z row =
+    let long : length (added s [] .names) ≡ length (s .names) = linked-long (s .names) (s .link .names) (s .link .bytes) 0 (headOf (s .link) (s .names) []) in
     record {
       one = omega arith;
-      long = omega arith;
-      none = subst (λ (n : ℕ). globalAt (added s [] .names) n ≡ 0) z (linked-new (s .names) (s .link .names) (s .link .bytes) 0 [] free);
+      long = omega (arith, row .lent, row .free);
+      none = subst (λ (n : ℕ). globalAt (added s [] .names) n ≡ 0) z (linked-new (s .link) (s .names) (s .link .bytes) 0 [] row);
     }
 
-names-blank : (bytes names : List ℕ) → Names.newOf bytes names .store .link .names ≢ 0 → Blank (Names.newOf bytes names .store)
+names-blank : (key : ℕ) (bytes names : List ℕ) → Names.newOf key bytes names .store .link .names ≢ 0 → Blank (Names.newOf key bytes names .store)
 unfolding Names.newOf keepOf
-names-blank bytes names z =
+names-blank key bytes names z =
     by-test (eqb (nameRows (length names)) 0) (λ a. absurd (z (rw a)))
     (λ a.
-    let s : Store = storeOf bytes (Names.clearHeads names) (Names.noNames (nameRows (length names))) in
+    let s : Store = storeOf bytes (Names.clearHeads names) (Names.noNames key (nameRows (length names))) in
     by-test (roomOf s 0) (λ b. rw (a, b) (added-blank s refl (room-free s 0 b))) (λ b. absurd (z (rw (a, b)))))
 
 module _ (symbols sections : List ℕ) (s : Store) (some : symbolRows (length symbols) ≢ 0) where
@@ -65,9 +65,9 @@ module _ (symbols sections : List ℕ) (s : Store) (some : symbolRows (length sy
         once = λ n. omega arith;
       }))
 
-module _ (bytes names symbols sections : List ℕ) where
-  pub new-inv : numberIn (newOf bytes names symbols sections .said) ≡ 0 → Inv (opened (newOf bytes names symbols sections)) []
+module _ (key : ℕ) (bytes names symbols sections : List ℕ) where
+  pub new-inv : numberIn (newOf key bytes names symbols sections .said) ≡ 0 → Inv (opened (newOf key bytes names symbols sections)) []
   unfolding newOf
   new-inv e =
       by-test (eqb (symbolRows (length symbols)) 0) (λ a. let q : _≡_ {A = ℕ} 2 0 = rw a at e in absurd (omega arith))
-      (λ a. rw a (null-inv symbols sections (Names.newOf bytes names .store) (eqb-false _ _ a) (names-blank bytes names) (rw a at e)))
+      (λ a. rw a (null-inv symbols sections (Names.newOf key bytes names .store) (eqb-false _ _ a) (names-blank key bytes names) (rw a at e)))

@@ -21,7 +21,7 @@ use Rattle.upcoming_symbol.specs.declared.UpcomingSymbol.{UpcomingSymbol}
 use Rattle.symbols.specs.Add.{addOf}
 use Rattle.symbol_laws.specs.Rank.{firstOf}
 use Rattle.symbol_laws.specs.Rows.{rowAt}
-use Rattle.symbol_laws.specs.History.{State, opened, Entry, only, rows, Part, putOf, runParts, logParts, Call, callNext, callNumber, runCalls, logCalls, RemovesNothing}
+use Rattle.symbol_laws.specs.History.{State, opened, Entry, only, rows, Part, putOf, runParts, logParts, Call, add, intern, callNext, callNumber, runCalls, logCalls, Removes, RemovesNothing}
 use Rattle.symbol_laws.specs.Held.{Inv}
 use Rattle.symbol_laws.specs.Start.{new-inv}
 use Rattle.symbol_laws.specs.Calls.{call-refused, parts-keep, calls-keep}
@@ -33,14 +33,21 @@ use Rattle.symbol_laws.specs.Gabi.{Means, AllMean, symOfRow, means-own, 
 use Rattle.symbol_laws.specs.Agreement as Agreement
 use Rattle.symbol_laws.specs.Duplicate as Duplicate
 
+-- of the calls only a removal removes, so adds and interns of every kind may stand in a sequence that removes nothing
+pub add-removes-nothing : (conversion : List ℕ) (u : UpcomingSymbol) (s : State) → Removes (add conversion u) s → ⊥
+add-removes-nothing conversion u s r = r
+
+pub intern-removes-nothing : (x : List ℕ) (s : State) → Removes (intern x) s → ⊥
+intern-removes-nothing x s r = r
+
 -- "Let a link be a new table"
-module _ (bytes names symbols sections : List ℕ) (new : numberIn (newOf bytes names symbols sections .said) ≡ 0) where
+module _ (key : ℕ) (bytes names symbols sections : List ℕ) (new : numberIn (newOf key bytes names symbols sections .said) ≡ 0) where
   abbrev pub start : State
-  start = opened (newOf bytes names symbols sections)
+  start = opened (newOf key bytes names symbols sections)
 
   -- for names issued and rows added one by one, as every call does
   pub rows-3a : (ps : List Part) (n : ℕ) (x : Entry) (xs : List Entry) → only n (logParts ps start) ≡ x ∷ xs → Demand.Resolved (runParts ps start) n x xs
-  rows-3a ps n x xs e = Demand.resolved _ _ (parts-keep ps start [] (new-inv bytes names symbols sections new)) n x xs e
+  rows-3a ps n x xs e = Demand.resolved _ _ (parts-keep ps start [] (new-inv key bytes names symbols sections new)) n x xs e
 
   -- "and any sequence of calls that removes nothing"
   module _ (ks : List Call) (quiet : RemovesNothing ks start) where
@@ -52,10 +59,10 @@ module _ (bytes names symbols sections : List ℕ) (new : numberIn (newOf bytes 
     adds n = only n (logCalls ks start)
 
     kept : Inv end (logCalls ks start)
-    kept = calls-keep ks start [] quiet (new-inv bytes names symbols sections new)
+    kept = calls-keep ks start [] quiet (new-inv key bytes names symbols sections new)
 
     within : Within.Within (end .link) (end .names)
-    within = Within.calls-within ks start quiet (Within.new-within bytes names symbols sections new)
+    within = Within.calls-within ks start quiet (Within.new-within key bytes names symbols sections new)
 
     -- "each global name has the id of its first accepted add and the content of its first accepted strong definition, else weak
     -- definition, else add"

@@ -73,7 +73,7 @@ module _ (t : Table) (r : Row) where
     refused : (n : ℕ) → decided ≡ Refuse n → n ≢ 0 → View
     kept : decided ≡ Keep (record { 0 = held }) → Named → held ≢ 0 → yields ≡ false → ranked r ≢ 4 → View
     replaced : decided ≡ Replace (record { 0 = held }) → Named → held ≢ 0 → yields ≡ true → View
-    appended : decided ≡ Append → Free → Named → held ≡ 0 → View
+    appended : decided ≡ Append → Free → Named → (held ≢ 0 → t .link .symbols ≤ held) → View
     local : decided ≡ Append → Free → r .visibility ≡ 0 → View
 
   free : roomOf (t .link) (t .symbols) (t .sections) r ≡ true → Free
@@ -111,7 +111,7 @@ module _ (t : Table) (r : Row) where
       (λ y.
       by-test (eqb (ranked r) 4) (λ k. refused 17 (e ∙ rw (h, y, k)) (λ z. omega arith)) (λ k. kept (e ∙ rw (h, y, k)) n s y (eqb-false _ _ k))))
 
-  holder-is : leb (t .link .names) (r .name .0) ≡ false → directHolderOf (t .link) (t .names) (t .symbols) (r .name) File.None ≡ heldBy (t .symbols) held
+  holder-is : leb (t .link .names) (r .name .0) ≡ false → directHolderOf (t .link) (t .names) (t .symbols) (r .name) File.None ≡ heldBy (t .link .symbols) (t .symbols) held
   unfolding directHolderOf issuedOf holderOf
   holder-is h = simp h
 
@@ -120,15 +120,17 @@ module _ (t : Table) (r : Row) where
   holder-none h = simp h
 
   -- global, under who holds the name
-  global-view : Named → decided ≡ namedOf (t .link) (t .symbols) (t .sections) r (heldBy (t .symbols) held) → View
+  global-view : Named → decided ≡ namedOf (t .link) (t .symbols) (t .sections) r (heldBy (t .link .symbols) (t .symbols) held) → View
   unfolding heldBy
   global-view n d =
-      by-test (eqb held 0) (λ z. new-view (under Nobody (rw z)) (λ a f. appended a f n (eqb-true _ _ z)))
+      by-test (eqb held 0) (λ z. new-view (under Nobody (rw z)) (λ a f. appended a f n (λ w. absurd (w (eqb-true _ _ z)))))
       (λ z.
-      by-test (eqb (stateAt (t .symbols) held) 2) (λ s. refused 21 (under Removed (rw (z, s))) (λ q. omega arith))
-      (λ s. known-view (under (Known (record { 0 = held })) (rw (z, s))) n (eqb-false _ _ z)))
+      by-test (leb (t .link .symbols) held) (λ c. new-view (under Nobody (rw (z, c))) (λ a f. appended a f n (λ w. leb-true _ _ c)))
+      (λ c.
+      by-test (eqb (stateAt (t .symbols) held) 2) (λ s. refused 21 (under Removed (rw (z, c, s))) (λ q. omega arith))
+      (λ s. known-view (under (Known (record { 0 = held })) (rw (z, c, s))) n (eqb-false _ _ z))))
     where
-      under : (h : Holder) → heldBy (t .symbols) held ≡ h → decided ≡ namedOf (t .link) (t .symbols) (t .sections) r h
+      under : (h : Holder) → heldBy (t .link .symbols) (t .symbols) held ≡ h → decided ≡ namedOf (t .link) (t .symbols) (t .sections) r h
       under h e = d ∙ ap (namedOf (t .link) (t .symbols) (t .sections) r) e
 
   local-view : eqb (r .visibility) 0 ≡ true → (h : Holder) → decided ≡ localOf (t .link) (t .symbols) (t .sections) r h → View

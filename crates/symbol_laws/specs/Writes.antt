@@ -8,13 +8,14 @@ use mathlib.Core.List.{List, [], _∷_, _++_}
 use mathlib.Core.Logic.{_≢_}
 use lib.Dec.{eqb, ltb, leb}
 use lib.ListN.{getD, length}
-use lib.Seq.{getD-set-other}
+use lib.Seq.{getD-set-other, set-out}
 use borrow.Author.Tests.{eqb-true, eqb-false, leb-false, lt-ltb}
 use Rattle.link.specs.Said.{numberIn, valueIn}
 use Rattle.cells.specs.Split.{by-test}
+use Rattle.link.specs.declared.Link.{Link}
 use Rattle.link.specs.declared.SymbolId.{SymbolId}
 use Rattle.link.specs.declared.Interned.{Interned}
-use Rattle.link.specs.Bounds.{notLent, nameRows}
+use Rattle.link.specs.Bounds.{sectionSlots}
 use Rattle.link.specs.Judge.{changeOf}
 use Rattle.interner.specs.Names.{Store, roomOf, added, keepOf}
 use Rattle.symbol.specs.RowLaws.{field-other}
@@ -26,7 +27,7 @@ use Rattle.symbol.specs.Row.{field, stateAt, setRow}
 use Rattle.symbol_rows.specs.declared.Decision.{Decision}
 use Rattle.symbol_rows.specs.declared.Decision.the-variants.{Refuse}
 use Rattle.symbol_rows.specs.Holder.{globalAt}
-use Rattle.symbol_rows.specs.Decide.{sectionCells}
+use Rattle.symbol_rows.specs.Decide.{sectionCell}
 use Rattle.symbol_rows.specs.Apply.{Table, noteName, setSectionSymbol, noteSection, appendOf, applyOf}
 use Rattle.symbols.specs.Calls.{Left, lentOf}
 use Rattle.upcoming_symbol.specs.declared.UpcomingSymbol.{UpcomingSymbol}
@@ -39,7 +40,7 @@ use Rattle.symbol_laws.specs.Calls.{call-refused}
 use Rattle.symbol_laws.specs.History.{State, table, store, withTable, withStore, withRows, Entry, only, rows, putOf, idOf, Call, add, intern, remove, upcoming, callNext, callNumber}
 use Rattle.symbol_laws.specs.Held.{Holds, Held, Inv}
 use Rattle.symbol_laws.specs.Below.{Below}
-use Rattle.symbol_laws.specs.Issue.{linked-old, room-free}
+use Rattle.symbol_laws.specs.Issue.{FreeRow, linked-old, room-free}
 use Rattle.symbol_laws.specs.Rank.{best}
 use Rattle.symbol_laws.specs.Demand.{resolved}
 
@@ -81,8 +82,8 @@ add-one-row t conversion u j f h n =
 -- from s to t: symbol rows and name rows past t's counts stand as they stood, and so do all section rows
 pub record Untouched (s t : State) : Type 0 where
   pub symbols : (q : ℕ) → t .link .symbols * 8 ≤ q → getD (t .symbols) q 0 ≡ getD (s .symbols) q 0
-  pub names : (q : ℕ) → t .link .names * 8 ≤ q → q < nameRows (length (s .names)) * 8 → getD (t .names) q 0 ≡ getD (s .names) q 0
-  pub sections : (q : ℕ) → q < sectionCells (length (s .sections)) * 8 → getD (t .sections) q 0 ≡ getD (s .sections) q 0
+  pub names : (q : ℕ) → t .link .names * 8 ≤ q → q < s .link .chains * 8 → getD (t .names) q 0 ≡ getD (s .names) q 0
+  pub sections : (q : ℕ) → q < s .link .slots * 8 → getD (t .sections) q 0 ≡ getD (s .sections) q 0
 
 pub untouched : (s : State) → Untouched s s
 untouched s = record { symbols = λ q h. refl; names = λ q h k. refl; sections = λ q h. refl }
@@ -96,16 +97,19 @@ stored-past : (l : List ℕ) (id : SymbolId) (r : Row) (count q : ℕ) → id .0
 stored-past l id r count q h k = cell-at l (setRow l id r) q (λ f g. field-other l id r (q / 8) f g (λ e. omega arith))
 
 -- a section's symbol lies behind the rows
-symbol-behind : (l : List ℕ) (s id q : ℕ) → q < sectionCells (length l) * 8 → getD (setSectionSymbol l s id) q 0 ≡ getD l q 0
-unfolding setSectionSymbol
-symbol-behind l s id q h =
-    by-test (ltb s (sectionCells (length l))) (λ t. rw t (getD-set-other l _ q id 0 (λ e. omega arith))) (λ t. rw t)
+symbol-behind : (k : Link) (l : List ℕ) (s id q : ℕ) → q < k .slots * 8 → getD (setSectionSymbol k l s id) q 0 ≡ getD l q 0
+unfolding setSectionSymbol sectionCell
+symbol-behind k l s id q h =
+    by-test (ltb (sectionSlots (length l)) (k .slots)) (λ t. rw t (ap (λ (m : List ℕ). getD m q 0) (set-out l (length l) id (omega arith))))
+    (λ t.
+    by-test (ltb s (k .slots)) (λ u. rw (t, u) (getD-set-other l _ q id 0 (λ e. omega arith)))
+    (λ u. rw (t, u) (ap (λ (m : List ℕ). getD m q 0) (set-out l (length l) id (omega arith)))))
 
-pub section-behind : (l : List ℕ) (r : Row) (id q : ℕ) → q < sectionCells (length l) * 8 → getD (noteSection l r id) q 0 ≡ getD l q 0
+pub section-behind : (k : Link) (l : List ℕ) (r : Row) (id q : ℕ) → q < k .slots * 8 → getD (noteSection k l r id) q 0 ≡ getD l q 0
 unfolding noteSection
-section-behind l r id q h =
+section-behind k l r id q h =
     by-test (eqb (r .visibility) 0)
-    (λ v. by-test (eqb (r .value .kind) 2) (λ k. rw (v, k) (symbol-behind l (r .value .a) id q h)) (λ k. rw (v, k))) (λ v. rw v)
+    (λ v. by-test (eqb (r .value .kind) 2) (λ w. rw (v, w) (symbol-behind k l (r .value .a) id q h)) (λ w. rw (v, w))) (λ v. rw v)
 
 note-low : (l : List ℕ) (r : Row) (id count q : ℕ) → (r .visibility ≢ 0 → r .name .0 < count) → count * 8 ≤ q → getD (noteName l r id) q 0 ≡ getD l q 0
 unfolding noteName
@@ -122,7 +126,7 @@ module _ (s : State) (b : Below s) where
         record {
           symbols = λ q h. stored-past (s .symbols) (record { 0 = s .link .symbols }) r (s .link .symbols + 1) q (omega arith) (omega (arith, more, h));
           names = λ q h k. note-low (s .names) r (s .link .symbols) (s .link .names) q i h;
-          sections = λ q h. section-behind (s .sections) r (s .link .symbols) q h;
+          sections = λ q h. section-behind (s .link) (s .sections) r (s .link .symbols) q h;
         }
 
     Past : Left → Type 0
@@ -159,22 +163,22 @@ module _ (s : State) (b : Below s) where
       (λ a.
       by-test (roomOf (store s) (length x)) (λ b. rw (a, b) (added-past (room-free (store s) (length x) b))) (λ b. rw (a, b) (untouched s)))
     where
-      added-past : s .link .names < nameRows (length (s .names)) → Untouched s (withStore s (added (store s) x))
-      added-past free =
+      added-past : FreeRow (s .link) (s .names) → Untouched s (withStore s (added (store s) x))
+      added-past row =
           record {
             symbols = λ q h. refl;
             names = λ q h k.
                 cell-at (s .names) (added (store s) x .names) q
-                (λ f g. linked-old (s .names) (s .link .names) (s .link .bytes) (length x) x free (q / 8) f (omega arith) g (λ e. omega arith));
+                (λ f g. linked-old (s .link) (s .names) (s .link .bytes) (length x) x row (q / 8) f (omega arith) g (λ e. omega arith));
             sections = λ q h. refl;
           }
 
-drop-behind : (l : List ℕ) (kind s q : ℕ) → q < sectionCells (length l) * 8 → getD (dropSection l kind s) q 0 ≡ getD l q 0
+drop-behind : (k : Link) (l : List ℕ) (kind s q : ℕ) → q < k .slots * 8 → getD (dropSection k l kind s) q 0 ≡ getD l q 0
 unfolding dropSection
-drop-behind l kind s q h = by-test (eqb kind 2) (λ k. rw k (symbol-behind l s 0 q h)) (λ k. rw k)
+drop-behind k l kind s q h = by-test (eqb kind 2) (λ e. rw e (symbol-behind k l s 0 q h)) (λ e. rw e)
 
 -- of a row below the count; whatever the rows hold
-removed-past : (s : State) (id : SymbolId) → id .0 < s .link .symbols → Untouched s (withRows s (removeRowOf (rowsOf (s .symbols) (s .sections)) id) (s .link))
+removed-past : (s : State) (id : SymbolId) → id .0 < s .link .symbols → Untouched s (withRows s (removeRowOf (s .link) (rowsOf (s .symbols) (s .sections)) id) (s .link))
 unfolding removeRowOf
 removed-past s id i =
     by-test (eqb (stateAt (s .symbols) (id .0)) 2) (λ a. rw a (untouched s))
@@ -183,13 +187,13 @@ removed-past s id i =
     (record {
       symbols = λ q h. getD-set-other (s .symbols) (id .0 * 8 + 0) q 2 0 (λ e. omega arith);
       names = λ q h k. refl;
-      sections = λ q h. drop-behind (s .sections) _ _ q h;
+      sections = λ q h. drop-behind (s .link) (s .sections) _ _ q h;
     }))
 
 pub remove-past : (s : State) (id : SymbolId) → Untouched s (callNext (remove id) s)
 unfolding removeOf
 remove-past s id =
-    by-test (eqb (changeOf (s .link) (lentOf notLent (length (s .symbols)) (length (s .sections))) .number) 0)
+    by-test (eqb (changeOf (s .link) (lentOf (s .link .chains) (length (s .symbols)) (sectionSlots (length (s .sections)))) .number) 0)
     (λ a.
     by-test (leb (s .link .symbols) (id .0)) (λ b. rw (a, b) (untouched s)) (λ b. rw (a, b) (removed-past s id (leb-false _ _ b))))
     (λ a. rw a (untouched s))

@@ -49,10 +49,7 @@ pub fn get(table: Symbols, symbols: &[u64], id: SymbolId) -> Found
     ensures { λ r. ⌜ r ≡ getOf (table .link) (now (symbols .entry)) id ⌝ }
 {
     let l = table.link;
-    let head = link_judge::judge(
-        l,
-        symbols::lent_rows(link::NOT_LENT, symbols.len(), link::NOT_LENT),
-    );
+    let head = link_judge::judge(l, symbols::lent_rows(l.chains, symbols.len(), l.slots));
     if head.number != 0 {
         return Found::Refused { refusal: head };
     }
@@ -68,12 +65,12 @@ pub fn get_global(table: Symbols, names: &[u64], symbols: &[u64], name: Interned
     let l = table.link;
     let head = link_judge::judge(
         l,
-        symbols::lent_rows(names.len(), symbols.len(), link::NOT_LENT),
+        symbols::lent_rows(names.len() / link::NAME_CELLS, symbols.len(), l.slots),
     );
     if head.number != 0 {
         return Found::Refused { refusal: head };
     }
-    let holder = symbol_rows::holder_of(names, symbols, l.names, name);
+    let holder = symbol_rows::holder_of(l, names, symbols, name);
     held_at(symbols, name, holder)
 }
 
@@ -82,14 +79,10 @@ pub fn section_symbol_id(table: Symbols, sections: &[u64], section: SectionId) -
     ensures { λ r. ⌜ r ≡ sectionSymbolOf (table .link) (now (sections .entry)) section ⌝ }
 {
     let l = table.link;
-    let slots = l.slots;
-    if symbol_rows::section_cells(sections.len()) < slots {
-        return SectionSymbol::None;
-    }
-    if slots <= section.0 {
-        return SectionSymbol::None;
-    }
-    let id = cells::get(sections, slots * 8 + section.0);
+    let id = cells::get(
+        sections,
+        symbol_rows::section_cell(l, sections.len(), section),
+    );
     if id == 0 {
         return SectionSymbol::None;
     }

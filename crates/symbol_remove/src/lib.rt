@@ -1,23 +1,25 @@
 // Removal of a symbol from a symbol table; what else its row holds stays.
 ghost use mathlib.Core.Path.{_≡_};
 ghost use Rattle.symbols.specs.Remove.{rowsOf, dropSection, removeRowOf, removeOf, removeOutcome};
+use link::Link;
+use link::SectionId;
 use link::SymbolId;
 use symbols::Answer;
 use symbols::Outcome;
 use symbols::Symbols;
 
 // A removed section symbol leaves its section without one.
-fn drop_section(sections: &mut [u64], kind: u64, section: u64)
-    ensures { λ _. ⌜ now (sections .exit) ≡ dropSection (now (sections .entry)) kind section ⌝ }
+fn drop_section(l: Link, sections: &mut [u64], kind: u64, section: u64)
+    ensures { λ _. ⌜ now (sections .exit) ≡ dropSection l (now (sections .entry)) kind section ⌝ }
 {
     if kind == 2 {
-        symbol_rows::set_section_symbol(sections, section as usize, 0);
+        symbol_rows::set_section_symbol(l, sections, SectionId(section as usize), 0);
     }
 }
 
 // The row's state becomes removed, and every other cell of it stays.
-pub fn remove_row(symbols: &mut [u64], sections: &mut [u64], id: SymbolId)
-    ensures { λ _. ⌜ rowsOf (now (symbols .exit)) (now (sections .exit)) ≡ removeRowOf (rowsOf (now (symbols .entry)) (now (sections .entry))) id ⌝ }
+pub fn remove_row(l: Link, symbols: &mut [u64], sections: &mut [u64], id: SymbolId)
+    ensures { λ _. ⌜ rowsOf (now (symbols .exit)) (now (sections .exit)) ≡ removeRowOf l (rowsOf (now (symbols .entry)) (now (sections .entry))) id ⌝ }
 {
     let i = id.0;
     if cells::row_get(symbols, i, 0) == 2 {
@@ -26,7 +28,7 @@ pub fn remove_row(symbols: &mut [u64], sections: &mut [u64], id: SymbolId)
     let kind = cells::row_get(symbols, i, 5);
     let section = cells::row_get(symbols, i, 6);
     cells::row_put(symbols, i, 0, 2);
-    drop_section(sections, kind, section);
+    drop_section(l, sections, kind, section);
 }
 
 // A global name is never forgotten; a removed id is accepted and changes nothing.
@@ -36,7 +38,11 @@ pub fn remove(table: Symbols, symbols: &mut [u64], sections: &mut [u64], id: Sym
     let l = table.link;
     let head = link_judge::judge_change(
         l,
-        symbols::lent_rows(link::NOT_LENT, symbols.len(), sections.len()),
+        symbols::lent_rows(
+            l.chains,
+            symbols.len(),
+            sections.len() / link::SECTION_CELLS,
+        ),
     );
     if head.number != 0 {
         return symbols::refused(l, head.number, head.place);
@@ -44,7 +50,7 @@ pub fn remove(table: Symbols, symbols: &mut [u64], sections: &mut [u64], id: Sym
     if l.symbols <= id.0 {
         return symbols::refused(l, 21, id.0 as u64);
     }
-    remove_row(symbols, sections, id);
+    remove_row(l, symbols, sections, id);
     Outcome {
         table: table,
         answer: Answer::Symbol { id: id },

@@ -2,6 +2,7 @@
 ghost use mathlib.Core.Path.{_≡_};
 ghost use Rattle.symbol_rows.specs.Decide.{weakOf, rankOf, typeRefusal, roomOf, newOf, replaceOf, knownOf, namedOf, localOf, decideOf};
 use link::Link;
+use link::SectionId;
 use link::SymbolId;
 use symbol::Row;
 use symbol_rows::Decision;
@@ -58,10 +59,10 @@ fn room(l: Link, symbols: &[u64], sections: &[u64], row: Row) -> bool
     if v.kind != 2 {
         return true;
     }
-    if symbol_rows::section_cells(sections.len()) <= v.a as usize {
-        return false;
+    if symbol_rows::section_cell(l, sections.len(), SectionId(v.a as usize)) < sections.len() {
+        return true;
     }
-    true
+    false
 }
 
 // A local or a new name: value, type, a free row.

@@ -11,7 +11,7 @@ use Rattle.symbol.specs.Codes.{successor}
 use Rattle.symbol.specs.Row.{setRow}
 use Rattle.symbol_rows.specs.declared.Decision.{Decision}
 use Rattle.symbol_rows.specs.declared.Decision.the-variants.{Refuse, Nothing, Keep, Append, Replace}
-use Rattle.symbol_rows.specs.Decide.{sectionCells}
+use Rattle.symbol_rows.specs.Decide.{sectionCell}
 
 -- the lent cells that an add may write, and the counts
 pub record Table : Type 0 where
@@ -34,26 +34,26 @@ moreSymbols l n =
       lists = l .lists;
       chains = l .chains;
       slots = l .slots;
+      key = l .key;
       broken = l .broken;
     }
 
 unfoldable pub noteName : List ℕ → Row → ℕ → List ℕ
 noteName names r id = cond (eqb (r .visibility) 0) names (set names (r .name .0 * 8 + 3) id)
 
--- the symbol of section s, 0 for none, behind all section rows
-unfoldable pub setSectionSymbol : List ℕ → ℕ → ℕ → List ℕ
-setSectionSymbol sections s symbol =
-    cond (ltb s (sectionCells (length sections))) (set sections (sectionCells (length sections) * 8 + s) symbol) sections
+-- the symbol of section s, 0 for none; nothing is written where it has no cell
+unfoldable pub setSectionSymbol : Link → List ℕ → ℕ → ℕ → List ℕ
+setSectionSymbol l sections s symbol = set sections (sectionCell l (length sections) s) symbol
 
 -- "A local `Section` row becomes its section's symbol, the last one winning"
-unfoldable pub noteSection : List ℕ → Row → ℕ → List ℕ
-noteSection sections r id =
-    cond (eqb (r .visibility) 0) (cond (eqb (r .value .kind) 2) (setSectionSymbol sections (r .value .a) id) sections) sections
+unfoldable pub noteSection : Link → List ℕ → Row → ℕ → List ℕ
+noteSection l sections r id =
+    cond (eqb (r .visibility) 0) (cond (eqb (r .value .kind) 2) (setSectionSymbol l sections (r .value .a) id) sections) sections
 
 unfoldable pub appendOf : Table → Row → Table
 appendOf t r =
     tableOf (noteName (t .names) r (t .link .symbols)) (setRow (t .symbols) (record { 0 = t .link .symbols }) r)
-    (noteSection (t .sections) r (t .link .symbols)) (moreSymbols (t .link) (successor (t .link .symbols)))
+    (noteSection (t .link) (t .sections) r (t .link .symbols)) (moreSymbols (t .link) (successor (t .link .symbols)))
 
 abbrev pub applied : Table → Row → Decision → Table
 applied t r (Refuse n) = t

@@ -1,17 +1,18 @@
 -- The ways through the functions of Apply.
 -- Assumes nothing.
-use Prim.Native.Nat.{ℕ, _+_, _*_, _<_, _≤_}
+use Prim.Native.Nat.{ℕ, _+_, _*_}
 use mathlib.Core.Path.{_≡_}
 use mathlib.Core.List.{List}
 use lib.ListN.{set, length}
-use borrow.Author.Tests.{eq-eqb, ne-eqb, lt-ltb, le-ltb}
+use borrow.Author.Tests.{eq-eqb, ne-eqb}
+use Rattle.link.specs.declared.Link.{Link}
 use Rattle.link.specs.declared.SymbolId.{SymbolId}
 use Rattle.symbol.specs.declared.Row.{Row}
 use Rattle.symbol.specs.Codes.{successor}
 use Rattle.symbol.specs.Row.{setRow}
 use Rattle.symbol_rows.specs.declared.Decision.{Decision}
 use Rattle.symbol_rows.specs.declared.Decision.the-variants.{Replace}
-use Rattle.symbol_rows.specs.Decide.{sectionCells}
+use Rattle.symbol_rows.specs.Decide.{sectionCell}
 use Rattle.symbol_rows.specs.Apply.{Table, tableOf, moreSymbols, noteName, setSectionSymbol, noteSection, appendOf, applied, applyOf}
 
 module _ (names t : List ℕ) (r : Row) (id : ℕ) where
@@ -23,31 +24,27 @@ module _ (names t : List ℕ) (r : Row) (id : ℕ) where
   unfolding noteName
   name-local e q = simp (q, eq-eqb _ _ e)
 
-module _ (sections t : List ℕ) (s symbol rows : ℕ) where
-  pub section-cell : rows ≡ sectionCells (length sections) → s < rows → t ≡ set sections (rows * 8 + s) symbol → t ≡ setSectionSymbol sections s symbol
-  unfolding setSectionSymbol
-  section-cell e h q = simp (q, ← e, lt-ltb _ _ h)
+pub section-set : (l : Link) (sections t : List ℕ) (s symbol cell : ℕ) → cell ≡ sectionCell l (length sections) s → t ≡ set sections cell symbol
+    → t ≡ setSectionSymbol l sections s symbol
+unfolding setSectionSymbol
+section-set l sections t s symbol cell e q = simp (q, e)
 
-  pub section-no-cell : rows ≡ sectionCells (length sections) → rows ≤ s → t ≡ sections → t ≡ setSectionSymbol sections s symbol
-  unfolding setSectionSymbol
-  section-no-cell e h q = simp (q, ← e, le-ltb _ _ h)
-
-module _ (sections t : List ℕ) (r : Row) (id : ℕ) where
-  pub section-noted : r .visibility ≡ 0 → r .value .kind ≡ 2 → t ≡ setSectionSymbol sections (r .value .a) id → t ≡ noteSection sections r id
+module _ (l : Link) (sections t : List ℕ) (r : Row) (id : ℕ) where
+  pub section-noted : r .visibility ≡ 0 → r .value .kind ≡ 2 → t ≡ setSectionSymbol l sections (r .value .a) id → t ≡ noteSection l sections r id
   unfolding noteSection
   section-noted e f q = simp (q, eq-eqb _ _ e, eq-eqb _ _ f)
 
-  pub section-other : r .visibility ≡ 0 → (r .value .kind ≡ 2 → ⊥) → t ≡ sections → t ≡ noteSection sections r id
+  pub section-other : r .visibility ≡ 0 → (r .value .kind ≡ 2 → ⊥) → t ≡ sections → t ≡ noteSection l sections r id
   unfolding noteSection
   section-other e n q = simp (q, eq-eqb _ _ e, ne-eqb _ _ n)
 
-  pub section-global : (r .visibility ≡ 0 → ⊥) → t ≡ sections → t ≡ noteSection sections r id
+  pub section-global : (r .visibility ≡ 0 → ⊥) → t ≡ sections → t ≡ noteSection l sections r id
   unfolding noteSection
   section-global n q = simp (q, ne-eqb _ _ n)
 
 module _ (s t : Table) (r : Row) where
   pub append-done : (names′ symbols′ sections′ : List ℕ) (n : ℕ) → symbols′ ≡ setRow (s .symbols) (record { 0 = s .link .symbols }) r
-      → names′ ≡ noteName (s .names) r (s .link .symbols) → sections′ ≡ noteSection (s .sections) r (s .link .symbols) → n ≡ successor (s .link .symbols)
+      → names′ ≡ noteName (s .names) r (s .link .symbols) → sections′ ≡ noteSection (s .link) (s .sections) r (s .link .symbols) → n ≡ successor (s .link .symbols)
       → t ≡ tableOf names′ symbols′ sections′ (moreSymbols (s .link) n) → t ≡ appendOf s r
   unfolding appendOf
   append-done names′ symbols′ sections′ n a b c d q = simp (q, a, b, c, d)

@@ -1,6 +1,6 @@
 -- The decision on a row under a name of which it is told who holds it. Document 01, "Symbols": "Add checks in this order".
 -- Assumes nothing.
-use Prim.Native.Nat.{ℕ}
+use Prim.Native.Nat.{ℕ, _+_, _*_}
 use mathlib.Core.Bool.{Bool, true, false, cond}
 use mathlib.Core.List.{List}
 use lib.Dec.{eqb, ltb, leb}
@@ -26,18 +26,18 @@ rankOf visibility value = cond (eqb value 7) 0 (cond (weakOf visibility) 2 4)
 unfoldable pub typeRefusal : ℕ → ℕ
 typeRefusal k = cond (ltb k 4) 0 (cond (eqb k 4) 15 16)
 
--- the symbols of as many sections lie behind the section rows
-abbrev pub sectionCells : ℕ → ℕ
-sectionCells n = sectionSlots n
+-- the cell for the symbol of section s, in a slice of n: behind the rows that a new table was lent; n where it has none, or where fewer are lent
+unfoldable pub sectionCell : Link → ℕ → ℕ → ℕ
+sectionCell l n s = cond (ltb (sectionSlots n) (l .slots)) n (cond (ltb s (l .slots)) (l .slots * 8 + s) n)
 
 -- a free row; a local section symbol also needs the cell of its section
-unfoldable pub sectionRoom : List ℕ → Row → Bool
-sectionRoom sections r =
+unfoldable pub sectionRoom : Link → List ℕ → Row → Bool
+sectionRoom l sections r =
     cond (eqb (r .visibility) 0)
-    (cond (eqb (r .value .kind) 2) (cond (leb (sectionCells (length sections)) (r .value .a)) false true) true) true
+    (cond (eqb (r .value .kind) 2) (cond (ltb (sectionCell l (length sections) (r .value .a)) (length sections)) true false) true) true
 
 unfoldable pub roomOf : Link → List ℕ → List ℕ → Row → Bool
-roomOf l symbols sections r = cond (leb (symbolRows (length symbols)) (l .symbols)) false (sectionRoom sections r)
+roomOf l symbols sections r = cond (leb (symbolRows (length symbols)) (l .symbols)) false (sectionRoom l sections r)
 
 -- "a local or a new name: type (15, 16), then a free row (2)", after the value (13, 14)
 unfoldable pub newOf : Link → List ℕ → List ℕ → Row → Decision

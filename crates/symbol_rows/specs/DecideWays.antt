@@ -1,15 +1,18 @@
 -- The ways through the functions of Holder and Decide.
 -- Assumes nothing.
-use Prim.Native.Nat.{ℕ, _<_, _≤_}
+use Prim.Native.Nat.{ℕ, _+_, _*_, _<_, _≤_}
+use native.Mathlib.Omega.{arith}
 use mathlib.Core.Path.{_≡_}
 use mathlib.Core.Bool.{Bool, true, false}
 use mathlib.Core.List.{List}
 use lib.ListN.{length}
+use mir.Syntax.{w64}
+use mir.Val.{Fits}
 use borrow.Author.Tests.{eq-eqb, ne-eqb, lt-ltb, le-ltb, lt-leb, le-leb}
 use Rattle.link.specs.declared.Link.{Link}
 use Rattle.link.specs.declared.Interned.{Interned}
 use Rattle.link.specs.declared.SymbolId.{SymbolId}
-use Rattle.link.specs.Bounds.{symbolRows}
+use Rattle.link.specs.Bounds.{symbolRows, sectionSlots}
 use Rattle.symbol.specs.declared.Row.{Row}
 use Rattle.symbol.specs.Row.{field, stateAt, visibilityCodeAt}
 use Rattle.symbol_rows.specs.declared.Holder.{Holder}
@@ -17,28 +20,32 @@ use Rattle.symbol_rows.specs.declared.Holder.the-variants.{Nobody, Remov
 use Rattle.symbol_rows.specs.declared.Decision.{Decision}
 use Rattle.symbol_rows.specs.declared.Decision.the-variants.{Refuse, Keep, Append, Replace}
 use Rattle.symbol_rows.specs.Holder.{globalAt, heldBy, holderOf}
-use Rattle.symbol_rows.specs.Decide.{weakOf, rankOf, typeRefusal, sectionCells, sectionRoom, roomOf, newOf, replaceOf, rankedOf, knownOf, namedOf, localOf, decideOf, idOf}
+use Rattle.symbol_rows.specs.Decide.{weakOf, rankOf, typeRefusal, sectionCell, sectionRoom, roomOf, newOf, replaceOf, rankedOf, knownOf, namedOf, localOf, decideOf, idOf}
 
-module _ (names symbols : List ℕ) (count : ℕ) (name : Interned) (t : Holder) where
-  pub holder-new : count ≤ name .0 → t ≡ Nobody → t ≡ holderOf names symbols count name
+module _ (l : Link) (names symbols : List ℕ) (name : Interned) (t : Holder) where
+  pub holder-new : l .names ≤ name .0 → t ≡ Nobody → t ≡ holderOf l names symbols name
   unfolding holderOf
   holder-new h q = simp (q, le-leb _ _ h)
 
   module _ (id : ℕ) where
-    pub holder-none : name .0 < count → id ≡ globalAt names (name .0) → id ≡ 0 → t ≡ Nobody → t ≡ holderOf names symbols count name
+    pub holder-none : name .0 < l .names → id ≡ globalAt names (name .0) → id ≡ 0 → t ≡ Nobody → t ≡ holderOf l names symbols name
     unfolding holderOf heldBy
     holder-none h e f q = simp (q, lt-leb _ _ h, ← e, eq-eqb _ _ f)
 
-    module _ (state : ℕ) where
-      pub holder-removed : name .0 < count → id ≡ globalAt names (name .0) → (id ≡ 0 → ⊥) → state ≡ stateAt symbols id → state ≡ 2 → t ≡ Removed
-          → t ≡ holderOf names symbols count name
-      unfolding holderOf heldBy
-      holder-removed h e f g i q = simp (q, lt-leb _ _ h, ← e, ne-eqb _ _ f, ← g, eq-eqb _ _ i)
+    pub holder-later : name .0 < l .names → id ≡ globalAt names (name .0) → (id ≡ 0 → ⊥) → l .symbols ≤ id → t ≡ Nobody → t ≡ holderOf l names symbols name
+    unfolding holderOf heldBy
+    holder-later h e f j q = simp (q, lt-leb _ _ h, ← e, ne-eqb _ _ f, le-leb _ _ j)
 
-      pub holder-known : name .0 < count → id ≡ globalAt names (name .0) → (id ≡ 0 → ⊥) → state ≡ stateAt symbols id → (state ≡ 2 → ⊥) → t ≡ Known (record { 0 = id })
-          → t ≡ holderOf names symbols count name
+    module _ (state : ℕ) where
+      pub holder-removed : name .0 < l .names → id ≡ globalAt names (name .0) → (id ≡ 0 → ⊥) → id < l .symbols → state ≡ stateAt symbols id → state ≡ 2
+          → t ≡ Removed → t ≡ holderOf l names symbols name
       unfolding holderOf heldBy
-      holder-known h e f g i q = simp (q, lt-leb _ _ h, ← e, ne-eqb _ _ f, ← g, ne-eqb _ _ i)
+      holder-removed h e f j g i q = simp (q, lt-leb _ _ h, ← e, ne-eqb _ _ f, lt-leb _ _ j, ← g, eq-eqb _ _ i)
+
+      pub holder-known : name .0 < l .names → id ≡ globalAt names (name .0) → (id ≡ 0 → ⊥) → id < l .symbols → state ≡ stateAt symbols id → (state ≡ 2 → ⊥)
+          → t ≡ Known (record { 0 = id }) → t ≡ holderOf l names symbols name
+      unfolding holderOf heldBy
+      holder-known h e f j g i q = simp (q, lt-leb _ _ h, ← e, ne-eqb _ _ f, lt-leb _ _ j, ← g, ne-eqb _ _ i)
 
 module _ (v : ℕ) (t : Bool) where
   pub weak-shown : v ≡ 3 → t ≡ true → t ≡ weakOf v
@@ -93,16 +100,35 @@ module _ (l : Link) (symbols sections : List ℕ) (r : Row) (t : Bool) (rows : �
   unfolding roomOf sectionRoom
   room-local e h f n q = simp (q, ← e, lt-leb _ _ h, eq-eqb _ _ f, ne-eqb _ _ n)
 
-  module _ (cells : ℕ) where
-    pub room-no-cell : rows ≡ symbolRows (length symbols) → l .symbols < rows → r .visibility ≡ 0 → r .value .kind ≡ 2 → cells ≡ sectionCells (length sections)
-        → cells ≤ r .value .a → t ≡ false → t ≡ roomOf l symbols sections r
+  module _ (cell : ℕ) where
+    pub room-cell : rows ≡ symbolRows (length symbols) → l .symbols < rows → r .visibility ≡ 0 → r .value .kind ≡ 2
+        → cell ≡ sectionCell l (length sections) (r .value .a) → cell < length sections → t ≡ true → t ≡ roomOf l symbols sections r
     unfolding roomOf sectionRoom
-    room-no-cell e h f g i k q = simp (q, ← e, lt-leb _ _ h, eq-eqb _ _ f, eq-eqb _ _ g, ← i, le-leb _ _ k)
+    room-cell e h f g i k q = simp (q, ← e, lt-leb _ _ h, eq-eqb _ _ f, eq-eqb _ _ g, ← i, lt-ltb _ _ k)
 
-    pub room-cell : rows ≡ symbolRows (length symbols) → l .symbols < rows → r .visibility ≡ 0 → r .value .kind ≡ 2 → cells ≡ sectionCells (length sections)
-        → r .value .a < cells → t ≡ true → t ≡ roomOf l symbols sections r
+    pub room-no-cell : rows ≡ symbolRows (length symbols) → l .symbols < rows → r .visibility ≡ 0 → r .value .kind ≡ 2
+        → cell ≡ sectionCell l (length sections) (r .value .a) → length sections ≤ cell → t ≡ false → t ≡ roomOf l symbols sections r
     unfolding roomOf sectionRoom
-    room-cell e h f g i k q = simp (q, ← e, lt-leb _ _ h, eq-eqb _ _ f, eq-eqb _ _ g, ← i, lt-leb _ _ k)
+    room-no-cell e h f g i k q = simp (q, ← e, lt-leb _ _ h, eq-eqb _ _ f, eq-eqb _ _ g, ← i, le-ltb _ _ k)
+
+module _ (l : Link) (n s t rows : ℕ) where
+  pub cell-short : rows ≡ sectionSlots n → rows < l .slots → t ≡ n → t ≡ sectionCell l n s
+  unfolding sectionCell
+  cell-short e h q = simp (q, ← e, lt-ltb _ _ h)
+
+  pub cell-there : rows ≡ sectionSlots n → l .slots ≤ rows → s < l .slots → t ≡ l .slots * 8 + s → t ≡ sectionCell l n s
+  unfolding sectionCell
+  cell-there e h g q = simp (q, ← e, le-ltb _ _ h, lt-ltb _ _ g)
+
+  pub cell-beyond : rows ≡ sectionSlots n → l .slots ≤ rows → l .slots ≤ s → t ≡ n → t ≡ sectionCell l n s
+  unfolding sectionCell
+  cell-beyond e h g q = simp (q, ← e, le-ltb _ _ h, le-ltb _ _ g)
+
+  pub cell-eight : rows ≡ sectionSlots n → l .slots ≤ rows → Fits w64 n → Fits w64 (l .slots * 8)
+  cell-eight e h f = omega arith
+
+  pub cell-fits : rows ≡ sectionSlots n → l .slots ≤ rows → s < l .slots → Fits w64 n → Fits w64 (l .slots * 8 + s)
+  cell-fits e h g f = omega arith
 
 module _ (l : Link) (symbols sections : List ℕ) (r : Row) (t : Decision) where
   pub new-value : 13 ≤ r .value .kind → t ≡ Refuse (r .value .kind) → t ≡ newOf l symbols sections r

@@ -5,6 +5,7 @@ use mathlib.Core.Bool.{cond}
 use mathlib.Core.List.{List}
 use lib.Dec.{eqb, leb}
 use lib.ListN.{getD}
+use Rattle.link.specs.declared.Link.{Link}
 use Rattle.link.specs.declared.Interned.{Interned}
 use Rattle.symbol.specs.Row.{stateAt}
 use Rattle.symbol_rows.specs.declared.Holder.{Holder}
@@ -13,9 +14,11 @@ use Rattle.symbol_rows.specs.declared.Holder.the-variants.{Nobody, Remov
 abbrev pub globalAt : List ℕ → ℕ → ℕ
 globalAt names name = getD names (name * 8 + 3) 0
 
-unfoldable pub heldBy : List ℕ → ℕ → Holder
-heldBy symbols id = cond (eqb id 0) Nobody (cond (eqb (stateAt symbols id) 2) Removed (Known (record { 0 = id })))
+-- of count rows; an id past them is of a later state of the link
+unfoldable pub heldBy : ℕ → List ℕ → ℕ → Holder
+heldBy count symbols id =
+    cond (eqb id 0) Nobody (cond (leb count id) Nobody (cond (eqb (stateAt symbols id) 2) Removed (Known (record { 0 = id }))))
 
 -- nobody holds a name that is to be issued
-unfoldable pub holderOf : List ℕ → List ℕ → ℕ → Interned → Holder
-holderOf names symbols count name = cond (leb count (name .0)) Nobody (heldBy symbols (globalAt names (name .0)))
+unfoldable pub holderOf : Link → List ℕ → List ℕ → Interned → Holder
+holderOf l names symbols name = cond (leb (l .names) (name .0)) Nobody (heldBy (l .symbols) symbols (globalAt names (name .0)))

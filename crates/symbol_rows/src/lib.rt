@@ -1,9 +1,11 @@
 // Who holds a name, what can be decided on an add, and the cells with the symbols of sections.
 ghost use mathlib.Core.Path.{_≡_};
 ghost use Rattle.symbol_rows.specs.Holder.{holderOf};
-ghost use Rattle.symbol_rows.specs.Decide.{sectionCells, refusalOf, idOf};
+ghost use Rattle.symbol_rows.specs.Decide.{sectionCell, refusalOf, idOf};
 ghost use Rattle.symbol_rows.specs.Apply.{setSectionSymbol};
 use link::Interned;
+use link::Link;
+use link::SectionId;
 use link::SymbolId;
 
 pub enum Holder {
@@ -24,15 +26,18 @@ pub enum Decision {
 
 // ---- who holds a name
 
-// Who holds the name, of which count are issued: nobody a name that is to be issued.
-pub fn holder_of(names: &[u64], symbols: &[u64], count: usize, name: Interned) -> Holder
-    ensures { λ r. ⌜ r ≡ holderOf (now (names .entry)) (now (symbols .entry)) count name ⌝ }
+// Who holds the name: nobody a name that is to be issued. A row past the count isn't the link's, whatever the name's row says.
+pub fn holder_of(l: Link, names: &[u64], symbols: &[u64], name: Interned) -> Holder
+    ensures { λ r. ⌜ r ≡ holderOf l (now (names .entry)) (now (symbols .entry)) name ⌝ }
 {
-    if count <= name.0 {
+    if l.names <= name.0 {
         return Holder::Nobody;
     }
     let id = cells::row_get(names, name.0, 3) as usize;
     if id == 0 {
+        return Holder::Nobody;
+    }
+    if l.symbols <= id {
         return Holder::Nobody;
     }
     if cells::row_get(symbols, id, 0) == 2 {
@@ -70,19 +75,24 @@ pub fn id_of(d: Decision, count: usize) -> SymbolId
 
 // ---- the symbols of sections
 
-// The cells behind the section rows, each for the symbol of a section.
-pub fn section_cells(len: usize) -> usize
-    ensures { λ r. ⌜ r ≡ sectionCells len ⌝ }
+// The cell for the symbol of a section, behind all rows of a slice of that length; the length where the section has none.
+pub fn section_cell(l: Link, len: usize, s: SectionId) -> usize
+    ensures { λ r. ⌜ r ≡ sectionCell l len (s .0) ⌝ }
 {
-    len / 9
+    let slots = l.slots;
+    if link::section_slots(len) < slots {
+        return len;
+    }
+    if s.0 < slots {
+        return slots * 8 + s.0;
+    }
+    len
 }
 
-// The symbol of a section lies behind all section rows; nothing is written where the section has no cell there.
-pub fn set_section_symbol(sections: &mut [u64], s: usize, symbol: u64)
-    ensures { λ _. ⌜ now (sections .exit) ≡ setSectionSymbol (now (sections .entry)) s symbol ⌝ }
+// 0 for none; nothing is written where the section has no cell.
+pub fn set_section_symbol(l: Link, sections: &mut [u64], s: SectionId, symbol: u64)
+    ensures { λ _. ⌜ now (sections .exit) ≡ setSectionSymbol l (now (sections .entry)) (s .0) symbol ⌝ }
 {
-    let rows = section_cells(sections.len());
-    if s < rows {
-        cells::put(sections, rows * 8 + s, symbol);
-    }
+    let cell = section_cell(l, sections.len(), s);
+    cells::put(sections, cell, symbol);
 }

@@ -2,6 +2,7 @@
 ghost use mathlib.Core.Path.{_≡_};
 ghost use Rattle.symbol_rows.specs.Apply.{tableOf, noteName, noteSection, appendOf, applyOf};
 use link::Link;
+use link::SectionId;
 use link::SymbolId;
 use symbol::Row;
 use symbol_rows::Decision;
@@ -16,13 +17,13 @@ fn note_name(names: &mut [u64], row: Row, id: usize)
 }
 
 // A local section symbol becomes its section's symbol.
-fn note_section(sections: &mut [u64], row: Row, id: usize)
-    ensures { λ _. ⌜ now (sections .exit) ≡ noteSection (now (sections .entry)) row id ⌝ }
+fn note_section(l: Link, sections: &mut [u64], row: Row, id: usize)
+    ensures { λ _. ⌜ now (sections .exit) ≡ noteSection l (now (sections .entry)) row id ⌝ }
 {
     let v = row.value;
     if row.visibility == 0 {
         if v.kind == 2 {
-            symbol_rows::set_section_symbol(sections, v.a as usize, id as u64);
+            symbol_rows::set_section_symbol(l, sections, SectionId(v.a as usize), id as u64);
         }
     }
 }
@@ -33,7 +34,7 @@ fn append(l: Link, names: &mut [u64], symbols: &mut [u64], sections: &mut [u64],
     let id = l.symbols;
     symbol::set_row(symbols, SymbolId(id), row);
     note_name(names, row, id);
-    note_section(sections, row, id);
+    note_section(l, sections, row, id);
     Link {
         names: l.names,
         bytes: l.bytes,
@@ -43,6 +44,7 @@ fn append(l: Link, names: &mut [u64], symbols: &mut [u64], sections: &mut [u64],
         lists: l.lists,
         chains: l.chains,
         slots: l.slots,
+        key: l.key,
         broken: l.broken,
     }
 }

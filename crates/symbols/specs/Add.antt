@@ -9,6 +9,7 @@ use Rattle.link.specs.declared.Link.{Link}
 use Rattle.link.specs.declared.Lent.{Lent}
 use Rattle.link.specs.declared.Interned.{Interned}
 use Rattle.link.specs.declared.Refusal.{Refusal}
+use Rattle.link.specs.Bounds.{nameRows, sectionSlots}
 use Rattle.link.specs.Judge.{refused, changeOf}
 use Rattle.symbol.specs.declared.Row.{Row}
 use Rattle.symbol.specs.declared.SttFile.{SttFile}
@@ -48,7 +49,7 @@ unfoldable pub issuedOf : Link → Interned → SttFile → Bool
 issuedOf l name file = cond (leb (l .names) (name .0)) false (fileIssued l file)
 
 unfoldable pub directHolderOf : Link → List ℕ → List ℕ → Interned → SttFile → Holder
-directHolderOf l names symbols name file = cond (issuedOf l name file) (holderOf names symbols (l .names) name) Unissued
+directHolderOf l names symbols name file = cond (issuedOf l name file) (holderOf l names symbols name) Unissued
 
 -- "21's id: the name's for an add"
 abbrev pub unissuedFile : Link → Interned → SttFile → ℕ
@@ -76,7 +77,7 @@ unfoldable pub addRowOf : Table → Row → SttFile → Left
 addRowOf t r file = committedOf t r file (decidedOf t r file)
 
 abbrev pub lent : Table → Lent
-lent t = lentOf (length (t .names)) (length (t .symbols)) (length (t .sections))
+lent t = lentOf (nameRows (length (t .names))) (length (t .symbols)) (sectionSlots (length (t .sections)))
 
 unfoldable pub addOf : Table → List ℕ → UpcomingSymbol → Left
 addOf t conversion u =

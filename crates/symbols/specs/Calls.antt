@@ -32,9 +32,10 @@ outcome names symbols sections r = left (tableOf names symbols sections (r .tabl
 abbrev pub refusedOf : Link → ℕ → ℕ → Outcome
 refusedOf l number place = record { table = record { link = l }; answer = Refused (refused number place) }
 
+-- the rows of names and sections, the length of the symbols
 abbrev pub lentOf : ℕ → ℕ → ℕ → Lent
 lentOf names symbols sections =
     record { names = names; bytes = notLent; symbols = symbols; sections = sections; inputs = notLent; lists = notLent }
 
 abbrev pub noRows : Link
-noRows = record { names = 0; bytes = 0; symbols = 0; sections = 0; inputs = 0; lists = 0; chains = 0; slots = 0; broken = false }
+noRows = record { names = 0; bytes = 0; symbols = 0; sections = 0; inputs = 0; lists = 0; chains = 0; slots = 0; key = 0; broken = false }

@@ -3,7 +3,7 @@
 use Prim.Native.Nat.{ℕ, _+_, _*_}
 use mathlib.Core.Bool.{cond}
 use mathlib.Core.List.{List}
-use lib.Dec.{eqb, ltb, leb}
+use lib.Dec.{eqb, leb}
 use lib.ListN.{getD, length}
 use Rattle.link.specs.declared.Link.{Link}
 use Rattle.link.specs.declared.Interned.{Interned}
@@ -15,12 +15,12 @@ use Rattle.symbol.specs.Row.{stateAt, symbolAt}
 use Rattle.symbol_rows.specs.declared.Holder.{Holder}
 use Rattle.symbol_rows.specs.declared.Holder.the-variants.{Unissued, Nobody, Removed, Known}
 use Rattle.symbol_rows.specs.Holder.{holderOf}
-use Rattle.symbol_rows.specs.Decide.{sectionCells}
+use Rattle.symbol_rows.specs.Decide.{sectionCell}
 use Rattle.symbols.specs.declared.Found.{Found}
 use Rattle.symbols.specs.declared.Found.the-variants as Fd
 use Rattle.symbols.specs.declared.SectionSymbol.{SectionSymbol}
 use Rattle.symbols.specs.declared.SectionSymbol.the-variants as Sym
-use Rattle.link.specs.Bounds.{notLent}
+use Rattle.link.specs.Bounds.{nameRows}
 use Rattle.symbols.specs.Calls.{lentOf}
 
 -- document 01's number and place of a lookup's answer
@@ -37,9 +37,9 @@ foundAt symbols id = cond (eqb (stateAt symbols (id .0)) 2) (notFound 21 (id .0)
 
 unfoldable pub getOf : Link → List ℕ → SymbolId → Found
 getOf l symbols id =
-    cond (eqb (judgeOf l (lentOf notLent (length symbols) notLent) .number) 0)
+    cond (eqb (judgeOf l (lentOf (l .chains) (length symbols) (l .slots)) .number) 0)
     (cond (leb (l .symbols) (id .0)) (notFound 21 (id .0)) (foundAt symbols id))
-    (Fd.Refused (judgeOf l (lentOf notLent (length symbols) notLent)))
+    (Fd.Refused (judgeOf l (lentOf (l .chains) (length symbols) (l .slots))))
 
 -- unknown global name (23); its row removed (21), at the name's id
 abbrev pub heldOf : List ℕ → Interned → Holder → Found
@@ -50,17 +50,14 @@ heldOf symbols name (Known id) = Fd.Row (symbolAt symbols id)
 
 unfoldable pub getGlobalOf : Link → List ℕ → List ℕ → Interned → Found
 getGlobalOf l names symbols name =
-    cond (eqb (judgeOf l (lentOf (length names) (length symbols) notLent) .number) 0)
-    (heldOf symbols name (holderOf names symbols (l .names) name))
-    (Fd.Refused (judgeOf l (lentOf (length names) (length symbols) notLent)))
+    cond (eqb (judgeOf l (lentOf (nameRows (length names)) (length symbols) (l .slots)) .number) 0)
+    (heldOf symbols name (holderOf l names symbols name))
+    (Fd.Refused (judgeOf l (lentOf (nameRows (length names)) (length symbols) (l .slots))))
 
 -- "A section without a symbol answers "none""
-abbrev pub sectionSymbolAt : ℕ → List ℕ → ℕ → ℕ
-sectionSymbolAt slots sections s = getD sections (slots * 8 + s) 0
+abbrev pub sectionSymbolAt : Link → List ℕ → ℕ → ℕ
+sectionSymbolAt l sections s = getD sections (sectionCell l (length sections) s) 0
 
 unfoldable pub sectionSymbolOf : Link → List ℕ → SectionId → SectionSymbol
 sectionSymbolOf l sections s =
-    cond (ltb (sectionCells (length sections)) (l .slots)) Sym.None
-    (cond (leb (l .slots) (s .0)) Sym.None
-    (cond (eqb (sectionSymbolAt (l .slots) sections (s .0)) 0) Sym.None
-    (Sym.Symbol (record { 0 = sectionSymbolAt (l .slots) sections (s .0) }))))
+    cond (eqb (sectionSymbolAt l sections (s .0)) 0) Sym.None (Sym.Symbol (record { 0 = sectionSymbolAt l sections (s .0) }))

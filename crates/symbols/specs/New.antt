@@ -6,14 +6,13 @@ use mathlib.Core.List.{List, _++_}
 use lib.Dec.{eqb}
 use lib.ListN.{length, take, replicate}
 use Rattle.link.specs.declared.Link.{Link}
-use Rattle.link.specs.Bounds.{symbolRows}
+use Rattle.link.specs.Bounds.{symbolRows, sectionSlots}
 use Rattle.link.specs.Judge.{refused}
 use Rattle.interner.specs.Names.{Store}
 use Rattle.interner.specs.Calls as Names
 use Rattle.symbol.specs.declared.Row.{Row}
 use Rattle.symbol.specs.Codes.{wordsAre}
 use Rattle.symbol.specs.Row.{setRow}
-use Rattle.symbol_rows.specs.Decide.{sectionCells}
 use Rattle.symbol_rows.specs.Apply.{Table, tableOf}
 use Rattle.symbols.specs.declared.Outcome.{Outcome}
 use Rattle.link.specs.Said.{Said, accepted, refusing}
@@ -46,23 +45,24 @@ oneSymbol l slots =
       lists = l .lists;
       chains = l .chains;
       slots = slots;
+      key = l .key;
       broken = l .broken;
     }
 
 -- no section has a symbol
 unfoldable pub clearSymbols : List ℕ → List ℕ
 clearSymbols sections =
-    take (sectionCells (length sections) * 8) sections ++ replicate (length sections - sectionCells (length sections) * 8) 0
+    take (sectionSlots (length sections) * 8) sections ++ replicate (length sections - sectionSlots (length sections) * 8) 0
 
 -- over the names' store as a new table of names leaves it
 unfoldable pub nullOf : List ℕ → List ℕ → Store → NewLeft
 nullOf symbols sections s =
     cond (eqb (s .link .names) 0) (newLeft (s .bytes) (tableOf (s .names) symbols sections (s .link)) (refusing (refused 2 0)))
     (newLeft (s .bytes)
-    (tableOf (s .names) (setRow symbols (record { 0 = 0 }) nullRow) (clearSymbols sections) (oneSymbol (s .link) (sectionCells (length sections)))) (accepted 0))
+    (tableOf (s .names) (setRow symbols (record { 0 = 0 }) nullRow) (clearSymbols sections) (oneSymbol (s .link) (sectionSlots (length sections)))) (accepted 0))
 
 -- no symbol row, or no row for the empty name: 2, and nothing is written
-unfoldable pub newOf : List ℕ → List ℕ → List ℕ → List ℕ → NewLeft
-newOf bytes names symbols sections =
+unfoldable pub newOf : ℕ → List ℕ → List ℕ → List ℕ → List ℕ → NewLeft
+newOf key bytes names symbols sections =
     cond (eqb (symbolRows (length symbols)) 0) (newLeft bytes (tableOf names symbols sections noRows) (refusing (refused 2 0)))
-    (nullOf symbols sections (Names.newOf bytes names .store))
+    (nullOf symbols sections (Names.newOf key bytes names .store))

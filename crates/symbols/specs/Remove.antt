@@ -12,7 +12,7 @@ use Rattle.symbol.specs.Row.{field, stateAt}
 use Rattle.symbol_rows.specs.Apply.{setSectionSymbol}
 use Rattle.symbols.specs.declared.Outcome.{Outcome}
 use Rattle.link.specs.Said.{Said, accepted, refusing}
-use Rattle.link.specs.Bounds.{notLent}
+use Rattle.link.specs.Bounds.{sectionSlots}
 use Rattle.symbols.specs.Calls.{said, lentOf}
 
 -- the lent cells that a removal may write
@@ -34,18 +34,18 @@ removeLeft x l s = record { rows = x; link = l; said = s }
 abbrev pub removeOutcome : List ℕ → List ℕ → Outcome → RemoveLeft
 removeOutcome symbols sections r = removeLeft (rowsOf symbols sections) (r .table .link) (said (r .answer))
 
-unfoldable pub dropSection : List ℕ → ℕ → ℕ → List ℕ
-dropSection sections kind s = cond (eqb kind 2) (setSectionSymbol sections s 0) sections
+unfoldable pub dropSection : Link → List ℕ → ℕ → ℕ → List ℕ
+dropSection l sections kind s = cond (eqb kind 2) (setSectionSymbol l sections s 0) sections
 
 -- the state alone changes, so the name stays taken
-unfoldable pub removeRowOf : Rows → SymbolId → Rows
-removeRowOf x id =
+unfoldable pub removeRowOf : Link → Rows → SymbolId → Rows
+removeRowOf l x id =
     cond (eqb (stateAt (x .symbols) (id .0)) 2) x
-    (rowsOf (set (x .symbols) (id .0 * 8 + 0) 2) (dropSection (x .sections) (field (x .symbols) (id .0) 5) (field (x .symbols) (id .0) 6)))
+    (rowsOf (set (x .symbols) (id .0 * 8 + 0) 2) (dropSection l (x .sections) (field (x .symbols) (id .0) 5) (field (x .symbols) (id .0) 6)))
 
 -- 22, 1; an id at or past the count: 21
 unfoldable pub removeOf : Link → Rows → SymbolId → RemoveLeft
 removeOf l x id =
-    cond (eqb (changeOf l (lentOf notLent (length (x .symbols)) (length (x .sections))) .number) 0)
-    (cond (leb (l .symbols) (id .0)) (removeLeft x l (refusing (refused 21 (id .0)))) (removeLeft (removeRowOf x id) l (accepted (id .0))))
-    (removeLeft x l (refusing (changeOf l (lentOf notLent (length (x .symbols)) (length (x .sections))))))
+    cond (eqb (changeOf l (lentOf (l .chains) (length (x .symbols)) (sectionSlots (length (x .sections)))) .number) 0)
+    (cond (leb (l .symbols) (id .0)) (removeLeft x l (refusing (refused 21 (id .0)))) (removeLeft (removeRowOf l x id) l (accepted (id .0))))
+    (removeLeft x l (refusing (changeOf l (lentOf (l .chains) (length (x .symbols)) (sectionSlots (length (x .sections)))))))

@@ -13,7 +13,7 @@ use Rattle.link.specs.declared.Interned.{Interned}
 use Rattle.link.specs.declared.SymbolId.{SymbolId}
 use Rattle.link.specs.declared.SectionId.{SectionId}
 use Rattle.link.specs.declared.Refusal.{Refusal}
-use Rattle.link.specs.Bounds.{notLent, symbolRows}
+use Rattle.link.specs.Bounds.{nameRows, symbolRows, sectionSlots}
 use Rattle.link.specs.Judge.{refused, judgeOf, changeOf}
 use Rattle.interner.specs.Names.{Store}
 use Rattle.interner.specs.Calls as Names
@@ -29,7 +29,7 @@ use Rattle.symbol_rows.specs.declared.Holder.{Holder}
 use Rattle.symbol_rows.specs.declared.Holder.the-variants.{Unissued, Known}
 use Rattle.symbol_rows.specs.declared.Decision.{Decision}
 use Rattle.symbol_rows.specs.Holder.{holderOf}
-use Rattle.symbol_rows.specs.Decide.{sectionCells, decideOf, refusalOf, idOf}
+use Rattle.symbol_rows.specs.Decide.{sectionCell, decideOf, refusalOf, idOf}
 use Rattle.symbol_rows.specs.Apply.{Table, tableOf, setSectionSymbol, applyOf}
 use Rattle.symbols.specs.declared.Outcome.{Outcome}
 use Rattle.symbols.specs.declared.Found.{Found}
@@ -45,19 +45,19 @@ use Rattle.symbols.specs.Remove.{Rows, rowsOf, RemoveLeft, removeLeft, r
 
 -- new
 
-pub symbols-cleared : (sections t : List ℕ) (rows : ℕ) → rows ≡ sectionCells (length sections) → t ≡ take (rows * 8) sections ++ replicate (length sections - rows * 8) 0
+pub symbols-cleared : (sections t : List ℕ) (rows : ℕ) → rows ≡ sectionSlots (length sections) → t ≡ take (rows * 8) sections ++ replicate (length sections - rows * 8) 0
     → t ≡ clearSymbols sections
 unfolding clearSymbols
 symbols-cleared sections t rows e q = simp (q, e)
 
-module _ (bytes names symbols sections : List ℕ) (rows : ℕ) (t : NewLeft) where
+module _ (key : ℕ) (bytes names symbols sections : List ℕ) (rows : ℕ) (t : NewLeft) where
   pub new-no-row : (l : Link) (o : Outcome) → rows ≡ symbolRows (length symbols) → rows ≡ 0 → l ≡ noRows → o ≡ refusedOf l 2 0
-      → t ≡ newOutcome bytes names symbols sections o → t ≡ newOf bytes names symbols sections
+      → t ≡ newOutcome bytes names symbols sections o → t ≡ newOf key bytes names symbols sections
   unfolding newOf
   new-no-row l o e z f g q = simp (q, g, f, ← e, eq-eqb _ _ z)
 
-  pub new-named : (w : Names.Left) → rows ≡ symbolRows (length symbols) → (rows ≡ 0 → ⊥) → w ≡ Names.newOf bytes names → t ≡ nullOf symbols sections (w .store)
-      → t ≡ newOf bytes names symbols sections
+  pub new-named : (w : Names.Left) → rows ≡ symbolRows (length symbols) → (rows ≡ 0 → ⊥) → w ≡ Names.newOf key bytes names → t ≡ nullOf symbols sections (w .store)
+      → t ≡ newOf key bytes names symbols sections
   unfolding newOf
   new-named w e n f q = simp (q, ← e, ne-eqb _ _ n, ← f)
 
@@ -67,7 +67,7 @@ module _ (symbols sections : List ℕ) (s : Store) (t : NewLeft) where
   unfolding nullOf
   null-no-name o z f q = simp (q, f, eq-eqb _ _ z)
 
-  pub null-done : (symbols′ sections′ : List ℕ) (r : Row) (slots : ℕ) (l : Link) → (s .link .names ≡ 0 → ⊥) → slots ≡ sectionCells (length sections) → sections′ ≡ clearSymbols sections → r ≡ nullRow
+  pub null-done : (symbols′ sections′ : List ℕ) (r : Row) (slots : ℕ) (l : Link) → (s .link .names ≡ 0 → ⊥) → slots ≡ sectionSlots (length sections) → sections′ ≡ clearSymbols sections → r ≡ nullRow
       → symbols′ ≡ setRow symbols (record { 0 = 0 }) r → l ≡ oneSymbol (s .link) slots
       → t ≡ newLeft (s .bytes) (tableOf (s .names) symbols′ sections′ l) (accepted 0) → t ≡ nullOf symbols sections s
   unfolding nullOf
@@ -122,7 +122,7 @@ module _ (l : Link) (name : Interned) (file : SttFile) where
       unissued-name e h q = simp (q, e, lt-leb _ _ h)
 
   module _ (names symbols : List ℕ) (b : Bool) (t : Holder) where
-    pub holder-issued : b ≡ issuedOf l name file → b ≡ true → t ≡ holderOf names symbols (l .names) name → t ≡ directHolderOf l names symbols name file
+    pub holder-issued : b ≡ issuedOf l name file → b ≡ true → t ≡ holderOf l names symbols name → t ≡ directHolderOf l names symbols name file
     unfolding directHolderOf
     holder-issued e y q = simp (q, ← e, y)
 
@@ -195,85 +195,75 @@ module _ (symbols : List ℕ) (name : Interned) (h : Holder) (t : Found) where
 
 module _ (l : Link) (n : Lent) (head : Refusal) (t : Found) where
   module _ (symbols : List ℕ) (id : SymbolId) where
-    pub get-refused : n ≡ lentOf notLent (length symbols) notLent → head ≡ judgeOf l n → (head .number ≡ 0 → ⊥) → t ≡ Fd.Refused head → t ≡ getOf l symbols id
+    pub get-refused : n ≡ lentOf (l .chains) (length symbols) (l .slots) → head ≡ judgeOf l n → (head .number ≡ 0 → ⊥) → t ≡ Fd.Refused head → t ≡ getOf l symbols id
     unfolding getOf
     get-refused a e z q = simp (q, ← a, ← e, ne-eqb _ _ z)
 
-    pub get-absent : n ≡ lentOf notLent (length symbols) notLent → head ≡ judgeOf l n → head .number ≡ 0 → l .symbols ≤ id .0 → t ≡ notFound 21 (id .0)
+    pub get-absent : n ≡ lentOf (l .chains) (length symbols) (l .slots) → head ≡ judgeOf l n → head .number ≡ 0 → l .symbols ≤ id .0 → t ≡ notFound 21 (id .0)
         → t ≡ getOf l symbols id
     unfolding getOf
     get-absent a e z h q = simp (q, ← a, ← e, eq-eqb _ _ z, le-leb _ _ h)
 
-    pub get-found : n ≡ lentOf notLent (length symbols) notLent → head ≡ judgeOf l n → head .number ≡ 0 → id .0 < l .symbols → t ≡ foundAt symbols id
+    pub get-found : n ≡ lentOf (l .chains) (length symbols) (l .slots) → head ≡ judgeOf l n → head .number ≡ 0 → id .0 < l .symbols → t ≡ foundAt symbols id
         → t ≡ getOf l symbols id
     unfolding getOf
     get-found a e z h q = simp (q, ← a, ← e, eq-eqb _ _ z, lt-leb _ _ h)
 
   module _ (names symbols : List ℕ) (name : Interned) where
-    pub global-refused : n ≡ lentOf (length names) (length symbols) notLent → head ≡ judgeOf l n → (head .number ≡ 0 → ⊥) → t ≡ Fd.Refused head
+    pub global-refused : n ≡ lentOf (nameRows (length names)) (length symbols) (l .slots) → head ≡ judgeOf l n → (head .number ≡ 0 → ⊥) → t ≡ Fd.Refused head
         → t ≡ getGlobalOf l names symbols name
     unfolding getGlobalOf
     global-refused a e z q = simp (q, ← a, ← e, ne-eqb _ _ z)
 
-    pub global-held : (h : Holder) → n ≡ lentOf (length names) (length symbols) notLent → head ≡ judgeOf l n → head .number ≡ 0
-        → h ≡ holderOf names symbols (l .names) name → t ≡ heldOf symbols name h → t ≡ getGlobalOf l names symbols name
+    pub global-held : (h : Holder) → n ≡ lentOf (nameRows (length names)) (length symbols) (l .slots) → head ≡ judgeOf l n → head .number ≡ 0
+        → h ≡ holderOf l names symbols name → t ≡ heldOf symbols name h → t ≡ getGlobalOf l names symbols name
     unfolding getGlobalOf
     global-held h a e z f q = simp (q, f, ← a, ← e, eq-eqb _ _ z)
 
-module _ (l : Link) (sections : List ℕ) (s : SectionId) (rows : ℕ) (t : SectionSymbol) where
-  pub section-short : rows ≡ sectionCells (length sections) → rows < l .slots → t ≡ Sym.None → t ≡ sectionSymbolOf l sections s
+module _ (l : Link) (sections : List ℕ) (s : SectionId) (cell id : ℕ) (t : SectionSymbol) where
+  pub section-none : cell ≡ sectionCell l (length sections) (s .0) → id ≡ getD sections cell 0 → id ≡ 0 → t ≡ Sym.None → t ≡ sectionSymbolOf l sections s
   unfolding sectionSymbolOf
-  section-short e h q = simp (q, ← e, lt-ltb _ _ h)
+  section-none e f z q = simp (q, ← e, ← f, eq-eqb _ _ z)
 
-  pub section-beyond : rows ≡ sectionCells (length sections) → l .slots ≤ rows → l .slots ≤ s .0 → t ≡ Sym.None → t ≡ sectionSymbolOf l sections s
+  pub section-symbol : cell ≡ sectionCell l (length sections) (s .0) → id ≡ getD sections cell 0 → (id ≡ 0 → ⊥) → t ≡ Sym.Symbol (record { 0 = id })
+      → t ≡ sectionSymbolOf l sections s
   unfolding sectionSymbolOf
-  section-beyond e g h q = simp (q, ← e, le-ltb _ _ g, le-leb _ _ h)
-
-  module _ (id : ℕ) where
-    pub section-none : rows ≡ sectionCells (length sections) → l .slots ≤ rows → s .0 < l .slots → id ≡ getD sections (l .slots * 8 + s .0) 0 → id ≡ 0 → t ≡ Sym.None
-        → t ≡ sectionSymbolOf l sections s
-    unfolding sectionSymbolOf
-    section-none e g h f z q = simp (q, ← e, le-ltb _ _ g, lt-leb _ _ h, ← f, eq-eqb _ _ z)
-
-    pub section-symbol : rows ≡ sectionCells (length sections) → l .slots ≤ rows → s .0 < l .slots → id ≡ getD sections (l .slots * 8 + s .0) 0 → (id ≡ 0 → ⊥)
-        → t ≡ Sym.Symbol (record { 0 = id }) → t ≡ sectionSymbolOf l sections s
-    unfolding sectionSymbolOf
-    section-symbol e g h f z q = simp (q, ← e, le-ltb _ _ g, lt-leb _ _ h, ← f, ne-eqb _ _ z)
+  section-symbol e f z q = simp (q, ← e, ← f, ne-eqb _ _ z)
 
 -- remove
 
-module _ (sections t : List ℕ) (kind s : ℕ) where
-  pub dropped : kind ≡ 2 → t ≡ setSectionSymbol sections s 0 → t ≡ dropSection sections kind s
+module _ (l : Link) (sections t : List ℕ) (kind s : ℕ) where
+  pub dropped : kind ≡ 2 → t ≡ setSectionSymbol l sections s 0 → t ≡ dropSection l sections kind s
   unfolding dropSection
   dropped e q = simp (q, eq-eqb _ _ e)
 
-  pub dropped-not : (kind ≡ 2 → ⊥) → t ≡ sections → t ≡ dropSection sections kind s
+  pub dropped-not : (kind ≡ 2 → ⊥) → t ≡ sections → t ≡ dropSection l sections kind s
   unfolding dropSection
   dropped-not n q = simp (q, ne-eqb _ _ n)
 
-module _ (x t : Rows) (id : SymbolId) (state : ℕ) where
-  pub removed-before : state ≡ stateAt (x .symbols) (id .0) → state ≡ 2 → t ≡ x → t ≡ removeRowOf x id
+module _ (l : Link) (x t : Rows) (id : SymbolId) (state : ℕ) where
+  pub removed-before : state ≡ stateAt (x .symbols) (id .0) → state ≡ 2 → t ≡ x → t ≡ removeRowOf l x id
   unfolding removeRowOf
   removed-before e z q = simp (q, ← e, eq-eqb _ _ z)
 
   pub removed-now : (kind s : ℕ) (symbols′ sections′ : List ℕ) → state ≡ stateAt (x .symbols) (id .0) → (state ≡ 2 → ⊥) → kind ≡ field (x .symbols) (id .0) 5
-      → s ≡ field (x .symbols) (id .0) 6 → symbols′ ≡ set (x .symbols) (id .0 * 8 + 0) 2 → sections′ ≡ dropSection (x .sections) kind s
-      → t ≡ rowsOf symbols′ sections′ → t ≡ removeRowOf x id
+      → s ≡ field (x .symbols) (id .0) 6 → symbols′ ≡ set (x .symbols) (id .0 * 8 + 0) 2 → sections′ ≡ dropSection l (x .sections) kind s
+      → t ≡ rowsOf symbols′ sections′ → t ≡ removeRowOf l x id
   unfolding removeRowOf
   removed-now kind s symbols′ sections′ e z a b c d q = simp (q, d, c, ← a, ← b, ← e, ne-eqb _ _ z)
 
 module _ (l : Link) (x : Rows) (id : SymbolId) (n : Lent) (head : Refusal) (t : RemoveLeft) where
-  pub remove-refused : (o : Outcome) → n ≡ lentOf notLent (length (x .symbols)) (length (x .sections)) → head ≡ changeOf l n → (head .number ≡ 0 → ⊥)
+  pub remove-refused : (o : Outcome) → n ≡ lentOf (l .chains) (length (x .symbols)) (sectionSlots (length (x .sections))) → head ≡ changeOf l n → (head .number ≡ 0 → ⊥)
       → o ≡ refusedOf l (head .number) (head .place) → t ≡ removeOutcome (x .symbols) (x .sections) o → t ≡ removeOf l x id
   unfolding removeOf
   remove-refused o a e z f q = simp (q, f, ← a, ← e, ne-eqb _ _ z)
 
-  pub remove-absent : (o : Outcome) → n ≡ lentOf notLent (length (x .symbols)) (length (x .sections)) → head ≡ changeOf l n → head .number ≡ 0 → l .symbols ≤ id .0
+  pub remove-absent : (o : Outcome) → n ≡ lentOf (l .chains) (length (x .symbols)) (sectionSlots (length (x .sections))) → head ≡ changeOf l n → head .number ≡ 0 → l .symbols ≤ id .0
       → o ≡ refusedOf l 21 (id .0) → t ≡ removeOutcome (x .symbols) (x .sections) o → t ≡ removeOf l x id
   unfolding removeOf
   remove-absent o a e z h f q = simp (q, f, ← a, ← e, eq-eqb _ _ z, le-leb _ _ h)
 
-  pub remove-done : (y : Rows) → n ≡ lentOf notLent (length (x .symbols)) (length (x .sections)) → head ≡ changeOf l n → head .number ≡ 0 → id .0 < l .symbols
-      → y ≡ removeRowOf x id → t ≡ removeLeft y l (accepted (id .0)) → t ≡ removeOf l x id
+  pub remove-done : (y : Rows) → n ≡ lentOf (l .chains) (length (x .symbols)) (sectionSlots (length (x .sections))) → head ≡ changeOf l n → head .number ≡ 0 → id .0 < l .symbols
+      → y ≡ removeRowOf l x id → t ≡ removeLeft y l (accepted (id .0)) → t ≡ removeOf l x id
   unfolding removeOf
   remove-done y a e z h f q = simp (q, f, ← a, ← e, eq-eqb _ _ z, lt-leb _ _ h)

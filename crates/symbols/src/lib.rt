@@ -38,6 +38,7 @@ pub enum SectionSymbol {
     Symbol { id: SymbolId },
 }
 
+// The rows of names and sections, the length of the symbols.
 pub fn lent_rows(names: usize, symbols: usize, sections: usize) -> Lent
     ensures { λ r. ⌜ r ≡ lentOf names symbols sections ⌝ }
 {
@@ -87,7 +88,7 @@ fn null_row() -> Row
 fn clear_section_symbols(sections: &mut [u64])
     ensures { λ _. ⌜ now (sections .exit) ≡ clearSymbols (now (sections .entry)) ⌝ }
 {
-    let rows = symbol_rows::section_cells(sections.len());
+    let rows = link::section_slots(sections.len());
     cell_writes::clear_from(sections, rows * 8);
 }
 
@@ -103,6 +104,7 @@ fn no_rows() -> Link
         lists: 0,
         chains: 0,
         slots: 0,
+        key: 0,
         broken: false,
     }
 }
@@ -120,6 +122,7 @@ fn one_symbol(l: Link, slots: usize) -> Link
         lists: l.lists,
         chains: l.chains,
         slots: slots,
+        key: l.key,
         broken: l.broken,
     }
 }
@@ -131,7 +134,7 @@ fn null_table(l: Link, symbols: &mut [u64], sections: &mut [u64]) -> Outcome
     if l.names == 0 {
         return refused(l, 2, 0);
     }
-    let slots = symbol_rows::section_cells(sections.len());
+    let slots = link::section_slots(sections.len());
     clear_section_symbols(sections);
     symbol::set_row(symbols, Symbols::NULL_SYMBOL_ID, null_row());
     Outcome {
@@ -144,24 +147,25 @@ fn null_table(l: Link, symbols: &mut [u64], sections: &mut [u64]) -> Outcome
     }
 }
 
-// ---- remove
+// ---- the table's type: its null id, and a new table
 
 impl Symbols {
     pub const NULL_SYMBOL_ID: SymbolId = SymbolId(0);
 
-    // A table with the null symbol alone, and the empty name. What the lent cells held before doesn't matter.
+    // A table with the null symbol alone, and the empty name. What the lent cells held before doesn't matter. Any number is a key of the names' hash.
     pub fn new(
+        key: usize,
         bytes: &mut [u8],
         names: &mut [u64],
         symbols: &mut [u64],
         sections: &mut [u64],
     ) -> Outcome
-        ensures { λ r. ⌜ newOutcome (now (bytes .exit)) (now (names .exit)) (now (symbols .exit)) (now (sections .exit)) r ≡ newOf (now (bytes .entry)) (now (names .entry)) (now (symbols .entry)) (now (sections .entry)) ⌝ }
+        ensures { λ r. ⌜ newOutcome (now (bytes .exit)) (now (names .exit)) (now (symbols .exit)) (now (sections .exit)) r ≡ newOf key (now (bytes .entry)) (now (names .entry)) (now (symbols .entry)) (now (sections .entry)) ⌝ }
     {
         if link::symbol_rows(symbols.len()) == 0 {
             return refused(no_rows(), 2, 0);
         }
-        let named = interner_calls::new(bytes, names);
+        let named = interner_calls::new(key, bytes, names);
         null_table(named.link, symbols, sections)
     }
 }

@@ -1,4 +1,5 @@
-pub mod Within
 pub mod Unread
+pub mod Line
+pub mod Next
 pub mod Text
 pub mod Ways

@@ -1,9 +1,11 @@
 // Lines of standard input, and text that is put together piece by piece.
 ghost use mathlib.Core.Path.{_≡_};
-ghost use Prim.Native.Nat.{_+_};
-ghost use lib.ListN.{length};
-ghost use Rattle.text_lines.specs.Within.{Within};
-ghost use Rattle.text_lines.specs.Unread.{linesAt, unread, SameStart, Unsearched};
+ghost use Prim.Native.Nat.{_-_, _≤_};
+ghost use lib.ListN.{getD, set, length, drop};
+ghost use lib.Seq.{paste};
+ghost use Rattle.text_lines.specs.Unread.{linesAt, unread};
+ghost use Rattle.text_lines.specs.Line.{endIn, spanOf, restOf, unendedOf, leftOf, settleOf, isMore};
+ghost use Rattle.text_lines.specs.Next.{frontAs, frontOf, ReadOn, ReadLine, NextLine, longerOf, pastOf, Skipped};
 
 // ---- lines
 
@@ -48,21 +50,27 @@ pub fn new() -> Lines
     lines_at(0, 0, 0, false, false)
 }
 
-fn byte_at(buf: &[u8], i: usize) -> u8 {
+fn byte_at(buf: &[u8], i: usize) -> u8
+    ensures { λ r. ⌜ r ≡ getD (now (buf .entry)) i 0 ⌝ }
+{
     if i < buf.len() {
         return buf[i];
     }
     0
 }
 
-fn put_byte(buf: &mut [u8], i: usize, b: u8) {
+fn put_byte(buf: &mut [u8], i: usize, b: u8)
+    ensures { λ _. ⌜ now (buf .exit) ≡ set (now (buf .entry)) i b ⌝ }
+{
     if i < buf.len() {
         buf[i] = b;
     }
 }
 
-// The first line end from the place on; `to` where there is none before it.
-fn line_end(buf: &[u8], from: usize, to: usize) -> usize {
+// The first line end from the place on and before `to`; where there is none, `to`, or the place itself if it lies behind that.
+fn line_end(buf: &[u8], from: usize, to: usize) -> usize
+    ensures { λ r. ⌜ r ≡ endIn (now (buf .entry)) from to ⌝ }
+{
     let mut i = from;
     while i < to {
         if byte_at(buf, i) == 10 {
@@ -70,12 +78,12 @@ fn line_end(buf: &[u8], from: usize, to: usize) -> usize {
         }
         i += 1;
     }
-    to
+    i
 }
 
-// The bytes from start to end, where they lie in the buffer.
+// The bytes from a place to another, where they lie in the buffer.
 fn span(from: usize, to: usize, len: usize) -> Taken
-    ensures { λ r. ⌜ Within len r ⌝ }
+    ensures { λ r. ⌜ r ≡ spanOf from to len ⌝ }
 {
     if to < from {
         return Taken::End;
@@ -91,7 +99,7 @@ fn span(from: usize, to: usize, len: usize) -> Taken
 
 // What is left when nothing more comes: a last line without line end, or nothing.
 fn rest_of(l: Lines, len: usize) -> Taken
-    ensures { λ r. ⌜ Within len r ⌝ }
+    ensures { λ r. ⌜ r ≡ restOf l len ⌝ }
 {
     if l.end <= l.start {
         return Taken::End;
@@ -99,8 +107,8 @@ fn rest_of(l: Lines, len: usize) -> Taken
     span(l.start, l.end, len)
 }
 
-fn more_of(l: Lines, len: usize) -> Taken
-    ensures { λ r. ⌜ Within len r ⌝ }
+fn unended(l: Lines, len: usize) -> Taken
+    ensures { λ r. ⌜ r ≡ unendedOf l len ⌝ }
 {
     if l.over {
         return rest_of(l, len);
@@ -113,9 +121,18 @@ fn more_of(l: Lines, len: usize) -> Taken
     Taken::More
 }
 
+fn left_of(l: Lines) -> usize
+    ensures { λ r. ⌜ r ≡ leftOf l ⌝ }
+{
+    if l.over {
+        return l.end;
+    }
+    l.start
+}
+
 // The next line of what is in the buffer.
 fn settle(buf: &[u8], l: Lines) -> Step
-    ensures { λ r. ⌜ Within (length (now (buf .entry))) (r .taken) ⌝ }
+    ensures { λ r. ⌜ r ≡ settleOf (now (buf .entry)) l ⌝ }
 {
     let end = l.end;
     let at = line_end(buf, l.seen, end);
@@ -125,16 +142,31 @@ fn settle(buf: &[u8], l: Lines) -> Step
             taken: span(l.start, at, buf.len()),
         };
     }
-    let taken = more_of(l, buf.len());
-    let left = if l.over { end } else { l.start };
+    let taken = unended(l, buf.len());
+    let left = left_of(l);
     Step {
         lines: lines_at(left, end, end, l.over, l.failed),
         taken: taken,
     }
 }
 
+fn goes_on(s: Step) -> bool
+    ensures { λ r. ⌜ r ≡ isMore (s .taken) ⌝ }
+{
+    let taken = s.taken;
+    match taken {
+        Taken::Line { from: _, len: _ } => false,
+        Taken::Long => false,
+        Taken::End => false,
+        Taken::More => true,
+    }
+}
+
 // Bytes from start to end, moved to the front.
-fn move_down(buf: &mut [u8], start: usize, end: usize) {
+fn move_down(buf: &mut [u8], start: usize, end: usize)
+    requires { ⌜ (start ≤ end) × (end ≤ length (now buf)) ⌝ }
+    ensures { λ _. ⌜ now (buf .exit) ≡ paste (now (buf .entry)) 0 (drop start (now (buf .entry))) (end - start) ⌝ }
+{
     let mut from = start;
     let mut to = 0;
     while from < end {
@@ -145,19 +177,28 @@ fn move_down(buf: &mut [u8], start: usize, end: usize) {
     }
 }
 
-fn to_front(buf: &mut [u8], l: Lines) -> Lines {
-    if l.start == 0 {
-        return l;
-    }
-    if l.end < l.start {
+fn to_front(buf: &mut [u8], l: Lines) -> Lines
+    ensures { λ r. ⌜ frontAs (now (buf .exit)) r ≡ frontOf (now (buf .entry)) l ⌝ }
+{
+    let start = l.start;
+    let end = l.end;
+    if end < start {
         return lines_at(0, 0, 0, true, l.failed);
     }
-    move_down(buf, l.start, l.end);
-    let len = l.end - l.start;
+    if buf.len() < end {
+        return lines_at(0, 0, 0, true, l.failed);
+    }
+    let len = end - start;
+    if start != 0 {
+        move_down(buf, start, end);
+        return lines_at(0, len, len, l.over, l.failed);
+    }
     lines_at(0, len, len, l.over, l.failed)
 }
 
-fn longer(end: usize, more: usize, len: usize) -> usize {
+fn longer(end: usize, more: usize, len: usize) -> usize
+    ensures { λ r. ⌜ r ≡ longerOf end more len ⌝ }
+{
     if len < end {
         return end;
     }
@@ -169,53 +210,42 @@ fn longer(end: usize, more: usize, len: usize) -> usize {
 
 // One read behind the bytes that are there.
 fn read_more(buf: &mut [u8], l: Lines) -> Lines
-    ensures { λ r. ⌜ SameStart l r ⌝ }
+    ensures { λ r. ⌜ ReadOn (now (buf .entry)) l (now (buf .exit)) r ⌝ }
 {
     let end = l.end;
     if buf.len() <= end {
         return lines_at(l.start, l.seen, end, true, l.failed);
     }
     let got = libc::read(0, &mut buf[end..]);
-    if got <= 0 {
+    let more = io::count(got, buf);
+    if more == 0 {
         return lines_at(l.start, l.seen, end, true, got < 0);
     }
-    let more = io::count(got, buf);
     lines_at(l.start, l.seen, longer(end, more, buf.len()), false, false)
 }
 
-fn fill(buf: &mut [u8], l: Lines) -> Lines {
-    let moved = to_front(buf, l);
-    read_more(buf, moved)
+// Reads until there is a line. What is there lies at the front, and holds no line end.
+fn read_line(buf: &mut [u8], l: Lines) -> Step
+    ensures { λ r. ⌜ ReadLine (now (buf .entry)) (l .end) (now (buf .exit)) r ⌝ }
+{
+    let mut step = settle(buf, lines_at(0, l.end, l.end, l.over, l.failed));
+    while goes_on(step) {
+        let lines = read_more(buf, step.lines);
+        step = settle(buf, lines);
+    }
+    step
 }
 
-// The next line, without its line end; it lies in the buffer. Nothing says that the input ends, so turns are counted down.
+// The next line, without its line end; it lies in the buffer.
 pub fn next_line(buf: &mut [u8], l: Lines) -> Step
-    ensures { λ r. ⌜ Within (length (now (buf .exit))) (r .taken) ⌝ }
+    ensures { λ r. ⌜ NextLine (now (buf .entry)) l (now (buf .exit)) r ⌝ }
 {
-    let mut lines = l;
-    let mut turns: u64 = 0xffff_ffff_ffff_ffff;
-    while 0 < turns {
-        let step = settle(buf, lines);
-        let taken = step.taken;
-        match taken {
-            Taken::Line { from: _, len: _ } => {
-                return step;
-            }
-            Taken::Long => {
-                return step;
-            }
-            Taken::End => {
-                return step;
-            }
-            Taken::More => {}
-        }
-        lines = fill(buf, step.lines);
-        turns -= 1;
+    let step = settle(buf, l);
+    if goes_on(step) {
+        let front = to_front(buf, step.lines);
+        return read_line(buf, front);
     }
-    Step {
-        lines: lines,
-        taken: Taken::End,
-    }
+    step
 }
 
 fn emptied(l: Lines) -> Lines
@@ -224,21 +254,32 @@ fn emptied(l: Lines) -> Lines
     lines_at(0, 0, 0, l.over, l.failed)
 }
 
-// What follows a Long: the rest of that line is passed over.
+// What is left behind the first line end of what was read.
+fn past_line(buf: &[u8], l: Lines) -> Lines
+    ensures { λ r. ⌜ r ≡ pastOf (now (buf .entry)) (l .end) (l .over) (l .failed) ⌝ }
+{
+    let at = line_end(buf, 0, l.end);
+    if at < l.end {
+        return lines_at(at + 1, at + 1, l.end, l.over, l.failed);
+    }
+    emptied(l)
+}
+
+// What follows a Long: the rest of that line is passed over. Nothing says that the input ends, so turns are counted down.
 pub fn skip_line(buf: &mut [u8], l: Lines) -> Lines
-    ensures { λ r. ⌜ Unsearched r ⌝ }
+    ensures { λ r. ⌜ Skipped (now (buf .exit)) r ⌝ }
 {
     let mut lines = emptied(l);
     let mut turns: u64 = 0xffff_ffff_ffff_ffff;
     while 0 < turns {
-        let at = line_end(buf, 0, lines.end);
-        if at < lines.end {
-            return lines_at(at + 1, at + 1, lines.end, lines.over, lines.failed);
-        }
         if lines.over {
-            return emptied(lines);
+            return lines;
         }
-        lines = read_more(buf, emptied(lines));
+        if 0 < lines.start {
+            return lines;
+        }
+        let read = read_more(buf, lines);
+        lines = past_line(buf, read);
         turns -= 1;
     }
     lines

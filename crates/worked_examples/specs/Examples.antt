@@ -9,10 +9,11 @@ use lib.IntN.{ℤ, pos, negsuc}
 use lib.ListN.{length, replicate}
 use Rattle.link.specs.Said.{Said, accepted, refusing}
 use Rattle.cells.specs.Rows.{putRow}
-use Rattle.byte_slices.specs.Bytes.{same, copied}
+use Rattle.byte_slices.specs.Bytes.{wordAt, same, copied}
 use Rattle.link.specs.Bounds.{lesser}
 use Rattle.link.specs.Judge as Judge
-use Rattle.interner.specs.Hash.{mixed, hashFrom, spread, headCell}
+use Rattle.keyed_hash.specs.Keyed as Keyed
+use Rattle.interner.specs.Hash.{spread, headCell}
 use Rattle.interner.specs.Names as Names
 use Rattle.interner.specs.Calls as Interns
 use Rattle.symbol.specs.declared.Symbol.{Symbol}
@@ -57,7 +58,7 @@ unfoldable pub start : ℕ → State
 start n =
     callNext (intern clear)
     (callNext (intern mute)
-    (opened (newOf (replicate {A = ℕ} 16 0) (replicate {A = ℕ} 27 0) (replicate {A = ℕ} (n * 8) 0) (replicate {A = ℕ} 90 0))))
+    (opened (newOf 0 (replicate {A = ℕ} 16 0) (replicate {A = ℕ} 27 0) (replicate {A = ℕ} (n * 8) 0) (replicate {A = ℕ} 90 0))))
 
 -- ---- a line of a sheet
 
@@ -186,6 +187,6 @@ All P [] = Unit {0}
 All P (x ∷ xs) = P x × All P xs
 
 pub promises : All Right cases
-unfolding start putRow same copied lesser Judge.otherLength Judge.judgeSections Judge.judgeNames Judge.judgeLists Judge.afterSymbols Judge.afterSections Judge.judgeOf Judge.changeOf mixed hashFrom spread headCell Names.chase Names.seekOf Names.findOf Names.roomOf Names.fitsOf Names.linked Names.keepOf Interns.issueOf Interns.internOf Interns.clearHeads Interns.newOf offsetOf wordOf typeAt successor fileAt visibilityAt valueAt symbolAt setRow Fields.sectionInRange Fields.elfInRange Fields.shownOf Fields.hiddenOf Fields.judgeOf inSection convertedOf undefinedOf valueOf elfRowOf heldBy holderOf Decide.weakOf Decide.rankOf Decide.typeRefusal Decide.sectionRoom Decide.roomOf Decide.newOf Decide.replaceOf Decide.rankedOf Decide.knownOf Decide.decideOf noteName setSectionSymbol noteSection appendOf applyOf clearSymbols nullOf newOf judgeAddOf issuedOf directHolderOf placeOf decidedOf committedOf addRowOf addOf foundAt getOf
+unfolding start putRow same copied lesser Judge.judgeSections Judge.judgeNames Judge.judgeLists Judge.afterSymbols Judge.afterSections Judge.judgeOf Judge.changeOf wordAt Keyed.folded Keyed.mixed Keyed.hashFrom Keyed.pointOf Keyed.hashOf spread headCell Names.chase Names.seekOf Names.findFrom Names.findOf Names.roomOf Names.fitsOf Names.linked Names.keepOf Interns.issueOf Interns.internOf Interns.clearHeads Interns.newOf offsetOf wordOf typeAt successor fileAt visibilityAt valueAt symbolAt setRow Fields.sectionInRange Fields.elfInRange Fields.shownOf Fields.hiddenOf Fields.judgeOf inSection convertedOf undefinedOf valueOf elfRowOf heldBy holderOf Decide.weakOf Decide.rankOf Decide.typeRefusal Decide.sectionCell Decide.sectionRoom Decide.roomOf Decide.newOf Decide.replaceOf Decide.rankedOf Decide.knownOf Decide.decideOf noteName setSectionSymbol noteSection appendOf applyOf clearSymbols nullOf newOf judgeAddOf issuedOf directHolderOf placeOf decidedOf committedOf addRowOf addOf foundAt getOf
 promises =
     ((refl, refl, refl), ((refl, refl, refl), (refl, (refl, ((refl, refl, refl), ((refl, refl, refl), ((refl, refl, refl), (Groups.p8-right, (Groups.p8-comdat-right, ((refl, refl, refl), (Walks.p10-right, (Walks.p11-right, (Collections.p12-right, ((refl, refl, refl), ((refl, refl, refl), ((refl, refl, refl), ((refl, refl, refl), ((refl, refl, refl), tt))))))))))))))))))

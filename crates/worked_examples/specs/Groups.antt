@@ -27,7 +27,7 @@ objectWith flags sections =
 abbrev pub table : State
 table =
     stateOf [] (replicate {A = ℕ} 9 0) (replicate {A = ℕ} 16 0)
-    (record { names = 1; bytes = 0; symbols = 1; sections = 0; inputs = 0; lists = 0; chains = 1; slots = 0; broken = false })
+    (record { names = 1; bytes = 0; symbols = 1; sections = 0; inputs = 0; lists = 0; chains = 1; slots = 0; key = 0; broken = false })
 
 -- refused with that number at section 1, and everything left as it was
 abbrev pub Right : Example → Type 0
@@ -44,7 +44,7 @@ abbrev pub p8Comdat : Example
 p8Comdat = record { flags = 8; sections = 0; number = 5 }
 
 both : Right p8 × Right p8Comdat
-unfolding lesser Judge.otherLength Judge.judgeSections Judge.judgeNames Judge.judgeLists Judge.afterSymbols Judge.afterSections Judge.judgeOf Judge.changeOf Rows.isExcluded Rows.isLoaded Elf.rangeOk Elf.contentsOk Elf.headerOk Elf.firstBad Elf.badHeader Elf.badEntry Elf.judgeOf shapeOf shapedOf groupOf marksRefusal rowsRefusal headOf answerOf addGroupOf
+unfolding lesser Judge.judgeSections Judge.judgeNames Judge.judgeLists Judge.afterSymbols Judge.afterSections Judge.judgeOf Judge.changeOf Rows.isExcluded Rows.isLoaded Elf.rangeOk Elf.contentsOk Elf.headerOk Elf.firstBad Elf.badHeader Elf.badEntry Elf.judgeOf shapeOf shapedOf groupOf marksRefusal rowsRefusal headOf answerOf addGroupOf
 both = (refl, refl)
 
 pub p8-right : Right p8

@@ -2,6 +2,7 @@
 use crate::ffi::{self, Header, VALUE, Walk};
 use crate::{Link, Object, Refusal};
 use std::borrow::Cow;
+use std::hash::{BuildHasher, RandomState};
 
 /// A walk over an archive, by its System V index.
 ///
@@ -50,17 +51,25 @@ pub enum Step {
 impl<'a> PendingArchive<'a> {
     /// Opens the index: 20 if it is empty, 1 if it is cut short or has more than 65,535 entries.
     /// No pass is made.
+    ///
+    /// The names required of members are found by a hash whose key is drawn at random, so that
+    /// nobody can choose names that make `admits` slow. No answer depends on it.
     pub fn new(index: impl Into<Cow<'a, [u8]>>) -> Result<Self, Refusal> {
+        Self::with_key(RandomState::new().hash_one(()), index)
+    }
+
+    /// The same with a key that the caller chooses, for runs that are to take the same steps.
+    pub fn with_key(key: u64, index: impl Into<Cow<'a, [u8]>>) -> Result<Self, Refusal> {
         let index = index.into();
         // No more rows than the index has offsets, nor than an index may have entries.
         let entries = match index.first_chunk() {
             Some(count) => (u32::from_be_bytes(*count) as usize).min(index.len() / 4).min(65_535),
             None => 0,
         };
-        let mut archive = PendingArchive { index, rows: vec![0; entries * 8], walk: [0; 6] };
+        let mut archive = PendingArchive { index, rows: vec![0; entries * 8], walk: [0; 7] };
         let mut header: Header = [0; 16];
         let PendingArchive { index, rows, walk } = &mut archive;
-        ffi::archive_start(&mut header, walk, index, rows)?;
+        ffi::archive_start(&mut header, walk, key as usize, index, rows)?;
         Ok(archive)
     }
 
@@ -128,6 +137,6 @@ impl<'a> PendingArchive<'a> {
 
     /// The passes made so far.
     pub fn passes(&self) -> u64 {
-        self.walk[2]
+        self.walk[3]
     }
 }

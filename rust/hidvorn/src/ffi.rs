@@ -11,15 +11,18 @@
 //! functions' signatures, where a slice is a pointer and a length.
 use crate::{Cause, Refusal};
 
-/// The link's counts (0 to 7), whether it is broken (8), then the last answer: number, place,
-/// values (9 to 15).
+/// The link's counts (0 to 7), whether it is broken (8), the last answer: number, place, values (9
+/// to 14), and the key of its names (15).
 pub(crate) type Header = [u64; 16];
 
-/// Entries, length of the index, passes, queued, offered, done.
-pub(crate) type Walk = [u64; 6];
+/// Key, entries, length of the index, passes, queued, offered, done.
+pub(crate) type Walk = [u64; 7];
 
 /// The first value of an answer in a header.
 pub(crate) const VALUE: usize = 11;
+
+/// The key of the names' hash.
+pub(crate) const KEY: usize = 15;
 
 fn answer(header: &Header) -> Result<(), Refusal> {
     match header[9] {
@@ -35,6 +38,7 @@ unsafe extern "C" {
     fn hidvorn_new(
         header: *mut u64,
         header_len: usize,
+        key: usize,
         bytes: *mut u8,
         bytes_len: usize,
         names: *mut u64,
@@ -219,6 +223,7 @@ unsafe extern "C" {
         header_len: usize,
         walk: *mut u64,
         walk_len: usize,
+        key: usize,
         index: *const u8,
         index_len: usize,
         rows: *mut u64,
@@ -286,6 +291,7 @@ unsafe extern "C" {
 
 pub(crate) fn new(
     header: &mut Header,
+    key: usize,
     bytes: &mut [u8],
     names: &mut [u64],
     symbols: &mut [u64],
@@ -296,6 +302,7 @@ pub(crate) fn new(
         hidvorn_new(
             header.as_mut_ptr(),
             header.len(),
+            key,
             bytes.as_mut_ptr(),
             bytes.len(),
             names.as_mut_ptr(),
@@ -635,6 +642,7 @@ pub(crate) fn load_shared_object(
 pub(crate) fn archive_start(
     header: &mut Header,
     walk: &mut Walk,
+    key: usize,
     index: &[u8],
     rows: &mut [u64],
 ) -> Result<(), Refusal> {
@@ -645,6 +653,7 @@ pub(crate) fn archive_start(
             header.len(),
             walk.as_mut_ptr(),
             walk.len(),
+            key,
             index.as_ptr(),
             index.len(),
             rows.as_mut_ptr(),

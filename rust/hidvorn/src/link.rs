@@ -1,10 +1,11 @@
 //! The link: its storage and its calls.
-use crate::ffi::{self, Header, VALUE};
+use crate::ffi::{self, Header, KEY, VALUE};
 use crate::{
     GroupMarks, Interned, LibraryName, Load, Merged, Object, Refusal, SectionId, SharedObject,
     Symbol, SymbolId, UpcomingSymbol,
 };
 use std::fmt;
+use std::hash::{BuildHasher, RandomState};
 
 /// How much a link can hold. A call that needs more is refused with 2. What is above a bound is cut
 /// to it.
@@ -88,7 +89,15 @@ impl Link {
 
     /// An empty link: the null symbol and the empty name. 2 if there is no room for these. What is
     /// above a bound is cut to it.
+    ///
+    /// Names are found by a hash whose key is drawn at random, so that nobody can choose names that
+    /// make a link slow. No answer depends on it.
     pub fn with_capacity(capacity: Capacity) -> Result<Self, Refusal> {
+        Link::with_key(RandomState::new().hash_one(()), capacity)
+    }
+
+    /// The same with a key that the caller chooses, for runs that are to take the same steps.
+    pub fn with_key(key: u64, capacity: Capacity) -> Result<Self, Refusal> {
         // Each has a byte of its own, but for the empty one.
         let names = capacity.names.min(Capacity::BOUNDS.name_bytes + 1);
         let mut link = Link {
@@ -103,19 +112,20 @@ impl Link {
             ids: Vec::new(),
             marks: vec![0; names],
         };
-        link.start()?;
+        link.start(key)?;
         Ok(link)
     }
 
     /// Makes this an empty link again, in the same storage. It takes time by the capacity, not by
     /// what the link holds.
     pub fn clear(&mut self) {
-        self.start().expect("the same storage had room for a link before");
+        let key = self.header[KEY];
+        self.start(key).expect("the same storage had room for a link before");
     }
 
-    fn start(&mut self) -> Result<(), Refusal> {
+    fn start(&mut self, key: u64) -> Result<(), Refusal> {
         let Link { header, bytes, names, symbols, sections, .. } = self;
-        ffi::new(header, bytes, names, symbols, sections)
+        ffi::new(header, key as usize, bytes, names, symbols, sections)
     }
 
     /// Whether a refusal inside a merge or a load broke the link (`Refusal` tells which do): no call
@@ -244,8 +254,9 @@ impl Link {
 
     /// Adds one section group of an object outside of a merge. `section` is the group; `marks` has
     /// the object and its symbol table. A signature in another table, or in a section that is no
-    /// table, gives 6; a section that is no group, or is excluded, 1. Of the object's symbols only
-    /// the table's are judged, by their numbers there. A refusal breaks nothing.
+    /// table, a dynamic one or excluded, gives 6; a section that is no group, or is excluded, 1. Of
+    /// the object's symbols only the table's are judged, by their numbers there. A refusal breaks
+    /// nothing.
     pub fn add_group(&mut self, marks: &mut GroupMarks<'_>, section: usize) -> Result<(), Refusal> {
         ffi::add_group(
             &mut self.header,

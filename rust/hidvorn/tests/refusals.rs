@@ -293,6 +293,42 @@ fn groups_of_no_table() {
     assert!(!link.is_broken());
 }
 
+/// As in a merge, an excluded table or a dynamic one isn't the object's.
+#[test]
+fn groups_of_a_table_that_is_not_loaded() {
+    let (bytes, places) = strings(&["sig"]);
+    let len = bytes.len();
+    let table = |dynamic, count| match dynamic {
+        false => SectionContent::SymbolTable { strings: 2, first: 0, count },
+        true => SectionContent::DynamicSymbolTable { strings: 2, first: 0, count },
+    };
+    for (dynamic, exclude, number) in [(false, true, 6), (true, false, 6), (true, true, 6), (false, false, 0)] {
+        let mut object = Object::new(bytes.clone());
+        object.push_symbol(ElfSymbol::default());
+        object.push_symbol(ElfSymbol { name: places[0], binding: 1, ..Default::default() });
+        let mut push = |content, exclude| {
+            object.push_section(SectionHeader { exclude, content, ..Default::default() })
+        };
+        push(SectionContent::Null, false);
+        push(table(dynamic, 2), exclude);
+        push(SectionContent::StringTable { first: 0, len }, false);
+        push(SectionContent::Group { table: 1, signature: 1, comdat: true, sections: &[9] }, false);
+        let mut link = Link::with_capacity(SMALL).unwrap();
+        let added = link.add_group(&mut GroupMarks::new(&object, 1), 3);
+        match number {
+            0 => added.unwrap(),
+            _ => assert_eq!(refused(added), (number, 3)),
+        }
+        // A merge finds no table either; a dynamic one it refuses before, unless excluded.
+        let merged = Link::with_capacity(SMALL).unwrap().merge_elf(&object).map(|_| ());
+        match (dynamic && !exclude, number) {
+            (true, _) => assert_eq!(refused(merged), (3, 1)),
+            (false, 0) => merged.unwrap(),
+            (false, _) => assert_eq!(refused(merged), (number, 3)),
+        }
+    }
+}
+
 #[test]
 fn a_group_of_a_section_that_no_object_has() {
     let with = |section| {
@@ -457,6 +493,30 @@ fn a_walk_that_meets_a_removed_name() {
     assert_eq!(refusal, Refusal { cause: Cause::AbsentId, place: 1 });
     assert_eq!(walk.entry(refusal.place), Some(IndexEntry { offset: 16, name: b"b" }));
     assert_eq!(walk.passes(), 0);
+}
+
+#[test]
+fn a_walk_under_any_key() {
+    let mut link = Link::with_capacity(SMALL).unwrap();
+    unknown(&mut link, "a").unwrap();
+    unknown(&mut link, "b").unwrap();
+    let object = object(&[("a", 1, 1, 0), ("c", 1, 1, 0)]);
+    let index = &b"\0\0\0\x03\0\0\0\x08\0\0\0\x10\0\0\0\x10a\0b\0c\0"[..];
+    let told = |mut walk: PendingArchive<'_>| {
+        let mut offers = Vec::new();
+        while let Step::Member(member) = walk.next(&link).unwrap() {
+            let names = walk.required(&member).map(<[u8]>::to_vec).collect::<Vec<_>>();
+            offers.push((member.offset, member.passes, walk.admits(&member, &object), names));
+        }
+        (offers, walk.passes())
+    };
+    let (offers, passes) = told(PendingArchive::new(index).unwrap());
+    let first = (8, 1, Ok(true), vec![b"a".to_vec()]);
+    let second = (16, 1, Ok(false), vec![b"b".to_vec()]);
+    assert_eq!((&offers[..], passes), (&[first, second][..], 2));
+    for key in [0, 1, 0x1000_0000, u64::MAX] {
+        assert_eq!(told(PendingArchive::with_key(key, index).unwrap()), (offers.clone(), passes));
+    }
 }
 
 #[test]

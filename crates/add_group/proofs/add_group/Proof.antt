@@ -11,6 +11,7 @@ add-group-spec =
     (λ c. search add-refused)
     (λ c κs. search needs)
     (λ c κs. search needs)
+    (λ c κs. search needs)
     (λ c. search needs)
     (λ c. search needs)
     (λ c. search needs)

@@ -10,7 +10,7 @@ use Rattle.archive_open.proofs.enter_all.Tie as tie
 
 abbrev Inv-loop : tie.InvT-loop
 Inv-loop index cells₀ entries start at₀ k₀ cells at k =
-    (length cells ≡ length cells₀) × (enterAll index entries entries 0 start cells₀ ≡ enterAll index entries (entries - k) k at cells)
+    (length cells ≡ length cells₀) × (enterAll index entries 0 start cells₀ ≡ enterAll index (entries - k) k at cells)
 
 abbrev μ-loop : tie.MeasureT-loop
 μ-loop index cells₀ entries start at₀ k₀ cells at k = entries - k

@@ -14,6 +14,5 @@ open-names-spec =
     (λ c. search open-full)
     (λ c κs. search needs)
     (λ c κs. search needs)
-    (λ c κs. search needs)
     (λ c. search needs)
     (λ c. search open-rows))

@@ -10,18 +10,19 @@ use Rattle.archive_pass.proofs.tie_all.Statement.{statement}
 use Rattle.archive_pass.proofs.tie_all.Tie as tie
 
 abbrev Inv-loop : tie.InvT-loop
-Inv-loop index cells₀ queued p entries l bytes names symbols n₀ k₀ cells n k =
-    (n ≤ queued + k) × (length cells ≡ length cells₀) ×
-    (tieAll index (tableOf l bytes names symbols) p entries 0 (queueOf cells₀ queued) ≡ tieAll index (tableOf l bytes names symbols) p (entries - k) k (queueOf cells n))
+Inv-loop w index cells₀ p l bytes names symbols n₀ k₀ cells n k =
+    (n ≤ w .queued + k) × (length cells ≡ length cells₀) ×
+    (tieAll (w .key) (w .entries) index (tableOf l bytes names symbols) p (w .entries) 0 (queueOf cells₀ (w .queued)) ≡ tieAll (w .key) (w .entries) index (tableOf l bytes names symbols) p (w .entries - k) k (queueOf cells n))
 
 abbrev μ-loop : tie.MeasureT-loop
-μ-loop index cells₀ queued p entries l bytes names symbols n₀ k₀ cells n k = entries - k
+μ-loop w index cells₀ p l bytes names symbols n₀ k₀ cells n k = w .entries - k
 
 loop-again : tie.Need-loop-again Inv-loop μ-loop
 loop-again c =
     let tied = c .before .before in
     let turn = tied .before .before in
-    (count-on _ _ _ _ _ _ _ _ _ (tied .tie .ensures) (turn .before .loop .inv .0), search needs, all-on _ _ _ _ _ _ _ _ (turn .loop-test .taken) (tied .tie .ensures) (turn .before .loop .inv .2))
+    let loop = turn .before .before .loop in
+    (count-on _ _ _ _ _ _ _ _ _ _ _ (tied .tie .ensures) (loop .inv .0), search needs, all-on _ _ _ _ _ _ _ _ _ (turn .if1 .taken) (tied .tie .ensures) (loop .inv .2))
 
 pub tie-all-spec : {M : Type 1} → statement M
 tie-all-spec =

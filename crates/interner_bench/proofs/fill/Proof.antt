@@ -6,10 +6,10 @@ use Rattle.interner_bench.proofs.fill.Statement.{statement}
 use Rattle.interner_bench.proofs.fill.Tie as tie
 
 abbrev Inv-loop : tie.InvT-loop
-Inv-loop bytes₀ names₀ count now₀ i₀ bytes names now i = (length bytes ≡ length bytes₀) × (length names ≡ length names₀)
+Inv-loop bytes₀ names₀ count choose now₀ i₀ bytes names now i = (length bytes ≡ length bytes₀) × (length names ≡ length names₀)
 
 abbrev μ-loop : tie.MeasureT-loop
-μ-loop bytes₀ names₀ count now₀ i₀ bytes names now i = count - i
+μ-loop bytes₀ names₀ count choose now₀ i₀ bytes names now i = count - i
 
 pub fill-spec : {M : Type 1} → statement M
 fill-spec =

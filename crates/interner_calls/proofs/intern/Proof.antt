@@ -1,5 +1,5 @@
 use borrow.Author.Needs.{needs}
-use Rattle.interner.specs.CallWays.{intern-refused, intern-known, intern-issued, intern-full}
+use Rattle.interner.specs.CallWays.{intern-refused, intern-judged}
 use Rattle.interner_calls.proofs.intern.Statement.{statement}
 use Rattle.interner_calls.proofs.intern.Tie as tie
 
@@ -14,13 +14,4 @@ intern-spec =
     (λ c κs. search needs)
     (λ c. search needs)
     (λ c. search needs)
-    (λ c. search intern-known)
-    (λ c κs. search needs)
-    (λ c κs. search needs)
-    (λ c. search needs)
-    (λ c. search needs)
-    (λ c. search intern-issued)
-    (λ c κs. search needs)
-    (λ c. search needs)
-    (λ c. search needs)
-    (λ c. search intern-full))
+    (λ c. search intern-judged))

@@ -11,7 +11,6 @@ new-spec =
     (λ c κs. search needs)
     (λ c κs. search needs)
     (λ c. search new-none)
-    (λ c. search needs)
     (λ c κs. search needs)
     (λ c κs. search needs)
     (λ c. search needs)

@@ -1,5 +1,5 @@
 use borrow.Author.Needs.{needs}
-use Rattle.interner.specs.Ways.{room-row, room-over, room-short, room-yes}
+use Rattle.interner.specs.Ways.{room-lent, room-row, room-over, room-short, room-yes}
 use Rattle.interner_issue.proofs.room.Statement.{statement}
 use Rattle.interner_issue.proofs.room.Tie as tie
 
@@ -8,6 +8,7 @@ room-spec =
     tie.close
     (tie.spec
     (λ c κs. search needs)
+    (λ c. search room-lent)
     (λ c. search room-row)
     (λ c κs. search needs)
     (λ c. search room-over)

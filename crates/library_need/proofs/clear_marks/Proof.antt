@@ -7,11 +7,11 @@ use Rattle.library_need.proofs.clear_marks.Statement.{statement}
 use Rattle.library_need.proofs.clear_marks.Tie as tie
 
 abbrev Inv-loop : tie.InvT-loop
-Inv-loop marks₀ bytes names count entries file rows i₀ marks i =
-    Cleared i bytes names count entries file rows marks₀ marks × (rows < 18446744073709551616) × (length marks ≡ length marks₀)
+Inv-loop l marks₀ bytes names entries file rows i₀ marks i =
+    Cleared i bytes names l entries file rows marks₀ marks × (rows < 18446744073709551616) × (length marks ≡ length marks₀)
 
 abbrev μ-loop : tie.MeasureT-loop
-μ-loop marks₀ bytes names count entries file rows i₀ marks i = rows - i
+μ-loop l marks₀ bytes names entries file rows i₀ marks i = rows - i
 
 pub clear-marks-spec : {M : Type 1} → statement M
 clear-marks-spec =

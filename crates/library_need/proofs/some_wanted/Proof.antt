@@ -8,10 +8,10 @@ use Rattle.library_need.proofs.some_wanted.Statement.{statement}
 use Rattle.library_need.proofs.some_wanted.Tie as tie
 
 abbrev Inv-loop : tie.InvT-loop
-Inv-loop bytes names symbols marks count entries file rows i₀ i = someWanted (viewOf bytes names symbols marks count) entries file ≡ anyFrom (symbolWanted (viewOf bytes names symbols marks count) entries file) i (rows - i)
+Inv-loop l bytes names symbols marks entries file rows i₀ i = someWanted (viewOf bytes names symbols marks l) entries file ≡ anyFrom (symbolWanted (viewOf bytes names symbols marks l) entries file) i (rows - i)
 
 abbrev μ-loop : tie.MeasureT-loop
-μ-loop bytes names symbols marks count entries file rows i₀ i = rows - i
+μ-loop l bytes names symbols marks entries file rows i₀ i = rows - i
 
 pub some-wanted-spec : {M : Type 1} → statement M
 some-wanted-spec =

@@ -1,5 +1,5 @@
 use borrow.Author.Needs.{needs}
-use Rattle.link.specs.Ways.{names-other, names-over, bytes-over, names-fine}
+use Rattle.link.specs.Ways.{names-short, names-over, bytes-over, names-fine}
 use Rattle.link_judge.proofs.judge_names.Statement.{statement}
 use Rattle.link_judge.proofs.judge_names.Tie as tie
 
@@ -8,10 +8,7 @@ judge-names-spec =
     tie.close
     (tie.spec
     (λ c κs. search needs)
-    (λ c κs. search needs)
-    (λ c κs. search needs)
-    (λ c κs. search needs)
-    (λ c. search names-other)
+    (λ c. search names-short)
     (λ c κs. search needs)
     (λ c. search names-over)
     (λ c κs. search needs)

@@ -1,5 +1,5 @@
 use borrow.Author.Needs.{needs}
-use Rattle.link.specs.Ways.{sections-other, sections-over, sections-fine}
+use Rattle.link.specs.Ways.{sections-short, sections-over, sections-fine}
 use Rattle.link_judge.proofs.judge_sections.Statement.{statement}
 use Rattle.link_judge.proofs.judge_sections.Tie as tie
 
@@ -8,9 +8,7 @@ judge-sections-spec =
     tie.close
     (tie.spec
     (λ c κs. search needs)
-    (λ c κs. search needs)
-    (λ c κs. search needs)
-    (λ c. search sections-other)
+    (λ c. search sections-short)
     (λ c κs. search needs)
     (λ c κs. search needs)
     (λ c. search sections-over)

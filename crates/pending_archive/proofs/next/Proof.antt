@@ -1,4 +1,4 @@
--- `pending_archive::next` meets its contract: a walk of its MIR, by hand. The borrow is opened and the struct is copied out; `archive_walk::next` is called on the copy; of what it returns `walk` is stored back, and the borrow is closed at it.
+-- `pending_archive::next` meets its contract: a walk of its MIR, by hand. The borrow is opened and the struct is copied out; `archive_pass::next` is called on the copy; of what it returns `walk` is stored back, and the borrow is closed at it.
 -- Each `&` slice is Copy: what it owns is had twice, once for the call and once for the exit. A `&mut` slice goes to the callee for good, at its own lifetime: what is had of it at exit is what says its last list.
 -- All that the proof knows of `next` is that it meets its contract. Assumes nothing.
 use mathlib.Core.Path.{_≡_, refl, ap}

@@ -1,6 +1,7 @@
 use borrow.Author.Needs.{needs}
-use mathlib.Core.Path.{sym}
+use mathlib.Core.Path.{refl, sym}
 use lib.Seq.{length-take-le}
+use Rattle.replay_merge.specs.Ways.{stores-done}
 use Rattle.replay_merge.proofs.merge.Statement.{statement}
 use Rattle.replay_merge.proofs.merge.Tie as tie
 
@@ -29,4 +30,4 @@ merge-spec =
     (λ c. search needs)
     (λ c. search needs)
     (λ c. search needs)
-    (λ c. search needs))
+    (λ c. stores-done _ _ _ _ _ _ _ _ _ _ _ (c .before .before .before .before .before .before .before .before .before .before .before .before .before .before .before .before .before .before .before .before .before .before .before .before .before .before .before .before .cells .ensures .1) (c .before .before .before .before .before .before .before .before .before .before .before .before .before .before .before .before .before .before .before .before .before .before .before .before .before .before .before .wide-rows .ensures .1) (c .before .before .before .before .before .before .before .before .before .before .before .before .before .before .before .before .before .before .before .before .before .before .before .before .before .before .rows .ensures .1) (c .before .before .before .before .before .before .before .before .before .before .before .before .before .before .before .before .before .before .before .before .before .before .before .before .before .wide-rows2 .ensures .1) (c .before .before .before .before .before .before .before .before .before .before .before .before .before .before .before .before .merge-lent .ensures) refl))

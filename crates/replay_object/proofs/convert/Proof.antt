@@ -1,12 +1,14 @@
 use borrow.Author.Needs.{needs}
-use Prim.Native.Nat.{_-_}
+use Prim.Native.Nat.{_-_, _≤_}
 use mathlib.Core.Path.{_≡_}
 use lib.ListN.{length}
+use Rattle.replay_object.specs.Conversion.{convertFrom, convertOf}
+use Rattle.replay_object.specs.Ways.{convert-start, convert-more, convert-end}
 use Rattle.replay_object.proofs.convert.Statement.{statement}
 use Rattle.replay_object.proofs.convert.Tie as tie
 
 abbrev Inv-loop : tie.InvT-loop
-Inv-loop cells₀ line i₀ cells i = length cells ≡ length cells₀
+Inv-loop cells₀ line i₀ cells i = (convertOf cells₀ line ≡ convertFrom (64 - i) cells line i) × (length cells ≡ length cells₀)
 
 abbrev μ-loop : tie.MeasureT-loop
 μ-loop cells₀ line i₀ cells i = 64 - i
@@ -17,7 +19,7 @@ convert-spec =
     (tie.spec
     Inv-loop
     μ-loop
-    (λ c. search needs)
+    (λ c. search (needs, convert-start))
     (λ c. search needs)
     (λ c. search needs)
     (λ c κs. search needs)
@@ -25,6 +27,6 @@ convert-spec =
     (λ c κs. search needs)
     (λ c. search needs)
     (λ c. search needs)
+    (λ c. (convert-more _ _ _ _ _ _ _ (c .before .before .before .before .before .before .loop-test .taken) (c .before .before .before .before .field .ensures .0) (c .before .before .before .cell-of .ensures) (c .before .before .put .ensures) (c .before .before .before .before .before .before .before .loop .inv .0), search needs))
     (λ c. search needs)
-    (λ c. search needs)
-    (λ c. search needs))
+    (λ c. search convert-end))

@@ -8,5 +8,7 @@ room-spec =
     tie.close
     (tie.spec
     (λ c κs. search needs)
+    (λ c κs. search needs)
+    (λ c κs. search needs)
     (λ c. search room-yes)
     (λ c. search room-no))

@@ -1,5 +1,5 @@
 use borrow.Author.Needs.{needs}
-use Rattle.symbols.specs.Ways.{section-short, section-beyond, section-none, section-symbol}
+use Rattle.symbols.specs.Ways.{section-none, section-symbol}
 use Rattle.symbol_lookup.proofs.section_symbol_id.Statement.{statement}
 use Rattle.symbol_lookup.proofs.section_symbol_id.Tie as tie
 
@@ -8,10 +8,6 @@ section-symbol-id-spec =
     tie.close
     (tie.spec
     (λ c κs. search needs)
-    (λ c. search section-short)
-    (λ c. search section-beyond)
-    (λ c. search needs)
-    (λ c. search needs)
     (λ c κs. search needs)
     (λ c. search section-none)
     (λ c. search section-symbol))

@@ -1,5 +1,5 @@
 use borrow.Author.Needs.{needs}
-use Rattle.symbol_rows.specs.DecideWays.{room-full, room-global, room-local, room-no-cell, room-cell}
+use Rattle.symbol_rows.specs.DecideWays.{room-full, room-global, room-local, room-cell, room-no-cell}
 use Rattle.symbol_resolution.proofs.room.Statement.{statement}
 use Rattle.symbol_resolution.proofs.room.Tie as tie
 
@@ -12,5 +12,5 @@ room-spec =
     (λ c. search room-global)
     (λ c. search room-local)
     (λ c κs. search needs)
-    (λ c. search room-no-cell)
-    (λ c. search room-cell))
+    (λ c. search room-cell)
+    (λ c. search room-no-cell))

@@ -1,5 +1,5 @@
 use borrow.Author.Needs.{needs}
-use Rattle.symbol_rows.specs.DecideWays.{holder-new, holder-none, holder-removed, holder-known}
+use Rattle.symbol_rows.specs.DecideWays.{holder-new, holder-none, holder-later, holder-removed, holder-known}
 use Rattle.symbol_rows.proofs.holder_of.Statement.{statement}
 use Rattle.symbol_rows.proofs.holder_of.Tie as tie
 
@@ -10,6 +10,7 @@ holder-of-spec =
     (λ c. search holder-new)
     (λ c κs. search needs)
     (λ c. search holder-none)
+    (λ c. search holder-later)
     (λ c κs. search needs)
     (λ c. search holder-removed)
     (λ c. search holder-known))

@@ -1,5 +1,5 @@
 use borrow.Author.Needs.{needs}
-use Rattle.symbol_rows.specs.ApplyWays.{section-cell, section-no-cell}
+use Rattle.symbol_rows.specs.ApplyWays.{section-set}
 use Rattle.symbol_rows.proofs.set_section_symbol.Statement.{statement}
 use Rattle.symbol_rows.proofs.set_section_symbol.Tie as tie
 
@@ -8,9 +8,6 @@ set-section-symbol-spec =
     tie.close
     (tie.spec
     (λ c κs. search needs)
-    (λ c. search needs)
-    (λ c. search needs)
     (λ c κs. search needs)
     (λ c. search needs)
-    (λ c. search section-cell)
-    (λ c. search section-no-cell))
+    (λ c. search section-set))

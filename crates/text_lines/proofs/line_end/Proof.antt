@@ -1,10 +1,13 @@
 use borrow.Author.Needs.{needs}
 use Prim.Native.Nat.{_-_}
+use mathlib.Core.Path.{_≡_}
+use Rattle.text_lines.specs.Line.{endIn}
+use Rattle.text_lines.specs.Ways.{end-here, end-on, end-none}
 use Rattle.text_lines.proofs.line_end.Statement.{statement}
 use Rattle.text_lines.proofs.line_end.Tie as tie
 
 abbrev Inv-loop : tie.InvT-loop
-Inv-loop buf from to i₀ i = Unit {0}
+Inv-loop buf from to i₀ i = endIn buf from to ≡ endIn buf i to
 
 abbrev μ-loop : tie.MeasureT-loop
 μ-loop buf from to i₀ i = to - i
@@ -15,10 +18,10 @@ line-end-spec =
     (tie.spec
     Inv-loop
     μ-loop
-    (λ c. tt)
+    (λ c. search needs)
     (λ c κs. search needs)
+    (λ c. search end-here)
     (λ c. search needs)
     (λ c. search needs)
-    (λ c. search needs)
-    (λ c. tt)
-    (λ c. search needs))
+    (λ c. search (needs, end-on))
+    (λ c. search end-none))

@@ -1,36 +1,17 @@
 use borrow.Author.Needs.{needs}
-use mathlib.Core.Path.{_≡_}
-use lib.ListN.{length}
+use Rattle.text_lines.specs.Ways.{next-read, next-there}
 use Rattle.text_lines.proofs.next_line.Statement.{statement}
 use Rattle.text_lines.proofs.next_line.Tie as tie
-
-abbrev Inv-loop : tie.InvT-loop
-Inv-loop buf₀ lines₀ turns₀ buf lines turns = length buf ≡ length buf₀
-
-abbrev μ-loop : tie.MeasureT-loop
-μ-loop buf₀ lines₀ turns₀ buf lines turns = turns
 
 pub next-line-spec : {M : Type 1} → statement M
 next-line-spec =
     tie.close
     (tie.spec
-    Inv-loop
-    μ-loop
-    (λ c. search needs)
+    (λ c κs. search needs)
+    (λ c κs. search needs)
+    (λ c κs. search needs)
     (λ c κs. search needs)
     (λ c. search needs)
+    (λ c. search next-read)
     (λ c. search needs)
-    (λ c. search needs)
-    (λ c. search needs)
-    (λ c. search needs)
-    (λ c. search needs)
-    (λ c. search needs)
-    (λ c. search needs)
-    (λ c. search needs)
-    (λ c. search needs)
-    (λ c κs. search needs)
-    (λ c. search needs)
-    (λ c. search needs)
-    (λ c. search needs)
-    (λ c. search needs)
-    (λ c. search needs))
+    (λ c. search next-there))

@@ -1,5 +1,5 @@
 use borrow.Author.Needs.{needs}
-use Rattle.text_lines.specs.Ways.{same-start}
+use Rattle.text_lines.specs.Ways.{kept-before, read-full, read-none, read-some}
 use Rattle.text_lines.proofs.read_more.Statement.{statement}
 use Rattle.text_lines.proofs.read_more.Tie as tie
 
@@ -8,16 +8,16 @@ read-more-spec =
     tie.close
     (tie.spec
     (λ c κs. search needs)
-    (λ c. search (needs, same-start))
+    (λ c. search read-full)
     (λ c. search needs)
     (λ c. search needs)
     (λ c. search needs)
     (λ c κs. search needs)
     (λ c κs. search needs)
-    (λ c. search needs)
-    (λ c. search (needs, same-start))
-    (λ c κs. search needs)
-    (λ c κs. search needs)
     (λ c κs. search needs)
     (λ c. search needs)
-    (λ c. search (needs, same-start)))
+    (λ c. read-none _ _ _ _ _ (c .lines-at2 .ensures) (kept-before _ _ _ (c .before .before .before .before .before .before .before .before .if1 .left)))
+    (λ c κs. search needs)
+    (λ c κs. search needs)
+    (λ c. search needs)
+    (λ c. read-some _ _ _ _ _ _ _ _ (c .before .before .if2 .left) (c .before .longer .ensures) (search needs) (c .lines-at3 .ensures) (kept-before _ _ _ (c .before .before .before .before .before .before .before .before .before .if1 .left))))

@@ -1,13 +1,13 @@
 use borrow.Author.Needs.{needs}
 use mathlib.Core.Path.{_≡_}
 use lib.ListN.{length}
-use Rattle.text_lines.specs.Unread.{Unsearched}
-use Rattle.text_lines.specs.Ways.{none-left, left-at, read-anew}
+use Rattle.text_lines.specs.Next.{Skipped}
+use Rattle.text_lines.specs.Ways.{skipped-none, skipped-on}
 use Rattle.text_lines.proofs.skip_line.Statement.{statement}
 use Rattle.text_lines.proofs.skip_line.Tie as tie
 
 abbrev Inv-loop : tie.InvT-loop
-Inv-loop buf₀ lines₀ turns₀ buf lines turns = (length buf ≡ length buf₀) × Unsearched lines
+Inv-loop buf₀ lines₀ turns₀ buf lines turns = (length buf ≡ length buf₀) × Skipped buf lines
 
 abbrev μ-loop : tie.MeasureT-loop
 μ-loop buf₀ lines₀ turns₀ buf lines turns = turns
@@ -19,20 +19,15 @@ skip-line-spec =
     Inv-loop
     μ-loop
     (λ c κs. search needs)
-    (λ c. search (needs, none-left, left-at, read-anew))
-    (λ c κs. search needs)
-    (λ c. search (needs, none-left, left-at, read-anew))
-    (λ c. search (needs, none-left, left-at, read-anew))
-    (λ c κs. search needs)
-    (λ c. search (needs, none-left, left-at, read-anew))
-    (λ c. search (needs, none-left, left-at, read-anew))
-    (λ c κs. search needs)
-    (λ c. search (needs, none-left, left-at, read-anew))
-    (λ c. search (needs, none-left, left-at, read-anew))
+    (λ c. search (needs, skipped-none))
+    (λ c. search needs)
+    (λ c. search needs)
+    (λ c. search needs)
+    (λ c. search needs)
     (λ c κs. search needs)
     (λ c κs. search needs)
-    (λ c. search (needs, none-left, left-at, read-anew))
-    (λ c. search (needs, none-left, left-at, read-anew))
-    (λ c. search (needs, none-left, left-at, read-anew))
-    (λ c. search (needs, none-left, left-at, read-anew))
-    (λ c. search (needs, none-left, left-at, read-anew)))
+    (λ c. search needs)
+    (λ c. search needs)
+    (λ c. search (needs, skipped-on))
+    (λ c. search needs)
+    (λ c. search needs))

@@ -1,0 +1,70 @@
+-- The ways through the functions.
+-- Assumes nothing.
+use Prim.Native.Nat.{ℕ, suc, _+_, _*_, _-_, _/_, _%_, _<_, _≤_}
+use native.Mathlib.Omega.{arith}
+use native.Mathlib.Nat.{mul-le-mul, sub-zero}
+use mathlib.Core.Path.{_≡_, refl, ap, sym, _∙_}
+use mathlib.Core.List.{List}
+use lib.ListN.{length}
+use mir.Syntax.{w64}
+use mir.Val.{Fits}
+use Rattle.byte_slices.specs.Bytes.{wordAt, Bytes}
+use Rattle.keyed_hash.specs.Keyed.{folded, mixed, hashFrom, pointOf, hashOf}
+
+module _ (r h w : ℕ) (a : r < 0x10000000) (c : h < 0x400000000) (e : w < 0x100000000) where
+  most : (h + w) * r ≤ 0x500000000 * 0x10000000
+  most = mul-le-mul {n₂ = 0x500000000} {m₂ = 0x10000000} (omega arith) (omega arith)
+
+  pub product-fits : Fits w64 ((h + w) * r)
+  product-fits = omega (arith, most)
+
+  pub mixed-small : (t : ℕ) → t ≡ folded ((h + w) * r) → t < 0x400000000
+  unfolding folded
+  mixed-small t q = omega (arith, most, q)
+
+pub mixed-is : (r h w t : ℕ) → t ≡ folded ((h + w) * r) → t ≡ mixed r h w
+unfolding mixed
+mixed-is r h w t q = q
+
+pub point-small : (n : ℕ) → n % 0x10000000 < 0x10000000
+point-small n = omega arith
+
+pub word-small : (x : List ℕ) (i w : ℕ) → w ≡ wordAt x i → Bytes x i → w < 0x100000000
+unfolding wordAt
+word-small x i w e (a, b, c, d) = omega (arith, e)
+
+-- the words from i on, of n bytes
+abbrev pub words : ℕ → ℕ → ℕ
+words n i = (n + 3 - i) / 4
+
+-- what the hash gives from a place on is what it gives in all
+unfoldable pub Rest : ℕ → List ℕ → ℕ → ℕ → Type 0
+Rest r x i h = hashFrom r x ((length x + 3) / 4) 0 (length x % 0x100000000) ≡ hashFrom r x (words (length x) i) i h
+
+pub rest-all : (r : ℕ) (x : List ℕ) → Rest r x 0 (length x % 0x100000000)
+unfolding Rest
+rest-all r x = ap (λ (n : ℕ). hashFrom r x (n / 4) 0 (length x % 0x100000000)) (sym (sub-zero (length x + 3)))
+
+pub rest-on : (r : ℕ) (x : List ℕ) (i h w t : ℕ) → i < length x → w ≡ wordAt x i → t ≡ mixed r h w → Rest r x i h → Rest r x (i + 4) t
+unfolding Rest hashFrom
+rest-on r x i h w t l e g q =
+    let more : words (length x) i ≡ suc (words (length x) (i + 4)) = omega arith in
+    q ∙ rw more (rw (g, e) refl)
+
+pub hash-end : (key : ℕ) (x : List ℕ) (r i h t v : ℕ) → r ≡ pointOf key 0x9e3779b → length x ≤ i → Rest r x i h → v ≡ folded h → t ≡ v % 0x200000000 / 2
+    → t ≡ hashOf key x
+unfolding Rest hashFrom hashOf
+hash-end key x r i h t v a l q g p =
+    let none : words (length x) i ≡ 0 = omega arith in
+    let done : hashFrom r x ((length x + 3) / 4) 0 (length x % 0x100000000) ≡ h = q ∙ rw none in
+    p ∙ sym (rw (← a, done, ← g))
+
+pub start-small : (n : ℕ) → n % 0x100000000 < 0x400000000
+start-small n = omega arith
+
+pub hash-small : (key : ℕ) (x : List ℕ) → hashOf key x < 0x100000000
+unfolding hashOf
+hash-small key x = omega arith
+
+pub half-small : (v : ℕ) → v % 0x200000000 / 2 < 0x100000000
+half-small v = omega arith

@@ -1,0 +1,45 @@
+// A hash of names that depends on a key: who doesn't know the key can't choose names that share a chain.
+ghost use mathlib.Core.Path.{_≡_};
+ghost use Prim.Native.Nat.{_<_};
+ghost use Rattle.keyed_hash.specs.Keyed.{folded, mixed, pointOf, hashOf};
+
+// The same number modulo 2^33 - 9: above 2^33, nines.
+fn folded(x: usize) -> usize
+    ensures { λ r. ⌜ r ≡ folded x ⌝ }
+{
+    x % 0x2_0000_0000 + x / 0x2_0000_0000 * 9
+}
+
+// One more word of 32 bits in the hash of those before it, at the point r.
+fn mixed(r: usize, h: usize, w: usize) -> usize
+    requires { ⌜ r < 0x10000000 ⌝ }
+    requires { ⌜ h < 0x400000000 ⌝ }
+    requires { ⌜ w < 0x100000000 ⌝ }
+    ensures { λ t. ⌜ t ≡ mixed r h w ⌝ }
+    ensures small { λ t. ⌜ t < 0x400000000 ⌝ }
+{
+    folded((h + w) * r)
+}
+
+fn point(key: usize, base: usize) -> usize
+    requires { ⌜ base < 0x10000000 ⌝ }
+    ensures { λ r. ⌜ r ≡ pointOf key base ⌝ }
+    ensures small { λ r. ⌜ r < 0x10000000 ⌝ }
+{
+    (key % 0x1000_0000 + base) % 0x1000_0000
+}
+
+// Any number is a key; its lowest 28 bits count.
+pub fn hash(key: usize, x: &[u8]) -> usize
+    ensures { λ r. ⌜ r ≡ hashOf key (now (x .entry)) ⌝ }
+    ensures small { λ r. ⌜ r < 0x100000000 ⌝ }
+{
+    let r = point(key, 0x9e3_779b);
+    let mut h = x.len() % 0x1_0000_0000;
+    let mut i = 0;
+    while i < x.len() {
+        h = mixed(r, h, byte_slices::word_at(x, i));
+        i += 4;
+    }
+    folded(h) % 0x2_0000_0000 / 2
+}

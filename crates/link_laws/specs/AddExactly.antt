@@ -1,0 +1,546 @@
+-- Of a direct add: the answer is that of the first rule that holds.
+-- Assumes nothing.
+use Prim.Native.Nat.{ℕ, zero, suc, _+_, _*_, _/_, _<_, _≤_}
+use native.Mathlib.Omega.{arith}
+use mathlib.Core.Path.{_≡_, refl, sym, ap, _∙_}
+use mathlib.Core.Bool.{Bool, true, false, cond, not, _&&_, _||_, false≢true}
+use mathlib.Core.List.{List, _++_}
+use lib.Dec.{eqb, ltb, leb}
+use lib.ListN.{getD, length}
+use borrow.Author.Tests.{eqb-true, eqb-false, ltb-true, ltb-false, lt-ltb, le-ltb, ne-eqb}
+use Rattle.cells.specs.Split.{by-test}
+use Rattle.link.specs.declared.Link.{Link}
+use Rattle.link.specs.declared.Interned.{Interned}
+use Rattle.link.specs.declared.SymbolId.{SymbolId}
+use Rattle.link.specs.declared.Refusal.{Refusal}
+use Rattle.link.specs.Bounds.{lesser}
+use Rattle.link.specs.Judge.{refused, changeOf}
+use Rattle.symbol.specs.declared.Words.{Words}
+use Rattle.symbol.specs.declared.Row.{Row}
+use Rattle.symbol.specs.declared.SttFile.{SttFile}
+use Rattle.symbol.specs.declared.SttFile.the-variants as File
+use Rattle.symbol.specs.declared.SymbolValue.{SymbolValue}
+use Rattle.symbol.specs.declared.SymbolValue.the-variants as Val
+use Rattle.symbol.specs.Codes.{wordsOf}
+use Rattle.upcoming_symbol.specs.declared.ElfSymbol.{ElfSymbol}
+use Rattle.upcoming_symbol.specs.declared.UpcomingSymbol.{UpcomingSymbol}
+use Rattle.upcoming_symbol.specs.declared.UpcomingSymbol.the-variants.{Null, GlobalUnknown, GlobalHidden, Section, ExternallyDefined, Elf}
+use Rattle.upcoming_symbol.specs.Judge as Upcoming
+use Rattle.upcoming_symbol.specs.Judge.{shownOf, hiddenOf, sectionInRange, elfInRange, externalInRange, inRange}
+use Rattle.upcoming_symbol.specs.Upcoming as Row
+use Rattle.upcoming_symbol.specs.Upcoming.{inSection, convertedOf, undefinedOf, valueOf, elfRowOf, externalRowOf, nameOf}
+use Rattle.symbol_rows.specs.declared.Holder.{Holder}
+use Rattle.symbol_rows.specs.declared.Holder.the-variants.{Unissued, Nobody, Removed, Known}
+use Rattle.symbol_rows.specs.declared.Decision.{Decision}
+use Rattle.symbol_rows.specs.declared.Decision.the-variants.{Refuse, Keep, Append, Replace}
+use Rattle.symbol_rows.specs.Holder.{holderOf}
+use Rattle.symbol_rows.specs.Decide.{weakOf, rankOf, typeRefusal, sectionCell, sectionRoom, roomOf, newOf, replaceOf, rankedOf, knownOf, namedOf, localOf, decideOf, refusalOf}
+use Rattle.symbols.specs.Add.{judgeAddOf, fileOf, fileIssued, issuedOf, directHolderOf, unissuedFile, placeOf, decidedOf, committedOf, emptyAt, addRowOf, lent, addOf}
+use Rattle.symbol_laws.specs.History.{State, table}
+use Rattle.merge_laws.specs.Calls.{Linked}
+use Rattle.link_laws.specs.Calls.{add, refusalBy, callRefusal}
+use Rattle.link_laws.specs.Rules.{Rule, firstOf, headRules, headed, first-is, not-below, head-rules, placeless-is}
+use Rattle.link_laws.specs.Exactly.{holder-is}
+use Rattle.link_laws.specs.TableRules.{isIssued, isEmpty, rowOf, isKnown, isRemoved, isWeakRow, isUndefinedRow, noSymbolRow, Value, undefined, common, sectionless, section, defined, isUndefined, isCommon, isSectionless, noSectionCell, Asked, conversionIn, placedAs, elfValue, givenValue, asked, isOutside, isUnissuedFile, fileId, isLocal, isFresh, replaces, shownRules, issuedRules, heldRules, addHead, addRules}
+
+-- ---- binding and visibility
+
+-- a row's code that isn't refused
+pub record Passes (b v : ℕ) : Type 0 where
+  pub low : leb 5 (Upcoming.judgeOf b v) ≡ false
+  pub local : eqb (Upcoming.judgeOf b v) 0 ≡ eqb b 0
+  pub weak : weakOf (Upcoming.judgeOf b v) ≡ eqb b 2
+
+shown : (b : ℕ) → b ≤ 2 → Passes b 0
+unfolding Upcoming.judgeOf shownOf weakOf
+shown zero l = record { low = refl; local = refl; weak = refl }
+shown (suc zero) l = record { low = refl; local = refl; weak = refl }
+shown (suc (suc zero)) l = record { low = refl; local = refl; weak = refl }
+shown (suc (suc (suc n))) l = absurd (omega arith)
+
+hidden : (b : ℕ) → b ≤ 2 → (b ≡ 0 → ⊥) → Passes b 2
+unfolding Upcoming.judgeOf hiddenOf weakOf
+hidden zero l u = absurd (u refl)
+hidden (suc zero) l u = record { low = refl; local = refl; weak = refl }
+hidden (suc (suc zero)) l u = record { low = refl; local = refl; weak = refl }
+hidden (suc (suc (suc n))) l u = absurd (omega arith)
+
+-- the row's code: a refusal, or its class
+module _ (b v : ℕ) where
+  abbrev code : ℕ
+  code = Upcoming.judgeOf b v
+
+  code-ten : not (eqb v 0 || eqb v 2) ≡ true → code ≡ 10
+  unfolding Upcoming.judgeOf
+  code-ten e =
+      by-test (eqb v 0) (λ h. absurd (false≢true (rw h at e)))
+      (λ h. by-test (eqb v 2) (λ i. absurd (false≢true (rw (h, i) at e))) (λ i. rw (h, i)))
+
+  -- 0 and 2 pass
+  two-or-none : not (eqb v 0 || eqb v 2) ≡ false → eqb v 0 ≡ false → v ≡ 2
+  two-or-none e z = by-test (eqb v 2) (λ i. eqb-true _ _ i) (λ i. absurd (false≢true (sym (rw (z, i) at e))))
+
+  code-eleven : eqb b 0 && eqb v 2 ≡ true → code ≡ 11
+  unfolding Upcoming.judgeOf hiddenOf
+  code-eleven e =
+      by-test (eqb b 0)
+      (λ h. let z : v ≡ 2 = eqb-true v 2 (rw h at e) in rw (z, eqb-true b 0 h))
+      (λ h. absurd (false≢true (rw h at e)))
+
+  module _ (n : not (eqb v 0 || eqb v 2) ≡ false) (m : eqb b 0 && eqb v 2 ≡ false) where
+    global-two : eqb v 0 ≡ false → b ≡ 0 → ⊥
+    global-two z e = false≢true (sym m ∙ rw (e, two-or-none n z))
+
+    code-twelve : ltb 2 b ≡ true → code ≡ 12
+    unfolding Upcoming.judgeOf hiddenOf shownOf
+    code-twelve l =
+        let big : 2 < b = ltb-true _ _ l in
+        let z = ne-eqb b 0 (λ (q : b ≡ 0). omega arith) in
+        let o = ne-eqb b 1 (λ (q : b ≡ 1). omega arith) in
+        let w = ne-eqb b 2 (λ (q : b ≡ 2). omega arith) in
+        by-test (eqb v 0) (λ h. rw (h, z, o, w)) (λ h. rw (two-or-none n h, z, o, w))
+
+    code-passes : ltb 2 b ≡ false → Passes b v
+    code-passes l =
+        let few : b ≤ 2 = ltb-false _ _ l in
+        by-test (eqb v 0) (λ h. rw (eqb-true v 0 h) (shown b few))
+        (λ h. rw (two-or-none n h) (hidden b few (global-two h)))
+
+-- ---- values
+
+-- the words of a row that a value becomes
+abbrev pub Reads : Value → Words → Type 0
+Reads undefined w = w .kind ≡ 7
+Reads common w = w .kind ≡ 13
+Reads sectionless w = w .kind ≡ 14
+Reads (section s) w = (w .kind ≡ 2) × (w .a ≡ s)
+Reads defined w = (leb 13 (w .kind) ≡ false) × (eqb (w .kind) 7 ≡ false) × (eqb (w .kind) 2 ≡ false)
+
+converted-reads : (cell : ℕ) (empty : Bool) (v : ℕ) → Reads (placedAs (conversionIn cell) empty v) (convertedOf cell empty v)
+unfolding convertedOf inSection
+converted-reads cell empty v =
+    by-test (eqb cell 0) (λ a. rw a refl)
+    (λ a.
+    by-test (eqb cell 1) (λ b. rw (a, b) (refl, refl, refl))
+    (λ b. rw (a, b) (by-test empty (λ c. rw c (by-test (eqb v 0) (λ d. rw d (refl, refl)) (λ d. rw d (refl, refl, refl)))) (λ c. rw c (refl, refl, refl)))))
+
+pub elf-reads : (cell : ℕ) (e : ElfSymbol) (empty : Bool) → Reads (elfValue e (conversionIn cell) empty) (valueOf cell e empty)
+unfolding valueOf undefinedOf
+elf-reads cell e empty =
+    by-test (eqb (e .section) 0) (λ a. rw a (by-test (eqb (e .binding) 2) (λ b. rw b refl) (λ b. rw b refl)))
+    (λ a.
+    by-test (eqb (e .section) 0xfff1) (λ b. rw (a, b) (refl, refl, refl))
+    (λ b. by-test (eqb (e .section) 0xfff2) (λ c. rw (a, b, c) refl) (λ c. rw (a, b, c) (converted-reads cell empty (e .value)))))
+
+given-reads : (x : SymbolValue) → Reads (givenValue x) (wordsOf x)
+given-reads Val.Null = (refl, refl, refl)
+given-reads (Val.Absolute v) = (refl, refl, refl)
+given-reads (Val.Section s) = (refl, refl)
+given-reads (Val.SectionRelative s z) = (refl, refl, refl)
+given-reads (Val.SectionVirtualAddress s v) = (refl, refl, refl)
+given-reads Val.SectionNotLoaded = (refl, refl, refl)
+given-reads Val.ExternallyDefined = (refl, refl, refl)
+given-reads (Val.Undefined weak) = refl
+
+-- a section's symbol has a cell
+cell-is : (l : Link) (n s : ℕ) → ltb (sectionCell l n s) n ≡ not (ltb (n / 9) (l .slots) || not (ltb s (l .slots)))
+unfolding sectionCell
+cell-is l n s =
+    by-test (ltb (n / 9) (l .slots)) (λ a. rw (a, le-ltb n n (omega arith)))
+    (λ a.
+    let p : l .slots ≤ n / 9 = ltb-false _ _ a in
+    by-test (ltb s (l .slots))
+    (λ b. let q : s < l .slots = ltb-true _ _ b in rw (a, b, lt-ltb (l .slots * 8 + s) n (omega arith)))
+    (λ b. rw (a, b, le-ltb n n (omega arith))))
+
+-- what the definitions ask of the words
+record Valued (t : State) (x : Value) (w : Words) : Type 0 where
+  refused-value : leb 13 (w .kind) ≡ isCommon x || isSectionless x
+  thirteen : isCommon x ≡ true → w .kind ≡ 13
+  fourteen : isSectionless x ≡ true → w .kind ≡ 14
+  undefined-value : leb 13 (w .kind) ≡ false → eqb (w .kind) 7 ≡ isUndefined x
+  cell : cond (eqb (w .kind) 2) (cond (ltb (sectionCell (t .link) (length (t .sections)) (w .a)) (length (t .sections))) true false) true ≡ not (noSectionCell t x)
+
+valued : (t : State) (x : Value) (w : Words) → Reads x w → Valued t x w
+valued t undefined w e = record { refused-value = rw e; thirteen = λ q. absurd (false≢true q); fourteen = λ q. absurd (false≢true q); undefined-value = λ q. rw e; cell = rw e }
+valued t common w e = record { refused-value = rw e; thirteen = λ q. e; fourteen = λ q. absurd (false≢true q); undefined-value = λ q. rw e; cell = rw e }
+valued t sectionless w e = record { refused-value = rw e; thirteen = λ q. absurd (false≢true q); fourteen = λ q. e; undefined-value = λ q. rw e; cell = rw e }
+valued t (section s) w e = record { refused-value = rw (e .0); thirteen = λ q. absurd (false≢true q); fourteen = λ q. absurd (false≢true q); undefined-value = λ q. rw (e .0); cell = rw (e .0, e .1, cell-is (t .link) (length (t .sections)) s) (same (ltb (length (t .sections) / 9) (t .link .slots) || not (ltb s (t .link .slots)))) }
+  where
+    same : (b : Bool) → cond (not b) true false ≡ not b
+    same true = refl
+    same false = refl
+valued t defined w e = record { refused-value = e .0; thirteen = λ q. absurd (false≢true q); fourteen = λ q. absurd (false≢true q); undefined-value = λ q. e .1; cell = rw (e .2) }
+
+-- ---- the decision on a row that stands for what is asked
+
+pub record Stands (r : Row) (a : Asked) : Type 0 where
+  pub kinds : r .kind ≡ a .kind
+  pub shows : r .visibility ≡ Upcoming.judgeOf (a .binding) (a .visibility)
+  pub values : Reads (a .value) (r .value)
+
+-- number and place: 21 has its own
+abbrev pub answered : ℕ → ℕ → ℕ → Refusal
+answered n id place = cond (eqb n 0) (refused 0 0) (cond (eqb n 21) (refused 21 id) (refused n place))
+
+type-is : (k : ℕ) → eqb k 4 ≡ false → ltb 4 k ≡ false → typeRefusal k ≡ 0
+unfolding typeRefusal
+type-is k e l = rw (lt-ltb k 4 (below (eqb-false _ _ e) (ltb-false _ _ l)))
+  where
+    below : (k ≡ 4 → ⊥) → k ≤ 4 → k < 4
+    below u v = omega (arith, u, v)
+
+type-four : (k : ℕ) → eqb k 4 ≡ true → typeRefusal k ≡ 15
+unfolding typeRefusal
+type-four k e = rw (eqb-true k 4 e)
+
+type-above : (k : ℕ) → ltb 4 k ≡ true → typeRefusal k ≡ 16
+unfolding typeRefusal
+type-above k e = let l : 4 < k = ltb-true _ _ e in rw (le-ltb k 4 (omega arith), ne-eqb k 4 (λ (q : k ≡ 4). omega arith))
+
+weak-is : (v : ℕ) → weakOf v ≡ eqb v 3 || eqb v 4
+unfolding weakOf
+weak-is v = by-test (eqb v 3) (λ e. rw e) (λ e. rw e (by-test (eqb v 4) (λ f. rw f) (λ f. rw f)))
+
+-- ranks: undefined 0, weak 2, strong 4
+ranks : (ru rk un wk : Bool) → ltb (cond ru 0 (cond rk 2 4)) (cond un 0 (cond wk 2 4)) ≡ not un && (ru || rk && not wk)
+ranks ru rk true wk = none (cond ru 0 (cond rk 2 4))
+  where
+    none : (n : ℕ) → ltb n 0 ≡ false
+    none n = le-ltb n 0 (omega arith)
+ranks true rk false true = refl
+ranks true rk false false = refl
+ranks false true false true = refl
+ranks false true false false = refl
+ranks false false false true = refl
+ranks false false false false = refl
+
+strongest : (un wk : Bool) → eqb (cond un 0 (cond wk 2 4)) 4 ≡ not un && not wk
+strongest true wk = refl
+strongest false true = refl
+strongest false false = refl
+
+pub least-below : (a b c : ℕ) → ltb c (lesser a b) ≡ ltb c a && ltb c b
+unfolding lesser
+least-below a b c =
+    by-test (ltb a b)
+    (λ e.
+    let l : a < b = ltb-true _ _ e in
+    rw e (by-test (ltb c a) (λ f. let k : c < a = ltb-true _ _ f in rw f (sym (lt-ltb c b (omega arith)))) (λ f. rw f)))
+    (λ e.
+    let l : b ≤ a = ltb-false _ _ e in
+    rw e
+    (by-test (ltb c b) (λ f. let k : c < b = ltb-true _ _ f in rw (f, lt-ltb c a (omega arith)))
+    (λ f. rw f (by-test (ltb c a) (λ g. rw g) (λ g. rw g)))))
+
+below-both : (a b c : ℕ) → leb (lesser a b) c ≡ not (ltb c a && ltb c b)
+below-both a b c = not-below c (lesser a b) ∙ ap not (least-below a b c)
+
+room-tree : (n lo c : Bool) → cond n false (cond lo (not c) true) ≡ not (n || lo && c)
+room-tree true lo c = refl
+room-tree false true c = refl
+room-tree false false c = refl
+
+new-tree : (z x : Bool) (n : ℕ) → refusalOf (cond z (cond (not x) Append (Refuse 2)) (Refuse n)) ≡ cond z (cond x 2 0) n
+new-tree true true n = refl
+new-tree true false n = refl
+new-tree false x n = refl
+
+known-tree : (id : SymbolId) (b c : Bool) (n : ℕ) → refusalOf (cond b (cond (eqb n 0) (Replace id) (Refuse n)) (cond c (Refuse 17) (Keep id))) ≡ cond b n (cond c 17 0)
+known-tree id true c n = by-test (eqb n 0) (λ e. rw e (sym (eqb-true n 0 e))) (λ e. rw e)
+known-tree id false true n = refl
+known-tree id false false n = refl
+
+module _ (k id place : ℕ) where
+  fresh-tree : (x : Bool) → answered (cond (eqb (typeRefusal k) 0) (cond x 2 0) (typeRefusal k)) id place
+      ≡ cond (eqb k 4) (refused 15 place) (cond (ltb 4 k) (refused 16 place) (cond x (refused 2 place) (refused 0 0)))
+  fresh-tree x =
+      by-test (eqb k 4) (λ e. rw (type-four k e, e))
+      (λ e. by-test (ltb 4 k) (λ f. rw (type-above k f, e, f)) (λ f. rw (type-is k e f, e, f) (by-test x (λ g. rw g) (λ g. rw g))))
+
+  stays-tree : (rp un wk : Bool) → answered (cond rp (typeRefusal k) (cond (not un && not wk) 17 0)) id place
+      ≡ cond (rp && eqb k 4) (refused 15 place) (cond (rp && ltb 4 k) (refused 16 place) (cond (not un && not rp && not wk) (refused 17 place) (refused 0 0)))
+  stays-tree true un wk =
+      by-test (eqb k 4) (λ e. rw (type-four k e, e))
+      (λ e. by-test (ltb 4 k) (λ f. rw (type-above k f, e, f)) (λ f. rw (type-is k e f, e, f) (by-test un (λ g. rw g) (λ g. rw g))))
+  stays-tree false true wk = refl
+  stays-tree false false true = refl
+  stays-tree false false false = refl
+
+-- local or not; known; removed
+module _ (t : State) (r : Row) (id : SymbolId) where
+  abbrev holder : Bool → Bool → Holder
+  holder known rm = cond known (cond rm Removed (Known id)) Nobody
+
+  abbrev either : Bool → Bool → Bool → Decision
+  either lo known rm =
+      cond lo (localOf (t .link) (t .symbols) (t .sections) r (holder known rm)) (namedOf (t .link) (t .symbols) (t .sections) r (holder known rm))
+
+  either-new : (lo known rm : Bool) → lo || not known ≡ true → either lo known rm ≡ newOf (t .link) (t .symbols) (t .sections) r
+  either-new true true true e = refl
+  either-new true true false e = refl
+  either-new true false rm e = refl
+  either-new false true rm e = absurd (false≢true e)
+  either-new false false rm e = refl
+
+  either-known : (lo known rm : Bool) → not lo && known && rm ≡ false → lo || not known ≡ false → either lo known rm ≡ knownOf (t .symbols) r id
+  either-known true known rm k e = absurd (false≢true (sym e))
+  either-known false true true k e = absurd (false≢true (sym k))
+  either-known false true false k e = refl
+  either-known false false rm k e = absurd (false≢true (sym e))
+
+module _ (t : State) (r : Row) (a : Asked) (st : Stands r a) where
+  abbrev decided : Holder → Decision
+  decided h = decideOf (t .link) (t .symbols) (t .sections) r h
+
+  module _ (h : Holder) (id place : ℕ) where
+    refused-shown : (n : ℕ) → r .visibility ≡ n → leb 5 n ≡ true → refusalOf (decided h) ≡ n
+    unfolding decideOf
+    refused-shown n e l = rw (e, l)
+
+    pub shown-first : (rest : List Rule) → (Passes (a .binding) (a .visibility) → answered (refusalOf (decided h)) id place ≡ firstOf rest)
+        → answered (refusalOf (decided h)) id place ≡ firstOf (shownRules t a place ++ rest)
+    shown-first rest f =
+        first-is (not (eqb (a .visibility) 0 || eqb (a .visibility) 2)) _ _ (λ e. rw (refused-shown 10 (st .shows ∙ code-ten _ _ e) refl))
+        (λ e.
+        first-is (isLocal t a && eqb (a .visibility) 2) _ _ (λ g. rw (refused-shown 11 (st .shows ∙ code-eleven _ _ g) refl))
+        (λ g.
+        first-is (ltb 2 (a .binding)) _ _ (λ i. rw (refused-shown 12 (st .shows ∙ code-twelve _ _ e g i) refl))
+        (λ i. f (code-passes _ _ e g i))))
+
+  -- ---- past the visibility
+
+  abbrev held : Holder
+  held = holderOf (t .link) (t .names) (t .symbols) (record { 0 = a .name })
+
+  abbrev row : ℕ
+  row = rowOf t (a .name)
+
+  module _ (p : Passes (a .binding) (a .visibility)) where
+    low : leb 5 (r .visibility) ≡ false
+    low = ap (leb 5) (st .shows) ∙ p .low
+
+    local : eqb (r .visibility) 0 ≡ isLocal t a
+    local = ap (λ (n : ℕ). eqb n 0) (st .shows) ∙ p .local
+
+    weak : weakOf (r .visibility) ≡ eqb (a .binding) 2
+    weak = ap weakOf (st .shows) ∙ p .weak
+
+    -- a global or weak name whose row was removed
+    decided-removed : not (isLocal t a) && isKnown t (a .name) && isRemoved t row ≡ true → refusalOf (decided held) ≡ 21
+    unfolding decideOf
+    decided-removed e =
+        rw (low, local, holder-is t (a .name))
+        (by-test (isLocal t a) (λ f. absurd (false≢true (rw f at e)))
+        (λ f.
+        by-test (isKnown t (a .name))
+        (λ g. by-test (isRemoved t row) (λ i. rw (g, i, f)) (λ i. absurd (false≢true (rw (f, g, i) at e))))
+        (λ g. absurd (false≢true (rw (f, g) at e)))))
+
+    module _ (k : not (isLocal t a) && isKnown t (a .name) && isRemoved t row ≡ false) where
+      decided-new : isFresh t a ≡ true → decided held ≡ newOf (t .link) (t .symbols) (t .sections) r
+      unfolding decideOf
+      decided-new e =
+          rw (low, local, holder-is t (a .name)) (either-new t r (record { 0 = row }) (isLocal t a) (isKnown t (a .name)) (isRemoved t row) e)
+
+      decided-known : isFresh t a ≡ false → decided held ≡ knownOf (t .symbols) r (record { 0 = row })
+      unfolding decideOf
+      decided-known e =
+          rw (low, local, holder-is t (a .name)) (either-known t r (record { 0 = row }) (isLocal t a) (isKnown t (a .name)) (isRemoved t row) k e)
+
+      v : Valued t (a .value) (r .value)
+      v = valued t (a .value) (r .value) (st .values)
+
+      -- 13 and 14, whatever the name
+      value-number : (n : ℕ) → r .value .kind ≡ n → leb 13 n ≡ true → refusalOf (decided held) ≡ n
+      unfolding newOf knownOf
+      value-number n q l =
+          by-test (isFresh t a) (λ e. rw (decided-new e, q, l)) (λ e. rw (decided-known e, q, l))
+
+      module _ (c : isCommon (a .value) ≡ false) (d : isSectionless (a .value) ≡ false) where
+        kept : leb 13 (r .value .kind) ≡ false
+        kept = v .refused-value ∙ rw (c, d)
+
+        room-is : roomOf (t .link) (t .symbols) (t .sections) r ≡ not (noSymbolRow t || isLocal t a && noSectionCell t (a .value))
+        unfolding roomOf sectionRoom
+        room-is = rw (below-both 65535 (length (t .symbols) / 8) (t .link .symbols), local, v .cell) (room-tree (noSymbolRow t) (isLocal t a) (noSectionCell t (a .value)))
+
+        new-number : isFresh t a ≡ true
+            → refusalOf (decided held)
+            ≡ cond (eqb (typeRefusal (a .kind)) 0) (cond (noSymbolRow t || isLocal t a && noSectionCell t (a .value)) 2 0) (typeRefusal (a .kind))
+        unfolding newOf
+        new-number e =
+            rw (decided-new e, kept, room-is, st .kinds)
+            (new-tree (eqb (typeRefusal (a .kind)) 0) (noSymbolRow t || isLocal t a && noSectionCell t (a .value)) (typeRefusal (a .kind)))
+
+        known-number : isFresh t a ≡ false
+            → refusalOf (decided held) ≡ cond (replaces t a) (typeRefusal (a .kind)) (cond (not (isUndefined (a .value)) && not (eqb (a .binding) 2)) 17 0)
+        unfolding knownOf rankedOf replaceOf rankOf
+        known-number e =
+            rw (
+              decided-known e,
+              kept,
+              st .kinds,
+              v .undefined-value kept,
+              weak,
+              weak-is (getD (t .symbols) (row * 8 + 4) 0),
+              ranks (isUndefinedRow t row) (isWeakRow t row) (isUndefined (a .value)) (eqb (a .binding) 2),
+              strongest (isUndefined (a .value)) (eqb (a .binding) 2),
+            )
+            (known-tree (record { 0 = row }) (replaces t a) (not (isUndefined (a .value)) && not (eqb (a .binding) 2)) (typeRefusal (a .kind)))
+
+    -- a removed row, the value, then a new or a known name
+    pub held-first : (place : ℕ) → answered (refusalOf (decided held)) (a .name) place ≡ firstOf (heldRules t a place)
+    held-first place =
+        first-is (not (isLocal t a) && isKnown t (a .name) && isRemoved t row) _ _ (λ e. rw (decided-removed e))
+        (λ k.
+        first-is (isCommon (a .value)) _ _ (λ e. rw (value-number k 13 (valued t (a .value) (r .value) (st .values) .thirteen e) refl))
+        (λ c.
+        first-is (isSectionless (a .value)) _ _ (λ e. rw (value-number k 14 (valued t (a .value) (r .value) (st .values) .fourteen e) refl))
+        (λ d. by-test (isFresh t a) (λ e. rw (new-number k c d e, e) (fresh-tree (a .kind) (a .name) place (noSymbolRow t || isLocal t a && noSectionCell t (a .value))))
+        (λ e. rw (known-number k c d e, e) (stays-tree (a .kind) (a .name) place (replaces t a) (isUndefined (a .value)) (eqb (a .binding) 2))))))
+
+    decided-unissued : refusalOf (decided Unissued) ≡ 21
+    unfolding decideOf
+    decided-unissued = rw low (by-test (eqb (r .visibility) 0) (λ e. rw e) (λ e. rw e))
+
+-- ---- a direct add
+
+range-tree : (x y z w : Bool) → cond x false (cond y false (cond z false w)) ≡ not (x || y || z || not w)
+range-tree true y z w = refl
+range-tree false true z w = refl
+range-tree false false true w = refl
+range-tree false false false true = refl
+range-tree false false false false = refl
+
+section-tree : (x y z : Bool) → cond x true (cond y true (cond z true false)) ≡ x || y || z
+section-tree true y z = refl
+section-tree false true z = refl
+section-tree false false true = refl
+section-tree false false false = refl
+
+pair-tree : (x y : Bool) → cond x false (cond y false true) ≡ not (x || y)
+pair-tree true y = refl
+pair-tree false true = refl
+pair-tree false false = refl
+
+pub range-is : (u : UpcomingSymbol) → inRange u ≡ not (isOutside u)
+unfolding elfInRange externalInRange sectionInRange
+range-is Null = refl
+range-is (GlobalUnknown name) = refl
+range-is (GlobalHidden name value) = refl
+range-is (Section s) = refl
+range-is (ExternallyDefined name visibility binding) = pair-tree (ltb 15 binding) (ltb 3 visibility)
+range-is (Elf e name file) =
+    range-tree (ltb 15 (e .binding)) (ltb 15 (e .kind)) (ltb 3 (e .visibility)) _
+    ∙ ap (λ (b : Bool). not (ltb 15 (e .binding) || ltb 15 (e .kind) || ltb 3 (e .visibility) || not b))
+    (section-tree (ltb (e .section) 0xff00) (eqb (e .section) 0xfff1) (eqb (e .section) 0xfff2))
+
+module _ (t : State) (conversion : List ℕ) where
+  stands : (u : UpcomingSymbol) → Stands (Row.rowOf conversion u (emptyAt (t .names) (nameOf u))) (asked t conversion u)
+  unfolding elfRowOf externalRowOf Upcoming.judgeOf shownOf hiddenOf
+  stands Null = record { kinds = refl; shows = refl; values = (refl, refl, refl) }
+  stands (GlobalUnknown name) = record { kinds = refl; shows = refl; values = refl }
+  stands (GlobalHidden name value) = record { kinds = refl; shows = refl; values = given-reads value }
+  stands (Section s) = record { kinds = refl; shows = refl; values = (refl, refl) }
+  stands (ExternallyDefined name visibility binding) =
+      record { kinds = refl; shows = refl; values = (refl, refl, refl) }
+  stands (Elf e name file) =
+      record {
+        kinds = refl;
+        shows = refl;
+        values = elf-reads (getD conversion (e .section) 0) e (isEmpty t (name .0));
+      }
+
+  same-name : (u : UpcomingSymbol) → Row.rowOf conversion u (emptyAt (t .names) (nameOf u)) .name ≡ record { 0 = asked t conversion u .name }
+  unfolding elfRowOf externalRowOf
+  same-name Null = refl
+  same-name (GlobalUnknown name) = refl
+  same-name (GlobalHidden name value) = refl
+  same-name (Section s) = refl
+  same-name (ExternallyDefined name visibility binding) = refl
+  same-name (Elf e name file) = refl
+
+  same-file : (u : UpcomingSymbol) → fileOf u ≡ asked t conversion u .file
+  same-file Null = refl
+  same-file (GlobalUnknown name) = refl
+  same-file (GlobalHidden name value) = refl
+  same-file (Section s) = refl
+  same-file (ExternallyDefined name visibility binding) = refl
+  same-file (Elf e name file) = refl
+
+module _ (t : State) where
+  committed-is : (r : Row) (file : SttFile) (d : Decision) → refusalBy (committedOf (table t) r file d .said) ≡ answered (refusalOf d) (placeOf (t .link) (r .name) file) 0
+  unfolding committedOf
+  committed-is r file d =
+      by-test (eqb (refusalOf d) 21) (λ e. rw (e, eqb-true (refusalOf d) 21 e))
+      (λ e. rw e (by-test (eqb (refusalOf d) 0) (λ f. rw f) (λ f. rw f)))
+
+  -- the file's name
+  file-issued : (file : SttFile) → fileIssued (t .link) file ≡ not (isUnissuedFile t file)
+  file-issued File.None = refl
+  file-issued (File.Name id) = rw (not-below (id .0) (t .link .names)) (by-test (ltb (id .0) (t .link .names)) (λ e. rw e) (λ e. rw e))
+
+  file-place : (name : Interned) (file : SttFile) → isUnissuedFile t file ≡ true → unissuedFile (t .link) name file ≡ fileId file
+  file-place name File.None e = absurd (false≢true e)
+  file-place name (File.Name id) e = rw (not-below (id .0) (t .link .names), e)
+
+  name-place : (name : Interned) (file : SttFile) → isUnissuedFile t file ≡ false → unissuedFile (t .link) name file ≡ name .0
+  name-place name File.None e = refl
+  name-place name (File.Name id) e = rw (not-below (id .0) (t .link .names), e)
+
+  module _ (r : Row) (a : Asked) (st : Stands r a) where
+    named-exactly : (name : Interned) → name ≡ record { 0 = a .name }
+        → answered (refusalOf (decideOf (t .link) (t .symbols) (t .sections) r (directHolderOf (t .link) (t .names) (t .symbols) name (a .file)))) (placeOf (t .link) name (a .file)) 0
+        ≡ firstOf (shownRules t a 0 ++ (issuedRules t a ++ heldRules t a 0))
+    unfolding directHolderOf issuedOf placeOf
+    named-exactly name n =
+        rw n
+        (shown-first t r a st _ _ 0 (issuedRules t a ++ heldRules t a 0)
+        (λ p.
+        first-is (not (isIssued t (a .name))) _ _
+        (λ e. rw (not-below (a .name) (t .link .names), e, decided-unissued t r a st p))
+        (λ e.
+        first-is (isUnissuedFile t (a .file)) _ _
+        (λ f.
+        rw (
+          not-below (a .name) (t .link .names),
+          e,
+          file-issued (a .file),
+          f,
+          file-place (record { 0 = a .name }) (a .file) f,
+          decided-unissued t r a st p,
+        ))
+        (λ f.
+        rw (not-below (a .name) (t .link .names), e, file-issued (a .file), f, name-place (record { 0 = a .name }) (a .file) f)
+        (held-first t r a st p 0)))))
+
+    row-exactly : r .name ≡ record { 0 = a .name }
+        → refusalBy (addRowOf (table t) r (a .file) .said) ≡ firstOf (shownRules t a 0 ++ (issuedRules t a ++ heldRules t a 0))
+    unfolding addRowOf decidedOf
+    row-exactly n = committed-is r (a .file) (decidedOf (table t) r (a .file)) ∙ named-exactly (r .name) n
+
+  -- the head, the fields, the row
+  add-is : (conversion : List ℕ) (u : UpcomingSymbol)
+      → refusalBy (addOf (table t) conversion u .said)
+      ≡ cond (eqb (changeOf (t .link) (lent (table t)) .number) 0)
+      (cond (isOutside u) (refused 1 0) (refusalBy (addRowOf (table t) (Row.rowOf conversion u (emptyAt (t .names) (nameOf u))) (fileOf u) .said)))
+      (refused (changeOf (t .link) (lent (table t)) .number) 0)
+  unfolding addOf judgeAddOf
+  add-is conversion u =
+      by-test (eqb (changeOf (t .link) (lent (table t)) .number) 0)
+      (λ z. rw (z, range-is u) (by-test (isOutside u) (λ o. rw o) (λ o. rw (o, z))))
+      (λ z. rw (z, z))
+
+-- the call
+pub add-exactly : (conversion : List ℕ) (u : UpcomingSymbol) (s : Linked) → callRefusal (add conversion u) s
+    ≡ firstOf (addHead (s .table) ++ addRules (s .table) conversion u)
+add-exactly conversion u s =
+    let t = s .table in
+    let n = changeOf (t .link) (lent (table t)) .number in
+    add-is t conversion u
+    ∙ headed (addRules t conversion u) (λ (r : Refusal). r) (addHead t) (refused n 0) _ (refused n 0) refl
+    (ap (λ (r : Refusal). refused (r .number) 0) (head-rules (t .link) (lent (table t))) ∙ sym (placeless-is (headRules (t .link) (lent (table t))))) refl
+    (λ z.
+    first-is (isOutside u) _ _ (λ o. rw o)
+    (λ o. rw (o, same-file t conversion u) (row-exactly t _ (asked t conversion u) (stands t conversion u) (same-name t conversion u))))

@@ -1,0 +1,80 @@
+-- What `matches` answers in a link, against the gABI's extraction.
+-- Assumes nothing.
+use Prim.Native.Nat.{ℕ, _+_, _<_}
+use mathlib.Core.Path.{_≡_, sym, ap, _∙_, subst}
+use mathlib.Core.Bool.{Bool, true, false, _||_}
+use mathlib.Core.List.{List}
+use lib.ListN.{length}
+use Rattle.gabi.specs.StringTable as Strings
+use Rattle.gabi.specs.Archive.{Named}
+use Rattle.archive_index.specs.Index.{countOf}
+use Rattle.archive_walk.specs.Look.{Table, undefinedName}
+use Rattle.archive_walk.specs.Walk.{begunNumber, startOf}
+use Rattle.archive_laws.specs.Rounds.{among}
+use Rattle.archive_laws.specs.Runs.{Run, stepRun, history, startRun}
+use Rattle.archive_laws.specs.Walked.{inIndex, queueIn}
+use Rattle.elf_object.specs.Judge.{judgeOf}
+use Rattle.object_requirement.specs.declared.Admission.{Admission}
+use Rattle.object_requirement.specs.declared.Admission.the-variants.{Yes}
+use Rattle.symbol_laws.specs.History.{Entry}
+use Rattle.symbol_laws.specs.Held.{Inv}
+use Rattle.merge_laws.specs.Calls.{Linked}
+use Rattle.extraction_laws.specs.Taken.{lists, taken, wantedNames, wanted-names}
+use Rattle.extraction_laws.specs.MemberWords.{symbolsOf}
+use Rattle.extraction_laws.specs.Answer as Answer
+use Rattle.extraction_laws.specs.Answer.{says, admitted}
+use Rattle.link_laws.specs.Calls.{matches, viewIn, callLeft}
+use Rattle.link_laws.specs.Walks.{nextIn, next-is}
+use Rattle.link_laws.specs.Undefined.{undefined-is}
+use Rattle.link_laws.specs.Extraction.{wantedIn, weaklyIn}
+
+-- what `matches` answers about entry e of a run, for an object; it is lent nothing of the link
+abbrev pub answerIn : List ℕ → List ℕ → List ℕ → List ℕ → List ℕ → Run → ℕ → Linked → Admission
+answerIn headers entries contents file index r e s = callLeft (matches headers entries contents file index (r .cells) (r .walk) e) s
+
+module _ (s : Linked) (past : List Entry) (inv : Inv (s .table) past) (key : ℕ) (index cells : List ℕ) (begun : begunNumber (startOf key index cells .started .begun) ≡ 0)
+    (ts : List Table) where
+  abbrev pub before : Run
+  before = history index ts (startRun key index cells)
+
+  -- after a call for the next member that makes a pass over s
+  abbrev pub after : Run
+  after = nextIn index before s
+
+  module _ (made : after .walk .passes ≡ before .walk .passes + 1) (e : ℕ) (low : e < countOf index) (new : among index e (before .offers) ≡ false)
+      (headers entries contents file : List ℕ) (ranged : judgeOf headers entries (length contents) (length file) .number ≡ 0)
+      (listed : (x : List ℕ) → inIndex index (countOf index) e x ≡ lists (symbolsOf headers entries file) x) where
+    abbrev pub member : List Named
+    member = symbolsOf headers entries file
+
+    passed : stepRun index (viewIn (s .table)) before .walk .passes ≡ before .walk .passes + 1
+    passed = subst (λ (r : Run). r .walk .passes ≡ before .walk .passes + 1) (next-is index before s) made
+
+    pub let-in-queued : (on : Linked) → answerIn headers entries contents file index after e on ≡ Yes → among index e (queueIn after) ≡ true
+    let-in-queued on y =
+        subst (λ (r : Run). among index e (queueIn r) ≡ true) (sym (next-is index before s))
+        (Answer.let-in-queued key index cells begun ts (viewIn (s .table)) passed e low new headers entries contents file ranged listed
+        (subst (λ (r : Run). answerIn headers entries contents file index r e on ≡ Yes) (next-is index before s) y))
+
+    module _ (wanted : List (List ℕ)) (same : (x : List ℕ) → lists member x ≡ true → Strings.among x wanted ≡ wantedIn s past inv x) where
+      by-gabi : taken (undefinedName (viewIn (s .table))) member ≡ admitted wanted (weaklyIn s past inv) member
+      by-gabi =
+          Answer.by-gabi key index cells begun ts (viewIn (s .table)) passed e low new headers entries contents file ranged listed wanted (weaklyIn s past inv)
+          (λ x l. undefined-is (s .table) past inv x ∙ ap (λ (b : Bool). b || weaklyIn s past inv x) (sym (same x l)))
+
+      pub matches-is : (on : Linked) → answerIn headers entries contents file index after e on ≡ says (admitted wanted (weaklyIn s past inv) member)
+      matches-is on =
+          ap (λ (r : Run). answerIn headers entries contents file index r e on) (next-is index before s)
+          ∙ Answer.answer-is key index cells begun ts (viewIn (s .table)) passed e low new headers entries contents file ranged listed ∙ ap says by-gabi
+
+      pub matches-later : among index e (queueIn after) ≡ true → (us : List Table) (on : Linked)
+          → answerIn headers entries contents file index (history index us after) e on ≡ says (admitted wanted (weaklyIn s past inv) member)
+      matches-later q us on =
+          ap (λ (r : Run). answerIn headers entries contents file index (history index us r) e on) (next-is index before s)
+          ∙ Answer.answer-later key index cells begun ts (viewIn (s .table)) passed e low new headers entries contents file ranged listed
+          (subst (λ (r : Run). among index e (queueIn r) ≡ true) (next-is index before s) q) us
+          ∙ ap says by-gabi
+
+    -- the wanted names that the member bears are such a list
+    pub own-names : (x : List ℕ) → lists member x ≡ true → Strings.among x (wantedNames (wantedIn s past inv) member) ≡ wantedIn s past inv x
+    own-names = wanted-names (wantedIn s past inv) member

@@ -1,0 +1,31 @@
+-- "The answer to every call is a result or, exactly where document 01's rules in their order give it, one of the refusals": the rules of every call.
+-- Assumes nothing.
+use Prim.Native.Nat.{_/_}
+use mathlib.Core.List.{List, [], _++_}
+use lib.ListN.{length}
+use Rattle.merge_laws.specs.Calls.{Linked, allIn}
+use Rattle.link_laws.specs.Calls.{Call, intern, resolve, add, remove, get, getGlobal, sectionSymbol, addGroup, merge, load, archiveStart, archiveNext, matches, collect, libraryIn}
+use Rattle.link_laws.specs.Rules.{Rule}
+use Rattle.link_laws.specs.TableRules.{getHead, presentRules, getGlobalHead, globalRules, removeHead, absentRules, internHead, roomRules, resolveHead, issuedAlone, addHead, addRules}
+use Rattle.link_laws.specs.GroupRules.{alone, groupHead, ownGroupRules}
+use Rattle.link_laws.specs.MergeRules.{mergeRules}
+use Rattle.link_laws.specs.LoadRules.{loadRules}
+use Rattle.link_laws.specs.ArchiveRules.{startRules, nextRules, matchesRules}
+use Rattle.link_laws.specs.CollectRules.{collectRules}
+
+abbrev pub rules : Call → Linked → List Rule
+rules (intern x) s = internHead (s .table) ++ roomRules (s .table) x
+rules (resolve id) s = resolveHead (s .table) ++ issuedAlone (s .table) (id .0)
+rules (add conversion u) s = addHead (s .table) ++ addRules (s .table) conversion u
+rules (remove id) s = removeHead (s .table) ++ absentRules (s .table) (id .0)
+rules (get id) s = getHead (s .table) ++ presentRules (s .table) (id .0)
+rules (getGlobal name) s = getGlobalHead (s .table) ++ globalRules (s .table) (name .0)
+-- "A section without a symbol answers "none"": no refusal, nor 1 where fewer cells are lent (DECISIONS 12 and h)
+rules (sectionSymbol id) s = []
+rules (addGroup o work n) s = groupHead o n (s .table) (length work / 8) ++ ownGroupRules (alone o) n (s .table) (length work / 8)
+rules (merge o work ids) s = mergeRules o (allIn s work ids)
+rules (load o marks) s = loadRules o (libraryIn s marks)
+rules (archiveStart key index cells) s = startRules index cells
+rules (archiveNext index cells w) s = nextRules index cells w (s .table)
+rules (matches headers entries contents file index cells w e) s = matchesRules headers entries contents file index cells w e
+rules (collect marks entry work) s = collectRules (s .table) (s .lists) marks entry work

@@ -1,0 +1,135 @@
+-- Whence the row of a name is: the entry of an object, of a library, or of a direct add, with what that entry says of type, section, value, weak and hidden.
+-- Assumes nothing.
+use Prim.Native.Nat.{ℕ}
+use mathlib.Core.Path.{_≡_, refl, sym, ap, _∙_, subst}
+use mathlib.Core.List.{List, [], _∷_, _++_}
+use lib.Dec.{eqb}
+use borrow.Author.Tests.{eqb-true, eqb-false}
+use Rattle.cells.specs.Split.{by-test}
+use Rattle.link.specs.Said.{numberIn}
+use Rattle.symbol.specs.declared.Row.{Row}
+use Rattle.symbol.specs.declared.SttFile.the-variants as File
+use Rattle.upcoming_symbol.specs.declared.UpcomingSymbol.{UpcomingSymbol}
+use Rattle.upcoming_symbol.specs.Upcoming.{nameOf}
+use Rattle.symbols.specs.Calls as Symbols
+use Rattle.symbols.specs.Add.{addRowOf, emptyAt}
+use Rattle.symbol_laws.specs.Rank as Rank
+use Rattle.symbol_laws.specs.Rows.{rowAt}
+use Rattle.symbol_laws.specs.History.{Entry, table, only, rows, noted, upcoming}
+use Rattle.symbol_laws.specs.History as History
+use Rattle.symbol_laws.specs.Held.{Inv}
+use Rattle.symbol_laws.specs.Demand.{resolved}
+use Rattle.symbol_laws.specs.Refused.{add-accepted}
+use Rattle.symbol_laws.specs.DirectContents.{FromAdd, from-add}
+use Rattle.merge_laws.specs.MergeSteps.{mergeSteps}
+use Rattle.merge_laws.specs.Whole.{merge-makes}
+use Rattle.merge_laws.specs.Kept.{log-rows}
+use Rattle.merge_laws.specs.Marked.{Marked}
+use Rattle.merge_laws.specs.LogContents.{FromSymbol, merge-logged, all-append}
+use Rattle.merge_laws.specs.Calls.{Linked, allIn}
+use Rattle.load_laws.specs.LoadSteps.{loadSteps}
+use Rattle.load_laws.specs.Whole.{load-makes}
+use Rattle.load_laws.specs.LibraryContents.{FromLibrary, load-logged}
+use Rattle.link_laws.specs.Calls.{Call, intern, resolve, add, remove, get, getGlobal, sectionSymbol, addGroup, merge, load, archiveStart, archiveNext, matches, collect, libraryIn, callLeft, callNext, callNotes, runCalls, logCalls}
+use Rattle.link_laws.specs.Kept.{signatures, calls-marked}
+
+-- ---- the words
+
+-- the row is that of an entry of this call, made on s, where these signatures are met
+abbrev pub FromCall : Call → Linked → List (List ℕ) → Row → Type 0
+FromCall (intern x) s met r = ⊥
+FromCall (resolve id) s met r = ⊥
+FromCall (add conversion u) s met r = FromAdd conversion (emptyAt (s .table .names) (nameOf u)) r u
+FromCall (remove id) s met r = ⊥
+FromCall (get id) s met r = ⊥
+FromCall (getGlobal name) s met r = ⊥
+FromCall (sectionSymbol section) s met r = ⊥
+FromCall (addGroup o work n) s met r = ⊥
+FromCall (merge o work ids) s met r = FromSymbol o (allIn s work ids) met r
+FromCall (load o marks) s met r = FromLibrary o (libraryIn s marks) r
+FromCall (archiveStart key index cells) s met r = ⊥
+FromCall (archiveNext index cells w) s met r = ⊥
+FromCall (matches headers entries contents file index cells w e) s met r = ⊥
+FromCall (collect marks entry work) s met r = ⊥
+
+-- of one of these calls, made one after the other
+pub data FromCalls (r : Row) : List Call → Linked → List (List ℕ) → Type 0 where
+  here : {k : Call} {ks : List Call} {s : Linked} {met : List (List ℕ)} → FromCall k s met r → FromCalls r (k ∷ ks) s met
+  later : {k : Call} {ks : List Call} {s : Linked} {met : List (List ℕ)} → FromCalls r ks (callNext k s) (met ++ signatures (k ∷ []) s) → FromCalls r (k ∷ ks) s met
+
+-- ---- lists
+
+rows-append : (a b : List Entry) → rows (a ++ b) ≡ rows a ++ rows b
+rows-append [] b = refl
+rows-append (x ∷ a) b = ap (_∷_ (x .row)) (rows-append a b)
+
+all-map : (P Q : Row → Type 0) → ((x : Row) → P x → Q x) → (l : List Row) → Rank.All P l → Rank.All Q l
+all-map P Q f [] p = tt
+all-map P Q f (x ∷ l) p = (f x (p .0), all-map P Q f l (p .1))
+
+all-only : (P : Row → Type 0) (n : ℕ) (l : List Entry) → Rank.All P (rows l) → Rank.All P (rows (only n l))
+all-only P n [] p = tt
+all-only P n (x ∷ l) p = by-test (eqb (x .name) n) (λ t. rw t (p .0, all-only P n l (p .1))) (λ t. rw t (all-only P n l (p .1)))
+
+all-at : (P : Row → Type 0) (a : List Row) (r : Row) (b : List Row) → Rank.All P (a ++ r ∷ b) → P r
+all-at P [] r b p = p .0
+all-at P (x ∷ a) r b p = all-at P a r b (p .1)
+
+-- ---- one call
+
+add-logged : (conversion : List ℕ) (u : UpcomingSymbol) (s : Linked) (x : Symbols.Left) → callLeft (add conversion u) s ≡ x
+    → Rank.All (λ r. FromAdd conversion (emptyAt (s .table .names) (nameOf u)) r u) (rows (noted (upcoming (s .table) conversion u) History.direct (x .said)))
+unfolding noted
+add-logged conversion u s x e =
+    let r : Row = upcoming (s .table) conversion u in
+    by-test (eqb (r .visibility) 0) (λ a. rw a tt)
+    (λ a.
+    by-test (eqb (numberIn (x .said)) 0)
+    (λ b.
+    let z : numberIn (callLeft (add conversion u) s .said) ≡ 0 = ap (λ (y : Symbols.Left). numberIn (y .said)) e ∙ eqb-true _ _ b in
+    let w : numberIn (addRowOf (table (s .table)) r File.None .said) ≡ 0 = ap (λ (y : Symbols.Left). numberIn (y .said)) (sym (add-accepted (table (s .table)) conversion u z)) ∙ z in
+    rw (a, b) (from-add (table (s .table)) conversion (emptyAt (s .table .names) (nameOf u)) u w (eqb-false _ _ a), tt))
+    (λ b. rw (a, b) tt))
+
+call-logged : (k : Call) (s : Linked) (met : List (List ℕ)) → Marked (s .table) met → Rank.All (FromCall k s met) (rows (callNotes k s))
+call-logged (intern x) s met m = tt
+call-logged (resolve id) s met m = tt
+call-logged (add conversion u) s met m = add-logged conversion u s (callLeft (add conversion u) s) refl
+call-logged (remove id) s met m = tt
+call-logged (get id) s met m = tt
+call-logged (getGlobal name) s met m = tt
+call-logged (sectionSymbol section) s met m = tt
+call-logged (addGroup o work n) s met m = tt
+call-logged (merge o work ids) s met m =
+    subst (Rank.All (FromSymbol o (allIn s work ids) met))
+    (sym (log-rows (mergeSteps o (allIn s work ids)) (s .table) (merge-makes o (allIn s work ids) .accepted))) (merge-logged o (allIn s work ids) met m)
+call-logged (load o marks) s met m =
+    subst (Rank.All (FromLibrary o (libraryIn s marks)))
+    (sym (log-rows (loadSteps o (libraryIn s marks)) (s .table) (load-makes o (libraryIn s marks) .accepted))) (load-logged o (libraryIn s marks))
+call-logged (archiveStart key index cells) s met m = tt
+call-logged (archiveNext index cells w) s met m = tt
+call-logged (matches headers entries contents file index cells w e) s met m = tt
+call-logged (collect marks entry work) s met m = tt
+
+-- ---- any calls
+
+pub calls-logged : (ks : List Call) (s : Linked) (met : List (List ℕ)) → Marked (s .table) met → Rank.All (λ r. FromCalls r ks s met) (rows (logCalls ks s))
+calls-logged [] s met m = tt
+calls-logged (k ∷ ks) s met m =
+    subst (Rank.All (λ r. FromCalls r (k ∷ ks) s met)) (sym (rows-append (callNotes k s) (logCalls ks (callNext k s))))
+    (all-append (λ r. FromCalls r (k ∷ ks) s met) (rows (callNotes k s)) (rows (logCalls ks (callNext k s)))
+    (all-map (FromCall k s met) (λ r. FromCalls r (k ∷ ks) s met) (λ r p. here p) (rows (callNotes k s)) (call-logged k s met m))
+    (all-map (λ r. FromCalls r ks (callNext k s) (met ++ signatures (k ∷ []) s)) (λ r. FromCalls r (k ∷ ks) s met) (λ r p. later p) (rows (logCalls ks (callNext k s)))
+    (calls-logged ks (callNext k s) (met ++ signatures (k ∷ []) s) (calls-marked (k ∷ []) s met m))))
+
+-- the row that a name has is that of one of its accepted adds
+pub held-from : (ks : List Call) (s : Linked) (met : List (List ℕ)) → Marked (s .table) met → Inv (runCalls ks s .table) (logCalls ks s)
+    → (n : ℕ) (x : Entry) (xs : List Entry) → only n (logCalls ks s) ≡ x ∷ xs → FromCalls (rowAt (runCalls ks s .table .symbols) (x .id)) ks s met
+held-from ks s met m inv n x xs e =
+    let h = resolved (runCalls ks s .table) (logCalls ks s) inv n x xs e .content in
+    let all : Rank.All (λ r. FromCalls r ks s met) (rows (x ∷ xs)) = subst (λ (l : List Entry). Rank.All (λ r. FromCalls r ks s met) (rows l)) e (all-only (λ r. FromCalls r ks s met) n (logCalls ks s) (calls-logged ks s met m)) in
+    all-at (λ r. FromCalls r ks s met) (h .before) _ (h .after) (subst (Rank.All (λ r. FromCalls r ks s met)) (h .place) all)
+
+-- each of a name's accepted adds
+pub adds-from : (ks : List Call) (s : Linked) (met : List (List ℕ)) → Marked (s .table) met → (n : ℕ) → Rank.All (λ r. FromCalls r ks s met) (rows (only n (logCalls ks s)))
+adds-from ks s met m n = all-only (λ r. FromCalls r ks s met) n (logCalls ks s) (calls-logged ks s met m)

@@ -1,0 +1,333 @@
+-- "that its contract admits no second outcome is proved" (document 01, acceptance a). What a caller sees of a call is its result and every cell that it
+-- lent to be written (`Exit`); a contract says of these, by the builder that stands in the `ensures`, what the definition gives (`Meets`). Two exits
+-- that meet it are equal: the builders lose nothing.
+-- Assumes nothing.
+use Prim.Native.Nat.{ℕ}
+use native.Mathlib.Omega.{arith}
+use mathlib.Core.Path.{_≡_, refl, sym, ap, _∙_}
+use mathlib.Core.Bool.{Bool}
+use mathlib.Core.List.{List}
+use Rattle.strings.specs.Lookup.{Looked, looked, lookUp}
+use Rattle.link.specs.declared.Link.{Link}
+use Rattle.link.specs.declared.Refusal.{Refusal}
+use Rattle.link.specs.Judge.{refused}
+use Rattle.interner.specs.declared.Outcome as Interner
+use Rattle.interner.specs.Calls as Names
+use Rattle.symbols.specs.declared.Symbols as Table
+use Rattle.symbols.specs.declared.Outcome as Symbols
+use Rattle.symbols.specs.declared.Found.{Found}
+use Rattle.symbols.specs.declared.SectionSymbol.{SectionSymbol}
+use Rattle.symbols.specs.Calls as Calls
+use Rattle.symbols.specs.New.{NewLeft, newOutcome, newOf}
+use Rattle.symbols.specs.Remove.{RemoveLeft, removeOutcome}
+use Rattle.section_groups.specs.Filter.{filterOf}
+use Rattle.add_group.specs.declared.Outcome as Group
+use Rattle.add_group.specs.AddGroup as AddGroup
+use Rattle.merge_elf.specs.declared.Outcome as Merge
+use Rattle.merge_elf.specs.Merge as Merging
+use Rattle.shared_objects.specs.declared.Outcome as Shared
+use Rattle.shared_objects.specs.Load as Loading
+use Rattle.archive_walk.specs.declared.Started.{Started}
+use Rattle.archive_walk.specs.declared.Moved.{Moved}
+use Rattle.archive_walk.specs.Walk as Archive
+use Rattle.object_requirement.specs.declared.Admission.{Admission}
+use Rattle.gc_sections.specs.declared.Outcome as Collection
+use Rattle.gc_sections.specs.Run as Collecting
+use Rattle.merge_laws.specs.Calls.{Linked}
+use Rattle.link_laws.specs.Calls.{Call, intern, resolve, add, remove, get, getGlobal, sectionSymbol, addGroup, merge, load, archiveStart, archiveNext, matches, collect, LeftBy, callLeft}
+use Rattle.link_laws.specs.OneOutcome.{names-answer, symbols-answer}
+
+-- ---- what a caller sees: the lent cells at exit, and the result
+
+pub record InternExit : Type 0 where
+  pub bytes : List ℕ
+  pub names : List ℕ
+  pub result : Interner.Outcome
+
+-- the bytes of the part that is handed back, and the two lent numbers
+pub record ResolveExit : Type 0 where
+  pub result : List ℕ
+  pub number : ℕ
+  pub place : ℕ
+
+pub record AddExit : Type 0 where
+  pub names : List ℕ
+  pub symbols : List ℕ
+  pub sections : List ℕ
+  pub result : Symbols.Outcome
+
+pub record RemoveExit : Type 0 where
+  pub symbols : List ℕ
+  pub sections : List ℕ
+  pub result : Symbols.Outcome
+
+pub record GroupExit : Type 0 where
+  pub bytes : List ℕ
+  pub names : List ℕ
+  pub work : List ℕ
+  pub result : Group.Outcome
+
+pub record MergeExit : Type 0 where
+  pub bytes : List ℕ
+  pub names : List ℕ
+  pub symbols : List ℕ
+  pub sections : List ℕ
+  pub inputs : List ℕ
+  pub lists : List ℕ
+  pub work : List ℕ
+  pub ids : List ℕ
+  pub result : Merge.Outcome
+
+pub record LoadExit : Type 0 where
+  pub bytes : List ℕ
+  pub names : List ℕ
+  pub symbols : List ℕ
+  pub sections : List ℕ
+  pub inputs : List ℕ
+  pub lists : List ℕ
+  pub marks : List ℕ
+  pub result : Shared.Outcome
+
+pub record StartExit : Type 0 where
+  pub cells : List ℕ
+  pub result : Started
+
+pub record NextExit : Type 0 where
+  pub cells : List ℕ
+  pub result : Moved
+
+pub record CollectExit : Type 0 where
+  pub symbols : List ℕ
+  pub sections : List ℕ
+  pub work : List ℕ
+  pub result : Collection.Outcome
+
+pub record NewExit : Type 0 where
+  pub bytes : List ℕ
+  pub names : List ℕ
+  pub symbols : List ℕ
+  pub sections : List ℕ
+  pub result : Symbols.Outcome
+
+-- a string lookup: the bytes of the part, and the lent yes or no
+pub record StringExit : Type 0 where
+  pub result : List ℕ
+  pub found : Bool
+
+abbrev pub Exit : Call → Type 0
+Exit (intern x) = InternExit
+Exit (resolve id) = ResolveExit
+Exit (add conversion u) = AddExit
+Exit (remove id) = RemoveExit
+Exit (get id) = Found
+Exit (getGlobal name) = Found
+Exit (sectionSymbol section) = SectionSymbol
+Exit (addGroup o work n) = GroupExit
+Exit (merge o work ids) = MergeExit
+Exit (load o marks) = LoadExit
+Exit (archiveStart key index cells) = StartExit
+Exit (archiveNext index cells w) = NextExit
+Exit (matches headers entries contents file index cells w e) = Admission
+Exit (collect marks entry work) = CollectExit
+
+-- ---- the contracts
+
+-- the left side of the call's `ensures`
+abbrev pub seen : (k : Call) → Exit k → LeftBy k
+seen (intern x) e = Names.outcome (e .bytes) (e .names) (e .result)
+seen (resolve id) e = Names.resolved (e .result) (e .number) (e .place)
+seen (add conversion u) e = Calls.outcome (e .names) (e .symbols) (e .sections) (e .result)
+seen (remove id) e = removeOutcome (e .symbols) (e .sections) (e .result)
+seen (get id) e = e
+seen (getGlobal name) e = e
+seen (sectionSymbol section) e = e
+seen (addGroup o work n) e = AddGroup.leftOf (e .bytes) (e .names) (e .work) (e .result)
+seen (merge o work ids) e =
+    Merging.outcome (e .bytes) (e .names) (e .symbols) (e .sections) (e .inputs) (e .lists) (e .work) (e .ids) (e .result)
+seen (load o marks) e = Loading.outcome (e .bytes) (e .names) (e .symbols) (e .sections) (e .inputs) (e .lists) (e .marks) (e .result)
+seen (archiveStart key index cells) e = Archive.startLeft (e .cells) (e .result)
+seen (archiveNext index cells w) e = Archive.stepMoved (e .cells) (e .result)
+seen (matches headers entries contents file index cells w i) e = e
+seen (collect marks entry work) e = Collecting.outcome (e .symbols) (e .sections) (e .work) (e .result)
+
+abbrev pub Meets : (k : Call) → Linked → Exit k → Type 0
+Meets k s e = seen k e ≡ callLeft k s
+
+abbrev pub NewMeets : ℕ → List ℕ → List ℕ → List ℕ → List ℕ → NewExit → Type 0
+NewMeets key bytes names symbols sections e =
+    newOutcome (e .bytes) (e .names) (e .symbols) (e .sections) (e .result) ≡ newOf key bytes names symbols sections
+
+abbrev pub StringMeets : List ℕ → ℕ → StringExit → Type 0
+StringMeets table offset e = looked (e .result) (e .found) ≡ lookUp table offset
+
+-- the filter of a symbol table writes nothing
+abbrev pub FilterMeets : List ℕ → List ℕ → ℕ → Type 0
+FilterMeets work entries r = r ≡ filterOf work entries
+
+-- ---- no second outcome
+
+names-outcome : (a b : Interner.Outcome) → a .link ≡ b .link → Names.said (a .answer) ≡ Names.said (b .answer) → a ≡ b
+names-outcome a b e f =
+    ap (λ (l : Link). record { link = l; answer = a .answer }) e ∙ ap (λ v. record { link = b .link; answer = v }) (names-answer (a .answer) (b .answer) f)
+
+symbols-outcome : (a b : Symbols.Outcome) → a .table .link ≡ b .table .link → Calls.said (a .answer) ≡ Calls.said (b .answer) → a ≡ b
+symbols-outcome a b e f =
+    ap {B = Symbols.Outcome} (λ (l : Link). record { table = record { link = l }; answer = a .answer }) e
+    ∙ ap {B = Symbols.Outcome} (λ v. record { table = b .table; answer = v }) (symbols-answer (a .answer) (b .answer) f)
+
+abbrev internExit : List ℕ → List ℕ → Interner.Outcome → InternExit
+internExit a b r = record { bytes = a; names = b; result = r }
+
+intern-one : (x y : InternExit) → Names.outcome (x .bytes) (x .names) (x .result) ≡ Names.outcome (y .bytes) (y .names) (y .result) → x ≡ y
+intern-one x y e =
+    let a′ : x .bytes ≡ y .bytes = ap (λ (o : Names.Left). o .store .bytes) e in
+    let b′ : x .names ≡ y .names = ap (λ (o : Names.Left). o .store .names) e in
+    let r′ : x .result ≡ y .result = names-outcome (x .result) (y .result) (ap (λ (o : Names.Left). o .store .link) e) (ap (λ (o : Names.Left). o .said) e) in
+    let same : internExit (x .bytes) (x .names) (x .result) ≡ internExit (y .bytes) (y .names) (y .result) = cc in
+    same
+
+abbrev addExit : List ℕ → List ℕ → List ℕ → Symbols.Outcome → AddExit
+addExit a b c r = record { names = a; symbols = b; sections = c; result = r }
+
+add-one : (x y : AddExit) → Calls.outcome (x .names) (x .symbols) (x .sections) (x .result) ≡ Calls.outcome (y .names) (y .symbols) (y .sections) (y .result) → x ≡ y
+add-one x y e =
+    let a′ : x .names ≡ y .names = ap (λ (o : Calls.Left). o .table .names) e in
+    let b′ : x .symbols ≡ y .symbols = ap (λ (o : Calls.Left). o .table .symbols) e in
+    let c′ : x .sections ≡ y .sections = ap (λ (o : Calls.Left). o .table .sections) e in
+    let r′ : x .result ≡ y .result = symbols-outcome (x .result) (y .result) (ap (λ (o : Calls.Left). o .table .link) e) (ap (λ (o : Calls.Left). o .said) e) in
+    let same : addExit (x .names) (x .symbols) (x .sections) (x .result) ≡ addExit (y .names) (y .symbols) (y .sections) (y .result) = cc in
+    same
+
+abbrev removeExit : List ℕ → List ℕ → Symbols.Outcome → RemoveExit
+removeExit a b r = record { symbols = a; sections = b; result = r }
+
+remove-one : (x y : RemoveExit) → removeOutcome (x .symbols) (x .sections) (x .result) ≡ removeOutcome (y .symbols) (y .sections) (y .result) → x ≡ y
+remove-one x y e =
+    let a′ : x .symbols ≡ y .symbols = ap (λ (o : RemoveLeft). o .rows .symbols) e in
+    let b′ : x .sections ≡ y .sections = ap (λ (o : RemoveLeft). o .rows .sections) e in
+    let r′ : x .result ≡ y .result = symbols-outcome (x .result) (y .result) (ap (λ (o : RemoveLeft). o .link) e) (ap (λ (o : RemoveLeft). o .said) e) in
+    let same : removeExit (x .symbols) (x .sections) (x .result) ≡ removeExit (y .symbols) (y .sections) (y .result) = cc in
+    same
+
+abbrev groupExit : List ℕ → List ℕ → List ℕ → Group.Outcome → GroupExit
+groupExit a b c r = record { bytes = a; names = b; work = c; result = r }
+
+group-one : (x y : GroupExit) → AddGroup.leftOf (x .bytes) (x .names) (x .work) (x .result) ≡ AddGroup.leftOf (y .bytes) (y .names) (y .work) (y .result) → x ≡ y
+group-one x y e =
+    let a′ : x .bytes ≡ y .bytes = ap (λ (o : AddGroup.Left). o .bytes) e in
+    let b′ : x .names ≡ y .names = ap (λ (o : AddGroup.Left). o .names) e in
+    let c′ : x .work ≡ y .work = ap (λ (o : AddGroup.Left). o .work) e in
+    let r′ : x .result ≡ y .result = ap (λ (o : AddGroup.Left). o .outcome) e in
+    let same : groupExit (x .bytes) (x .names) (x .work) (x .result) ≡ groupExit (y .bytes) (y .names) (y .work) (y .result) = cc in
+    same
+
+abbrev mergeExit : List ℕ → List ℕ → List ℕ → List ℕ → List ℕ → List ℕ → List ℕ → List ℕ → Merge.Outcome → MergeExit
+mergeExit a b c d e f g h r = record { bytes = a; names = b; symbols = c; sections = d; inputs = e; lists = f; work = g; ids = h; result = r }
+
+merge-one : (x y : MergeExit) → Merging.outcome (x .bytes) (x .names) (x .symbols) (x .sections) (x .inputs) (x .lists) (x .work) (x .ids) (x .result) ≡ Merging.outcome (y .bytes) (y .names) (y .symbols) (y .sections) (y .inputs) (y .lists) (y .work) (y .ids) (y .result) → x ≡ y
+merge-one x y e =
+    let a′ : x .bytes ≡ y .bytes = ap (λ (o : Merging.Left). o .cells .bytes) e in
+    let b′ : x .names ≡ y .names = ap (λ (o : Merging.Left). o .cells .names) e in
+    let c′ : x .symbols ≡ y .symbols = ap (λ (o : Merging.Left). o .cells .symbols) e in
+    let d′ : x .sections ≡ y .sections = ap (λ (o : Merging.Left). o .cells .sections) e in
+    let e′ : x .inputs ≡ y .inputs = ap (λ (o : Merging.Left). o .cells .inputs) e in
+    let f′ : x .lists ≡ y .lists = ap (λ (o : Merging.Left). o .cells .lists) e in
+    let g′ : x .work ≡ y .work = ap (λ (o : Merging.Left). o .cells .work) e in
+    let h′ : x .ids ≡ y .ids = ap (λ (o : Merging.Left). o .cells .ids) e in
+    let l′ : x .result .link ≡ y .result .link = ap (λ (o : Merging.Left). o .cells .stage .link) e in
+    let m′ : x .result .answer ≡ y .result .answer = ap (λ (o : Merging.Left). o .answer) e in
+    let r′ : x .result ≡ y .result =
+    ap {B = Merge.Outcome} (λ (l : Link). record { link = l; answer = x .result .answer }) l′
+    ∙ ap {B = Merge.Outcome} (λ v. record { link = y .result .link; answer = v }) m′ in
+    let same : mergeExit (x .bytes) (x .names) (x .symbols) (x .sections) (x .inputs) (x .lists) (x .work) (x .ids) (x .result) ≡ mergeExit (y .bytes) (y .names) (y .symbols) (y .sections) (y .inputs) (y .lists) (y .work) (y .ids) (y .result) = cc in
+    same
+
+abbrev loadExit : List ℕ → List ℕ → List ℕ → List ℕ → List ℕ → List ℕ → List ℕ → Shared.Outcome → LoadExit
+loadExit a b c d e f g r = record { bytes = a; names = b; symbols = c; sections = d; inputs = e; lists = f; marks = g; result = r }
+
+load-one : (x y : LoadExit) → Loading.outcome (x .bytes) (x .names) (x .symbols) (x .sections) (x .inputs) (x .lists) (x .marks) (x .result) ≡ Loading.outcome (y .bytes) (y .names) (y .symbols) (y .sections) (y .inputs) (y .lists) (y .marks) (y .result) → x ≡ y
+load-one x y e =
+    let a′ : x .bytes ≡ y .bytes = ap (λ (o : Loading.Left). o .cells .bytes) e in
+    let b′ : x .names ≡ y .names = ap (λ (o : Loading.Left). o .cells .names) e in
+    let c′ : x .symbols ≡ y .symbols = ap (λ (o : Loading.Left). o .cells .symbols) e in
+    let d′ : x .sections ≡ y .sections = ap (λ (o : Loading.Left). o .cells .sections) e in
+    let e′ : x .inputs ≡ y .inputs = ap (λ (o : Loading.Left). o .cells .inputs) e in
+    let f′ : x .lists ≡ y .lists = ap (λ (o : Loading.Left). o .cells .lists) e in
+    let g′ : x .marks ≡ y .marks = ap (λ (o : Loading.Left). o .cells .marks) e in
+    let l′ : x .result .link ≡ y .result .link = ap (λ (o : Loading.Left). o .cells .link) e in
+    let m′ : x .result .answer ≡ y .result .answer = ap (λ (o : Loading.Left). o .answer) e in
+    let r′ : x .result ≡ y .result =
+    ap {B = Shared.Outcome} (λ (l : Link). record { link = l; answer = x .result .answer }) l′
+    ∙ ap {B = Shared.Outcome} (λ v. record { link = y .result .link; answer = v }) m′ in
+    let same : loadExit (x .bytes) (x .names) (x .symbols) (x .sections) (x .inputs) (x .lists) (x .marks) (x .result) ≡ loadExit (y .bytes) (y .names) (y .symbols) (y .sections) (y .inputs) (y .lists) (y .marks) (y .result) = cc in
+    same
+
+abbrev collectExit : List ℕ → List ℕ → List ℕ → Collection.Outcome → CollectExit
+collectExit a b c r = record { symbols = a; sections = b; work = c; result = r }
+
+collect-one : (x y : CollectExit) → Collecting.outcome (x .symbols) (x .sections) (x .work) (x .result) ≡ Collecting.outcome (y .symbols) (y .sections) (y .work) (y .result) → x ≡ y
+collect-one x y e =
+    let a′ : x .symbols ≡ y .symbols = ap (λ (o : Collecting.Left). o .symbols) e in
+    let b′ : x .sections ≡ y .sections = ap (λ (o : Collecting.Left). o .sections) e in
+    let c′ : x .work ≡ y .work = ap (λ (o : Collecting.Left). o .work) e in
+    let l′ : x .result .link ≡ y .result .link = ap (λ (o : Collecting.Left). o .link) e in
+    let m′ : x .result .answer ≡ y .result .answer = ap (λ (o : Collecting.Left). o .answer) e in
+    let r′ : x .result ≡ y .result =
+    ap {B = Collection.Outcome} (λ (l : Link). record { link = l; answer = x .result .answer }) l′
+    ∙ ap {B = Collection.Outcome} (λ v. record { link = y .result .link; answer = v }) m′ in
+    let same : collectExit (x .symbols) (x .sections) (x .work) (x .result) ≡ collectExit (y .symbols) (y .sections) (y .work) (y .result) = cc in
+    same
+
+abbrev newExit : List ℕ → List ℕ → List ℕ → List ℕ → Symbols.Outcome → NewExit
+newExit a b c d r = record { bytes = a; names = b; symbols = c; sections = d; result = r }
+
+new-one : (x y : NewExit) → newOutcome (x .bytes) (x .names) (x .symbols) (x .sections) (x .result) ≡ newOutcome (y .bytes) (y .names) (y .symbols) (y .sections) (y .result) → x ≡ y
+new-one x y e =
+    let a′ : x .bytes ≡ y .bytes = ap (λ (o : NewLeft). o .bytes) e in
+    let b′ : x .names ≡ y .names = ap (λ (o : NewLeft). o .table .names) e in
+    let c′ : x .symbols ≡ y .symbols = ap (λ (o : NewLeft). o .table .symbols) e in
+    let d′ : x .sections ≡ y .sections = ap (λ (o : NewLeft). o .table .sections) e in
+    let r′ : x .result ≡ y .result = symbols-outcome (x .result) (y .result) (ap (λ (o : NewLeft). o .table .link) e) (ap (λ (o : NewLeft). o .said) e) in
+    let same : newExit (x .bytes) (x .names) (x .symbols) (x .sections) (x .result) ≡ newExit (y .bytes) (y .names) (y .symbols) (y .sections) (y .result) = cc in
+    same
+
+resolve-one : (x y : ResolveExit) → Names.resolved (x .result) (x .number) (x .place) ≡ Names.resolved (y .result) (y .number) (y .place) → x ≡ y
+resolve-one x y e =
+    ap {B = ResolveExit} (λ (o : Names.Resolved). record { result = o .name; number = o .refusal .number; place = o .refusal .place }) e
+
+start-one : (x y : StartExit) → Archive.startLeft (x .cells) (x .result) ≡ Archive.startLeft (y .cells) (y .result) → x ≡ y
+start-one x y e = ap {B = StartExit} (λ (o : Archive.Start). record { cells = o .cells; result = o .started }) e
+
+next-one : (x y : NextExit) → Archive.stepMoved (x .cells) (x .result) ≡ Archive.stepMoved (y .cells) (y .result) → x ≡ y
+next-one x y e = ap {B = NextExit} (λ (o : Archive.Step). record { cells = o .cells; result = o .moved }) e
+
+seen-one : (k : Call) (x y : Exit k) → seen k x ≡ seen k y → x ≡ y
+seen-one (intern b) x y e = intern-one x y e
+seen-one (resolve id) x y e = resolve-one x y e
+seen-one (add conversion u) x y e = add-one x y e
+seen-one (remove id) x y e = remove-one x y e
+seen-one (get id) x y e = e
+seen-one (getGlobal name) x y e = e
+seen-one (sectionSymbol section) x y e = e
+seen-one (addGroup o work n) x y e = group-one x y e
+seen-one (merge o work ids) x y e = merge-one x y e
+seen-one (load o marks) x y e = load-one x y e
+seen-one (archiveStart key index cells) x y e = start-one x y e
+seen-one (archiveNext index cells w) x y e = next-one x y e
+seen-one (matches headers entries contents file index cells w i) x y e = e
+seen-one (collect marks entry work) x y e = collect-one x y e
+
+-- of every call on a link
+pub one-outcome : (k : Call) (s : Linked) (x y : Exit k) → Meets k s x → Meets k s y → x ≡ y
+one-outcome k s x y e f = seen-one k x y (e ∙ sym f)
+
+-- of a new table
+pub new-one-outcome : (key : ℕ) (bytes names symbols sections : List ℕ) (x y : NewExit) → NewMeets key bytes names symbols sections x → NewMeets key bytes names symbols sections y → x ≡ y
+new-one-outcome key bytes names symbols sections x y e f = new-one x y (e ∙ sym f)
+
+-- of a string lookup, and of the filter
+pub string-one-outcome : (table : List ℕ) (offset : ℕ) (x y : StringExit) → StringMeets table offset x → StringMeets table offset y → x ≡ y
+string-one-outcome table offset x y e f = ap {B = StringExit} (λ (o : Looked). record { result = o .name; found = o .found }) (e ∙ sym f)
+
+pub filter-one-outcome : (work entries : List ℕ) (x y : ℕ) → FilterMeets work entries x → FilterMeets work entries y → x ≡ y
+filter-one-outcome work entries x y e f = e ∙ sym f

@@ -1,0 +1,251 @@
+-- "Ids, symbol rows and answers don't depend on" the key of the hash. The same calls on two new tables of the same lent lists, under two keys: every
+-- answer is the same, and so is every list and count of the links but the names' hash chains.
+-- Assumes nothing.
+use Prim.Native.Nat.{ℕ}
+use mathlib.Core.Path.{_≡_, refl, ap, sym, subst}
+use mathlib.Core.List.{List, [], _∷_}
+use Rattle.link.specs.declared.Link.{Link}
+use Rattle.link.specs.declared.Refusal.{Refusal}
+use Rattle.link.specs.Said.{Said, numberIn}
+use Rattle.interner.specs.Names.{storeOf}
+use Rattle.interner.specs.Calls as Names
+use Rattle.symbols.specs.declared.Found.{Found}
+use Rattle.symbols.specs.declared.SectionSymbol.{SectionSymbol}
+use Rattle.symbols.specs.Calls as Symbols
+use Rattle.symbols.specs.New.{NewLeft, newOf}
+use Rattle.symbols.specs.Remove.{Rows, RemoveLeft, rowsOf, removeOf}
+use Rattle.symbols.specs.Lookup as Lookup
+use Rattle.add_group.specs.AddGroup as AddGroup
+use Rattle.merge_elf.specs.Merge as Merge
+use Rattle.shared_objects.specs.Load as Shared
+use Rattle.archive_walk.specs.Walk as Archive
+use Rattle.object_requirement.specs.declared.Admission.{Admission}
+use Rattle.gc_sections.specs.Run as Collection
+use Rattle.symbol_laws.specs.History.{table, store, withTable, withStore, withRows, opened}
+use Rattle.merge_laws.specs.Calls.{Linked, linked, allIn, linkIn}
+use Rattle.load_laws.specs.Whole as Loads
+use Rattle.key_laws.specs.Rekeyed.{keyed, Rekeyed}
+use Rattle.key_laws.specs.Tables.{intern-moved, resolve-same, add-moved, remove-keyed, remove-link, get-keyed, global-same, section-symbol-keyed}
+use Rattle.key_laws.specs.SectionNames.{Named}
+use Rattle.key_laws.specs.Reads.{next-same, collect-same, collect-link}
+use Rattle.key_laws.specs.Groups.{add-group-moved}
+use Rattle.key_laws.specs.Merge.{merge-moved}
+use Rattle.key_laws.specs.Load.{load-moved}
+use Rattle.key_laws.specs.SectionCalls.{intern-named, add-named, remove-named, group-named, merge-named, load-named, collect-named}
+use Rattle.key_laws.specs.NewTables.{new-said, new-moved, new-named}
+use Rattle.link_laws.specs.Calls.{Call, intern, resolve, add, remove, get, getGlobal, sectionSymbol, addGroup, merge, load, archiveStart, archiveNext, matches, collect, LeftBy, callLeft, refusalIn, refusalBy, callRefusal, callNext, runCalls, groupIn, libraryIn, listsIn, viewIn}
+
+-- ---- two links
+
+-- s with the cells n of names, under the key k
+abbrev pub linkUnder : ℕ → List ℕ → Linked → Linked
+linkUnder k n s =
+    linked (record { bytes = s .table .bytes; names = n; symbols = s .table .symbols; sections = s .table .sections; link = keyed k (s .table .link) })
+    (s .inputs) (s .lists)
+
+-- t is s under the key k: bytes, symbols, sections, inputs, lists and every count are the same; of the names, Rekeyed says which cells are
+pub record Alike (k : ℕ) (s t : Linked) : Type 0 where
+  pub names : List ℕ
+  pub is : t ≡ linkUnder k names s
+  pub rows : Rekeyed k (store (s .table)) names
+  -- no section's name is looked for behind the names' rows
+  pub named : Named (s .table .link) (s .table .sections)
+
+-- ---- what the caller is told
+
+-- number, place and value; and the cells that a call is lent beside the link's own
+abbrev pub AnswerBy : Call → Type 0
+AnswerBy (intern x) = Said
+AnswerBy (resolve id) = Names.Resolved
+AnswerBy (add conversion u) = Said
+AnswerBy (remove id) = Said
+AnswerBy (get id) = Found
+AnswerBy (getGlobal name) = Found
+AnswerBy (sectionSymbol section) = SectionSymbol
+AnswerBy (addGroup o work n) = List ℕ × Refusal
+AnswerBy (merge o work ids) = List ℕ × List ℕ × Refusal
+AnswerBy (load o marks) = List ℕ × Said
+AnswerBy (archiveStart walkKey index cells) = Archive.Start
+AnswerBy (archiveNext index cells w) = Archive.Step
+AnswerBy (matches headers entries contents file index cells w e) = Admission
+AnswerBy (collect marks entry work) = List ℕ × Collection.Said
+
+abbrev pub answerIn : (k : Call) → LeftBy k → AnswerBy k
+answerIn (intern x) o = o .said
+answerIn (resolve id) o = o
+answerIn (add conversion u) o = o .said
+answerIn (remove id) o = o .said
+answerIn (get id) o = o
+answerIn (getGlobal name) o = o
+answerIn (sectionSymbol section) o = o
+answerIn (addGroup o work n) x = (x .work, x .said)
+answerIn (merge o work ids) x = (x .cells .work, x .cells .ids, x .said)
+answerIn (load o marks) x = (x .cells .marks, x .said)
+answerIn (archiveStart walkKey index cells) o = o
+answerIn (archiveNext index cells w) o = o
+answerIn (matches headers entries contents file index cells w e) o = o
+answerIn (collect marks entry work) o = (o .work, o .said)
+
+abbrev pub callAnswer : (k : Call) → Linked → AnswerBy k
+callAnswer k s = answerIn k (callLeft k s)
+
+-- every answer of a history is the same on both links
+abbrev pub SameAnswers : List Call → Linked → Linked → Type 0
+SameAnswers [] s t = Unit {0}
+SameAnswers (k ∷ ks) s t = (callAnswer k t ≡ callAnswer k s) × (callRefusal k t ≡ callRefusal k s) × SameAnswers ks (callNext k s) (callNext k t)
+
+-- ---- one call
+
+pub record Same (key : ℕ) (k : Call) (s t : Linked) : Type 0 where
+  pub answer : callAnswer k t ≡ callAnswer k s
+  pub refusal : callRefusal k t ≡ callRefusal k s
+  pub next : Alike key (callNext k s) (callNext k t)
+
+module _ (key : ℕ) (s : Linked) (n : List ℕ) (e : Rekeyed key (store (s .table)) n) (h : Named (s .table .link) (s .table .sections)) where
+  abbrev t : Linked
+  t = linkUnder key n s
+
+  stays : Alike key s t
+  stays = record { names = n; is = refl; rows = e; named = h }
+
+  under-same : (k : Call) → Same key k s t
+  under-same (intern x) =
+      let m = intern-moved key (store (s .table)) n e x in
+      record {
+        answer = ap (λ (o : Names.Left). o .said) (m .is);
+        refusal = ap (λ (o : Names.Left). refusalBy (o .said)) (m .is);
+        next = record {
+          names = m .names;
+          is = ap (λ (o : Names.Left). linked (withStore (s .table) (o .store)) (s .inputs) (s .lists)) (m .is);
+          rows = m .alike;
+          named = intern-named (store (s .table)) x (s .table .sections) h;
+        };
+      }
+  under-same (resolve id) =
+      let q = resolve-same key (store (s .table)) n e id in
+      record { answer = q; refusal = ap (λ (o : Names.Resolved). o .refusal) q; next = stays }
+  under-same (add conversion u) =
+      let m = add-moved key (s .table .bytes) (table (s .table)) n e conversion u in
+      record {
+        answer = ap (λ (o : Symbols.Left). o .said) (m .is);
+        refusal = ap (λ (o : Symbols.Left). refusalBy (o .said)) (m .is);
+        next = record {
+          names = m .names;
+          is = ap (λ (o : Symbols.Left). linked (withTable (s .table) (o .table)) (s .inputs) (s .lists)) (m .is);
+          rows = m .alike;
+          named = add-named (table (s .table)) conversion u h;
+        };
+      }
+  under-same (remove id) =
+      let l : Link = s .table .link in
+      let x : Rows = rowsOf (s .table .symbols) (s .table .sections) in
+      let q = remove-keyed key l x id in
+      let g = remove-named l x id h in
+      record {
+        answer = ap (λ (o : RemoveLeft). o .said) q;
+        refusal = ap (λ (o : RemoveLeft). refusalBy (o .said)) q;
+        next = record {
+          names = n;
+          is = ap (λ (o : RemoveLeft). linked (withRows (t .table) (o .rows) (o .link)) (s .inputs) (s .lists)) q;
+          rows = subst (λ (m : Link). Rekeyed key (storeOf (s .table .bytes) (s .table .names) m) n) (sym (remove-link l x id)) e;
+          named = subst (λ (m : Link). Named m (removeOf l x id .rows .sections)) (sym (remove-link l x id)) g;
+        };
+      }
+  under-same (get id) =
+      let q = get-keyed key (s .table .link) (s .table .symbols) id in
+      record { answer = q; refusal = ap Lookup.refusalOf q; next = stays }
+  under-same (getGlobal name) =
+      let q = global-same key (store (s .table)) n (s .table .symbols) e name in
+      record { answer = q; refusal = ap Lookup.refusalOf q; next = stays }
+  under-same (sectionSymbol section) = record { answer = section-symbol-keyed key (s .table .link) (s .table .sections) section; refusal = refl; next = stays }
+  under-same (addGroup o work i) =
+      let m = add-group-moved key (groupIn (s .table) work) n e o i in
+      record {
+        answer = ap (λ (x : AddGroup.Left). (x .work, x .said)) (m .is);
+        refusal = ap (λ (x : AddGroup.Left). x .said) (m .is);
+        next = record {
+          names = m .names;
+          is = ap (λ (x : AddGroup.Left). linked (withStore (s .table) (storeOf (x .bytes) (x .names) (x .outcome .link))) (s .inputs) (s .lists)) (m .is);
+          rows = m .alike;
+          named = group-named o (groupIn (s .table) work) i (s .table .sections) h;
+        };
+      }
+  under-same (merge o work ids) =
+      let m = merge-moved key o (allIn s work ids) n e in
+      record {
+        answer = ap (λ (x : Merge.Left). (x .cells .work, x .cells .ids, x .said)) (m .is);
+        refusal = ap (λ (x : Merge.Left). x .said) (m .is);
+        next = record {
+          names = m .names;
+          is = ap (λ (x : Merge.Left). linkIn (x .cells)) (m .is);
+          rows = m .alike;
+          named = merge-named key o (allIn s work ids) n e h;
+        };
+      }
+  under-same (load o marks) =
+      let m = load-moved key (libraryIn s marks) n e o in
+      record {
+        answer = ap (λ (x : Shared.Left). (x .cells .marks, x .said)) (m .is);
+        refusal = ap (λ (x : Shared.Left). refusalBy (x .said)) (m .is);
+        next = record {
+          names = m .names;
+          is = ap (λ (x : Shared.Left). linked (Loads.tableIn (x .cells)) (x .cells .inputs) (x .cells .lists)) (m .is);
+          rows = m .alike;
+          named = load-named o (libraryIn s marks) h;
+        };
+      }
+  under-same (archiveStart walkKey index cells) = record { answer = refl; refusal = refl; next = stays }
+  under-same (archiveNext index cells w) =
+      let q = next-same key (viewIn (s .table)) n e index cells w in
+      record { answer = q; refusal = ap (refusalIn (archiveNext index cells w)) q; next = stays }
+  under-same (matches headers entries contents file index cells w i) = record { answer = refl; refusal = refl; next = stays }
+  under-same (collect marks entry work) =
+      let l : Link = s .table .link in
+      let q = collect-same key (store (s .table)) n e (s .table .symbols) (s .table .sections) (s .lists) marks h entry work in
+      let g = collect-named l (listsIn s marks) (s .table .symbols) (s .table .sections) entry work h in
+      let same = collect-link l (listsIn s marks) (s .table .symbols) (s .table .sections) entry work in
+      record {
+        answer = ap (λ (o : Collection.Left). (o .work, o .said)) q;
+        refusal = ap (refusalIn (collect marks entry work)) q;
+        next = record {
+          names = n;
+          is = ap (λ (o : Collection.Left). linked (withRows (t .table) (rowsOf (o .symbols) (o .sections)) (o .link)) (s .inputs) (s .lists)) q;
+          rows = subst (λ (m : Link). Rekeyed key (storeOf (s .table .bytes) (s .table .names) m) n) (sym same) e;
+          named = subst (λ (m : Link). Named m (callLeft (collect marks entry work) s .sections)) (sym same) g;
+        };
+      }
+
+pub call-same : (key : ℕ) (k : Call) (s t : Linked) → Alike key s t → Same key k s t
+call-same key k s t a = subst (Same key k s) (sym (a .is)) (under-same key s (a .names) (a .rows) (a .named) k)
+
+-- ---- every history, those that remove too
+
+pub calls-same : (key : ℕ) (ks : List Call) (s t : Linked) → Alike key s t → SameAnswers ks s t × Alike key (runCalls ks s) (runCalls ks t)
+calls-same key [] s t a = (tt, a)
+calls-same key (k ∷ ks) s t a =
+    let one = call-same key k s t a in
+    let more = calls-same key ks (callNext k s) (callNext k t) (one .next) in
+    ((one .answer, one .refusal, more .0), more .1)
+
+module _ (key other : ℕ) (bytes names symbols sections inputs lists : List ℕ) where
+  -- a new table is answered alike
+  pub new-alike : newOf other bytes names symbols sections .said ≡ newOf key bytes names symbols sections .said
+  new-alike = new-said key other bytes names symbols sections
+
+  -- of the same lent lists
+  abbrev pub startUnder : ℕ → Linked
+  startUnder k = linked (opened (newOf k bytes names symbols sections)) inputs lists
+
+  module _ (new : numberIn (newOf key bytes names symbols sections .said) ≡ 0) where
+    start-alike : Alike other (startUnder key) (startUnder other)
+    start-alike =
+        let m = new-moved key other bytes names symbols sections new in
+        record {
+          names = m .names;
+          is = ap (λ (o : NewLeft). linked (opened o) inputs lists) (m .is);
+          rows = m .alike;
+          named = new-named key other bytes names symbols sections;
+        }
+
+    pub keys-alike : (ks : List Call) → SameAnswers ks (startUnder key) (startUnder other) × Alike other (runCalls ks (startUnder key)) (runCalls ks (startUnder other))
+    keys-alike ks = calls-same other ks (startUnder key) (startUnder other) start-alike

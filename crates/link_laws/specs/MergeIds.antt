@@ -1,0 +1,214 @@
+-- Which symbols get an id in a merge is what the object says.
+-- Assumes nothing.
+use Prim.Native.Nat.{ℕ, _+_, _/_, _<_, _≤_}
+use native.Mathlib.Omega.{arith}
+use mathlib.Core.Path.{_≡_, refl, sym, ap, _∙_}
+use mathlib.Core.Bool.{Bool, true, false, cond, not, _&&_, _||_}
+use mathlib.Core.List.{List}
+use lib.Dec.{eqb, ltb, leb}
+use lib.ListN.{set, length, length-set}
+use lib.Seq.{getD-set-other, getD-set-same}
+use borrow.Author.Tests.{eqb-true, eqb-false, leb-true}
+use Rattle.cells.specs.Split.{by-test}
+use Rattle.byte_slices.specs.Ways.{pick}
+use Rattle.link.specs.declared.Link.{Link}
+use Rattle.link.specs.declared.SymbolId.{SymbolId}
+use Rattle.interner.specs.Names.{storeOf, findOf, fitsOf, keepOf}
+use Rattle.symbol.specs.declared.Row.{Row}
+use Rattle.symbol.specs.Row.{field, visibilityCodeAt}
+use Rattle.upcoming_symbol.specs.declared.ElfSymbol.{ElfSymbol}
+use Rattle.upcoming_symbol.specs.Upcoming.{elfRowOf}
+use Rattle.symbol_rows.specs.declared.Decision.{Decision}
+use Rattle.symbol_rows.specs.declared.Decision.the-variants.{Refuse, Nothing, Keep}
+use Rattle.symbol_rows.specs.declared.Holder.{Holder}
+use Rattle.symbol_rows.specs.declared.Holder.the-variants.{Unissued, Nobody, Removed, Known}
+use Rattle.symbol_rows.specs.Holder.{holderOf}
+use Rattle.symbol_rows.specs.Decide as Decide
+use Rattle.symbol_rows.specs.Decide.{typeRefusal, roomOf, newOf, replaceOf, rankedOf, knownOf, localOf, decideOf}
+use Rattle.elf_object.specs.Rows as Elf
+use Rattle.merge_plan.specs.declared.Planned.{Planned}
+use Rattle.merge_plan.specs.Plan as Plan
+use Rattle.merge_plan.specs.Plan.{inputOf, filteredAt, definesOf, ruleOf, judgedOf, rowedOf, readOf, plannedOf}
+use Rattle.merge_stages.specs.Stages.{Tabled, symbolObject}
+use Rattle.merge_symbols.specs.Stage as Symbols
+use Rattle.merge_symbols.specs.Stage.{cellOf, acceptRow, keptOf, commitOf, view, lookedOf, symbolOf, symbolsOf}
+use Rattle.merge_laws.specs.SymbolStage.{symbols-loop}
+use Rattle.link_laws.specs.Rules.{not-below}
+use Rattle.link_laws.specs.ObjectRules.{cellAt}
+use Rattle.link_laws.specs.MergeRules.{Reading, bytes, isFirst, isIdless}
+use Rattle.link_laws.specs.MergeExactly.{atWork, identifiedBy, next-some}
+use Rattle.link_laws.specs.MergeSymbols.{looked-found, looked-name, entry-is, first-tree, group-tree}
+use Rattle.link_laws.specs.MergeReading.{loop-keeps}
+
+-- ---- a decision that is accepted has an id
+
+module _ (c : ℕ) where
+  abbrev Ided : Decision → Type 0
+  Ided d = Decide.refusalOf d ≡ 0 → eqb (cellOf d c) 0 ≡ false
+
+  refused : (n : ℕ) → (n ≡ 0 → ⊥) → Ided (Refuse n)
+  refused n u e = absurd (u e)
+
+  new-ided : (l : Link) (symbols sections : List ℕ) (r : Row) → Ided (newOf l symbols sections r)
+  unfolding newOf
+  new-ided l symbols sections r =
+      pick Ided (leb 13 (r .value .kind)) _ _ (λ a. refused (r .value .kind) (λ z. let h = leb-true 13 (r .value .kind) a in omega arith))
+      (λ a.
+      pick Ided (eqb (typeRefusal (r .kind)) 0) _ _ (λ b. pick Ided (roomOf l symbols sections r) _ _ (λ d e. next-some c) (λ d. refused 2 (λ z. omega arith)))
+      (λ b. refused (typeRefusal (r .kind)) (eqb-false _ _ b)))
+
+  ranked-ided : (old new : ℕ) (r : Row) (id : SymbolId) → Ided (rankedOf old new r id)
+  unfolding rankedOf replaceOf
+  ranked-ided old new r id =
+      pick Ided (ltb old new) _ _
+      (λ b. pick Ided (eqb (typeRefusal (r .kind)) 0) _ _ (λ d e. next-some (id .0)) (λ d. refused (typeRefusal (r .kind)) (eqb-false _ _ d)))
+      (λ b. pick Ided (eqb new 4) _ _ (λ d. refused 17 (λ z. omega arith)) (λ d e. next-some (id .0)))
+
+  known-ided : (symbols : List ℕ) (r : Row) (id : SymbolId) → Ided (knownOf symbols r id)
+  unfolding knownOf
+  known-ided symbols r id =
+      pick Ided (leb 13 (r .value .kind)) _ _ (λ a. refused (r .value .kind) (λ z. let h = leb-true 13 (r .value .kind) a in omega arith))
+      (λ a. ranked-ided (Decide.rankOf (visibilityCodeAt symbols (id .0)) (field symbols (id .0) 5)) (Decide.rankOf (r .visibility) (r .value .kind)) r id)
+
+  decide-ided : (l : Link) (symbols sections : List ℕ) (r : Row) (h : Holder) → Ided (decideOf l symbols sections r h)
+  unfolding decideOf
+  decide-ided l symbols sections r h =
+      pick Ided (leb 5 (r .visibility)) _ _ (λ a. refused (r .visibility) (λ z. let q = leb-true 5 (r .visibility) a in omega arith))
+      (λ a. pick Ided (eqb (r .visibility) 0) _ _ (λ b. local h) (λ b. name h))
+    where
+      local : (h : Holder) → Ided (localOf l symbols sections r h)
+      local Unissued = refused 21 (λ z. omega arith)
+      local Nobody = new-ided l symbols sections r
+      local Removed = new-ided l symbols sections r
+      local (Known id) = new-ided l symbols sections r
+
+      name : (h : Holder) → Ided (Decide.namedOf l symbols sections r h)
+      name Unissued = refused 21 (λ z. omega arith)
+      name Nobody = new-ided l symbols sections r
+      name Removed = refused 21 (λ z. omega arith)
+      name (Known id) = known-ided symbols r id
+
+-- ---- one symbol
+
+module _ (d : Tabled) (work : List ℕ) where
+  abbrev k : Reading
+  k = atWork work
+
+  abbrev o : Symbols.Object
+  o = symbolObject d work
+
+  abbrev identified : ℕ → Bool
+  identified i = isFirst k d i || not (isIdless k d i)
+
+  -- the cell that an accepted decision leaves
+  rule-cell : (l : Link) (names symbols sections : List ℕ) (i c : ℕ) (empty : Bool) (e : ElfSymbol) (r : Row) → Decide.refusalOf (ruleOf l names symbols sections work i empty e r) ≡ 0
+      → not (eqb (cellOf (ruleOf l names symbols sections work i empty e r) c) 0)
+      ≡ eqb i 0 && eqb (e .section) 0 && eqb (e .kind) 0 && empty || not (eqb (e .kind) 4 || not (eqb (e .section) 0) && (ltb (e .section) 0xff00 && eqb (cellAt work (e .section) 1) 1))
+  unfolding ruleOf Plan.isFirst definesOf
+  rule-cell l names symbols sections i c empty e r z =
+      let h = holderOf l names symbols (r .name) in
+      let f = eqb i 0 && eqb (e .section) 0 && eqb (e .kind) 0 && empty in
+      let g = not (eqb (e .section) 0) && (ltb (e .section) 0xff00 && eqb (cellAt work (e .section) 1) 1) in
+      let q = first-tree (eqb i 0) (eqb (e .section) 0) (eqb (e .kind) 0) empty in
+      let p = group-tree (eqb (e .section) 0) (ltb (e .section) 0xff00) (eqb (cellAt work (e .section) 1) 1) in
+      let n = not-below (e .section) 0xff00 in
+      rw (q, n, p) (tree f (eqb (e .kind) 4) g (decideOf l symbols sections r h) (λ y. decide-ided c l symbols sections r h y) (rw (q, n, p) at z))
+    where
+      tree : (f t g : Bool) (x : Decision) → (Decide.refusalOf x ≡ 0 → eqb (cellOf x c) 0 ≡ false)
+          → Decide.refusalOf (cond f (Keep (record { 0 = 0 })) (cond t Nothing (cond g Nothing x))) ≡ 0
+          → not (eqb (cellOf (cond f (Keep (record { 0 = 0 })) (cond t Nothing (cond g Nothing x))) c) 0) ≡ f || not (t || g)
+      tree true t g x h e = ap not (next-some 0)
+      tree false true g x h e = refl
+      tree false false true x h e = refl
+      tree false false false x h e = ap not (h e)
+
+  abbrev idOn : ℕ → Bool → ElfSymbol → Bool
+  idOn i empty e =
+      eqb i 0 && eqb (e .section) 0 && eqb (e .kind) 0 && empty
+      || not (eqb (e .kind) 4 || not (eqb (e .section) 0) && (ltb (e .section) 0xff00 && eqb (cellAt work (e .section) 1) 1))
+
+  module _ (s : Symbols.State) (i : ℕ) where
+    abbrev planFor : List ℕ → Planned
+    planFor x = plannedOf (view s) (inputOf (d .entries) work) x i (s .stage .file)
+
+    plan-cell : (x : List ℕ) (c : ℕ) → Decide.refusalOf (planFor x .decision) ≡ 0
+        → not (eqb (cellOf (planFor x .decision) c) 0) ≡ idOn i (eqb (length x) 0) (filteredAt (d .entries) work i)
+    unfolding plannedOf readOf rowedOf judgedOf
+    plan-cell x c z =
+        let id = findOf (s .bytes) (s .names) (s .stage .link) x in
+        let e = filteredAt (d .entries) work i in
+        let r = elfRowOf (cellAt work (e .section) 0) e (record { 0 = id }) (eqb (length x) 0) (s .stage .file) in
+        by-test (fitsOf (storeOf (s .bytes) (s .names) (s .stage .link)) (r .name) (length x))
+        (λ f. rw f (rule-cell (s .stage .link) (s .names) (s .symbols) (s .sections) i c (eqb (length x) 0) e r (rw f at z)))
+        (λ f. let q : _≡_ {A = ℕ} 2 0 = rw f at z in absurd (omega arith))
+
+    -- an accepted symbol's cell
+    pub record Cell (after : List ℕ) : Type 0 where
+      pub cell : ℕ
+      pub is : after ≡ set (s .ids) i cell
+      pub says : not (eqb cell 0) ≡ identified i
+
+    commit-cell : (x : List ℕ) (p : Planned) → commitOf s x p i .stage .number ≡ 0
+        → (Decide.refusalOf (p .decision) ≡ 0) × (commitOf s x p i .ids ≡ set (s .ids) i (cellOf (p .decision) (keepOf (storeOf (s .bytes) (s .names) (s .stage .link)) (p .id) x .link .symbols)))
+    unfolding commitOf keptOf acceptRow
+    commit-cell x p z =
+        by-test (eqb (Decide.refusalOf (p .decision)) 2) (λ e. let q : _≡_ {A = ℕ} 2 0 = rw e at z in absurd (omega arith))
+        (λ e.
+        by-test (eqb (Decide.refusalOf (p .decision)) 0) (λ f. (eqb-true _ _ f, rw (e, f))) (λ f. absurd (eqb-false _ _ f (rw (e, f) at z))))
+
+    symbol-cell : symbolOf o s i .stage .number ≡ 0 → Cell (symbolOf o s i .ids)
+    unfolding symbolOf lookedOf Symbols.namedOf
+    symbol-cell z =
+        let x = Elf.nameIn (d .headers) (d .file) (cellAt (d .headers) (d .table) 3) (cellAt (d .entries) i 0) in
+        let f = looked-found (d .headers) (d .file) (cellAt (d .headers) (d .table) 3) (cellAt (d .entries) i 0) in
+        by-test (x .found)
+        (λ e.
+        let n : x .name ≡ bytes k d i = looked-name (d .headers) (d .file) (cellAt (d .headers) (d .table) 3) (cellAt (d .entries) i 0) (sym f ∙ e) in
+        let c = commit-cell (x .name) (planFor (x .name)) (rw e at z) in
+        rw e
+        (record {
+          cell = _;
+          is = c .1;
+          says =
+              plan-cell (x .name) _ (c .0)
+              ∙ ap (λ (y : List ℕ). idOn i (eqb (length y) 0) (filteredAt (d .entries) work i)) n
+              ∙ ap (idOn i (eqb (length (bytes k d i)) 0)) (entry-is d work i);
+        }))
+        (λ e. let q : _≡_ {A = ℕ} 9 0 = rw e at z in absurd (omega arith))
+
+  -- ---- all of them
+
+  module _ (long : ℕ) where
+    pub record Ids (s : Symbols.State) (i : ℕ) : Type 0 where
+      pub ids-long : length (s .ids) ≡ long
+      pub says : (j : ℕ) → j < i → identifiedBy (s .ids) j ≡ identified j
+
+    ids-next : (s : Symbols.State) (i : ℕ) → i < long → Ids s i → symbolOf o s i .stage .number ≡ 0 → Ids (symbolOf o s i) (i + 1)
+    ids-next s i l h z =
+        let c = symbol-cell s i z in
+        record {
+          ids-long = ap length (c .is) ∙ length-set (s .ids) i (c .cell) ∙ h .ids-long;
+          says =
+              λ j q.
+              by-test (eqb j i)
+              (λ e.
+              let p : j ≡ i = eqb-true _ _ e in
+              ap (λ (v : List ℕ). identifiedBy v j) (c .is) ∙ ap (identifiedBy (set (s .ids) i (c .cell))) p
+              ∙ ap (λ (v : ℕ). not (eqb v 0)) (getD-set-same (s .ids) i (c .cell) 0 (omega (arith, h .ids-long))) ∙ c .says ∙ ap identified (sym p))
+              (λ e.
+              let u : j ≡ i → ⊥ = eqb-false _ _ e in
+              ap (λ (v : List ℕ). identifiedBy v j) (c .is)
+              ∙ ap (λ (v : ℕ). not (eqb v 0)) (getD-set-other (s .ids) i j (c .cell) 0 (λ q. u q)) ∙ h .says j (omega (arith, u)));
+        }
+
+    pub all-ids : (s : Symbols.State) → length (d .entries) / 8 ≤ long → length (s .ids) ≡ long → symbolsOf o s .stage .number ≡ 0
+        → (j : ℕ) → j < length (d .entries) / 8 → identifiedBy (symbolsOf o s .ids) j ≡ identified j
+    unfolding symbolsOf
+    all-ids s lent e z =
+        let n = length (d .entries) / 8 in
+        let q = symbols-loop o n 0 s in
+        let none : 0 + n ≡ n = omega arith in
+        λ j l.
+        ap (λ (r : Symbols.State). identifiedBy (r .ids) j) q
+        ∙ loop-keeps (λ (r : Symbols.State). r .stage .number) (symbolOf o) Ids n (λ r i l h z. ids-next r i (omega arith) h z) n 0 s (omega arith)
+        (record { ids-long = e; says = λ j p. absurd (omega arith) }) (ap (λ (r : Symbols.State). r .stage .number) (sym q) ∙ z) .says j (omega arith)

@@ -1,0 +1,244 @@
+-- The terms of acceptance on one page: statements only, each proved by citing a theorem. Terms.antt has more of them, by place and number.
+--
+-- The words, besides the calls themselves (Calls.antt: `Call`, `callLeft` what a call leaves and answers, `callRefusal` its number and place, `callNext`
+-- the link after it, `runCalls` the link after a list of them):
+--   s0            the link that an accepted Symbols::new left
+--   end           runCalls ks s0, after calls ks that remove nothing (RemovesNothing)
+--   lookup b s    what get_global answers for the bytes b: a row, or a refusal (Words.antt, as the next three)
+--   undefined b s lookup b s is a row whose value is `Undefined`
+--   adds b ks s0  the accepted adds of the name b that aren't local, oldest first: the id answered to each, and the row it would be
+--   tied i s      the members of the entries of index i whose name is undefined in s, by their offsets, in the index' order
+--   offered i w   the members that the walk w offered, by their offsets, in order; firstSeen and without (PassList.antt) on such lists
+--   m             the number of members that an index names
+--   Before, After a section is built before a collection, after it; Reached (gc_laws/specs/Reached.antt) what relocations reach from the roots
+--   NeededIn      what makes a library needed, by lookups and by the libraries that were loaded (NeededIn.antt)
+--   Exit, Meets   what a caller sees of a call, and the call's contract (Contracts.antt)
+-- Witness.antt has a history with every call in it that meets the premises.
+-- Assumes nothing.
+use Prim.Native.Nat.{ℕ, _+_, _<_, _≤_}
+use mathlib.Core.Path.{_≡_, sym, ap, _∙_, subst}
+use mathlib.Core.Bool.{true, false, not}
+use mathlib.Core.List.{List, [], _∷_, _++_}
+use mathlib.Core.Logic.{_≢_, _↔_}
+use lib.Dec.{eqb}
+use lib.ListN.{length}
+use Rattle.gabi.specs.Resolution as Resolution
+use Rattle.link.specs.declared.SymbolId.{SymbolId}
+use Rattle.link.specs.Bounds.{notLent}
+use Rattle.link.specs.Said.{numberIn}
+use Rattle.symbol.specs.Row.{symbolAt}
+use Rattle.symbol.specs.RowLaws.{symbolOf}
+use Rattle.symbols.specs.declared.Found.the-variants.{Row}
+use Rattle.symbols.specs.New.{newOf}
+use Rattle.symbols.specs.Lookup.{notFound}
+use Rattle.shared_objects.specs.declared.Answer.the-variants.{NotNeeded}
+use Rattle.shared_objects.specs.Load as Shared
+use Rattle.archive_index.specs.Index.{countOf, offsetOf, nameOf}
+use Rattle.archive_laws.specs.Rounds as Rounds
+use Rattle.archive_laws.specs.Runs.{Run, startRun}
+use Rattle.archive_laws.specs.PassList.{isIn, without, firstSeen, offered, Over, among-in}
+use Rattle.gc_sections.specs.declared.EntryPoint.{EntryPoint}
+use Rattle.gc_sections.specs.declared.Answer.the-variants.{Dropped}
+use Rattle.gc_laws.specs.Demand as Collection
+use Rattle.gc_laws.specs.Reached as Roots
+use Rattle.merge_stages.specs.Stages as Stages
+use Rattle.symbol_laws.specs.Rank.{firstOf}
+use Rattle.symbol_laws.specs.Rows.{rowAt}
+use Rattle.symbol_laws.specs.ObjectWords.{sectionsIn, program, loadedAs}
+use Rattle.symbol_laws.specs.Agreement as Agreement
+use Rattle.symbol_laws.specs.History.{Entry, rows}
+use Rattle.merge_laws.specs.Calls.{Linked}
+use Rattle.merge_laws.specs.MergeWords.{namedBy, isRemoved}
+use Rattle.link_laws.specs.Calls.{Call, remove, get, getGlobal, merge, load, archiveStart, archiveNext, collect, libraryIn, listsIn, viewIn, callLeft, callRefusal, callNumber, callNext, runCalls, RemovesNothing}
+use Rattle.link_laws.specs.Leaves.{byElements}
+use Rattle.link_laws.specs.Elements as Elements
+use Rattle.link_laws.specs.Contracts.{Exit, Meets}
+use Rattle.link_laws.specs.Kept.{signatures}
+use Rattle.link_laws.specs.Walks.{nextIn, withWalk, walkAfter, tablesAt, joined, walk-is}
+use Rattle.link_laws.specs.WalkIn as WalkIn
+use Rattle.link_laws.specs.Growth.{Turn, Quiet}
+use Rattle.link_laws.specs.NeededIn.{NeededIn}
+use Rattle.link_laws.specs.Words.{idOf, lookup, undefined, adds, tied, undefined-seen, tied-seen}
+use Rattle.link_laws.specs.Rules as Rules
+use Rattle.link_laws.specs.CallRules.{rules}
+use Rattle.link_laws.specs.ExactTerms as ExactTerms
+use Rattle.link_laws.specs.BuiltSections.{SparesAll}
+use Rattle.link_laws.specs.ObjectSections as ObjectSections
+use Rattle.link_laws.specs.ObjectSections.{sectionId}
+use Rattle.link_laws.specs.Contents.{FromCalls}
+use Rattle.link_laws.specs.OwnEntries.{entryOf, AllFrom, entriesOf}
+use Rattle.link_laws.specs.Terms as Terms
+
+-- ---- 1. answers and refusals
+
+-- "exactly where document 01's rules in their order give it": after a new table and any calls, those that remove too, number and place are those of the
+-- first rule of the call that holds (CallRules.antt), and it is a result just where none does
+module _ (key : ℕ) (bytes names symbols sections inputs lists : List ℕ) (new : numberIn (newOf key bytes names symbols sections .said) ≡ 0) (ks : List Call) (k : Call) where
+  abbrev pub on : Linked
+  on = ExactTerms.on key bytes names symbols sections inputs lists new ks
+
+  pub exactly : callRefusal k on ≡ Rules.firstOf (rules k on)
+  exactly = Terms.exactly key bytes names symbols sections inputs lists new ks k
+
+  pub accepted : eqb (callNumber k on) 0 ≡ not (Rules.someHolds (rules k on))
+  accepted = Terms.accepted key bytes names symbols sections inputs lists new ks k
+
+-- "and leaves behind what that table says": a refused call leaves everything of the link; a merge or a load what its elements before left, and a broken link
+pub left : (k : Call) (s : Linked) → byElements k ≡ false → callNumber k s ≢ 0 → callNext k s ≡ s
+left = Terms.refused-leaves
+
+pub left-merge : (o : _) (work ids : List ℕ) (s : Linked) → callNumber (merge o work ids) s ≢ 0 → Elements.MergeLeft o work ids s
+left-merge = Terms.merge-leaves
+
+pub left-load : (o : _) (marks : List ℕ) (s : Linked) → callNumber (load o marks) s ≢ 0 → Elements.LoadLeft o marks s
+left-load = Terms.load-leaves
+
+-- "A public call's result and every lent cell after it, refusal or not, follow from its inputs alone"
+pub one-outcome : (k : Call) (s : Linked) (x y : Exit k) → Meets k s x → Meets k s y → x ≡ y
+one-outcome = Terms.one-outcome
+
+-- ---- "Let a link be a new table and any sequence of calls that removes nothing"
+
+module _ (key : ℕ) (bytes names symbols sections inputs lists : List ℕ) (new : numberIn (newOf key bytes names symbols sections .said) ≡ 0) (lent : length lists ≤ notLent) where
+  abbrev pub s0 : Linked
+  s0 = Terms.start key bytes names symbols sections inputs lists new
+
+  module _ (ks : List Call) (quiet : RemovesNothing ks s0) where
+    abbrev pub end : Linked
+    end = runCalls ks s0
+
+    -- ---- 2. against the gABI
+
+    -- the row of a name is that of an entry of an object or a library, or of a direct add, in document 01's words (FromCalls, Contents.antt)
+    pub contents : (b : List ℕ) (x : Entry) (xs : List Entry) → adds b ks s0 ≡ x ∷ xs → FromCalls (rowAt (end .table .symbols) (x .id)) ks s0 []
+    contents b = Terms.contents key bytes names symbols sections inputs lists new ks quiet (idOf b end .0)
+
+    -- and has what the gABI resolves these entries to, known places apart (Agrees)
+    pub resolution : (b : List ℕ) (x : Entry) (xs : List Entry) → adds b ks s0 ≡ x ∷ xs → (from : AllFrom ks s0 [] (rows (x ∷ xs)))
+        → Agreement.Agrees (x .row) (rows xs) (entryOf (x .row) ks s0 [] (from .0)) (rowAt (end .table .symbols) (x .id))
+        (Resolution.resolve (entriesOf ks s0 [] (rows (x ∷ xs)) from))
+    resolution b x xs e from = Terms.gabi-agrees-own key bytes names symbols sections inputs lists new ks quiet (idOf b end .0) x xs e from
+
+    -- ---- 3. "each global name has the id of its first accepted add and the content of its first accepted strong definition, else weak definition, else add"
+
+    pub demand-3a : (b : List ℕ) (x : Entry) (xs : List Entry) → adds b ks s0 ≡ x ∷ xs
+        → lookup b end ≡ Row (symbolOf (record { 0 = x .id }) (firstOf (x .row) (rows xs)))
+    demand-3a b = Terms.lookup-row key bytes names symbols sections inputs lists new ks quiet lent (idOf b end .0)
+
+    pub none-3a : (b : List ℕ) → adds b ks s0 ≡ [] → lookup b end ≡ notFound 23 0
+    none-3a b = Terms.lookup-none key bytes names symbols sections inputs lists new ks quiet lent (idOf b end .0)
+
+    -- an id that was given out has its row; one that wasn't gives 21; so does one that is removed, for ever
+    pub given : (i : SymbolId) → i .0 < end .table .link .symbols → callLeft (get i) end ≡ Row (symbolAt (end .table .symbols) i)
+    given = Terms.get-present key bytes names symbols sections inputs lists new ks quiet lent
+
+    pub absent : (i : SymbolId) → end .table .link .symbols ≤ i .0 → callLeft (get i) end ≡ notFound 21 (i .0)
+    absent = Terms.get-absent key bytes names symbols sections inputs lists new ks lent
+
+    pub removed : (i : SymbolId) → callNumber (remove i) end ≡ 0 → (ls : List Call) → callLeft (get i) (runCalls ls (callNext (remove i) end)) ≡ notFound 21 (i .0)
+    removed = Terms.get-removed key bytes names symbols sections inputs lists new ks lent
+
+    -- nor is its name found again: "never forgets a global name"
+    pub removed-name : (b : List ℕ) (x : Entry) (xs : List Entry) → adds b ks s0 ≡ x ∷ xs → callNumber (remove (record { 0 = x .id })) end ≡ 0 → (ls : List Call)
+        → callLeft (getGlobal (idOf b end)) (runCalls ls (callNext (remove (record { 0 = x .id })) end)) ≡ notFound 21 (idOf b end .0)
+    removed-name b = Terms.lookup-removed key bytes names symbols sections inputs lists new ks quiet lent (idOf b end .0)
+
+    -- ---- as-needed: "not needed" is answered exactly to a library that isn't
+
+    pub needed : (o : Shared.Input) (marks : List ℕ) → Shared.headIn o (libraryIn end marks) .number ≡ 0 → o .asneeded ≡ true
+        → (callLeft (load o marks) end .answer ≡ NotNeeded) ↔ (NeededIn s0 ks o → ⊥)
+    needed o marks h a =
+        let same = Terms.needed-in key bytes names symbols sections inputs lists new ks lent o in (
+          λ e n. Terms.not-needed-only key bytes names symbols sections inputs lists new ks quiet o marks e .2 (same .1 n),
+          λ n. Terms.not-needed-all key bytes names symbols sections inputs lists new ks quiet o marks h a (λ r. n (same .0 r)),
+        )
+
+    -- ---- "Let an index name m members; then its walk over such a link": the calls for the next member stand anywhere, one behind each part of kss
+
+    module _ (walkKey : ℕ) (index cells : List ℕ) (begun : callNumber (archiveStart walkKey index cells) end ≡ 0) where
+      abbrev pub m : ℕ
+      m = Rounds.members index (countOf index)
+
+      abbrev pub walkBy : List (List Call) → Run
+      walkBy kss = walkAfter index kss (startRun walkKey index cells) end
+
+      -- "makes at most m + 1 passes"
+      pub at-most : (kss : List (List Call)) → walkBy kss .walk .passes ≤ m + 1
+      at-most kss = Terms.demand-3b key bytes names symbols sections inputs lists new ks quiet walkKey index cells begun kss .bound
+
+      -- "each pass offers exactly the members not yet offered that the index ties to a name undefined at its start": the call behind kss and ls makes a pass,
+      -- over the link there; those behind lss make none; then it is over, since the walk is done or the next call makes another
+      module _ (kss : List (List Call)) (ls : List Call) (lss : List (List Call)) (calm : RemovesNothing (joined kss ++ ls) end) where
+        abbrev pub link : Linked
+        link = WalkIn.linkThen index walkKey cells begun end kss ls lss
+
+        abbrev pub first : Run
+        first = nextIn index (walkBy kss) link
+
+        abbrev pub after : Run
+        after = walkAfter index lss first link
+
+        pub exactly-3b : first .walk .passes ≡ walkBy kss .walk .passes + 1 → after .walk .passes ≡ first .walk .passes → Over walkKey index cells begun after
+            → offered index after ≡ offered index (walkBy kss) ++ without (offered index (walkBy kss)) (firstSeen (tied index link))
+        exactly-3b p q o =
+            Terms.exactly-3b key bytes names symbols sections inputs lists new ks quiet walkKey index cells begun kss ls lss p q o
+            ∙ ap (λ (l : List ℕ). offered index (walkBy kss) ++ without (offered index (walkBy kss)) (firstSeen l))
+            (tied-seen link _ _ (WalkIn.reached-then index walkKey cells begun end _ _ (Terms.reached key bytes names symbols sections inputs lists new ks quiet lent) kss ls lss calm) index)
+
+        -- "and no name undefined at the last pass is tied to an unoffered member"
+        pub last : walkBy kss .walk .done ≡ false → first .walk .done ≡ true → (k : ℕ) → k < countOf index → undefined (nameOf index (countOf index) k) link ≡ true
+            → isIn (offsetOf index k) (offered index first) ≡ true
+        last d e k h u =
+            sym (among-in index k (first .offers))
+            ∙ WalkIn.last-in index walkKey cells begun end kss ls lss d e k h
+            (undefined-seen link _ _ (WalkIn.reached-then index walkKey cells begun end _ _ (Terms.reached key bytes names symbols sections inputs lists new ks quiet lent) kss ls lss calm) (nameOf index (countOf index) k)
+            ∙ u)
+
+        -- no call of a walk over such a link is refused
+        pub goes : callNumber (archiveNext index (walkBy kss .cells) (walkBy kss .walk)) link ≡ 0
+        goes =
+            subst (λ (r : Run). callNumber (archiveNext index (r .cells) (r .walk)) link ≡ 0) (sym (walk-is index kss (startRun walkKey index cells) end))
+            (WalkIn.next-goes index walkKey cells begun link _ _
+            (WalkIn.reached-then index walkKey cells begun end _ _ (Terms.reached key bytes names symbols sections inputs lists new ks quiet lent) kss ls lss calm)
+            (tablesAt kss end))
+
+      -- and of m + 1 calls the last answers "done"
+      pub ends : (kss : List (List Call)) → RemovesNothing (withWalk index kss (startRun walkKey index cells) end) end → m < length kss → walkBy kss .walk .done ≡ true
+      ends = Terms.walk-ends key bytes names symbols sections inputs lists new ks quiet walkKey index cells begun lent
+
+    -- ---- "Collection, unless refused, keeps exactly what relocations reach from the roots"
+
+    -- an object's relocations: after an accepted merge and calls whose collections reach it, a loaded program section n that no repeated group lists is built
+    -- with its name, kind, retain and read, and names the ids that the symbols of its last loaded relocation table were given, in order
+    pub relocations : (o : Stages.Object) (work ids : List ℕ) → callNumber (merge o work ids) end ≡ 0 → (n : ℕ)
+        → isRemoved (o .headers) (o .entries) (o .contents) (o .file) (signatures ks s0) (sectionsIn (o .headers)) n ≡ false → (ls : List Call)
+        → SparesAll ls (callNext (merge o work ids) end) (sectionId o end n) → loadedAs (o .headers) n program ≡ true
+        → ObjectSections.ObjectSection o work ids end (runCalls ls (callNext (merge o work ids) end)) n program
+        (namedBy (o .headers) (o .contents) n (sectionsIn (o .headers)))
+    relocations o work ids ok n unremoved ls spared =
+        Terms.program-built key bytes names symbols sections inputs lists new ks lent o work ids ok n unremoved ls spared
+
+    module _ (marks : List ℕ) (entry : EntryPoint) (work : List ℕ) where
+      abbrev pub Before : ℕ → Type 0
+      Before = Collection.Before (end .table .link) (listsIn end marks) (end .table .symbols) (end .table .sections) entry work
+
+      abbrev pub After : ℕ → Type 0
+      After = Collection.After (end .table .link) (listsIn end marks) (end .table .symbols) (end .table .sections) entry work
+
+      abbrev pub Reached : ℕ → Type 0
+      Reached = Roots.Reached (end .table .link) (listsIn end marks) (end .table .symbols) (end .table .sections) entry
+
+      pub demand-3c : (a c : ℕ) → callLeft (collect marks entry work) end .answer ≡ Dropped a c → (y : ℕ) → After y ↔ Reached y
+      demand-3c a c e y =
+          let k = Terms.demand-3c key bytes names symbols sections inputs lists new ks quiet marks entry work a c e in (k .reached y, k .kept y)
+
+  -- ---- where lists grow between the calls, as the Rust crate lends them: demand 3a
+
+  module _ (ts : List Turn) (calm : Quiet ts s0) where
+    abbrev pub grownEnd : Linked
+    grownEnd = Terms.grownEnd key bytes names symbols sections inputs lists new ts calm lent
+
+    pub grown-3a : (b : List ℕ) (x : Entry) (xs : List Entry)
+        → Terms.grownAdds key bytes names symbols sections inputs lists new ts calm lent (idOf b grownEnd .0) ≡ x ∷ xs
+        → lookup b grownEnd ≡ Row (symbolOf (record { 0 = x .id }) (firstOf (x .row) (rows xs)))
+    grown-3a b = Terms.grown-row key bytes names symbols sections inputs lists new ts calm lent (idOf b grownEnd .0)

@@ -1,0 +1,211 @@
+-- A history with every call in it that meets the premises of the page, by computation: its links, answers and walk are not empty.
+-- Assumes nothing.
+use Prim.Native.Nat.{ℕ, _+_}
+use native.Mathlib.Omega.{arith}
+use mathlib.Core.Path.{_≡_, refl}
+use mathlib.Core.Bool.{true, false}
+use mathlib.Core.List.{List, [], _∷_, _++_}
+use lib.ListN.{length, replicate}
+use Rattle.link.specs.Said.{numberIn}
+use Rattle.symbols.specs.New.{newOf}
+use Rattle.upcoming_symbol.specs.declared.UpcomingSymbol.the-variants.{GlobalUnknown}
+use Rattle.section_groups.specs.Group as Group
+use Rattle.merge_stages.specs.Stages as Stages
+use Rattle.shared_objects.specs.Load as Shared
+use Rattle.archive_walk.specs.Walk as Archive
+use Rattle.gc_sections.specs.declared.EntryPoint.the-variants as Entry
+use Rattle.symbol_laws.specs.History.{opened}
+use Rattle.merge_laws.specs.Calls.{Linked, linked}
+use Rattle.link_laws.specs.Calls.{Call, intern, resolve, add, remove, get, getGlobal, sectionSymbol, addGroup, merge, load, archiveStart, archiveNext, matches, collect, viewIn, callLeft, callNumber, callNext, runCalls, RemovesNothing}
+use Rattle.gc_sections.specs.declared.Answer.the-variants.{Dropped}
+use Rattle.archive_laws.specs.PassList.{offered}
+use Rattle.link_laws.specs.Walks.{nextIn}
+use Rattle.link_laws.specs.Words.{adds, tied}
+use Rattle.gabi.specs.Archive as Gabi·Archive
+use Rattle.gabi.specs.Groups as Gabi·Groups
+use Rattle.gabi.specs.Resolution as Gabi·Resolution
+use Rattle.gabi.specs.StringTable as Gabi·StringTable
+use Rattle.gabi.specs.SymbolTable as Gabi·SymbolTable
+use Rattle.gabi.specs.Visibility as Gabi·Visibility
+use Rattle.cells.specs.Rows as Cells·Rows
+use Rattle.byte_slices.specs.Bytes as ByteSlices·Bytes
+use Rattle.link.specs.Bounds as Link·Bounds
+use Rattle.link.specs.Judge as Link·Judge
+use Rattle.keyed_hash.specs.Keyed as KeyedHash·Keyed
+use Rattle.interner.specs.Calls as Interner·Calls
+use Rattle.interner.specs.Hash as Interner·Hash
+use Rattle.interner.specs.Names as Interner·Names
+use Rattle.symbol.specs.Codes as Symbol·Codes
+use Rattle.symbol.specs.Offset as Symbol·Offset
+use Rattle.symbol.specs.Row as Symbol·Row
+use Rattle.upcoming_symbol.specs.Judge as UpcomingSymbol·Judge
+use Rattle.upcoming_symbol.specs.Upcoming as UpcomingSymbol·Upcoming
+use Rattle.symbol_rows.specs.Apply as SymbolRows·Apply
+use Rattle.symbol_rows.specs.Decide as SymbolRows·Decide
+use Rattle.symbol_rows.specs.Holder as SymbolRows·Holder
+use Rattle.symbols.specs.Add as Symbols·Add
+use Rattle.symbols.specs.Lookup as Symbols·Lookup
+use Rattle.symbols.specs.New as Symbols·New
+use Rattle.symbols.specs.Remove as Symbols·Remove
+use Rattle.sections.specs.Rows as Sections·Rows
+use Rattle.archive_index.specs.Index as ArchiveIndex·Index
+use Rattle.archive_index.specs.Open as ArchiveIndex·Open
+use Rattle.archive_index.specs.Rows as ArchiveIndex·Rows
+use Rattle.archive_walk.specs.Look as ArchiveWalk·Look
+use Rattle.archive_walk.specs.Names as ArchiveWalk·Names
+use Rattle.elf_object.specs.Judge as ElfObject·Judge
+use Rattle.elf_object.specs.Rows as ElfObject·Rows
+use Rattle.library_lists.specs.Record as LibraryLists·Record
+use Rattle.library_head.specs.Head as LibraryHead·Head
+use Rattle.library_need.specs.Lists as LibraryNeed·Lists
+use Rattle.library_need.specs.Need as LibraryNeed·Need
+use Rattle.object_requirement.specs.Matches as ObjectRequirement·Matches
+use Rattle.merge_sections.specs.Notes as MergeSections·Notes
+use Rattle.merge_sections.specs.Reserve as MergeSections·Reserve
+use Rattle.section_groups.specs.Filter as SectionGroups·Filter
+use Rattle.gc_sections.specs.Each as GcSections·Each
+use Rattle.gc_sections.specs.Reach as GcSections·Reach
+use Rattle.gc_sections.specs.Roots as GcSections·Roots
+use Rattle.gc_sections.specs.Run as GcSections·Run
+use Rattle.gc_sections.specs.Sweep as GcSections·Sweep
+use Rattle.merge_plan.specs.Plan as MergePlan·Plan
+use Rattle.library_symbols.specs.Define as LibrarySymbols·Define
+use Rattle.library_symbols.specs.Load as LibrarySymbols·Load
+use Rattle.shared_objects.specs.Stages as SharedObjects·Stages
+use Rattle.merge_symbols.specs.Stage as MergeSymbols·Stage
+use Rattle.merge_build.specs.Build as MergeBuild·Build
+use Rattle.merge_build.specs.Relocations as MergeBuild·Relocations
+use Rattle.add_group.specs.AddGroup as AddGroup·AddGroup
+use Rattle.merge_finish.specs.Finish as MergeFinish·Finish
+use Rattle.merge_elf.specs.Merge as MergeElf·Merge
+use Rattle.archive_laws.specs.Runs as ArchiveLaws·Runs
+use Rattle.symbol_laws.specs.History as SymbolLaws·History
+use Rattle.merge_laws.specs.MergeSteps as MergeLaws·MergeSteps
+use Rattle.load_laws.specs.LoadSteps as LoadLaws·LoadSteps
+
+-- ---- what is lent
+
+abbrev zeros : ℕ → List ℕ
+zeros n = replicate {A = ℕ} n 0
+
+-- the hash's key
+abbrev pub key : ℕ
+key = 7
+
+abbrev pub bytes : List ℕ
+bytes = zeros 16
+
+-- six rows and their heads
+abbrev pub names : List ℕ
+names = zeros 54
+
+abbrev pub symbols : List ℕ
+symbols = zeros 48
+
+abbrev pub sections : List ℕ
+sections = zeros 18
+
+abbrev pub inputs : List ℕ
+inputs = zeros 24
+
+abbrev pub lists : List ℕ
+lists = zeros 4
+
+-- ---- an object: a program section `.t`, in which `f` is defined, with a relocation that names `f`; a group that lists it
+
+-- a section's row: kind, name, flags (4 read, 8 COMDAT), link, info, first, count
+abbrev section : ℕ → ℕ → ℕ → ℕ → ℕ → ℕ → ℕ → List ℕ
+section kind name flags link info first count = kind ∷ name ∷ flags ∷ link ∷ info ∷ first ∷ count ∷ 0 ∷ []
+
+-- `\0f\0.t\0`
+abbrev file : List ℕ
+file = 0 ∷ 102 ∷ 0 ∷ 46 ∷ 116 ∷ 0 ∷ []
+
+-- the null symbol, and `f`: global, a function, in section 1
+abbrev entries : List ℕ
+entries = zeros 8 ++ (1 ∷ 1 ∷ 2 ∷ 0 ∷ 1 ∷ 0 ∷ 0 ∷ 0 ∷ [])
+
+abbrev headers : List ℕ
+headers = section 0 0 0 0 0 0 0 ++ (section 1 3 4 0 0 0 0 ++ (section 3 0 0 3 0 0 2 ++ (section 4 0 0 0 0 0 6 ++ section 6 0 0 2 1 0 1)))
+
+abbrev pub object : Stages.Object
+object = Stages.objectOf headers entries (1 ∷ []) file 3
+
+abbrev pub grouped : Group.Object
+grouped =
+    Group.objectOf (section 0 0 0 0 0 0 0 ++ (section 7 0 8 2 1 0 1 ++ (section 3 0 0 3 0 0 2 ++ (section 4 0 0 0 0 0 6 ++ section 1 3 4 0 0 0 0)))) entries (4 ∷ []) file 2
+
+-- a library `l` that defines `g`: `\0g\0l\0`
+abbrev pub library : Shared.Input
+library = Shared.inputAs (1 ∷ 1 ∷ 2 ∷ 0 ∷ 1 ∷ 0 ∷ 0 ∷ 0 ∷ []) (0 ∷ 103 ∷ 0 ∷ 108 ∷ 0 ∷ []) [] [] false true 3 false
+
+-- an index of one member, at 8, with the name `f`
+abbrev pub index : List ℕ
+index = 0 ∷ 0 ∷ 0 ∷ 1 ∷ 0 ∷ 0 ∷ 0 ∷ 8 ∷ 102 ∷ 0 ∷ []
+
+abbrev pub begun : Archive.Start
+begun = Archive.startOf 0 index (zeros 8)
+
+-- ---- the history: `f` is interned, added as undefined and looked up; the index offers its member for it, which is admitted and merged; then the rest
+
+abbrev pub s0 : Linked
+s0 = linked (opened (newOf key bytes names symbols sections)) inputs lists
+
+-- until a walk over the index begins
+abbrev pub front : List Call
+front =
+    intern (102 ∷ []) ∷ resolve (record { 0 = 1 }) ∷ add [] (GlobalUnknown (record { 0 = 1 })) ∷ get (record { 0 = 1 }) ∷ getGlobal (record { 0 = 1 })
+    ∷ archiveStart 0 index (zeros 8) ∷ []
+
+-- its first call
+abbrev pub taken : Archive.Step
+taken = Archive.nextOf index (begun .cells) (begun .started .walk) (viewIn (runCalls front s0 .table))
+
+abbrev pub back : List Call
+back =
+    archiveNext index (begun .cells) (begun .started .walk) ∷ matches headers entries (1 ∷ []) file index (taken .cells) (taken .moved .walk) 0
+    ∷ merge object (zeros 40) (zeros 2) ∷ sectionSymbol (record { 0 = 0 }) ∷ addGroup grouped (zeros 40) 1 ∷ load library (zeros 6) ∷ remove (record { 0 = 9 })
+    ∷ collect (1 ∷ 1 ∷ 1 ∷ []) Entry.None (zeros 2) ∷ []
+
+abbrev pub ks : List Call
+ks = front ++ back
+
+-- the numbers that the calls answer: all are accepted, but the remove of a symbol that there isn't
+abbrev pub numbers : List Call → Linked → List ℕ
+numbers [] s = []
+numbers (k ∷ ls) s = callNumber k s ∷ numbers ls (callNext k s)
+
+pub record Meets : Type 0 where
+  pub new : numberIn (newOf key bytes names symbols sections .said) ≡ 0
+  pub answers : numbers ks s0 ≡ 0 ∷ 0 ∷ 0 ∷ 0 ∷ 0 ∷ 0 ∷ 0 ∷ 0 ∷ 0 ∷ 0 ∷ 0 ∷ 0 ∷ 21 ∷ 0 ∷ []
+  pub quiet : RemovesNothing ks s0
+  -- `f` has accepted adds, the direct one and the object's; `g` the library's; another name none
+  pub twice : length (adds (102 ∷ []) ks s0) ≡ 2
+  pub once : length (adds (103 ∷ []) ks s0) ≡ 1
+  pub never : adds (104 ∷ []) ks s0 ≡ []
+  -- the index ties its member to `f`, which is undefined when the walk begins; the pass offers it, and is over
+  pub ties : tied index (runCalls front s0) ≡ 8 ∷ []
+  pub pass : taken .moved .walk .passes ≡ 1
+  pub offers : offered index (nextIn index (ArchiveLaws·Runs.startRun 0 index (zeros 8)) (runCalls front s0)) ≡ 8 ∷ []
+  pub over : nextIn index (nextIn index (ArchiveLaws·Runs.startRun 0 index (zeros 8)) (runCalls front s0)) (runCalls ks s0) .walk .done ≡ true
+  -- the library is loaded, and the collection drops nothing, since `f` is marked
+  pub loaded : runCalls ks s0 .table .link .inputs ≡ 2
+  pub kept : callLeft (collect (1 ∷ 1 ∷ 1 ∷ []) Entry.None (zeros 2)) (runCalls ks s0) .answer ≡ Dropped 0 0
+
+pub witness : Meets
+unfolding AddGroup·AddGroup.tableIn Gabi·Archive.isUnresolved Gabi·Archive.wants Gabi·Archive.offers Gabi·Archive.extracts Gabi·Groups.isComdat Gabi·Groups.kept Gabi·Groups.undefine Gabi·Groups.afterDiscard Gabi·Resolution.isGlobalDefinition Gabi·Resolution.isWeakDefinition Gabi·Resolution.isGlobalReference Gabi·Resolution.count Gabi·Resolution.has Gabi·Resolution.first Gabi·Resolution.resolve Gabi·StringTable.beforeZero Gabi·StringTable.hasName Gabi·StringTable.nameAt Gabi·StringTable.validIndex Gabi·StringTable.sameName Gabi·StringTable.among Gabi·SymbolTable.isLocal Gabi·SymbolTable.isGlobal Gabi·SymbolTable.isWeak Gabi·SymbolTable.isReference Gabi·SymbolTable.isDefinition Gabi·Visibility.rank Gabi·Visibility.combine Gabi·Visibility.combined Cells·Rows.putRow Cells·Rows.frontOf Cells·Rows.backOf ByteSlices·Bytes.wordAt ByteSlices·Bytes.sameWord ByteSlices·Bytes.same ByteSlices·Bytes.copied Link·Bounds.lesser Link·Judge.judgeSections Link·Judge.judgeNames Link·Judge.judgeLists Link·Judge.afterSymbols Link·Judge.afterSections Link·Judge.judgeOf Link·Judge.changeOf KeyedHash·Keyed.folded KeyedHash·Keyed.mixed KeyedHash·Keyed.hashFrom KeyedHash·Keyed.pointOf KeyedHash·Keyed.hashOf Interner·Calls.issueOf Interner·Calls.internOf Interner·Calls.clearHeads Interner·Calls.newOf Interner·Calls.resolveOf Interner·Hash.spread Interner·Hash.headCell Interner·Names.chase Interner·Names.seekOf Interner·Names.findFrom Interner·Names.findOf Interner·Names.roomOf Interner·Names.fitsOf Interner·Names.linked Interner·Names.keepAt Interner·Names.keepOf Symbol·Codes.typeAt Symbol·Codes.successor Symbol·Codes.fileAt Symbol·Codes.visibilityAt Symbol·Codes.valueAt Symbol·Offset.offsetOf Symbol·Offset.wordOf Symbol·Row.symbolAt Symbol·Row.setRow UpcomingSymbol·Judge.sectionInRange UpcomingSymbol·Judge.elfInRange UpcomingSymbol·Judge.externalInRange UpcomingSymbol·Judge.shownOf UpcomingSymbol·Judge.hiddenOf UpcomingSymbol·Judge.judgeOf UpcomingSymbol·Upcoming.inSection UpcomingSymbol·Upcoming.convertedOf UpcomingSymbol·Upcoming.undefinedOf UpcomingSymbol·Upcoming.valueOf UpcomingSymbol·Upcoming.elfRowOf UpcomingSymbol·Upcoming.externalRowOf SymbolRows·Apply.noteName SymbolRows·Apply.setSectionSymbol SymbolRows·Apply.noteSection SymbolRows·Apply.appendOf SymbolRows·Apply.applyOf SymbolRows·Decide.weakOf SymbolRows·Decide.rankOf SymbolRows·Decide.typeRefusal SymbolRows·Decide.sectionCell SymbolRows·Decide.sectionRoom SymbolRows·Decide.roomOf SymbolRows·Decide.newOf SymbolRows·Decide.replaceOf SymbolRows·Decide.rankedOf SymbolRows·Decide.knownOf SymbolRows·Decide.decideOf SymbolRows·Holder.heldBy SymbolRows·Holder.holderOf Symbols·Add.judgeAddOf Symbols·Add.issuedOf Symbols·Add.directHolderOf Symbols·Add.placeOf Symbols·Add.decidedOf Symbols·Add.committedOf Symbols·Add.addRowOf Symbols·Add.addOf Symbols·Lookup.foundAt Symbols·Lookup.getOf Symbols·Lookup.getGlobalOf Symbols·Lookup.sectionSymbolOf Symbols·New.clearSymbols Symbols·New.nullOf Symbols·New.newOf Symbols·Remove.dropSection Symbols·Remove.removeRowOf Symbols·Remove.removeOf Sections·Rows.roomOf Sections·Rows.reserveOf Sections·Rows.builtOf Sections·Rows.isBuilt ArchiveIndex·Index.countOf ArchiveIndex·Index.offsetOf ArchiveIndex·Index.afterOf ArchiveIndex·Index.placeOf ArchiveIndex·Index.nameOf ArchiveIndex·Index.cutOf ArchiveIndex·Open.openRowsOf ArchiveIndex·Open.openNamesOf ArchiveIndex·Open.openEntriesOf ArchiveIndex·Open.openOf ArchiveIndex·Rows.descend ArchiveIndex·Rows.spotOf ArchiveIndex·Rows.enterOf ArchiveIndex·Rows.enterAll ArchiveIndex·Rows.rowsOf ArchiveIndex·Rows.noHeads ArchiveWalk·Look.judgeTable ArchiveWalk·Look.nameHolder ArchiveWalk·Look.removedName ArchiveWalk·Look.undefinedName ArchiveWalk·Names.nameChain ArchiveWalk·Names.along ArchiveWalk·Names.bearsOf ArchiveWalk·Names.requiredOf Archive.begunOf Archive.startOf Archive.offerOf Archive.marked Archive.enqueue Archive.tieOf Archive.tieAll Archive.removedOf Archive.makeOf Archive.searchOf Archive.passOf Archive.walkFits Archive.goOf Archive.nextOf ElfObject·Judge.rangeOk ElfObject·Judge.contentsOk ElfObject·Judge.headerOk ElfObject·Judge.entryOk ElfObject·Judge.firstBad ElfObject·Judge.badHeader ElfObject·Judge.badEntry ElfObject·Judge.judgeOf ElfObject·Rows.isExcluded ElfObject·Rows.isLoaded ElfObject·Rows.nameIn ElfObject·Rows.sectionOf ElfObject·Rows.entriesFrom ElfObject·Rows.tableEntries LibraryLists·Record.recordFits LibraryLists·Record.keepName LibraryLists·Record.recordAs LibraryLists·Record.recordOf LibraryLists·Record.dependencyOf LibraryLists·Record.dependenciesFrom LibraryLists·Record.dependenciesOf LibraryHead·Head.needOk LibraryHead·Head.badNeed LibraryHead·Head.sonameMissing LibraryHead·Head.rowsOf LibraryHead·Head.unnamedOf LibraryHead·Head.marksShort LibraryHead·Head.nameRefusal LibraryHead·Head.afterRows LibraryHead·Head.headOf LibraryNeed·Lists.hasId LibraryNeed·Lists.anyFrom LibraryNeed·Need.libraryName LibraryNeed·Need.dependsOn LibraryNeed·Need.markNames LibraryNeed·Need.markLibrary LibraryNeed·Need.markFrom LibraryNeed·Need.markAll LibraryNeed·Need.provides LibraryNeed·Need.clearNamed LibraryNeed·Need.clearMark LibraryNeed·Need.clearFrom LibraryNeed·Need.clearAll LibraryNeed·Need.strongUndefined LibraryNeed·Need.wantedIn LibraryNeed·Need.nameWanted LibraryNeed·Need.symbolWanted LibraryNeed·Need.someWanted LibraryNeed·Need.markedOf LibraryNeed·Need.needOf ObjectRequirement·Matches.isSection ObjectRequirement·Matches.nameAnywhere ObjectRequirement·Matches.isRequired ObjectRequirement·Matches.someFrom ObjectRequirement·Matches.bearsRequired ObjectRequirement·Matches.inTable ObjectRequirement·Matches.isTable ObjectRequirement·Matches.inSection ObjectRequirement·Matches.hasGlobalSymbol ObjectRequirement·Matches.offeredIn ObjectRequirement·Matches.matchesOf MergeSections·Notes.eachFrom MergeSections·Notes.isTable MergeSections·Notes.noteTableOf MergeSections·Notes.noteTablesOf MergeSections·Notes.clearOneOf MergeSections·Notes.clearAllOf MergeSections·Reserve.kindClass MergeSections·Reserve.classOf MergeSections·Reserve.refusalOf MergeSections·Reserve.conversionOf MergeSections·Reserve.tableAfter MergeSections·Reserve.noteOf MergeSections·Reserve.takeRowOf MergeSections·Reserve.reserveClassOf MergeSections·Reserve.reserveOneOf MergeSections·Reserve.reserveFrom MergeSections·Reserve.reserveAllOf SectionGroups·Filter.sectionAfter SectionGroups·Filter.symbolOk SectionGroups·Filter.filterOf Group.shapeOf Group.signatureOf Group.repeatedOf Group.markRefusal Group.planWith Group.planOf Group.markGroupOf Group.markRemovedOf Group.admitOf Group.decidedOf Group.namedOf Group.signedOf Group.shapedOf Group.groupOf Group.groupSectionOf Group.groupsFrom Group.groupsOf GcSections·Each.each GcSections·Reach.saveOf GcSections·Reach.reachOf GcSections·Reach.addOf GcSections·Reach.rootSymbol GcSections·Reach.rootSection GcSections·Reach.endOf GcSections·Reach.relocation GcSections·Reach.relocations GcSections·Reach.follow GcSections·Reach.visit GcSections·Reach.clearCell GcSections·Reach.startOf GcSections·Reach.rootsOf GcSections·Reach.processOf GcSections·Reach.walked GcSections·Roots.valueLead GcSections·Roots.leadOf GcSections·Roots.readable GcSections·Roots.nameIs GcSections·Roots.rooted GcSections·Roots.isRoot GcSections·Run.judgeCells GcSections·Run.judgeOf GcSections·Run.purgeOf GcSections·Run.sweepOf GcSections·Run.finished GcSections·Run.collectOf GcSections·Run.runOf GcSections·Sweep.dropUnreached GcSections·Sweep.droppedNow GcSections·Sweep.purgeSymbol GcSections·Sweep.sweepSections GcSections·Sweep.purgeSymbols MergePlan·Plan.isFirst MergePlan·Plan.definesOf MergePlan·Plan.ruleOf MergePlan·Plan.judgedOf MergePlan·Plan.rowedOf MergePlan·Plan.readOf MergePlan·Plan.plannedOf MergePlan·Plan.placeOf MergePlan·Plan.fileAfter LibrarySymbols·Define.judgedOf LibrarySymbols·Define.rowedOf LibrarySymbols·Define.externalOf LibrarySymbols·Define.planOf LibrarySymbols·Define.acceptOf LibrarySymbols·Define.keptOf LibrarySymbols·Define.commitOf LibrarySymbols·Define.defineOf LibrarySymbols·Load.namedOf LibrarySymbols·Load.lookedOf LibrarySymbols·Load.symbolOf LibrarySymbols·Load.symbolsFrom LibrarySymbols·Load.symbolsOf Shared.wantOf Shared.endedAs Shared.wantedOf Shared.namedOf Shared.loadOf SharedObjects·Stages.inputOf SharedObjects·Stages.inputStage SharedObjects·Stages.listsOf SharedObjects·Stages.listStage SharedObjects·Stages.contentsOf SharedObjects·Stages.keptOf SharedObjects·Stages.issuedOf SharedObjects·Stages.libraryOf MergeSymbols·Stage.acceptRow MergeSymbols·Stage.keptOf MergeSymbols·Stage.commitOf MergeSymbols·Stage.namedOf MergeSymbols·Stage.lookedOf MergeSymbols·Stage.symbolOf MergeSymbols·Stage.symbolsFrom MergeSymbols·Stage.symbolsOf MergeBuild·Build.planWith MergeBuild·Build.planOf MergeBuild·Build.sectionIdOf MergeBuild·Build.buildRowOf MergeBuild·Build.keptOf MergeBuild·Build.commitOf MergeBuild·Build.tabledOf MergeBuild·Build.namedOf MergeBuild·Build.builtFrom MergeBuild·Build.lookedOf MergeBuild·Build.sectionOf MergeBuild·Build.buildFrom MergeBuild·Build.buildOf MergeBuild·Relocations.tableFor MergeBuild·Relocations.limitOf MergeBuild·Relocations.relocationsOf MergeBuild·Relocations.symbolOk MergeBuild·Relocations.symbolsOk MergeBuild·Relocations.idIn MergeBuild·Relocations.appendFrom AddGroup·AddGroup.marksRefusal AddGroup·AddGroup.rowsRefusal AddGroup·AddGroup.headOf AddGroup·AddGroup.answerOf AddGroup·AddGroup.addGroupOf MergeFinish·Finish.inputOf MergeFinish·Finish.inputStage MergeFinish·Finish.programStage MergeFinish·Finish.builtOf Stages.buildStage Stages.mergeTableOf Stages.filteredOf Stages.filterStage Stages.mergeGroupsOf Stages.groupStage Stages.reservedStages Stages.stagesOf MergeElf·Merge.workRefusal MergeElf·Merge.rowsRefusal MergeElf·Merge.headOf MergeElf·Merge.endedAs MergeElf·Merge.finishedOf MergeElf·Merge.mergeOf ArchiveLaws·Runs.startRun ArchiveLaws·Runs.stepRun SymbolLaws·History.noted MergeLaws·MergeSteps.addsOf MergeLaws·MergeSteps.rowSteps MergeLaws·MergeSteps.namedSteps MergeLaws·MergeSteps.symbolSteps MergeLaws·MergeSteps.signedSteps MergeLaws·MergeSteps.groupSectionSteps MergeLaws·MergeSteps.builtSteps MergeLaws·MergeSteps.sectionSteps MergeLaws·MergeSteps.inputSteps MergeLaws·MergeSteps.programSteps MergeLaws·MergeSteps.bothSteps MergeLaws·MergeSteps.buildStageSteps MergeLaws·MergeSteps.tableSteps MergeLaws·MergeSteps.filteredSteps MergeLaws·MergeSteps.filterSteps MergeLaws·MergeSteps.mergeGroupsSteps MergeLaws·MergeSteps.groupStageSteps MergeLaws·MergeSteps.reservedSteps MergeLaws·MergeSteps.stagesSteps MergeLaws·MergeSteps.mergeSteps LoadLaws·LoadSteps.recordSteps LoadLaws·LoadSteps.namedSteps LoadLaws·LoadSteps.symbolSteps LoadLaws·LoadSteps.dependencySteps LoadLaws·LoadSteps.inputSteps LoadLaws·LoadSteps.listsSteps LoadLaws·LoadSteps.listStageSteps LoadLaws·LoadSteps.contentsSteps LoadLaws·LoadSteps.keptSteps LoadLaws·LoadSteps.issuedSteps LoadLaws·LoadSteps.librarySteps LoadLaws·LoadSteps.wantedSteps LoadLaws·LoadSteps.askedSteps LoadLaws·LoadSteps.loadSteps ArchiveWalk·Names.borneFrom ArchiveWalk·Names.chained ArchiveWalk·Names.headedOf ArchiveWalk·Names.notedOf
+witness =
+    record {
+      new = refl;
+      answers = refl;
+      twice = refl;
+      once = refl;
+      never = refl;
+      ties = refl;
+      pass = refl;
+      offers = refl;
+      over = refl;
+      loaded = refl;
+      kept = refl;
+      quiet = (λ e. e, (λ e. e, (λ e. e, (λ e. e, (λ e. e, (λ e. e, (λ e. e, (λ e. e, (λ e. e, (λ e. e, (λ e. e, (λ e. e, (λ e. omega arith, (λ e. e refl, tt))))))))))))));
+    }

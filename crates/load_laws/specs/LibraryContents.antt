@@ -1,0 +1,179 @@
+-- The accepted adds of a load, refused or not: each is that of a symbol that the library defines, and its row has what the symbol's entry says.
+-- Assumes nothing.
+use Prim.Native.Nat.{ℕ, zero, suc, _+_, _<_}
+use native.Mathlib.Omega.{arith}
+use native.Mathlib.Nat.{zero-add}
+use mathlib.Core.Path.{_≡_, refl, sym, ap, _∙_, subst}
+use mathlib.Core.Bool.{false}
+use mathlib.Core.List.{List, [], _∷_}
+use mathlib.Core.Logic.{_≢_}
+use lib.Dec.{eqb, leb}
+use lib.ListN.{length}
+use borrow.Author.Tests.{eqb-true, eqb-false}
+use Rattle.cells.specs.Split.{by-test}
+use Rattle.gabi.specs.StringTable.{nameAt}
+use Rattle.gabi.specs.SymbolTable.{stbWeak, stvHidden, shnUndef}
+use Rattle.merge_plan.specs.Plan.{View}
+use Rattle.strings.specs.Lookup.{Looked, lookUp}
+use Rattle.interner.specs.Names.{storeOf, fitsOf}
+use Rattle.interner_laws.specs.Good.{find}
+use Rattle.symbol.specs.declared.Row.{Row}
+use Rattle.symbol.specs.declared.SymbolType.the-variants as Ty
+use Rattle.symbol.specs.declared.SymbolValue.the-variants as Val
+use Rattle.symbol.specs.declared.SymbolVisibility.the-variants.{Global}
+use Rattle.symbol.specs.Codes.{typeAt, visibilityAt, valueAt}
+use Rattle.symbol_rows.specs.Decide.{refusalOf}
+use Rattle.symbol_rows.specs.Holder.{holderOf}
+use Rattle.upcoming_symbol.specs.Upcoming.{externalRowOf}
+use Rattle.elf_object.specs.Rows.{rowsIn, field}
+use Rattle.library_symbols.specs.declared.Definition.{Definition}
+use Rattle.library_symbols.specs.Define.{judgedOf, rowedOf, externalOf, planOf, view}
+use Rattle.library_symbols.specs.Load.{State, staged, symbolOf, symbolsOf}
+use Rattle.link.specs.Judge.{goingOf}
+use Rattle.shared_objects.specs.Load.{All, Input, linksIn, wantOf, headIn, nameOf}
+use Rattle.symbol_laws.specs.Rank as Rank
+use Rattle.symbol_laws.specs.History.{store}
+use Rattle.symbol_laws.specs.ObjectWords.{entriesIn, entry, entryName}
+use Rattle.symbol_laws.specs.ContentWords.{Admitted, shows, shown-is, admitted-is, decided-passes}
+use Rattle.merge_laws.specs.Steps.{others}
+use Rattle.merge_laws.specs.Loop.{loop, loopSteps, loop-next}
+use Rattle.merge_laws.specs.MergeSteps.{rowSteps}
+use Rattle.merge_laws.specs.Kept.{addedRows}
+use Rattle.merge_laws.specs.Markless.{added-append}
+use Rattle.merge_laws.specs.LogContents.{all-append}
+use Rattle.load_laws.specs.LoadSteps.{recording, adding, namedSteps, symbolSteps, contentsSteps, keptSteps, issuedSteps, librarySteps, wantedSteps, askedSteps, loadSteps}
+use Rattle.load_laws.specs.Whole.{numberOf, symbols-loop}
+use Rattle.load_laws.specs.Stops as Stops
+use Rattle.load_laws.specs.SymbolDuplicates.{symbolsTo, tableTo}
+use Rattle.load_laws.specs.Accepted.{record-none, lists-none}
+
+-- the row of symbol i of the library: it is defined, whatever its section, type and value; weak and hidden are its entry's; under the id that its name has
+-- or gets there
+module _ (o : Input) (a : All) where
+  pub record FromLibrary (r : Row) : Type 0 where
+    pub number : ℕ
+    pub below : number < entriesIn (o .entries)
+    pub defines : entry (o .entries) number .section ≢ shnUndef
+    pub passed : Admitted (entry (o .entries) number)
+    pub type : typeAt (r .kind) ≡ Ty.NoType
+    pub shown : visibilityAt (r .visibility) ≡ shows (entry (o .entries) number)
+    pub value : valueAt (r .value) ≡ Val.ExternallyDefined
+    pub name : r .name .0 ≡ find (store (tableTo o a number)) (nameAt (o .file) (entryName (o .entries) number))
+
+-- ---- one symbol's steps add its planned row, or none
+
+module _ (entries file : List ℕ) (s : State) (i : ℕ) (P : Row → Type 0) where
+  abbrev x : Looked
+  x = lookUp file (field entries i 0)
+
+  abbrev p : Definition
+  p = planOf (view (adding (staged s (goingOf (s .stage .link))))) (x .name) (field entries i 1) (field entries i 3)
+
+  symbol-rows : (eqb (field entries i 4) 0 ≡ false → refusalOf (p .decision) ≡ 0 → p .row .visibility ≢ 0 → P (p .row)) → Rank.All P (addedRows (symbolSteps entries file s i))
+  unfolding symbolSteps namedSteps rowSteps
+  symbol-rows f =
+      by-test (x .found)
+      (λ b.
+      by-test (eqb (field entries i 4) 0)
+      (λ c.
+      by-test (eqb (field entries i 1) 1)
+      (λ d. rw (b, c, d) (subst (Rank.All P) (sym (record-none (s .sections) (recording (staged s (goingOf (s .stage .link)))) (x .name) i)) tt)) (λ d. rw (b, c, d) tt))
+      (λ c.
+      by-test (eqb (refusalOf (p .decision)) 2) (λ d. rw (b, c, d) tt)
+      (λ d.
+      by-test (eqb (refusalOf (p .decision)) 0)
+      (λ e.
+      by-test (eqb (p .row .visibility) 0) (λ v. rw (b, c, d, e, v) tt)
+      (λ v. let q : P (p .row) = f c (eqb-true _ _ e) (eqb-false _ _ v) in rw (b, c, d, e, v) (q, tt)))
+      (λ e. rw (b, c, d, e) tt))))
+      (λ b. rw b tt)
+
+-- ---- the row that is planned
+
+module _ (v : View) (x : List ℕ) (b w : ℕ) where
+  abbrev planned : Definition
+  planned = planOf v x b w
+
+  planned-passes : refusalOf (planned .decision) ≡ 0 → leb 5 (planned .row .visibility) ≡ false
+  unfolding planOf externalOf rowedOf judgedOf
+  planned-passes z =
+      by-test (fitsOf (storeOf (v .bytes) (v .names) (v .link)) (planned .row .name) (length x))
+      (λ f. decided-passes (v .link) (v .symbols) (v .sections) (planned .row) (holderOf (v .link) (v .names) (v .symbols) (planned .row .name)) (rw f at z) .0)
+      (λ f. let q : _≡_ {A = ℕ} 2 0 = rw f at z in absurd (omega arith))
+
+  row-shows : planned .row .visibility ≢ 0 → leb 5 (planned .row .visibility) ≡ false → visibilityAt (planned .row .visibility) ≡ Global (eqb b stbWeak) (eqb w stvHidden)
+  unfolding planOf externalOf rowedOf externalRowOf
+  row-shows = shown-is b w
+
+  planned-shows : planned .row .visibility ≢ 0 → refusalOf (planned .decision) ≡ 0 → visibilityAt (planned .row .visibility) ≡ Global (eqb b stbWeak) (eqb w stvHidden)
+  planned-shows g z = row-shows g (planned-passes z)
+
+-- ---- the load
+
+module _ (o : Input) (a : All) where
+  abbrev entries : List ℕ
+  entries = o .entries
+
+  abbrev file : List ℕ
+  file = o .file
+
+  abbrev first : State
+  first = Stops.first entries file (o .needs) (linksIn a) (nameOf o)
+
+  abbrev From : Row → Type 0
+  From = FromLibrary o a
+
+  from-library : (i : ℕ) → i < rowsIn entries → eqb (field entries i 4) 0 ≡ false → refusalOf (p entries file (symbolsTo o a i) i From .decision) ≡ 0
+      → p entries file (symbolsTo o a i) i From .row .visibility ≢ 0 → From (p entries file (symbolsTo o a i) i From .row)
+  unfolding planOf externalOf rowedOf externalRowOf typeAt valueAt
+  from-library i h d z g =
+      record {
+        number = i;
+        below = h;
+        defines = eqb-false _ _ d;
+        passed = admitted-is (entry entries i) g (planned-passes (view (adding (staged (symbolsTo o a i) (goingOf (symbolsTo o a i .stage .link))))) (lookUp file (field entries i 0) .name) (field entries i 1) (field entries i 3) z);
+        type = refl;
+        shown = planned-shows (view (adding (staged (symbolsTo o a i) (goingOf (symbolsTo o a i .stage .link))))) (lookUp file (field entries i 0) .name) (field entries i 1) (field entries i 3) g z;
+        value = refl;
+        name = refl;
+      }
+
+  rows-from : (n i : ℕ) → i + n ≡ rowsIn entries → numberOf (loop numberOf (symbolOf entries file) i 0 first) ≡ 0
+      → Rank.All From (addedRows (loopSteps numberOf (symbolOf entries file) (symbolSteps entries file) n i (loop numberOf (symbolOf entries file) i 0 first)))
+  rows-from zero i e z = tt
+  rows-from (suc n) i e z =
+      let next : State → ℕ → State = symbolOf entries file in
+      let t : State = loop numberOf next i 0 first in
+      let same : symbolsTo o a i ≡ t = symbols-loop entries file i 0 first in
+      let mine : Rank.All From (addedRows (symbolSteps entries file t i)) =
+      subst (λ (s : State). Rank.All From (addedRows (symbolSteps entries file s i))) same (symbol-rows entries file (symbolsTo o a i) i From (from-library i (omega arith))) in
+      by-test (eqb (numberOf (next t i)) 0)
+      (λ b.
+      let k : loop numberOf next (i + 1) 0 first ≡ next t i =
+      ap (λ (j : ℕ). loop numberOf next j 0 first) (let q : i + 1 ≡ suc i = omega arith in q) ∙ loop-next numberOf next i 0 first z ∙ ap (next t) (zero-add i) in
+      rw (b, added-append (symbolSteps entries file t i) (loopSteps numberOf next (symbolSteps entries file) n (i + 1) (next t i)))
+      (all-append From (addedRows (symbolSteps entries file t i)) _ mine
+      (subst (λ (s : State). Rank.All From (addedRows (loopSteps numberOf next (symbolSteps entries file) n (i + 1) s))) k
+      (rows-from n (i + 1) (omega arith) (ap numberOf k ∙ eqb-true _ _ b)))))
+      (λ b. rw b mine)
+
+  library-rows : Rank.All From (addedRows (librarySteps entries file (o .needs) (linksIn a) (nameOf o)))
+  unfolding librarySteps issuedSteps keptSteps contentsSteps
+  library-rows =
+      by-test (Stops.fits entries file (o .needs) (linksIn a) (nameOf o))
+      (λ b.
+      rw (b, added-append (loopSteps numberOf (symbolOf entries file) (symbolSteps entries file) (rowsIn entries) 0 first) _, lists-none file (o .needs) (linksIn a .inputs) (symbolsOf entries file first) _ _)
+      (all-append From (addedRows (loopSteps numberOf (symbolOf entries file) (symbolSteps entries file) (rowsIn entries) 0 first)) [] (rows-from (rowsIn entries) 0 (zero-add _) refl) tt))
+      (λ b. rw b tt)
+
+  pub load-logged : Rank.All From (addedRows (loadSteps o a))
+  unfolding loadSteps askedSteps wantedSteps
+  load-logged =
+      by-test (eqb (headIn o a .number) 0)
+      (λ b.
+      by-test (wantOf (o .asneeded) (a .link) (a .bytes) (a .names) (a .symbols) (a .inputs) (a .lists) (a .marks) entries file (nameOf o) .needed)
+      (λ c.
+      rw (b, c, added-append (librarySteps entries file (o .needs) (linksIn a) (nameOf o)) (others _ _ ∷ []))
+      (all-append From (addedRows (librarySteps entries file (o .needs) (linksIn a) (nameOf o))) [] library-rows tt))
+      (λ c. rw (b, c) tt))
+      (λ b. rw b tt)

@@ -1,0 +1,21 @@
+use borrow.Author.Needs.{needs}
+use Rattle.replay_object.specs.Ways.{symbol-done}
+use Rattle.replay_object.proofs.symbol.Statement.{statement}
+use Rattle.replay_object.proofs.symbol.Tie as tie
+
+pub symbol-spec : {M : Type 1} → statement M
+symbol-spec =
+    tie.close
+    (tie.spec
+    (λ c κs. search needs)
+    (λ c κs. search needs)
+    (λ c κs. search needs)
+    (λ c κs. search needs)
+    (λ c κs. search needs)
+    (λ c κs. search needs)
+    (λ c κs. search needs)
+    (λ c κs. search needs)
+    (λ c κs. search needs)
+    (λ c κs. search needs)
+    (λ c. search needs)
+    (λ c. search symbol-done))

@@ -1,0 +1,10 @@
+use Rattle.text_lines.specs.Ways.{left-over, left-start}
+use Rattle.text_lines.proofs.left_of.Statement.{statement}
+use Rattle.text_lines.proofs.left_of.Tie as tie
+
+pub left-of-spec : {M : Type 1} → statement M
+left-of-spec =
+    tie.close
+    (tie.spec
+    (λ c. search left-over)
+    (λ c. search left-start))
