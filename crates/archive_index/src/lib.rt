@@ -1,7 +1,7 @@
 // The System V index of an archive, and a row of 8 lent cells for each of its entries (specs/Rows.antt says what they hold).
 ghost use mathlib.Core.Path.{_≡_};
 ghost use Prim.Native.Nat.{_+_, _*_, _<_};
-ghost use lib.ListN.{getD};
+ghost use lib.ListN.{getD, length};
 ghost use Rattle.archive_index.specs.Index.{wordAt, countOf, offsetOf, afterOf};
 ghost use Rattle.archive_index.specs.Rows.{storedName, noHeads};
 use link::Refusal;
@@ -20,6 +20,7 @@ pub enum Spot {
 
 fn wide(x: u8) -> u64
     ensures { λ r. ⌜ r ≡ x ⌝ }
+    ensures small { λ r. ⌜ r < 256 ⌝ }
 {
     x as u64
 }
@@ -31,7 +32,18 @@ fn byte(s: &[u8], i: usize) -> u64
     if i < s.len() { wide(s[i]) } else { 0 }
 }
 
-fn word(index: &[u8], at: usize) -> u64
+// Four bytes that lie in the index, which are read at once.
+fn whole_word(index: &[u8], at: usize) -> u64
+    requires { ⌜ at + 3 < length (now index) ⌝ }
+    ensures { λ r. ⌜ r ≡ wordAt (now (index .entry)) at ⌝ }
+{
+    wide(index[at]) * 16777216
+        + wide(index[at + 1]) * 65536
+        + wide(index[at + 2]) * 256
+        + wide(index[at + 3])
+}
+
+fn cut_word(index: &[u8], at: usize) -> u64
     requires { ⌜ at < 0xfffffffffffffffd ⌝ }
     ensures { λ r. ⌜ r ≡ wordAt (now (index .entry)) at ⌝ }
 {
@@ -40,6 +52,16 @@ fn word(index: &[u8], at: usize) -> u64
     let c = byte(index, at + 2);
     let d = byte(index, at + 3);
     a * 16777216 + b * 65536 + c * 256 + d
+}
+
+fn word(index: &[u8], at: usize) -> u64
+    requires { ⌜ at < 0xfffffffffffffffd ⌝ }
+    ensures { λ r. ⌜ r ≡ wordAt (now (index .entry)) at ⌝ }
+{
+    if at + 3 < index.len() {
+        return whole_word(index, at);
+    }
+    cut_word(index, at)
 }
 
 // The number of entries that the index says.

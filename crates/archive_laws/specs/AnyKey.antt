@@ -1,7 +1,7 @@
 -- The key places names in chains, and nothing else: over the same calls two walks that differ in their keys give the same answers, whatever cells and tables
 -- are lent to them; and so does admission, over any walk that a start begins.
 -- Assumes nothing.
-use Prim.Native.Nat.{ℕ, zero, suc, _+_, _*_, _<_, _≤_}
+use Prim.Native.Nat.{ℕ, zero, suc, _+_, _*_, _/_, _<_, _≤_}
 use native.Mathlib.Decide.{ℕ-discrete}
 use native.Mathlib.Omega.{arith}
 use mathlib.Core.Path.{_≡_, refl, sym, ap, _∙_}
@@ -102,7 +102,7 @@ module _ (s : List ℕ) where
 
   noted-alike : (key c : ℕ) (l : List ℕ) (k : ℕ) → Alike (set l (k * 8 + 0) 1) (notedOf key c s l k)
   unfolding notedOf headedOf
-  noted-alike key c l k = go (chained key c s l (memberAt l k) (storedName s l k))
+  noted-alike key c l k = go (chained key c s l (memberAt l k) (storedName s l k)) (ltb k (length l / 8))
     where
       a : List ℕ
       a = set l (k * 8 + 0) 1
@@ -110,9 +110,10 @@ module _ (s : List ℕ) where
       b : ℕ
       b = chainAt key c s l k
 
-      go : (f : Bool) → Alike a (cond f a (set (set a (k * 8 + 2) (getD l (b * 8 + 3) 0)) (b * 8 + 3) (k + 1)))
-      go true = alike-same a
-      go false =
+      go : (f h : Bool) → Alike a (cond f a (cond h (set (set a (k * 8 + 2) (getD l (b * 8 + 3) 0)) (b * 8 + 3) (k + 1)) a))
+      go true h = alike-same a
+      go false false = alike-same a
+      go false true =
           alike-on a (set a (k * 8 + 2) (getD l (b * 8 + 3) 0)) (set (set a (k * 8 + 2) (getD l (b * 8 + 3) 0)) (b * 8 + 3) (k + 1)) (link-alike a k (getD l (b * 8 + 3) 0))
           (head-alike (set a (k * 8 + 2) (getD l (b * 8 + 3) 0)) b (k + 1))
 

@@ -8,10 +8,10 @@ use native.Mathlib.Omega.{arith}
 use mathlib.Core.Path.{_≡_, refl, sym, ap, subst, _∙_}
 use mathlib.Core.Bool.{Bool, true, false, cond, not}
 use mathlib.Core.List.{List}
-use lib.Dec.{eqb}
+use lib.Dec.{eqb, ltb}
 use lib.ListN.{getD, set, length, length-set}
 use lib.Seq.{getD-set-same, getD-set-other}
-use borrow.Author.Tests.{eqb-true, eq-eqb, ne-eqb}
+use borrow.Author.Tests.{eqb-true, eq-eqb, ne-eqb, lt-ltb}
 use Rattle.byte_slices.specs.Bytes.{same}
 use Rattle.byte_slices.specs.Ways.{same-true, same-refl}
 use Rattle.keyed_hash.specs.Keyed.{hashOf}
@@ -302,30 +302,33 @@ module _ (key : ℕ) (s : List ℕ) (c : ℕ) where
     -- neither the mark nor a chain: every other field
     pub noted-field : (j g : ℕ) → g < 8 → (g ≡ 0 → ⊥) → (g ≡ 2 → ⊥) → (g ≡ 3 → ⊥) → getD (notedOf key c s l k) (j * 8 + g) 0 ≡ getD l (j * 8 + g) 0
     unfolding notedOf headedOf
-    noted-field j g h p q z = go (chained key c s l r₀ x₀)
+    noted-field j g h p q z = go (chained key c s l r₀ x₀) (ltb k (length l / 8))
       where
-        go : (b : Bool) → getD (cond b a t) (j * 8 + g) 0 ≡ getD l (j * 8 + g) 0
-        go true = a-field j g h p
-        go false = t-field j g h q z ∙ a-field j g h p
+        go : (b f : Bool) → getD (cond b a (cond f t a)) (j * 8 + g) 0 ≡ getD l (j * 8 + g) 0
+        go true f = a-field j g h p
+        go false true = t-field j g h q z ∙ a-field j g h p
+        go false false = a-field j g h p
 
     pub noted-length : length (notedOf key c s l k) ≡ length l
     unfolding notedOf headedOf
-    noted-length = go (chained key c s l r₀ x₀)
+    noted-length = go (chained key c s l r₀ x₀) (ltb k (length l / 8))
       where
-        go : (b : Bool) → length (cond b a t) ≡ length l
-        go true = length-set l (k * 8 + 0) 1
-        go false = t-length
+        go : (b f : Bool) → length (cond b a (cond f t a)) ≡ length l
+        go true f = length-set l (k * 8 + 0) 1
+        go false true = t-length
+        go false false = length-set l (k * 8 + 0) 1
 
     pub noted-there : (j : ℕ) → (j ≡ k → ⊥) → requiredAt (notedOf key c s l k) j ≡ requiredAt l j
     unfolding notedOf headedOf
-    noted-there j d = go (chained key c s l r₀ x₀)
+    noted-there j d = go (chained key c s l r₀ x₀) (ltb k (length l / 8))
       where
         first : requiredAt a j ≡ requiredAt l j
         first = getD-set-other l (k * 8 + 0) (j * 8 + 0) 1 0 (λ e. d (omega arith))
 
-        go : (b : Bool) → requiredAt (cond b a t) j ≡ requiredAt l j
-        go true = first
-        go false = t-field j 0 (omega arith) (λ e. omega arith) (λ e. omega arith) ∙ first
+        go : (b f : Bool) → requiredAt (cond b a (cond f t a)) j ≡ requiredAt l j
+        go true f = first
+        go false true = t-field j 0 (omega arith) (λ e. omega arith) (λ e. omega arith) ∙ first
+        go false false = first
 
     module _ (room : c * 8 ≤ length l) (h : k < c) where
       a-here : requiredAt a k ≡ 1
@@ -333,11 +336,12 @@ module _ (key : ℕ) (s : List ℕ) (c : ℕ) where
 
       pub noted-here : requiredAt (notedOf key c s l k) k ≡ 1
       unfolding notedOf headedOf
-      noted-here = go (chained key c s l r₀ x₀)
+      noted-here = go (chained key c s l r₀ x₀) (ltb k (length l / 8))
         where
-          go : (b : Bool) → requiredAt (cond b a t) k ≡ 1
-          go true = a-here
-          go false = t-field k 0 (omega arith) (λ e. omega arith) (λ e. omega arith) ∙ a-here
+          go : (b f : Bool) → requiredAt (cond b a (cond f t a)) k ≡ 1
+          go true f = a-here
+          go false true = t-field k 0 (omega arith) (λ e. omega arith) (λ e. omega arith) ∙ a-here
+          go false false = a-here
 
       some : 0 < c
       some = omega arith
@@ -469,9 +473,9 @@ module _ (key : ℕ) (s : List ℕ) (c : ℕ) where
         unfolding notedOf headedOf
         noted-linked = go (chained key c s l r₀ x₀) refl
           where
-            go : (b : Bool) → chained key c s l r₀ x₀ ≡ b → Linked (cond b a t)
+            go : (b : Bool) → chained key c s l r₀ x₀ ≡ b → Linked (cond b a (cond (ltb k (length l / 8)) t a))
             go true e = known e
-            go false e = fresh e
+            go false e = rw (lt-ltb k (length l / 8) (omega arith)) (fresh e)
 
   -- ---- a start: no chain has an entry
 

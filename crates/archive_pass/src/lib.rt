@@ -92,7 +92,6 @@ fn first_removed(
 
 // Entry k goes to the end of the queue, and its name is required of its member.
 fn mark(w: Walk, index: &[u8], cells: &mut [u64], queued: usize, p: usize, k: usize, r: usize)
-    requires { ⌜ k < 0xffffffffffffffff ⌝ }
     ensures { λ _. ⌜ now (cells .exit) ≡ marked (w .key) (w .entries) (now (index .entry)) p k r (now (cells .entry)) queued ⌝ }
 {
     archive_walk::note(w, index, cells, k);
@@ -110,7 +109,6 @@ fn put_in_queue(
     k: usize,
     r: usize,
 ) -> usize
-    requires { ⌜ k < 0xffffffffffffffff ⌝ }
     requires { ⌜ queued < 0xffffffffffffffff ⌝ }
     ensures { λ n. ⌜ queueOf (now (cells .exit)) n ≡ enqueue (w .key) (w .entries) (now (index .entry)) p k r (queueOf (now (cells .entry)) queued) ⌝ }
 {
@@ -138,7 +136,6 @@ fn tie(
     names: &[u64],
     symbols: &[u64],
 ) -> usize
-    requires { ⌜ k < 0xffffffffffffffff ⌝ }
     requires { ⌜ queued < 0xffffffffffffffff ⌝ }
     ensures { λ n. ⌜ queueOf (now (cells .exit)) n ≡ tieOf (w .key) (w .entries) (now (index .entry)) (tableOf l (now (bytes .entry)) (now (names .entry)) (now (symbols .entry))) p k (queueOf (now (cells .entry)) queued) ⌝ }
 {

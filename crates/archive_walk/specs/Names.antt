@@ -6,7 +6,7 @@
 use Prim.Native.Nat.{ℕ, zero, suc, _+_, _*_, _-_, _/_, _%_}
 use mathlib.Core.Bool.{Bool, true, false, cond}
 use mathlib.Core.List.{List}
-use lib.Dec.{eqb}
+use lib.Dec.{eqb, ltb}
 use lib.ListN.{set, length}
 use Rattle.byte_slices.specs.Bytes.{same}
 use Rattle.keyed_hash.specs.Keyed.{hashOf}
@@ -40,9 +40,10 @@ chained key c s l r x = borneFrom s l r x (headAt l (nameChain key c r x))
 abbrev pub chainAt : ℕ → ℕ → List ℕ → List ℕ → ℕ → ℕ
 chainAt key c s l k = nameChain key c (memberAt l k) (storedName s l k)
 
--- marked, and at the head of chain b
+-- marked, and at the head of chain b; only marked where its row isn't lent
 unfoldable pub headedOf : List ℕ → ℕ → ℕ → List ℕ
-headedOf l k b = set (set (set l (k * 8 + 0) 1) (k * 8 + 2) (headAt l b)) (b * 8 + 3) (k + 1)
+headedOf l k b =
+    cond (ltb k (length l / 8)) (set (set (set l (k * 8 + 0) 1) (k * 8 + 2) (headAt l b)) (b * 8 + 3) (k + 1)) (set l (k * 8 + 0) 1)
 
 -- marked; in its chain unless another entry there bears the same name of the same member
 unfoldable pub notedOf : ℕ → ℕ → List ℕ → List ℕ → ℕ → List ℕ

@@ -88,10 +88,14 @@ module _ (l : List ℕ) (f : ℕ → Bool) (at n : ℕ) (w : Bool) where
     along-on m h e g i j q =
         q ∙ subst (λ (k : ℕ). along l f at k ≡ along l f m (n - 1)) (sym (one-less h)) (simp (ne-eqb _ _ e, ← g, i, j))
 
-pub head-is : (l m u t : List ℕ) (k b head : ℕ) → head ≡ headAt l b → m ≡ set l (k * 8 + 0) 1 → u ≡ set m (k * 8 + 2) head → t ≡ set u (b * 8 + 3) (k + 1)
-    → t ≡ headedOf l k b
+pub head-is : (l m u t : List ℕ) (k b head : ℕ) → head ≡ headAt l b → m ≡ set l (k * 8 + 0) 1 → k < length l / 8 → u ≡ set m (k * 8 + 2) head
+    → t ≡ set u (b * 8 + 3) (k + 1) → t ≡ headedOf l k b
 unfolding headedOf
-head-is l m u t k b head e f g q = q ∙ rw (g, f, e)
+head-is l m u t k b head e f h g q = q ∙ rw (g, f, e, lt-ltb _ _ h)
+
+pub head-past : (l t : List ℕ) (k b : ℕ) → length l / 8 ≤ k → t ≡ set l (k * 8 + 0) 1 → t ≡ headedOf l k b
+unfolding headedOf
+head-past l t k b h q = q ∙ rw (le-ltb _ _ h)
 
 module _ (s l : List ℕ) (w : Walk) (k : ℕ) (t : List ℕ) (r : ℕ) (x : List ℕ) (b head : ℕ) (f : Bool) where
   pub note-known : r ≡ memberAt l k → x ≡ storedName s l k → b ≡ nameChain (w .key) (w .entries) r x → head ≡ headAt l b → f ≡ borneFrom s l r x head → f ≡ true

@@ -1,7 +1,6 @@
 // The walk over an archive's members, by value: a call for the next member is lent the index, the entries' rows and the table as it stands then.
 // The queue lies in the rows, and so do the chains of required names; nothing of the link is written.
 ghost use mathlib.Core.Path.{_≡_};
-ghost use Prim.Native.Nat.{_+_, _<_};
 ghost use lib.ListN.{length};
 ghost use Rattle.archive_walk.specs.Walk.{startLeft, begunOf, startOf};
 ghost use Rattle.archive_walk.specs.Names.{nameChain, bearsOf, borneFrom, headedOf, notedOf, requiredOf};
@@ -95,20 +94,21 @@ fn is_borne(index: &[u8], cells: &[u64], r: u64, x: &[u8], head: usize) -> bool
     false
 }
 
-// Entry k is marked, and goes to the head of chain b.
+// Entry k is marked, and goes to the head of chain b; one whose row isn't lent is in no chain.
 fn put_at_head(cells: &mut [u64], k: usize, b: usize)
-    requires { ⌜ k < 0xffffffffffffffff ⌝ }
     ensures { λ _. ⌜ now (cells .exit) ≡ headedOf (now (cells .entry)) k b ⌝ }
 {
+    let rows = cells.len() / 8;
     let head = cells::row_get(cells, b, 3);
     cells::row_put(cells, k, 0, 1);
-    cells::row_put(cells, k, 2, head);
-    cells::row_put(cells, b, 3, (k + 1) as u64);
+    if k < rows {
+        cells::row_put(cells, k, 2, head);
+        cells::row_put(cells, b, 3, (k + 1) as u64);
+    }
 }
 
 // Entry k's name is required of its member: in the name's chain, unless that has it.
 pub fn note(w: Walk, index: &[u8], cells: &mut [u64], k: usize)
-    requires { ⌜ k < 0xffffffffffffffff ⌝ }
     ensures { λ _. ⌜ now (cells .exit) ≡ notedOf (w .key) (w .entries) (now (index .entry)) (now (cells .entry)) k ⌝ }
 {
     let r = cells::row_get(cells, k, 1);

@@ -23,6 +23,7 @@ use Rattle.interner.specs.Names.{chase, seekOf, findFrom, findOf}
 use Rattle.symbol_rows.specs.Holder.{heldBy, holderOf}
 use Rattle.upcoming_symbol.specs.Judge.{shownOf, hiddenOf, sectionInRange, elfInRange}
 use Rattle.upcoming_symbol.specs.Judge as Upcoming
+use Rattle.upcoming_symbol.specs.declared.Conversion.the-variants as To
 use Rattle.upcoming_symbol.specs.Upcoming.{inSection, convertedOf, undefinedOf, valueOf, elfRowOf}
 use Rattle.symbol_laws.specs.Rows.{rowAt}
 use Rattle.symbol_laws.specs.Gabi.{symOf}
@@ -91,7 +92,7 @@ caseOf t r w d s x a = record { table = t; reference = r; wanted = w; binding = 
 abbrev pub Right : Case → Type 0
 Right c =
     -- the table's row is that of the reference
-    (rowAt (c .table .symbols) 1 ≡ elfRowOf 3 (elf (c .reference) 0 0) (record { 0 = 0 }) false 0)
+    (rowAt (c .table .symbols) 1 ≡ elfRowOf (To.Section (record { 0 = 1 })) (elf (c .reference) 0 0) (record { 0 = 0 }) false 0)
     -- the gABI wants b just if it is among the wanted names
     × (wants (symOf (elf (c .reference) 0 0) ∷ []) ≡ Strings.among b (c .wanted))
     × (extracts (memberOf headers (entries (c .binding) (c .section)) file) (c .wanted) ≡ c .extracted)

@@ -120,7 +120,7 @@ fn rooted(bytes: &[u8], names: &[u64], sections: &[u64], i: usize) -> bool
 fn is_root(bytes: &[u8], names: &[u64], sections: &[u64], n: usize, i: usize) -> bool
     ensures { λ r. ⌜ r ≡ isRoot (now (bytes .entry)) (now (names .entry)) (now (sections .entry)) n i ⌝ }
 {
-    if sections::is_built(sections, n, i) {
+    if sections::is_built(sections, n, SectionId(i)) {
         return rooted(bytes, names, sections, i);
     }
     false
@@ -168,7 +168,7 @@ fn reach(sections: &[u64], work: &mut [u64], n: usize, v: Visitor, id: SectionId
     requires { ⌜ n ≤ 65535 ⌝ }
     ensures { λ r. ⌜ walkOf (now (work .exit)) r ≡ reachOf (now (sections .entry)) n id (walkOf (now (work .entry)) v) ⌝ }
 {
-    if sections::is_built(sections, n, id.0) {
+    if sections::is_built(sections, n, id) {
         return save(work, n, v, id);
     }
     let unbuilt = v.unbuilt;
@@ -466,7 +466,7 @@ fn drop_unreached(sections: &mut [u64], work: &mut [u64], n: usize, i: usize, co
     ensures { λ r. ⌜ sweptOf (now (sections .exit)) (now (work .exit)) r ≡ dropUnreached n i (sweptOf (now (sections .entry)) (now (work .entry)) count) ⌝ }
     ensures few { λ r. ⌜ r ≤ count + 1 ⌝ }
 {
-    if sections::is_built(sections, n, i) {
+    if sections::is_built(sections, n, SectionId(i)) {
         if cells::get(work, i) == 0 {
             sections::drop_section(sections, SectionId(i));
             cells::put(work, i, 2);

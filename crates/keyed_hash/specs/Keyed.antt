@@ -2,7 +2,9 @@
 -- a point that is the key. Words of four bytes are below the prime, so no two are the same there.
 -- Assumes nothing.
 use Prim.Native.Nat.{ℕ, zero, suc, _+_, _*_, _/_, _%_}
+use mathlib.Core.Bool.{cond}
 use mathlib.Core.List.{List}
+use lib.Dec.{eqb}
 use lib.ListN.{length}
 use Rattle.byte_slices.specs.Bytes.{wordAt}
 
@@ -19,9 +21,12 @@ unfoldable pub hashFrom : ℕ → List ℕ → ℕ → ℕ → ℕ → ℕ
 hashFrom r x zero i h = h
 hashFrom r x (suc n) i h = hashFrom r x n (i + 4) (mixed r h (wordAt x i))
 
--- a point: below 2^28, so that one fold for a word suffices
+abbrev pub orBase : ℕ → ℕ → ℕ
+orBase base r = cond (eqb r 0) base r
+
+-- a point: below 2^28, so that one fold for a word suffices, and not 0, where no word counts; the one key that would give 0 has the base, as key 0
 unfoldable pub pointOf : ℕ → ℕ → ℕ
-pointOf key base = (key % 0x10000000 + base) % 0x10000000
+pointOf key base = orBase base ((key % 0x10000000 + base) % 0x10000000)
 
 -- the hash of bytes in 32 bits; it starts with their number, since zeros at the end and words of zeros in front don't show otherwise
 unfoldable pub hashOf : ℕ → List ℕ → ℕ

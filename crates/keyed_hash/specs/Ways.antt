@@ -1,15 +1,16 @@
 -- The ways through the functions.
 -- Assumes nothing.
-use Prim.Native.Nat.{ℕ, suc, _+_, _*_, _-_, _/_, _%_, _<_, _≤_}
+use Prim.Native.Nat.{ℕ, zero, suc, _+_, _*_, _-_, _/_, _%_, _<_, _≤_}
 use native.Mathlib.Omega.{arith}
 use native.Mathlib.Nat.{mul-le-mul, sub-zero}
 use mathlib.Core.Path.{_≡_, refl, ap, sym, _∙_}
 use mathlib.Core.List.{List}
 use lib.ListN.{length}
+use borrow.Author.Tests.{eq-eqb, ne-eqb}
 use mir.Syntax.{w64}
 use mir.Val.{Fits}
 use Rattle.byte_slices.specs.Bytes.{wordAt, Bytes}
-use Rattle.keyed_hash.specs.Keyed.{folded, mixed, hashFrom, pointOf, hashOf}
+use Rattle.keyed_hash.specs.Keyed.{folded, mixed, hashFrom, orBase, pointOf, hashOf}
 
 module _ (r h w : ℕ) (a : r < 0x10000000) (c : h < 0x400000000) (e : w < 0x100000000) where
   most : (h + w) * r ≤ 0x500000000 * 0x10000000
@@ -26,8 +27,29 @@ pub mixed-is : (r h w t : ℕ) → t ≡ folded ((h + w) * r) → t ≡ mixed r 
 unfolding mixed
 mixed-is r h w t q = q
 
+module _ (key base t : ℕ) where
+  abbrev sum : ℕ
+  sum = (key % 0x10000000 + base) % 0x10000000
+
+  pub point-base : sum ≡ 0 → t ≡ base → t ≡ pointOf key base
+  unfolding pointOf
+  point-base z q = q ∙ sym (rw (eq-eqb _ _ z))
+
+  pub point-own : (sum ≡ 0 → ⊥) → t ≡ sum → t ≡ pointOf key base
+  unfolding pointOf
+  point-own n q = q ∙ sym (rw (ne-eqb _ _ n))
+
 pub point-small : (n : ℕ) → n % 0x10000000 < 0x10000000
 point-small n = omega arith
+
+-- no key gives the point 0, at which all names of a length in words have one hash
+pub point-positive : (key base : ℕ) → 0 < base → 0 < pointOf key base
+unfolding pointOf
+point-positive key base h = go ((key % 0x10000000 + base) % 0x10000000)
+  where
+    go : (r : ℕ) → 0 < orBase base r
+    go zero = h
+    go (suc r) = rw (ne-eqb (suc r) 0 (λ e. omega arith)) (omega arith)
 
 pub word-small : (x : List ℕ) (i w : ℕ) → w ≡ wordAt x i → Bytes x i → w < 0x100000000
 unfolding wordAt

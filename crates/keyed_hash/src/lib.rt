@@ -21,12 +21,17 @@ fn mixed(r: usize, h: usize, w: usize) -> usize
     folded((h + w) * r)
 }
 
+// Never 0: the one key that would give it has the base.
 fn point(key: usize, base: usize) -> usize
     requires { ⌜ base < 0x10000000 ⌝ }
     ensures { λ r. ⌜ r ≡ pointOf key base ⌝ }
     ensures small { λ r. ⌜ r < 0x10000000 ⌝ }
 {
-    (key % 0x1000_0000 + base) % 0x1000_0000
+    let r = (key % 0x1000_0000 + base) % 0x1000_0000;
+    if r == 0 {
+        return base;
+    }
+    r
 }
 
 // Any number is a key; its lowest 28 bits count.

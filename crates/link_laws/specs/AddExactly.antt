@@ -28,7 +28,7 @@ use Rattle.upcoming_symbol.specs.declared.UpcomingSymbol.the-variants.{Null, Gl
 use Rattle.upcoming_symbol.specs.Judge as Upcoming
 use Rattle.upcoming_symbol.specs.Judge.{shownOf, hiddenOf, sectionInRange, elfInRange, externalInRange, inRange}
 use Rattle.upcoming_symbol.specs.Upcoming as Row
-use Rattle.upcoming_symbol.specs.Upcoming.{inSection, convertedOf, undefinedOf, valueOf, elfRowOf, externalRowOf, nameOf}
+use Rattle.upcoming_symbol.specs.Upcoming.{inSection, conversionFrom, convertedOf, undefinedOf, valueOf, elfRowOf, externalRowOf, nameOf}
 use Rattle.symbol_rows.specs.declared.Holder.{Holder}
 use Rattle.symbol_rows.specs.declared.Holder.the-variants.{Unissued, Nobody, Removed, Known}
 use Rattle.symbol_rows.specs.declared.Decision.{Decision}
@@ -116,15 +116,15 @@ Reads sectionless w = w .kind ≡ 14
 Reads (section s) w = (w .kind ≡ 2) × (w .a ≡ s)
 Reads defined w = (leb 13 (w .kind) ≡ false) × (eqb (w .kind) 7 ≡ false) × (eqb (w .kind) 2 ≡ false)
 
-converted-reads : (cell : ℕ) (empty : Bool) (v : ℕ) → Reads (placedAs (conversionIn cell) empty v) (convertedOf cell empty v)
-unfolding convertedOf inSection
+converted-reads : (cell : ℕ) (empty : Bool) (v : ℕ) → Reads (placedAs (conversionIn cell) empty v) (convertedOf (conversionFrom cell) empty v)
+unfolding convertedOf conversionFrom inSection
 converted-reads cell empty v =
     by-test (eqb cell 0) (λ a. rw a refl)
     (λ a.
     by-test (eqb cell 1) (λ b. rw (a, b) (refl, refl, refl))
     (λ b. rw (a, b) (by-test empty (λ c. rw c (by-test (eqb v 0) (λ d. rw d (refl, refl)) (λ d. rw d (refl, refl, refl)))) (λ c. rw c (refl, refl, refl)))))
 
-pub elf-reads : (cell : ℕ) (e : ElfSymbol) (empty : Bool) → Reads (elfValue e (conversionIn cell) empty) (valueOf cell e empty)
+pub elf-reads : (cell : ℕ) (e : ElfSymbol) (empty : Bool) → Reads (elfValue e (conversionIn cell) empty) (valueOf (conversionFrom cell) e empty)
 unfolding valueOf undefinedOf
 elf-reads cell e empty =
     by-test (eqb (e .section) 0) (λ a. rw a (by-test (eqb (e .binding) 2) (λ b. rw b refl) (λ b. rw b refl)))

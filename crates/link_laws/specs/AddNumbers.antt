@@ -20,7 +20,9 @@ use Rattle.upcoming_symbol.specs.declared.ElfSymbol.{ElfSymbol}
 use Rattle.upcoming_symbol.specs.declared.UpcomingSymbol.{UpcomingSymbol}
 use Rattle.upcoming_symbol.specs.declared.UpcomingSymbol.the-variants.{Null, GlobalUnknown, GlobalHidden, Section, ExternallyDefined, Elf}
 use Rattle.upcoming_symbol.specs.Judge.{shownOf, hiddenOf, judgeOf}
-use Rattle.upcoming_symbol.specs.Upcoming.{inSection, convertedOf, undefinedOf, valueOf, elfRowOf, externalRowOf, rowOf}
+use Rattle.upcoming_symbol.specs.declared.Conversion.{Conversion}
+use Rattle.upcoming_symbol.specs.declared.Conversion.the-variants as To
+use Rattle.upcoming_symbol.specs.Upcoming.{inSection, conversionFrom, convertedOf, undefinedOf, valueOf, elfRowOf, externalRowOf, rowOf}
 use Rattle.symbol_rows.specs.declared.Holder.{Holder}
 use Rattle.symbol_rows.specs.declared.Holder.the-variants.{Unissued, Nobody, Removed, Known}
 use Rattle.symbol_rows.specs.declared.Decision.{Decision}
@@ -93,22 +95,23 @@ module _ (In : ℕ → Type 0) (in0 : In 0) (in2 : In 2) (in17 : In 17) (in21 : 
     -- ---- values and types: 13, 14, 15, 16
 
     module _ (in13 : In 13) (in14 : In 14) (in15 : In 15) (in16 : In 16) where
-      judged-valued : (cell : ℕ) (e : ElfSymbol) (empty : Bool) → leb 13 (valueOf cell e empty .kind) ≡ true → In (valueOf cell e empty .kind)
-      unfolding valueOf undefinedOf convertedOf inSection
-      judged-valued cell e empty =
-          pick P (eqb (e .section) 0) _ _ (λ t. pick P (eqb (e .binding) 2) _ _ (λ t e. apart e) (λ t e. apart e))
+      abbrev Valued : Words → Type 0
+      Valued w = leb 13 (w .kind) ≡ true → In (w .kind)
+
+      judged-converted : (c : Conversion) (empty : Bool) (v : ℕ) → Valued (convertedOf c empty v)
+      unfolding convertedOf inSection
+      judged-converted To.Nothing empty v = λ e. in14
+      judged-converted To.NotLoaded empty v = λ e. apart e
+      judged-converted (To.Section id) empty v =
+          pick Valued empty _ _ (λ t. pick Valued (eqb v 0) _ _ (λ t e. apart e) (λ t e. apart e)) (λ t e. apart e)
+
+      judged-valued : (c : Conversion) (e : ElfSymbol) (empty : Bool) → Valued (valueOf c e empty)
+      unfolding valueOf undefinedOf
+      judged-valued c e empty =
+          pick Valued (eqb (e .section) 0) _ _ (λ t. pick Valued (eqb (e .binding) 2) _ _ (λ t e. apart e) (λ t e. apart e))
           (λ t.
-          pick P (eqb (e .section) 0xfff1) _ _ (λ t e. apart e)
-          (λ t.
-          pick P (eqb (e .section) 0xfff2) _ _ (λ t e. in13)
-          (λ t.
-          pick P (eqb cell 0) _ _ (λ t e. in14)
-          (λ t.
-          pick P (eqb cell 1) _ _ (λ t e. apart e)
-          (λ t. pick P empty _ _ (λ t. pick P (eqb (e .value) 0) _ _ (λ t e. apart e) (λ t e. apart e)) (λ t e. apart e))))))
-        where
-          P : Words → Type 0
-          P w = leb 13 (w .kind) ≡ true → In (w .kind)
+          pick Valued (eqb (e .section) 0xfff1) _ _ (λ t e. apart e)
+          (λ t. pick Valued (eqb (e .section) 0xfff2) _ _ (λ t e. in13) (λ t. judged-converted c empty (e .value))))
 
       typed-numbers : (k : ℕ) → In (typeRefusal k)
       unfolding typeRefusal
@@ -135,6 +138,6 @@ module _ (In : ℕ → Type 0) (in0 : In 0) (in2 : In 2) (in17 : In 17) (in21 : 
       upcoming-fields conversion (Elf elf name file) empty =
           record {
             shown = judged-shown (elf .binding) (elf .visibility);
-            valued = judged-valued (getD conversion (elf .section) 0) elf empty;
+            valued = judged-valued (conversionFrom (getD conversion (elf .section) 0)) elf empty;
             typed = typed-numbers (elf .kind);
           }

@@ -17,7 +17,7 @@ use Rattle.interner.specs.Names.{storeOf, findOf, fitsOf, keepOf}
 use Rattle.symbol.specs.declared.Row.{Row}
 use Rattle.symbol.specs.Row.{field, visibilityCodeAt}
 use Rattle.upcoming_symbol.specs.declared.ElfSymbol.{ElfSymbol}
-use Rattle.upcoming_symbol.specs.Upcoming.{elfRowOf}
+use Rattle.upcoming_symbol.specs.Upcoming.{conversionFrom, elfRowOf}
 use Rattle.symbol_rows.specs.declared.Decision.{Decision}
 use Rattle.symbol_rows.specs.declared.Decision.the-variants.{Refuse, Nothing, Keep}
 use Rattle.symbol_rows.specs.declared.Holder.{Holder}
@@ -137,7 +137,7 @@ module _ (d : Tabled) (work : List ℕ) where
     plan-cell x c z =
         let id = findOf (s .bytes) (s .names) (s .stage .link) x in
         let e = filteredAt (d .entries) work i in
-        let r = elfRowOf (cellAt work (e .section) 0) e (record { 0 = id }) (eqb (length x) 0) (s .stage .file) in
+        let r = elfRowOf (conversionFrom (cellAt work (e .section) 0)) e (record { 0 = id }) (eqb (length x) 0) (s .stage .file) in
         by-test (fitsOf (storeOf (s .bytes) (s .names) (s .stage .link)) (r .name) (length x))
         (λ f. rw f (rule-cell (s .stage .link) (s .names) (s .symbols) (s .sections) i c (eqb (length x) 0) e r (rw f at z)))
         (λ f. let q : _≡_ {A = ℕ} 2 0 = rw f at z in absurd (omega arith))

@@ -19,7 +19,7 @@ use Rattle.interner_laws.specs.Find.{found, find-low}
 use Rattle.symbol.specs.declared.Row.{Row}
 use Rattle.symbol.specs.declared.SttFile.the-variants as File
 use Rattle.upcoming_symbol.specs.declared.ElfSymbol.{ElfSymbol}
-use Rattle.upcoming_symbol.specs.Upcoming.{elfRowOf}
+use Rattle.upcoming_symbol.specs.Upcoming.{conversionFrom, elfRowOf}
 use Rattle.symbol_rows.specs.declared.Decision.{Decision}
 use Rattle.symbol_rows.specs.declared.Decision.the-variants.{Nothing, Keep}
 use Rattle.symbol_rows.specs.Holder.{holderOf}
@@ -167,7 +167,7 @@ module _ (d : Tabled) (work : List ℕ) (s : Symbols.State) (i : ℕ) (c : Chain
   -- a symbol that is added, under the id that its name has or gets
   module _ (e : ElfSymbol) (id cell file : ℕ) (empty : Bool) where
     abbrev row : Row
-    row = elfRowOf cell e (record { 0 = id }) empty file
+    row = elfRowOf (conversionFrom cell) e (record { 0 = id }) empty file
 
     abbrev want : Asked
     want = elfAsked e id File.None (conversionIn cell) empty

@@ -20,6 +20,7 @@ use Rattle.gabi.specs.SymbolTable.{Sym}
 use Rattle.gabi.specs.Resolution.{duplicate, resolve}
 use Rattle.interner.specs.Names.{fitsOf, findOf}
 use Rattle.symbol.specs.declared.Row.{Row}
+use Rattle.upcoming_symbol.specs.declared.Conversion.the-variants as To
 use Rattle.upcoming_symbol.specs.Upcoming.{externalRowOf}
 use Rattle.symbol_rows.specs.declared.Decision.{Decision}
 use Rattle.symbol_rows.specs.Decide.{refusalOf}
@@ -157,7 +158,7 @@ module _ (o : Input) (a : All) where
   pub row-means : (i : ℕ) → Adds i → rowTo i .visibility ≢ 0 → leb 5 (rowTo i .visibility) ≡ false → Means (rowTo i) (symOf (elfAt (o .entries) i))
   unfolding planOf externalOf rowedOf
   row-means i is z p =
-      external-means 0 (elfAt (o .entries) i) (idOf (tableTo i) (symbolName (o .entries) (o .file) i .name)) false 0 (is .defines) z p
+      external-means To.Nothing (elfAt (o .entries) i) (idOf (tableTo i) (symbolName (o .entries) (o .file) i .name)) false 0 (is .defines) z p
 
   module _ (past : List Entry) (inv : Inv (tableIn a) past) (i : ℕ) where
     kept-to : Inv (tableTo i) (pastTo past i)

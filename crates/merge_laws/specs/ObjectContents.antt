@@ -23,7 +23,7 @@ use Rattle.symbol.specs.declared.SymbolValue.the-variants as Val
 use Rattle.symbol.specs.Codes.{typeAt, visibilityAt, valueAt, successor}
 use Rattle.symbol_rows.specs.Decide.{refusalOf}
 use Rattle.symbol_rows.specs.Holder.{holderOf}
-use Rattle.upcoming_symbol.specs.Upcoming.{inSection, convertedOf, undefinedOf, valueOf, elfRowOf}
+use Rattle.upcoming_symbol.specs.Upcoming.{inSection, conversionFrom, convertedOf, undefinedOf, valueOf, elfRowOf}
 use Rattle.elf_object.specs.Rows as Elf
 use Rattle.elf_object.specs.Rows.{rowsIn, field, conversionAt, markAt, tableEntries, entriesFrom, sectionOf}
 use Rattle.section_groups.specs.Filter.{sectionAfter}
@@ -189,8 +189,8 @@ module _ (o : Object) (a : All) (head : headIn o a .number ≡ 0) (goes : reserv
   id-small r h =
       omega (arith, noted o a head goes .counted, reserve-full o a head goes, few (reserved o a .reserved .link .slots), rowed-own headers sec rows r h)
 
-  converted-value : sec ≢ shnUndef → ltb sec 0xff00 && gone ≡ false → leb 13 (convertedOf (conversionAt work sec) empty (field t i 5) .kind) ≡ false → Value (valueAt (convertedOf (conversionAt work sec) empty (field t i 5)))
-  unfolding convertedOf conversionOf valueAt
+  converted-value : sec ≢ shnUndef → ltb sec 0xff00 && gone ≡ false → leb 13 (convertedOf (conversionFrom (conversionAt work sec)) empty (field t i 5) .kind) ≡ false → Value (valueAt (convertedOf (conversionFrom (conversionAt work sec)) empty (field t i 5)))
+  unfolding convertedOf conversionFrom conversionOf valueAt
   converted-value n stays p =
       let (j, h, e) = entry-in headers (o .entries) (reserved o a .reserved .table) i low in
       by-test (ltb sec rows)
@@ -218,7 +218,7 @@ module _ (o : Object) (a : All) (head : headIn o a .number ≡ 0) (goes : reserv
 
   -- the value of the row: of an entry whose section is the one that the filter leaves
   abbrev words : Words
-  words = valueOf (conversionAt work after) (filteredAt t work i) empty
+  words = valueOf (conversionFrom (conversionAt work after)) (filteredAt t work i) empty
 
   value-is : leb 13 (words .kind) ≡ false → Value (valueAt words)
   unfolding valueOf valueAt

@@ -21,7 +21,9 @@ use Rattle.symbol.specs.declared.Words.{Words}
 use Rattle.symbol.specs.Row.{field, visibilityCodeAt}
 use Rattle.upcoming_symbol.specs.declared.ElfSymbol.{ElfSymbol}
 use Rattle.upcoming_symbol.specs.Judge.{shownOf, hiddenOf, judgeOf}
-use Rattle.upcoming_symbol.specs.Upcoming.{inSection, convertedOf, undefinedOf, valueOf, elfRowOf}
+use Rattle.upcoming_symbol.specs.declared.Conversion.{Conversion}
+use Rattle.upcoming_symbol.specs.declared.Conversion.the-variants as To
+use Rattle.upcoming_symbol.specs.Upcoming.{inSection, conversionFrom, convertedOf, undefinedOf, valueOf, elfRowOf}
 use Rattle.symbol_rows.specs.declared.Holder.{Holder}
 use Rattle.symbol_rows.specs.declared.Holder.the-variants.{Unissued, Nobody, Removed, Known}
 use Rattle.symbol_rows.specs.declared.Decision.{Decision}
@@ -242,32 +244,33 @@ fields-more xs ys r f =
 abbrev Judged : ℕ → Type 0
 Judged = JudgedIn newNumbers
 
-judged-valued : (cell : ℕ) (e : ElfSymbol) (empty : Bool) → leb 13 (valueOf cell e empty .kind) ≡ true → Judged (valueOf cell e empty .kind)
-unfolding valueOf undefinedOf convertedOf inSection
-judged-valued cell e empty =
-    pick P (eqb (e .section) 0) _ _ (λ t. pick P (eqb (e .binding) 2) _ _ (λ t e. apart e) (λ t e. apart e))
+abbrev Valued : Words → Type 0
+Valued w = leb 13 (w .kind) ≡ true → Judged (w .kind)
+
+judged-converted : (c : Conversion) (empty : Bool) (v : ℕ) → Valued (convertedOf c empty v)
+unfolding convertedOf inSection
+judged-converted To.Nothing empty v = λ e u w. refl
+judged-converted To.NotLoaded empty v = λ e. apart e
+judged-converted (To.Section id) empty v =
+    pick Valued empty _ _ (λ t. pick Valued (eqb v 0) _ _ (λ t e. apart e) (λ t e. apart e)) (λ t e. apart e)
+
+judged-valued : (c : Conversion) (e : ElfSymbol) (empty : Bool) → Valued (valueOf c e empty)
+unfolding valueOf undefinedOf
+judged-valued c e empty =
+    pick Valued (eqb (e .section) 0) _ _ (λ t. pick Valued (eqb (e .binding) 2) _ _ (λ t e. apart e) (λ t e. apart e))
     (λ t.
-    pick P (eqb (e .section) 0xfff1) _ _ (λ t e. apart e)
-    (λ t.
-    pick P (eqb (e .section) 0xfff2) _ _ (λ t e u w. refl)
-    (λ t.
-    pick P (eqb cell 0) _ _ (λ t e u w. refl)
-    (λ t.
-    pick P (eqb cell 1) _ _ (λ t e. apart e)
-    (λ t. pick P empty _ _ (λ t. pick P (eqb (e .value) 0) _ _ (λ t e. apart e) (λ t e. apart e)) (λ t e. apart e))))))
-  where
-    P : Words → Type 0
-    P w = leb 13 (w .kind) ≡ true → Judged (w .kind)
+    pick Valued (eqb (e .section) 0xfff1) _ _ (λ t e. apart e)
+    (λ t. pick Valued (eqb (e .section) 0xfff2) _ _ (λ t e u w. refl) (λ t. judged-converted c empty (e .value))))
 
 judged-typed : (k : ℕ) → eqb k 4 ≡ false → Judged (typeRefusal k)
 unfolding typeRefusal
 judged-typed k e =
     pick Judged (ltb k 4) _ _ (λ t u w. absurd (u refl)) (λ t. pick Judged (eqb k 4) _ _ (λ t. apart (sym e ∙ t)) (λ t u w. refl))
 
-fields : (cell : ℕ) (e : ElfSymbol) (id : Interned) (empty : Bool) (file : ℕ) → eqb (e .kind) 4 ≡ false → Fields newNumbers (elfRowOf cell e id empty file)
+fields : (c : Conversion) (e : ElfSymbol) (id : Interned) (empty : Bool) (file : ℕ) → eqb (e .kind) 4 ≡ false → Fields newNumbers (elfRowOf c e id empty file)
 unfolding elfRowOf
-fields cell e id empty file k =
-    record { shown = judged-shown newNumbers refl refl refl (e .binding) (e .visibility); valued = judged-valued cell e empty; typed = judged-typed (e .kind) k }
+fields c e id empty file k =
+    record { shown = judged-shown newNumbers refl refl refl (e .binding) (e .visibility); valued = judged-valued c e empty; typed = judged-typed (e .kind) k }
 
 module _ (v : View) (o : Input) (x : List ℕ) (i file : ℕ) where
   abbrev e : ElfSymbol
@@ -277,7 +280,7 @@ module _ (v : View) (o : Input) (x : List ℕ) (i file : ℕ) where
   id = record { 0 = findOf (v .bytes) (v .names) (v .link) x }
 
   abbrev row : Row
-  row = elfRowOf (conversionAt (o .work) (e .section)) e id (eqb (length x) 0) file
+  row = elfRowOf (conversionFrom (conversionAt (o .work) (e .section))) e id (eqb (length x) 0) file
 
   -- whatever holds of a decision on a row under a name, but of type 4
   planned-decided : (numbers : List ℕ)
@@ -294,7 +297,7 @@ module _ (v : View) (o : Input) (x : List ℕ) (i file : ℕ) where
       (λ t u w. absurd (w refl))
 
   pub row-fields : eqb (e .kind) 4 ≡ false → Fields newNumbers row
-  row-fields k = fields (conversionAt (o .work) (e .section)) e id (eqb (length x) 0) file k
+  row-fields k = fields (conversionFrom (conversionAt (o .work) (e .section))) e id (eqb (length x) 0) file k
 
   planned-numbers : DecidedIn (newNumbers ++ knownNumbers) (plannedOf v o x i file .decision)
   planned-numbers =

@@ -17,7 +17,7 @@ use Rattle.gabi.specs.Resolution.{duplicate, resolve}
 use Rattle.interner.specs.Names.{fitsOf}
 use Rattle.symbol.specs.declared.Row.{Row}
 use Rattle.upcoming_symbol.specs.declared.ElfSymbol.{ElfSymbol}
-use Rattle.upcoming_symbol.specs.Upcoming.{elfRowOf}
+use Rattle.upcoming_symbol.specs.Upcoming.{conversionFrom, elfRowOf}
 use Rattle.symbol_rows.specs.declared.Decision.{Decision}
 use Rattle.symbol_rows.specs.Decide.{refusalOf}
 use Rattle.elf_object.specs.Rows.{rowsIn, conversionAt}
@@ -185,7 +185,7 @@ module _ (o : Object) (a : All) where
   unfolding plannedOf readOf rowedOf
   row-means i z p =
       let x : List ℕ = nameOf (symbolReader o a) i .name in
-      elf-means (conversionAt (marked o a .work) (entryTo i .section)) (entryTo i) (idOf (tableTo i) x) (eqb (length x) 0) (symbolsTo o a i .stage .file) z p
+      elf-means (conversionFrom (conversionAt (marked o a .work) (entryTo i .section))) (entryTo i) (idOf (tableTo i) x) (eqb (length x) 0) (symbolsTo o a i .stage .file) z p
 
   -- its name is found, and it is to be added: it is neither the first symbol, nor a file's, nor of a section that defines a group
   pub record Adds (i : ℕ) : Type 0 where

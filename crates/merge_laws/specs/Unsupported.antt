@@ -13,6 +13,7 @@ use Rattle.symbol_rows.specs.declared.Holder.the-variants.{Nobody}
 use Rattle.symbol_rows.specs.Decide as Symbols
 use Rattle.symbol_rows.specs.Decide.{typeRefusal, sectionRoom, newOf, decideOf}
 use Rattle.upcoming_symbol.specs.Judge.{shownOf, hiddenOf, judgeOf}
+use Rattle.upcoming_symbol.specs.declared.Conversion.the-variants as To
 use Rattle.upcoming_symbol.specs.Upcoming.{inSection, convertedOf, undefinedOf, valueOf, elfRowOf}
 use Rattle.elf_object.specs.Rows.{isExcluded}
 use Rattle.sections.specs.Rows as Sections
@@ -29,7 +30,7 @@ abbrev pub symbol : ℕ → ℕ → ℕ → ℕ → ℕ
 symbol b v k s =
     Symbols.refusalOf
     (decideOf link (replicate {A = ℕ} 16 0) []
-    (elfRowOf 3 (record { binding = b; visibility = v; kind = k; section = s; value = 0 }) (record { 0 = 0 }) false 0) Nobody)
+    (elfRowOf (To.Section (record { 0 = 1 })) (record { binding = b; visibility = v; kind = k; section = s; value = 0 }) (record { 0 = 0 }) false 0) Nobody)
 
 -- to a group with these flags (8 is COMDAT) and so many sections; its signature is symbol 0 of table 1
 abbrev pub group : ℕ → ℕ → ℕ

@@ -11,7 +11,7 @@ use Rattle.interner.specs.Names.{storeOf, findOf, fitsOf}
 use Rattle.symbol.specs.declared.Row.{Row}
 use Rattle.symbol.specs.Codes.{successor}
 use Rattle.upcoming_symbol.specs.declared.ElfSymbol.{ElfSymbol}
-use Rattle.upcoming_symbol.specs.Upcoming.{elfRowOf}
+use Rattle.upcoming_symbol.specs.Upcoming.{conversionFrom, elfRowOf}
 use Rattle.symbol_rows.specs.declared.Decision.{Decision}
 use Rattle.symbol_rows.specs.declared.Decision.the-variants.{Refuse, Nothing, Keep}
 use Rattle.symbol_rows.specs.Holder.{holderOf}
@@ -77,7 +77,7 @@ unfoldable pub rowedOf : View → Input → List ℕ → ℕ → Interned → El
 rowedOf v o x i id e r = planned id e r (judgedOf v (o .work) i (length x) e r)
 
 unfoldable pub readOf : View → Input → List ℕ → ℕ → ℕ → Interned → ElfSymbol → Planned
-readOf v o x i file id e = rowedOf v o x i id e (elfRowOf (conversionAt (o .work) (e .section)) e id (eqb (length x) 0) file)
+readOf v o x i file id e = rowedOf v o x i id e (elfRowOf (conversionFrom (conversionAt (o .work) (e .section))) e id (eqb (length x) 0) file)
 
 -- the name's id, known or to come; the row that the symbol would become; the decision
 unfoldable pub plannedOf : View → Input → List ℕ → ℕ → ℕ → Planned

@@ -13,7 +13,8 @@ use Rattle.interner.specs.Names.{storeOf, findOf, fitsOf}
 use Rattle.symbol.specs.declared.Row.{Row}
 use Rattle.symbol.specs.Codes.{successor}
 use Rattle.upcoming_symbol.specs.declared.ElfSymbol.{ElfSymbol}
-use Rattle.upcoming_symbol.specs.Upcoming.{elfRowOf}
+use Rattle.upcoming_symbol.specs.declared.Conversion.{Conversion}
+use Rattle.upcoming_symbol.specs.Upcoming.{conversionFrom, elfRowOf}
 use Rattle.symbol_rows.specs.declared.Holder.{Holder}
 use Rattle.symbol_rows.specs.declared.Decision.{Decision}
 use Rattle.symbol_rows.specs.declared.Decision.the-variants.{Refuse, Nothing, Keep}
@@ -95,12 +96,12 @@ module _ (v : View) (work : List ℕ) (i n : ℕ) (e : ElfSymbol) (r : Row) (t :
   unfolding judgedOf
   judged-fits f g q = simp (q, ← f, g)
 
-pub planned-done : (v : View) (o : Input) (x : List ℕ) (i file id cell : ℕ) (e : ElfSymbol) (r : Row) (d : Decision) (t : Planned)
+pub planned-done : (v : View) (o : Input) (x : List ℕ) (i file id cell : ℕ) (e : ElfSymbol) (c : Conversion) (r : Row) (d : Decision) (t : Planned)
     → id ≡ findOf (v .bytes) (v .names) (v .link) x → e ≡ filteredAt (o .entries) (o .work) i → cell ≡ getD (o .work) (e .section * 8 + 0) 0
-    → r ≡ elfRowOf cell e (record { 0 = id }) (eqb (length x) 0) file → d ≡ judgedOf v (o .work) i (length x) e r
+    → c ≡ conversionFrom cell → r ≡ elfRowOf c e (record { 0 = id }) (eqb (length x) 0) file → d ≡ judgedOf v (o .work) i (length x) e r
     → t ≡ planned (record { 0 = id }) e r d → t ≡ plannedOf v o x i file
 unfolding plannedOf readOf rowedOf
-planned-done v o x i file id cell e r d t a b c f g q = simp (q, g, f, c, b, ← a)
+planned-done v o x i file id cell e c r d t a b h k f g q = simp (q, g, f, k, h, b, ← a)
 
 module _ (number : ℕ) (id : Interned) (i t : ℕ) where
   pub place-name : number ≡ 21 → t ≡ id .0 → t ≡ placeOf number id i

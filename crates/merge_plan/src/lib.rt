@@ -130,7 +130,8 @@ pub fn plan_symbol(
     let id = interner::find(l, bytes, names, x);
     let e = filtered_at(entries, work, i);
     let cell = cells::row_get(work, e.section as usize, 0);
-    let row = upcoming_row::elf_row(cell, e, id, x.len() == 0, file);
+    let c = upcoming_symbol::conversion_from(cell);
+    let row = upcoming_row::elf_row(c, e, id, x.len() == 0, file);
     let decision = judged(l, bytes, names, symbols, sections, work, i, x.len(), e, row);
     Planned {
         id: id,

@@ -1,4 +1,6 @@
 // An archive as a list tells it: its System V index in lent bytes, put together from entries or told whole; and what a walk over it answers.
+ghost use mathlib.Core.Path.{_≡_};
+ghost use Rattle.replay_archive.specs.Index.{toldAs, putByte, putWord, offsetPlace, announceOf, named, entryOf, indexOf};
 use archive_walk::Offer;
 
 // The length of the index so far, 0 for an archive without one; entries told so far; the entry by which a member was offered last, its
@@ -11,14 +13,18 @@ pub struct Archive {
 
 // ---- the index
 
-fn put_byte(file: &mut [u8], i: usize, v: u64) {
+fn put_byte(file: &mut [u8], i: usize, v: u64)
+    ensures { λ _. ⌜ now (file .exit) ≡ putByte (now (file .entry)) i v ⌝ }
+{
     if i < file.len() {
         file[i] = (v % 256) as u8;
     }
 }
 
 // 32 bits, big-endian.
-fn put_word(file: &mut [u8], i: usize, v: u64) {
+fn put_word(file: &mut [u8], i: usize, v: u64)
+    ensures { λ _. ⌜ now (file .exit) ≡ putWord (now (file .entry)) i v ⌝ }
+{
     put_byte(file, i, v / 16777216);
     put_byte(file, std::num::wrapping_add_usize(i, 1), v / 65536);
     put_byte(file, std::num::wrapping_add_usize(i, 2), v / 256);
@@ -26,7 +32,9 @@ fn put_word(file: &mut [u8], i: usize, v: u64) {
 }
 
 // The place of offset k in an index; 65,535 entries at most.
-fn offset_place(k: usize) -> usize {
+fn offset_place(k: usize) -> usize
+    ensures { λ r. ⌜ r ≡ offsetPlace k ⌝ }
+{
     if k < 65535 {
         return 4 + 4 * k;
     }
@@ -34,7 +42,9 @@ fn offset_place(k: usize) -> usize {
 }
 
 // `archive HASINDEX COUNT`
-pub fn announce(file: &mut [u8], at: usize, line: &[u8]) -> Archive {
+pub fn announce(file: &mut [u8], at: usize, line: &[u8]) -> Archive
+    ensures { λ r. ⌜ toldAs (now (file .exit)) r ≡ announceOf (now (file .entry)) at (now (line .entry)) ⌝ }
+{
     if replay_words::is(line, 1, b"1") {
         let count = replay_words::number(line, 2);
         put_word(file, at, count);
@@ -51,15 +61,10 @@ pub fn announce(file: &mut [u8], at: usize, line: &[u8]) -> Archive {
     }
 }
 
-// `entry OFFSET NAME`
-pub fn entry(file: &mut [u8], at: usize, a: Archive, line: &[u8]) -> Archive {
-    if a.length == 0 {
-        return a;
-    }
-    let place = std::num::wrapping_add_usize(at, offset_place(a.entries));
-    put_word(file, place, replay_words::number(line, 1));
-    let name = replay_words::name_at(line, 2);
-    let start = std::num::wrapping_add_usize(at, a.length);
+// A name and its zero byte behind what is told.
+fn put_entry_name(file: &mut [u8], start: usize, a: Archive, name: &[u8]) -> Archive
+    ensures { λ r. ⌜ toldAs (now (file .exit)) r ≡ named (now (file .entry)) start a (now (name .entry)) ⌝ }
+{
     byte_slices::copy_in(file, start, name);
     put_byte(file, std::num::wrapping_add_usize(start, name.len()), 0);
     let longer = std::num::wrapping_add_usize(a.length, name.len());
@@ -70,8 +75,23 @@ pub fn entry(file: &mut [u8], at: usize, a: Archive, line: &[u8]) -> Archive {
     }
 }
 
+// `entry OFFSET NAME`
+pub fn entry(file: &mut [u8], at: usize, a: Archive, line: &[u8]) -> Archive
+    ensures { λ r. ⌜ toldAs (now (file .exit)) r ≡ entryOf (now (file .entry)) at a (now (line .entry)) ⌝ }
+{
+    if a.length == 0 {
+        return a;
+    }
+    let place = std::num::wrapping_add_usize(at, offset_place(a.entries));
+    put_word(file, place, replay_words::number(line, 1));
+    let start = std::num::wrapping_add_usize(at, a.length);
+    put_entry_name(file, start, a, replay_words::name_at(line, 2))
+}
+
 // `index BYTES`
-pub fn told(file: &mut [u8], at: usize, a: Archive, line: &[u8]) -> Archive {
+pub fn told(file: &mut [u8], at: usize, a: Archive, line: &[u8]) -> Archive
+    ensures { λ r. ⌜ toldAs (now (file .exit)) r ≡ indexOf (now (file .entry)) at a (now (line .entry)) ⌝ }
+{
     Archive {
         length: replay_words::put_bytes(file, at, text_fields::field(line, 1)),
         entries: a.entries,

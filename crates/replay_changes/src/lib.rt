@@ -1,4 +1,8 @@
 // Direct calls that a list makes on a symbol table, and what they answer.
+ghost use mathlib.Core.Path.{_≡_};
+ghost use Rattle.text_lines.specs.Text.{textOf};
+ghost use Rattle.replay_text.specs.Answers.{putAll};
+ghost use Rattle.replay_changes.specs.Answers.{replyText, foundText, sectionSymbolText, brokenText, pairText, endText, frontText, backText, countsText, lookText};
 use link::Interned;
 use link::Link;
 use link::Refusal;
@@ -347,7 +351,9 @@ pub fn change(
     )
 }
 
-pub fn put_reply(out: &mut [u8], r: Reply) -> usize {
+pub fn put_reply(out: &mut [u8], r: Reply) -> usize
+    ensures { λ k. ⌜ textOf (now (out .exit)) k ≡ putAll (textOf (now (out .entry)) 0) (replyText r) ⌝ }
+{
     match r {
         Reply::Silent => 0,
         Reply::Id { id } => replay_text::put_numbered(out, 0, b"id ", id.0 as u64),
@@ -361,36 +367,68 @@ pub fn put_reply(out: &mut [u8], r: Reply) -> usize {
 
 // ---- lookups
 
-fn put_found(out: &mut [u8], bytes: &[u8], names: &[u64], f: Found) -> usize {
+fn put_found(out: &mut [u8], bytes: &[u8], names: &[u64], f: Found) -> usize
+    ensures { λ k. ⌜ textOf (now (out .exit)) k ≡ putAll (textOf (now (out .entry)) 0) (foundText (now (bytes .entry)) (now (names .entry)) f) ⌝ }
+{
     match f {
         Found::Row { symbol } => replay_text::put_symbol(out, 0, bytes, names, symbol),
         Found::Refused { refusal } => replay_text::put_refusal(out, 0, refusal),
     }
 }
 
-fn put_section_symbol(out: &mut [u8], s: SectionSymbol) -> usize {
+fn put_section_symbol(out: &mut [u8], s: SectionSymbol) -> usize
+    ensures { λ k. ⌜ textOf (now (out .exit)) k ≡ putAll (textOf (now (out .entry)) 0) (sectionSymbolText s) ⌝ }
+{
     match s {
         SectionSymbol::None => text_out::put(out, 0, b"none"),
         SectionSymbol::Symbol { id } => replay_text::put_numbered(out, 0, b"id ", id.0 as u64),
     }
 }
 
-fn put_broken(out: &mut [u8], n: usize, broken: bool) -> usize {
+fn put_broken(out: &mut [u8], n: usize, broken: bool) -> usize
+    ensures { λ k. ⌜ textOf (now (out .exit)) k ≡ putAll (textOf (now (out .entry)) n) (brokenText broken) ⌝ }
+{
     if broken {
         return text_out::put(out, n, b" 1");
     }
     text_out::put(out, n, b" 0")
 }
 
-// `counts NAMES BYTES SYMBOLS SECTIONS INPUTS LISTS BROKEN`
-fn put_counts(out: &mut [u8], l: Link) -> usize {
+fn put_pair(out: &mut [u8], n: usize, a: usize, b: usize) -> usize
+    ensures { λ k. ⌜ textOf (now (out .exit)) k ≡ putAll (textOf (now (out .entry)) n) (pairText a b) ⌝ }
+{
+    let m = replay_text::put_numbered(out, n, b" ", a as u64);
+    replay_text::put_numbered(out, m, b" ", b as u64)
+}
+
+fn put_end(out: &mut [u8], n: usize, lists: usize, broken: bool) -> usize
+    ensures { λ k. ⌜ textOf (now (out .exit)) k ≡ putAll (textOf (now (out .entry)) n) (endText lists broken) ⌝ }
+{
+    let m = replay_text::put_numbered(out, n, b" ", lists as u64);
+    put_broken(out, m, broken)
+}
+
+// `counts NAMES BYTES SYMBOLS`
+fn put_front(out: &mut [u8], l: Link) -> usize
+    ensures { λ k. ⌜ textOf (now (out .exit)) k ≡ putAll (textOf (now (out .entry)) 0) (frontText l) ⌝ }
+{
     let names = replay_text::put_numbered(out, 0, b"counts ", l.names as u64);
-    let bytes = replay_text::put_numbered(out, names, b" ", l.bytes as u64);
-    let symbols = replay_text::put_numbered(out, bytes, b" ", l.symbols as u64);
-    let sections = replay_text::put_numbered(out, symbols, b" ", l.sections as u64);
-    let inputs = replay_text::put_numbered(out, sections, b" ", l.inputs as u64);
-    let lists = replay_text::put_numbered(out, inputs, b" ", l.lists as u64);
-    put_broken(out, lists, l.broken)
+    put_pair(out, names, l.bytes, l.symbols)
+}
+
+// ` SECTIONS INPUTS LISTS BROKEN`
+fn put_back(out: &mut [u8], n: usize, l: Link) -> usize
+    ensures { λ k. ⌜ textOf (now (out .exit)) k ≡ putAll (textOf (now (out .entry)) n) (backText l) ⌝ }
+{
+    let inputs = put_pair(out, n, l.sections, l.inputs);
+    put_end(out, inputs, l.lists, l.broken)
+}
+
+fn put_counts(out: &mut [u8], l: Link) -> usize
+    ensures { λ k. ⌜ textOf (now (out .exit)) k ≡ putAll (textOf (now (out .entry)) 0) (countsText l) ⌝ }
+{
+    let n = put_front(out, l);
+    put_back(out, n, l)
 }
 
 // `counts`, `get ID`, `global NAME`, `sectionsymbol SECTION`
@@ -402,7 +440,9 @@ pub fn look(
     symbols: &[u64],
     sections: &[u64],
     line: &[u8],
-) -> usize {
+) -> usize
+    ensures { λ k. ⌜ textOf (now (out .exit)) k ≡ putAll (textOf (now (out .entry)) 0) (lookText (table .link) (now (bytes .entry)) (now (names .entry)) (now (symbols .entry)) (now (sections .entry)) (now (line .entry))) ⌝ }
+{
     if replay_words::is(line, 0, b"counts") {
         return put_counts(out, table.link);
     }

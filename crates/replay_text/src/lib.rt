@@ -1,4 +1,7 @@
 // For programs that replay the oracle's lists: answers as the lists write them.
+ghost use mathlib.Core.Path.{_≡_};
+ghost use Rattle.text_lines.specs.Text.{textOf};
+ghost use Rattle.replay_text.specs.Answers.{putAll, numbered, refusalText, nameText, signedText, valueText, flagged, visibilityText, typeText, kindText, fileText, headText, symbolText};
 use link::Interned;
 use link::Refusal;
 use symbol::SttFile;
@@ -7,17 +10,23 @@ use symbol::SymbolType;
 use symbol::SymbolValue;
 use symbol::SymbolVisibility;
 
-pub fn put_numbered(buf: &mut [u8], n: usize, word: &[u8], v: u64) -> usize {
+pub fn put_numbered(buf: &mut [u8], n: usize, word: &[u8], v: u64) -> usize
+    ensures { λ r. ⌜ textOf (now (buf .exit)) r ≡ putAll (textOf (now (buf .entry)) n) (numbered (now (word .entry)) v) ⌝ }
+{
     let k = text_out::put(buf, n, word);
     text_out::put_decimal(buf, k, v)
 }
 
-pub fn put_refusal(buf: &mut [u8], n: usize, r: Refusal) -> usize {
+pub fn put_refusal(buf: &mut [u8], n: usize, r: Refusal) -> usize
+    ensures { λ k. ⌜ textOf (now (buf .exit)) k ≡ putAll (textOf (now (buf .entry)) n) (refusalText r) ⌝ }
+{
     let k = put_numbered(buf, n, b"refused ", r.number);
     put_numbered(buf, k, b" ", r.place)
 }
 
-pub fn put_name(buf: &mut [u8], n: usize, bytes: &[u8], names: &[u64], id: Interned) -> usize {
+pub fn put_name(buf: &mut [u8], n: usize, bytes: &[u8], names: &[u64], id: Interned) -> usize
+    ensures { λ r. ⌜ textOf (now (buf .exit)) r ≡ putAll (textOf (now (buf .entry)) n) (nameText (now (bytes .entry)) (now (names .entry)) (id .0)) ⌝ }
+{
     let name = interner::name_of(bytes, names, id);
     if name.len() == 0 {
         return text_out::put(buf, n, b"-");
@@ -25,22 +34,26 @@ pub fn put_name(buf: &mut [u8], n: usize, bytes: &[u8], names: &[u64], id: Inter
     text_out::put(buf, n, name)
 }
 
-fn put_offset(buf: &mut [u8], n: usize, offset: i64) -> usize {
-    let word = symbol::word_of(offset);
-    if offset < 0 {
-        return put_numbered(buf, n, b" - ", std::num::wrapping_sub_u64(0, word));
+// An offset, by its word.
+fn put_offset(buf: &mut [u8], n: usize, word: u64) -> usize
+    ensures { λ r. ⌜ textOf (now (buf .exit)) r ≡ putAll (textOf (now (buf .entry)) n) (signedText word) ⌝ }
+{
+    if word < 0x8000_0000_0000_0000 {
+        return put_numbered(buf, n, b" + ", word);
     }
-    put_numbered(buf, n, b" + ", word)
+    put_numbered(buf, n, b" - ", 0xffff_ffff_ffff_ffff - word + 1)
 }
 
-fn put_value(buf: &mut [u8], n: usize, v: SymbolValue) -> usize {
+fn put_value(buf: &mut [u8], n: usize, v: SymbolValue) -> usize
+    ensures { λ r. ⌜ textOf (now (buf .exit)) r ≡ putAll (textOf (now (buf .entry)) n) (valueText v) ⌝ }
+{
     match v {
         SymbolValue::Null => text_out::put(buf, n, b" null"),
         SymbolValue::Absolute { value } => put_numbered(buf, n, b" abs ", value),
         SymbolValue::Section { section } => put_numbered(buf, n, b" sec ", section.0 as u64),
         SymbolValue::SectionRelative { section, offset } => {
             let k = put_numbered(buf, n, b" rel ", section.0 as u64);
-            put_offset(buf, k, offset)
+            put_offset(buf, k, symbol::word_of(offset))
         }
         SymbolValue::SectionVirtualAddress { section, address } => {
             let k = put_numbered(buf, n, b" addr ", section.0 as u64);
@@ -57,7 +70,9 @@ fn put_value(buf: &mut [u8], n: usize, v: SymbolValue) -> usize {
     }
 }
 
-fn put_flagged(buf: &mut [u8], n: usize, word: &[u8], flag: bool) -> usize {
+fn put_flagged(buf: &mut [u8], n: usize, word: &[u8], flag: bool) -> usize
+    ensures { λ r. ⌜ textOf (now (buf .exit)) r ≡ putAll (textOf (now (buf .entry)) n) (flagged (now (word .entry)) flag) ⌝ }
+{
     let k = text_out::put(buf, n, word);
     if flag {
         return text_out::put(buf, k, b"1");
@@ -66,7 +81,9 @@ fn put_flagged(buf: &mut [u8], n: usize, word: &[u8], flag: bool) -> usize {
 }
 
 // Class and hidden.
-fn put_visibility(buf: &mut [u8], n: usize, v: SymbolVisibility) -> usize {
+fn put_visibility(buf: &mut [u8], n: usize, v: SymbolVisibility) -> usize
+    ensures { λ r. ⌜ textOf (now (buf .exit)) r ≡ putAll (textOf (now (buf .entry)) n) (visibilityText v) ⌝ }
+{
     match v {
         SymbolVisibility::Local => text_out::put(buf, n, b" local 0"),
         SymbolVisibility::Global { weak, hidden } => {
@@ -78,7 +95,9 @@ fn put_visibility(buf: &mut [u8], n: usize, v: SymbolVisibility) -> usize {
     }
 }
 
-fn put_type(buf: &mut [u8], n: usize, t: SymbolType) -> usize {
+fn put_type(buf: &mut [u8], n: usize, t: SymbolType) -> usize
+    ensures { λ r. ⌜ textOf (now (buf .exit)) r ≡ putAll (textOf (now (buf .entry)) n) (typeText t) ⌝ }
+{
     match t {
         SymbolType::NoType => text_out::put(buf, n, b" 0"),
         SymbolType::Object => text_out::put(buf, n, b" 1"),
@@ -87,7 +106,9 @@ fn put_type(buf: &mut [u8], n: usize, t: SymbolType) -> usize {
     }
 }
 
-fn put_file(buf: &mut [u8], n: usize, bytes: &[u8], names: &[u64], f: SttFile) -> usize {
+fn put_file(buf: &mut [u8], n: usize, bytes: &[u8], names: &[u64], f: SttFile) -> usize
+    ensures { λ r. ⌜ textOf (now (buf .exit)) r ≡ putAll (textOf (now (buf .entry)) n) (fileText (now (bytes .entry)) (now (names .entry)) f) ⌝ }
+{
     match f {
         SttFile::None => text_out::put(buf, n, b" 0 -"),
         SttFile::Name { id } => {
@@ -97,19 +118,30 @@ fn put_file(buf: &mut [u8], n: usize, bytes: &[u8], names: &[u64], f: SttFile) -
     }
 }
 
-fn put_kind(buf: &mut [u8], n: usize, s: Symbol) -> usize {
+fn put_kind(buf: &mut [u8], n: usize, s: Symbol) -> usize
+    ensures { λ r. ⌜ textOf (now (buf .exit)) r ≡ putAll (textOf (now (buf .entry)) n) (kindText s) ⌝ }
+{
     let visibility = s.visibility;
     let k = put_visibility(buf, n, visibility);
     let kind = s.kind;
     put_type(buf, k, kind)
 }
 
-// `symbol ID NAME CLASS HIDDEN TYPE OPTNAME VALUE`
-pub fn put_symbol(buf: &mut [u8], n: usize, bytes: &[u8], names: &[u64], s: Symbol) -> usize {
+// `symbol ID NAME`
+fn put_head(buf: &mut [u8], n: usize, bytes: &[u8], names: &[u64], s: Symbol) -> usize
+    ensures { λ r. ⌜ textOf (now (buf .exit)) r ≡ putAll (textOf (now (buf .entry)) n) (headText (now (bytes .entry)) (now (names .entry)) s) ⌝ }
+{
     let id = s.id;
     let k = put_numbered(buf, n, b"symbol ", id.0 as u64);
     let spaced = text_out::put(buf, k, b" ");
-    let named = put_name(buf, spaced, bytes, names, s.name);
+    put_name(buf, spaced, bytes, names, s.name)
+}
+
+// `symbol ID NAME CLASS HIDDEN TYPE OPTNAME VALUE`
+pub fn put_symbol(buf: &mut [u8], n: usize, bytes: &[u8], names: &[u64], s: Symbol) -> usize
+    ensures { λ r. ⌜ textOf (now (buf .exit)) r ≡ putAll (textOf (now (buf .entry)) n) (symbolText (now (bytes .entry)) (now (names .entry)) s) ⌝ }
+{
+    let named = put_head(buf, n, bytes, names, s);
     let kinded = put_kind(buf, named, s);
     let file = s.file;
     let filed = put_file(buf, kinded, bytes, names, file);

@@ -76,13 +76,13 @@ pub fn drop_section(sections: &mut [u64], id: SectionId)
 }
 
 // Built and not dropped, in a table of that many rows.
-pub fn is_built(sections: &[u64], count: usize, id: usize) -> bool
-    ensures { λ r. ⌜ r ≡ isBuilt (now (sections .entry)) count id ⌝ }
+pub fn is_built(sections: &[u64], count: usize, id: SectionId) -> bool
+    ensures { λ r. ⌜ r ≡ isBuilt (now (sections .entry)) count (id .0) ⌝ }
 {
-    if count <= id {
+    if count <= id.0 {
         return false;
     }
-    if cells::row_get(sections, id, 0) == 2 {
+    if cells::row_get(sections, id.0, 0) == 2 {
         return true;
     }
     false

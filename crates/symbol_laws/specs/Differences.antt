@@ -17,6 +17,7 @@ use Rattle.symbol_rows.specs.declared.Decision.the-variants.{Refuse, Replace}
 use Rattle.symbol_rows.specs.Decide.{weakOf, rankOf, typeRefusal, replaceOf, rankedOf}
 use Rattle.upcoming_symbol.specs.declared.ElfSymbol.{ElfSymbol}
 use Rattle.upcoming_symbol.specs.Judge.{shownOf, hiddenOf, judgeOf}
+use Rattle.upcoming_symbol.specs.declared.Conversion.the-variants as To
 use Rattle.upcoming_symbol.specs.Upcoming.{inSection, convertedOf, undefinedOf, valueOf, elfRowOf, externalRowOf}
 use Rattle.symbol_laws.specs.Rank.{ranked, firstOf}
 use Rattle.symbol_laws.specs.Gabi.{symOf}
@@ -27,7 +28,7 @@ elf b v s = record { binding = b; visibility = v; kind = 0; section = s; value =
 
 -- the row that it becomes under name 1, where section 1 has id 1
 abbrev pub row : ElfSymbol → Row
-row e = elfRowOf 3 e (record { 0 = 1 }) false 0
+row e = elfRowOf (To.Section (record { 0 = 1 })) e (record { 0 = 1 }) false 0
 
 -- "a strong reference after a weak one leaves the row weak": unresolved by the gABI, zero in the table, and weak
 pub weak-reference-stays :

@@ -31,7 +31,7 @@ use Rattle.symbol_rows.specs.Apply.{Table}
 use Rattle.upcoming_symbol.specs.declared.ElfSymbol.{ElfSymbol}
 use Rattle.upcoming_symbol.specs.declared.UpcomingSymbol.{UpcomingSymbol}
 use Rattle.upcoming_symbol.specs.declared.UpcomingSymbol.the-variants as Up
-use Rattle.upcoming_symbol.specs.Upcoming.{inSection, convertedOf, undefinedOf, valueOf, elfRowOf, externalRowOf, rowOf}
+use Rattle.upcoming_symbol.specs.Upcoming.{inSection, conversionFrom, convertedOf, undefinedOf, valueOf, elfRowOf, externalRowOf, rowOf}
 use Rattle.symbols.specs.Add.{committedOf, addRowOf, decidedOf, directHolderOf}
 use Rattle.symbol_laws.specs.ContentWords.{IsType, IsOffset, Admitted, type-is, offset-is, shown-is, admitted-is, decided-passes}
 
@@ -130,8 +130,8 @@ module _ (conversion : List ℕ) (empty : Bool) (e : ElfSymbol) where
   abbrev cell : ℕ
   cell = getD conversion (e .section) 0
 
-  converted-value : e .section ≢ shnUndef → leb 13 (convertedOf cell empty (e .value) .kind) ≡ false → ElfValue conversion empty e (valueAt (convertedOf cell empty (e .value)))
-  unfolding convertedOf valueAt
+  converted-value : e .section ≢ shnUndef → leb 13 (convertedOf (conversionFrom cell) empty (e .value) .kind) ≡ false → ElfValue conversion empty e (valueAt (convertedOf (conversionFrom cell) empty (e .value)))
+  unfolding convertedOf conversionFrom valueAt
   converted-value n p =
       by-test (eqb cell 0) (λ a. absurd (false≢true (sym (rw a at p))))
       (λ a.
@@ -150,7 +150,7 @@ module _ (conversion : List ℕ) (empty : Bool) (e : ElfSymbol) where
           small (suc zero) h u v = v refl
           small (suc (suc n)) h u v = omega arith
 
-  elf-value : leb 13 (valueOf cell e empty .kind) ≡ false → ElfValue conversion empty e (valueAt (valueOf cell e empty))
+  elf-value : leb 13 (valueOf (conversionFrom cell) e empty .kind) ≡ false → ElfValue conversion empty e (valueAt (valueOf (conversionFrom cell) e empty))
   unfolding valueOf valueAt
   elf-value p =
       by-test (eqb (e .section) 0) (λ a. rw (a, reference-value (e .binding)) (undefined (eqb-true _ _ a)))

@@ -18,6 +18,8 @@ use Rattle.symbol.specs.declared.Row.{Row}
 use Rattle.symbol_rows.specs.Decide.{weakOf}
 use Rattle.upcoming_symbol.specs.declared.ElfSymbol.{ElfSymbol}
 use Rattle.upcoming_symbol.specs.Judge.{shownOf, hiddenOf, judgeOf}
+use Rattle.upcoming_symbol.specs.declared.Conversion.{Conversion}
+use Rattle.upcoming_symbol.specs.declared.Conversion.the-variants as To
 use Rattle.upcoming_symbol.specs.Upcoming.{inSection, convertedOf, undefinedOf, valueOf, elfRowOf, externalRowOf}
 use Rattle.symbol_laws.specs.Rank.{weak, first, count}
 
@@ -79,17 +81,19 @@ all-mean-own (r ∷ rs) = (means-own r, all-mean-own rs)
 abbrev pub symOf : ElfSymbol → Sym
 symOf e = record { binding = e .binding; type = e .kind; visibility = e .visibility; section = e .section; value = e .value }
 
-module _ (cell : ℕ) (e : ElfSymbol) (name : Interned) (empty : Bool) (file : ℕ) where
+module _ (to : Conversion) (e : ElfSymbol) (name : Interned) (empty : Bool) (file : ℕ) where
   abbrev row : Row
-  row = elfRowOf cell e name empty file
+  row = elfRowOf to e name empty file
 
   section-kind : (s v : ℕ) → eqb (inSection s empty v .kind) 7 ≡ false
   unfolding inSection
   section-kind s v = by-test empty (λ a. by-test (eqb v 0) (λ b. rw (a, b)) (λ b. rw (a, b))) (λ a. rw a)
 
-  converted-kind : (c v : ℕ) → eqb (convertedOf c empty v .kind) 7 ≡ false
+  converted-kind : (c : Conversion) (v : ℕ) → eqb (convertedOf c empty v .kind) 7 ≡ false
   unfolding convertedOf
-  converted-kind c v = by-test (eqb c 0) (λ a. rw a) (λ a. by-test (eqb c 1) (λ b. rw (a, b)) (λ b. rw (a, b) (section-kind _ v)))
+  converted-kind To.Nothing v = refl
+  converted-kind To.NotLoaded v = refl
+  converted-kind (To.Section id) v = section-kind (id .0) v
 
   reference-kind : eqb (row .value .kind) 7 ≡ isReference (symOf e)
   unfolding elfRowOf valueOf undefinedOf isReference

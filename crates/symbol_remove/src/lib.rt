@@ -13,7 +13,7 @@ fn drop_section(l: Link, sections: &mut [u64], kind: u64, section: u64)
     ensures { λ _. ⌜ now (sections .exit) ≡ dropSection l (now (sections .entry)) kind section ⌝ }
 {
     if kind == 2 {
-        symbol_rows::set_section_symbol(l, sections, SectionId(section as usize), 0);
+        symbol_rows::clear_section_symbol(l, sections, SectionId(section as usize));
     }
 }
 

@@ -89,10 +89,23 @@ pub fn section_cell(l: Link, len: usize, s: SectionId) -> usize
     len
 }
 
-// 0 for none; nothing is written where the section has no cell.
-pub fn set_section_symbol(l: Link, sections: &mut [u64], s: SectionId, symbol: u64)
+// The cell's content, 0 for none; nothing is written where the section has no cell.
+fn put_section_symbol(l: Link, sections: &mut [u64], s: SectionId, symbol: u64)
     ensures { λ _. ⌜ now (sections .exit) ≡ setSectionSymbol l (now (sections .entry)) (s .0) symbol ⌝ }
 {
     let cell = section_cell(l, sections.len(), s);
     cells::put(sections, cell, symbol);
+}
+
+pub fn set_section_symbol(l: Link, sections: &mut [u64], s: SectionId, id: SymbolId)
+    ensures { λ _. ⌜ now (sections .exit) ≡ setSectionSymbol l (now (sections .entry)) (s .0) (id .0) ⌝ }
+{
+    put_section_symbol(l, sections, s, id.0 as u64);
+}
+
+// The section is left without a symbol.
+pub fn clear_section_symbol(l: Link, sections: &mut [u64], s: SectionId)
+    ensures { λ _. ⌜ now (sections .exit) ≡ setSectionSymbol l (now (sections .entry)) (s .0) 0 ⌝ }
+{
+    put_section_symbol(l, sections, s, 0);
 }

@@ -23,7 +23,7 @@ fn note_section(l: Link, sections: &mut [u64], row: Row, id: usize)
     let v = row.value;
     if row.visibility == 0 {
         if v.kind == 2 {
-            symbol_rows::set_section_symbol(l, sections, SectionId(v.a as usize), id as u64);
+            symbol_rows::set_section_symbol(l, sections, SectionId(v.a as usize), SymbolId(id));
         }
     }
 }

@@ -5,6 +5,7 @@ ghost use Rattle.upcoming_symbol.specs.Upcoming.{nameOf, inSection, convertedOf
 use link::Interned;
 use symbol::Row;
 use symbol::Words;
+use upcoming_symbol::Conversion;
 use upcoming_symbol::ElfSymbol;
 use upcoming_symbol::UpcomingSymbol;
 
@@ -107,21 +108,18 @@ fn in_section(section: u64, empty: bool, value: u64) -> Words
     symbol::words_at(3, section, value)
 }
 
-// By a cell of the conversion: 0 nothing, 1 not loaded, else the section's id and 2.
-fn converted(cell: u64, empty: bool, value: u64) -> Words
-    ensures { λ r. ⌜ r ≡ convertedOf cell empty value ⌝ }
+fn converted(c: Conversion, empty: bool, value: u64) -> Words
+    ensures { λ r. ⌜ r ≡ convertedOf c empty value ⌝ }
 {
-    if cell == 0 {
-        return symbol::words_at(14, 0, 0);
+    match c {
+        Conversion::Nothing => symbol::words_at(14, 0, 0),
+        Conversion::NotLoaded => symbol::words_at(5, 0, 0),
+        Conversion::Section { id } => in_section(id.0 as u64, empty, value),
     }
-    if cell == 1 {
-        return symbol::words_at(5, 0, 0);
-    }
-    in_section(cell - 2, empty, value)
 }
 
-fn value_of(cell: u64, e: ElfSymbol, empty: bool) -> Words
-    ensures { λ r. ⌜ r ≡ valueOf cell e empty ⌝ }
+fn value_of(c: Conversion, e: ElfSymbol, empty: bool) -> Words
+    ensures { λ r. ⌜ r ≡ valueOf c e empty ⌝ }
 {
     let section = e.section;
     if section == 0 {
@@ -136,7 +134,7 @@ fn value_of(cell: u64, e: ElfSymbol, empty: bool) -> Words
     if section == 0xfff2 {
         return symbol::words_at(13, 0, 0);
     }
-    converted(cell, empty, e.value)
+    converted(c, empty, e.value)
 }
 
 fn row_at(name: Interned, kind: u64, file: u64, visibility: u64, value: Words) -> Row
@@ -151,12 +149,12 @@ fn row_at(name: Interned, kind: u64, file: u64, visibility: u64, value: Words) -
     }
 }
 
-// Of an ELF symbol, by its section's cell of the conversion, under a name that has or would get this id.
-pub fn elf_row(cell: u64, e: ElfSymbol, name: Interned, empty: bool, file: u64) -> Row
-    ensures { λ r. ⌜ r ≡ elfRowOf cell e name empty file ⌝ }
+// Of an ELF symbol, by what its section number stands for, under a name that has or would get this id.
+pub fn elf_row(c: Conversion, e: ElfSymbol, name: Interned, empty: bool, file: u64) -> Row
+    ensures { λ r. ⌜ r ≡ elfRowOf c e name empty file ⌝ }
 {
     let visibility = judge(e.binding, e.visibility);
-    let value = value_of(cell, e, empty);
+    let value = value_of(c, e, empty);
     row_at(name, e.kind, file, visibility, value)
 }
 
@@ -220,7 +218,8 @@ pub fn row_of(conversion: &[u64], u: UpcomingSymbol, empty: bool) -> Row
         } => external_row(name, binding, visibility),
         UpcomingSymbol::Elf { elf, name, file } => {
             let cell = cells::get(conversion, elf.section as usize);
-            elf_row(cell, elf, name, empty, symbol::file_cell(file))
+            let c = upcoming_symbol::conversion_from(cell);
+            elf_row(c, elf, name, empty, symbol::file_cell(file))
         }
     }
 }

@@ -30,7 +30,7 @@ use Rattle.symbol.specs.Row.{symbolAt, setRow}
 use Rattle.upcoming_symbol.specs.declared.UpcomingSymbol.{UpcomingSymbol}
 use Rattle.upcoming_symbol.specs.declared.UpcomingSymbol.the-variants.{Elf}
 use Rattle.upcoming_symbol.specs.Judge as Fields
-use Rattle.upcoming_symbol.specs.Upcoming.{inSection, convertedOf, undefinedOf, valueOf, elfRowOf}
+use Rattle.upcoming_symbol.specs.Upcoming.{inSection, conversionFrom, convertedOf, undefinedOf, valueOf, elfRowOf}
 use Rattle.symbol_rows.specs.Holder.{heldBy, holderOf}
 use Rattle.symbol_rows.specs.Decide as Decide
 use Rattle.symbol_rows.specs.Apply.{noteName, setSectionSymbol, noteSection, appendOf, applyOf}
@@ -187,6 +187,6 @@ All P [] = Unit {0}
 All P (x ∷ xs) = P x × All P xs
 
 pub promises : All Right cases
-unfolding start putRow same copied lesser Judge.judgeSections Judge.judgeNames Judge.judgeLists Judge.afterSymbols Judge.afterSections Judge.judgeOf Judge.changeOf wordAt Keyed.folded Keyed.mixed Keyed.hashFrom Keyed.pointOf Keyed.hashOf spread headCell Names.chase Names.seekOf Names.findFrom Names.findOf Names.roomOf Names.fitsOf Names.linked Names.keepOf Interns.issueOf Interns.internOf Interns.clearHeads Interns.newOf offsetOf wordOf typeAt successor fileAt visibilityAt valueAt symbolAt setRow Fields.sectionInRange Fields.elfInRange Fields.shownOf Fields.hiddenOf Fields.judgeOf inSection convertedOf undefinedOf valueOf elfRowOf heldBy holderOf Decide.weakOf Decide.rankOf Decide.typeRefusal Decide.sectionCell Decide.sectionRoom Decide.roomOf Decide.newOf Decide.replaceOf Decide.rankedOf Decide.knownOf Decide.decideOf noteName setSectionSymbol noteSection appendOf applyOf clearSymbols nullOf newOf judgeAddOf issuedOf directHolderOf placeOf decidedOf committedOf addRowOf addOf foundAt getOf
+unfolding start putRow same copied lesser Judge.judgeSections Judge.judgeNames Judge.judgeLists Judge.afterSymbols Judge.afterSections Judge.judgeOf Judge.changeOf wordAt Keyed.folded Keyed.mixed Keyed.hashFrom Keyed.pointOf Keyed.hashOf spread headCell Names.chase Names.seekOf Names.findFrom Names.findOf Names.roomOf Names.fitsOf Names.linked Names.keepOf Interns.issueOf Interns.internOf Interns.clearHeads Interns.newOf offsetOf wordOf typeAt successor fileAt visibilityAt valueAt symbolAt setRow Fields.sectionInRange Fields.elfInRange Fields.shownOf Fields.hiddenOf Fields.judgeOf inSection conversionFrom convertedOf undefinedOf valueOf elfRowOf heldBy holderOf Decide.weakOf Decide.rankOf Decide.typeRefusal Decide.sectionCell Decide.sectionRoom Decide.roomOf Decide.newOf Decide.replaceOf Decide.rankedOf Decide.knownOf Decide.decideOf noteName setSectionSymbol noteSection appendOf applyOf clearSymbols nullOf newOf judgeAddOf issuedOf directHolderOf placeOf decidedOf committedOf addRowOf addOf foundAt getOf
 promises =
     ((refl, refl, refl), ((refl, refl, refl), (refl, (refl, ((refl, refl, refl), ((refl, refl, refl), ((refl, refl, refl), (Groups.p8-right, (Groups.p8-comdat-right, ((refl, refl, refl), (Walks.p10-right, (Walks.p11-right, (Collections.p12-right, ((refl, refl, refl), ((refl, refl, refl), ((refl, refl, refl), ((refl, refl, refl), ((refl, refl, refl), tt))))))))))))))))))

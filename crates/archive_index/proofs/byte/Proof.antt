@@ -6,7 +6,7 @@ use Rattle.archive_index.proofs.byte.Statement.{statement}
 use Rattle.archive_index.proofs.byte.Tie as tie
 
 returns : tie.Need-returns
-returns c = (c .wide .ensures, omega (arith, c .wide .ensures, c .before .shared-slice-known2 .given (c .before .before .before .before .args .i)))
+returns c = (c .wide .ensures .0, c .wide .ensures .1)
 
 returns-2 : tie.Need-returns-2
 returns-2 c = (sym (List·getD-eq-default (c .before .before .args .s .now) 0 (c .if1 .left)), omega arith)

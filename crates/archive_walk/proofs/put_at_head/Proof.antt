@@ -1,5 +1,5 @@
 use borrow.Author.Needs.{needs}
-use Rattle.archive_walk.specs.Ways.{head-is}
+use Rattle.archive_walk.specs.Ways.{head-is, head-past}
 use Rattle.archive_walk.proofs.put_at_head.Statement.{statement}
 use Rattle.archive_walk.proofs.put_at_head.Tie as tie
 
@@ -13,4 +13,6 @@ put-at-head-spec =
     (λ c. search needs)
     (λ c κs. search needs)
     (λ c. search needs)
-    (λ c. search head-is))
+    (λ c. search head-is)
+    (λ c. search needs)
+    (λ c. search head-past))

@@ -12,4 +12,5 @@ plan-symbol-spec =
     (λ c κs. search needs)
     (λ c κs. search needs)
     (λ c κs. search needs)
+    (λ c κs. search needs)
     (λ c. search planned-done))

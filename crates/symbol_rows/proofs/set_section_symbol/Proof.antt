@@ -1,5 +1,4 @@
 use borrow.Author.Needs.{needs}
-use Rattle.symbol_rows.specs.ApplyWays.{section-set}
 use Rattle.symbol_rows.proofs.set_section_symbol.Statement.{statement}
 use Rattle.symbol_rows.proofs.set_section_symbol.Tie as tie
 
@@ -8,6 +7,5 @@ set-section-symbol-spec =
     tie.close
     (tie.spec
     (λ c κs. search needs)
-    (λ c κs. search needs)
     (λ c. search needs)
-    (λ c. search section-set))
+    (λ c. search needs))

@@ -7,10 +7,12 @@ pub converted-spec : {M : Type 1} → statement M
 converted-spec =
     tie.close
     (tie.spec
-    (λ c κs. search needs)
-    (λ c. search converted-nothing)
-    (λ c κs. search needs)
-    (λ c. search converted-not-loaded)
     (λ c. search needs)
     (λ c κs. search needs)
+    (λ c. search needs)
+    (λ c κs. search needs)
+    (λ c. search needs)
+    (λ c κs. search needs)
+    (λ c. search converted-nothing)
+    (λ c. search converted-not-loaded)
     (λ c. search converted-section))

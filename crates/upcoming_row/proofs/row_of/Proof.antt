@@ -25,6 +25,7 @@ row-of-spec =
     (λ c κs. search needs)
     (λ c κs. search needs)
     (λ c κs. search needs)
+    (λ c κs. search needs)
     (λ c. search row-valued)
     (λ c. search row-valued)
     (λ c. search row-valued)

@@ -1,9 +1,9 @@
 use borrow.Author.Needs.{needs}
-use Rattle.archive_index.proofs.word.Statement.{statement}
-use Rattle.archive_index.proofs.word.Tie as tie
+use Rattle.archive_index.proofs.cut_word.Statement.{statement}
+use Rattle.archive_index.proofs.cut_word.Tie as tie
 
-pub word-spec : {M : Type 1} → statement M
-word-spec =
+pub cut-word-spec : {M : Type 1} → statement M
+cut-word-spec =
     tie.close
     (tie.spec
     (λ c κs. search needs)
