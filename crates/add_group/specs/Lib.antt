@@ -1,2 +1,3 @@
 pub mod AddGroup
+pub mod Contract
 pub mod Ways

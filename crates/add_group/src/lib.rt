@@ -1,8 +1,8 @@
 // A COMDAT group added by itself, outside a merge. Marks of the object's earlier groups lie in the work rows; a new object begins with
 // cleared ones.
 ghost use mathlib.Core.Path.{_≡_};
-ghost use Rattle.section_groups.specs.Group.{objectOf};
-ghost use Rattle.add_group.specs.AddGroup.{headOf, answerOf, leftOf, stateOf, tableIn, addGroupOf};
+ghost use Rattle.add_group.specs.AddGroup.{headOf, answerOf, tableIn};
+ghost use Rattle.add_group.specs.Contract.{groupExit, objectIn, stateIn, GroupMeets};
 use link::Lent;
 use link::Link;
 use link::Refusal;
@@ -101,9 +101,7 @@ pub fn add_group(
     t: usize,
     n: usize,
 ) -> Outcome
-    ensures { λ r. ⌜ leftOf (now (bytes .exit)) (now (names .exit)) (now (work .exit)) r
-        ≡ addGroupOf (objectOf (now (headers .entry)) (now (entries .entry)) (now (contents .entry)) (now (file .entry)) t)
-        (stateOf (now (bytes .entry)) (now (names .entry)) (now (work .entry)) l) n ⌝ }
+    ensures { λ r. ⌜ GroupMeets (objectIn headers entries contents file t) (stateIn bytes names work l) n (groupExit bytes names work r) ⌝ }
 {
     let lent = Lent {
         names: names.len() / link::NAME_CELLS,

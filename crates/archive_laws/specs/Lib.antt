@@ -1,4 +1,5 @@
 pub mod Rounds
+pub mod Format
 pub mod Counts
 pub mod RoundLaws
 pub mod Chains

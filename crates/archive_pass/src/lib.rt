@@ -2,8 +2,10 @@
 ghost use mathlib.Core.Path.{_≡_};
 ghost use Prim.Native.Nat.{_+_, _<_};
 ghost use lib.ListN.{length};
+ghost use Rattle.cells.specs.Slice.{before};
 ghost use Rattle.archive_walk.specs.Look.{tableOf, judgeTable, nameHolder, removedName, undefinedName};
-ghost use Rattle.archive_walk.specs.Walk.{stepMoved, refusedMove, offerOf, queueOf, marked, enqueue, tieOf, tieAll, removedOf, makeOf, passOf, walkFits, nextOf};
+ghost use Rattle.archive_walk.specs.Walk.{stepMoved, refusedMove, offerOf, queueOf, marked, enqueue, tieOf, tieAll, removedOf, makeOf, passOf, walkFits};
+ghost use Rattle.archive_walk.specs.Contract.{nextExit, tableIn, NextMeets};
 use archive_walk::Moved;
 use archive_walk::Offer;
 use archive_walk::Walk;
@@ -312,7 +314,7 @@ pub fn next(
     names: &[u64],
     symbols: &[u64],
 ) -> Moved
-    ensures { λ r. ⌜ stepMoved (now (cells .exit)) r ≡ nextOf (now (index .entry)) (now (cells .entry)) w (tableOf l (now (bytes .entry)) (now (names .entry)) (now (symbols .entry))) ⌝ }
+    ensures { λ r. ⌜ NextMeets (before index) (before cells) w (tableIn l bytes names symbols) (nextExit cells r) ⌝ }
 {
     if w.done {
         return Moved {

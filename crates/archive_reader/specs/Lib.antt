@@ -1,2 +1,4 @@
 pub mod Entry
+pub mod Contract
+pub mod OneOutcome
 pub mod Ways

@@ -6,6 +6,7 @@ ghost use lib.ListN.{length};
 ghost use Rattle.gabi.specs.StringTable.{nameAt};
 ghost use Rattle.archive_index.specs.Index.{placeOf};
 ghost use Rattle.archive_reader.specs.Entry.{entryOffset, entryName};
+ghost use Rattle.archive_reader.specs.Contract.{ReaderMeets, OffsetMeets, NameMeets};
 
 // ---- a slice and numbers
 
@@ -62,21 +63,21 @@ pub struct ArchiveIndex<'a> {
 
 // Over the number of entries that `archive_open::open` answered.
 pub fn new<'a>(bytes: &'a [u8], entries: usize) -> ArchiveIndex<'a>
-    ensures { λ r. ⌜ (r .bytes ≡ bytes .entry) × (r .entries ≡ entries) ⌝ }
+    ensures { λ r. ⌜ ReaderMeets (bytes .entry) entries (r .bytes) (r .entries) ⌝ }
 {
     ArchiveIndex { bytes, entries }
 }
 
 // Entry k's member offset.
 pub fn offset_of<'a>(x: ArchiveIndex<'a>, k: usize) -> u64
-    ensures { λ r. ⌜ r ≡ entryOffset (now (x .entry .bytes)) (x .entry .entries) k ⌝ }
+    ensures { λ r. ⌜ OffsetMeets (now (x .entry .bytes)) (x .entry .entries) k r ⌝ }
 {
     offset_in(x.bytes, x.entries, k)
 }
 
 // Entry k's name, as that very part of the slice. It costs a look at the names before it; a walk, which needs every name, reads them by its rows.
 pub fn name_of<'a>(x: ArchiveIndex<'a>, k: usize) -> &'a [u8]
-    ensures { λ r. ⌜ (now r ≡ entryName (now (x .entry .bytes)) (x .entry .entries) k) × (r .ptr .0 ≡ x .entry .bytes .ptr .0) ⌝ }
+    ensures { λ r. ⌜ NameMeets (x .entry .bytes) (x .entry .entries) k r ⌝ }
 {
     name_in(x.bytes, x.entries, k)
 }
@@ -84,13 +85,13 @@ pub fn name_of<'a>(x: ArchiveIndex<'a>, k: usize) -> &'a [u8]
 // ---- the same with plain parameters
 
 pub fn entry_offset(bytes: &[u8], entries: usize, k: usize) -> u64
-    ensures { λ r. ⌜ r ≡ entryOffset (now (bytes .entry)) entries k ⌝ }
+    ensures { λ r. ⌜ OffsetMeets (now (bytes .entry)) entries k r ⌝ }
 {
     offset_of(new(bytes, entries), k)
 }
 
 pub fn entry_name(bytes: &[u8], entries: usize, k: usize) -> &[u8]
-    ensures { λ r. ⌜ (now r ≡ entryName (now (bytes .entry)) entries k) × (r .ptr .0 ≡ bytes .entry .ptr .0) ⌝ }
+    ensures { λ r. ⌜ NameMeets (bytes .entry) entries k r ⌝ }
 {
     name_of(new(bytes, entries), k)
 }

@@ -1,4 +1,5 @@
 pub mod Names
 pub mod Look
 pub mod Walk
+pub mod Contract
 pub mod Ways

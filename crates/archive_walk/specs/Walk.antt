@@ -2,10 +2,11 @@
 -- Assumes nothing.
 use Prim.Native.Nat.{ℕ, zero, suc, _+_, _*_, _/_}
 use mathlib.Core.Bool.{Bool, true, false, cond}
-use mathlib.Core.List.{List}
+use mathlib.Core.List.{List, [], _∷_}
 use lib.Dec.{eqb, ltb}
 use lib.ListN.{set, length}
 use Rattle.link.specs.Judge.{refused}
+use Rattle.link.specs.Said.{SaidWith}
 use Rattle.archive_index.specs.declared.Opened.{Opened}
 use Rattle.archive_index.specs.Index.{offsetOf}
 use Rattle.archive_index.specs.Rows.{memberAt, passAt, queueAt, storedName, noHeads}
@@ -30,6 +31,14 @@ abbrev pub begunPlace : Begun → ℕ
 begunPlace (Ready n) = 0
 begunPlace (Begins.Refused r) = r .place
 
+-- and values: how many entries the index has
+abbrev pub begunValues : Begun → List ℕ
+begunValues (Ready n) = n ∷ []
+begunValues (Begins.Refused r) = []
+
+abbrev pub begunSaid : Begun → SaidWith ℕ
+begunSaid a = record { number = begunNumber a; place = begunPlace a; values = begunValues a }
+
 abbrev pub numberOf : Offer → ℕ
 numberOf (Member o e p) = 0
 numberOf (Done p) = 0
@@ -39,6 +48,15 @@ abbrev pub placeOf : Offer → ℕ
 placeOf (Member o e p) = 0
 placeOf (Done p) = 0
 placeOf (Refused r) = r .place
+
+-- a member's offset, the entry that queued it and the passes so far; "done" has the passes alone
+abbrev pub valuesOf : Offer → List ℕ
+valuesOf (Member o e p) = o ∷ e ∷ p ∷ []
+valuesOf (Done p) = p ∷ []
+valuesOf (Refused r) = []
+
+abbrev pub offerSaid : Offer → SaidWith ℕ
+offerSaid a = record { number = numberOf a; place = placeOf a; values = valuesOf a }
 
 -- ---- the start
 

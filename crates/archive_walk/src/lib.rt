@@ -2,7 +2,9 @@
 // The queue lies in the rows, and so do the chains of required names; nothing of the link is written.
 ghost use mathlib.Core.Path.{_≡_};
 ghost use lib.ListN.{length};
-ghost use Rattle.archive_walk.specs.Walk.{startLeft, begunOf, startOf};
+ghost use Rattle.cells.specs.Slice.{before};
+ghost use Rattle.archive_walk.specs.Walk.{begunOf};
+ghost use Rattle.archive_walk.specs.Contract.{startExit, StartMeets};
 ghost use Rattle.archive_walk.specs.Names.{nameChain, bearsOf, borneFrom, headedOf, notedOf, requiredOf};
 use archive_index::Opened;
 use link::Refusal;
@@ -168,7 +170,7 @@ fn begin(key: usize, length: usize, o: Opened) -> Started
 // A row of 8 cells for each entry of the index: 20; 1; 2. No pass is made. Any number is a key; one that nobody can guess keeps chosen names from
 // sharing a chain.
 pub fn start(key: usize, index: &[u8], cells: &mut [u64]) -> Started
-    ensures { λ r. ⌜ startLeft (now (cells .exit)) r ≡ startOf key (now (index .entry)) (now (cells .entry)) ⌝ }
+    ensures { λ r. ⌜ StartMeets key (before index) (before cells) (startExit cells r) ⌝ }
 {
     let opened = archive_open::open(index, cells);
     archive_index::clear_heads(cells, opened.entries);

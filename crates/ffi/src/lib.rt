@@ -1,19 +1,17 @@
 // The calls for another language, as numbers and slices: `rt staticlib ffi` writes target/staticlib/libffi.a. A slice is a pointer and a length. A
 // header of at least 16 cells holds the link and the answer (ffi_header); the result is the number of the refusal, 0 for a result. The library that
 // a call stands for says which values it answers.
-ghost use mathlib.Core.Path.{_≡_};
-ghost use Rattle.section_groups.specs.Group as Group;
-ghost use Rattle.merge_stages.specs.Stages as Stages;
-ghost use Rattle.shared_objects.specs.Load.{inputAs};
-ghost use Rattle.gc_sections.specs.Run.{listsOf};
-ghost use Rattle.ffi_header.specs.Header.{told};
-ghost use Rattle.ffi_names.specs.Calls.{internLeft, internCall, resolveCall, findCall};
-ghost use Rattle.ffi_symbols.specs.Calls.{newLeft, newCall, addLeft, addCall, removeLeft, removeCall};
-ghost use Rattle.ffi_lookup.specs.Calls.{foundLeft, getCall, getGlobalCall, sectionSymbolCall};
-ghost use Rattle.ffi_merge.specs.Calls as Merge;
-ghost use Rattle.ffi_load.specs.Calls as Load;
-ghost use Rattle.ffi_archive.specs.Calls.{walkLeft, startCall, nextCall, matchesCall};
-ghost use Rattle.ffi_collect.specs.Calls.{entryOf, runLeft, runCall};
+ghost use Rattle.cells.specs.Slice.{before};
+ghost use Rattle.ffi_header.specs.Contract.{toldExit};
+ghost use Rattle.ffi_names.specs.Contract as Names;
+ghost use Rattle.ffi_symbols.specs.Contract as Symbols;
+ghost use Rattle.ffi_lookup.specs.Contract as Lookup;
+ghost use Rattle.ffi_merge.specs.Contract as Merge;
+ghost use Rattle.ffi_load.specs.Contract as Load;
+ghost use Rattle.ffi_load.specs.Contract.{libraryIn, LoadMeets};
+ghost use Rattle.ffi_archive.specs.Contract as Archive;
+ghost use Rattle.ffi_collect.specs.Calls.{entryOf};
+ghost use Rattle.ffi_collect.specs.Contract.{runExit, listsIn, RunMeets};
 
 #[no_mangle]
 pub extern "C" fn hidvorn_new(
@@ -24,7 +22,7 @@ pub extern "C" fn hidvorn_new(
     symbols: &mut [u64],
     sections: &mut [u64],
 ) -> u64
-    ensures { λ r. ⌜ newLeft (told r (now (header .exit))) (now (bytes .exit)) (now (names .exit)) (now (symbols .exit)) (now (sections .exit)) ≡ newCall (now (header .entry)) key (now (bytes .entry)) (now (names .entry)) (now (symbols .entry)) (now (sections .entry)) ⌝ }
+    ensures { λ r. ⌜ Symbols.NewMeets (before header) key (before bytes) (before names) (before symbols) (before sections) (Symbols.newExit r header bytes names symbols sections) ⌝ }
 {
     ffi_symbols::new(header, key, bytes, names, symbols, sections)
 }
@@ -36,21 +34,21 @@ pub extern "C" fn hidvorn_intern(
     names: &mut [u64],
     name: &[u8],
 ) -> u64
-    ensures { λ r. ⌜ internLeft (told r (now (header .exit))) (now (bytes .exit)) (now (names .exit)) ≡ internCall (now (header .entry)) (now (bytes .entry)) (now (names .entry)) (now (name .entry)) ⌝ }
+    ensures { λ r. ⌜ Names.InternMeets (before header) (before bytes) (before names) (before name) (Names.internExit r header bytes names) ⌝ }
 {
     ffi_names::intern(header, bytes, names, name)
 }
 
 #[no_mangle]
 pub extern "C" fn hidvorn_resolve(header: &mut [u64], bytes: &[u8], names: &[u64], id: usize) -> u64
-    ensures { λ r. ⌜ told r (now (header .exit)) ≡ resolveCall (now (header .entry)) (now (bytes .entry)) (now (names .entry)) id ⌝ }
+    ensures { λ r. ⌜ Names.ResolveMeets (before header) (before bytes) (before names) id (toldExit r header) ⌝ }
 {
     ffi_names::resolve(header, bytes, names, id)
 }
 
 #[no_mangle]
 pub extern "C" fn hidvorn_find(header: &mut [u64], bytes: &[u8], names: &[u64], name: &[u8]) -> u64
-    ensures { λ r. ⌜ told r (now (header .exit)) ≡ findCall (now (header .entry)) (now (bytes .entry)) (now (names .entry)) (now (name .entry)) ⌝ }
+    ensures { λ r. ⌜ Names.FindMeets (before header) (before bytes) (before names) (before name) (toldExit r header) ⌝ }
 {
     ffi_names::find(header, bytes, names, name)
 }
@@ -64,7 +62,7 @@ pub extern "C" fn hidvorn_add(
     conversion: &[u64],
     item: &[u64],
 ) -> u64
-    ensures { λ r. ⌜ addLeft (told r (now (header .exit))) (now (names .exit)) (now (symbols .exit)) (now (sections .exit)) ≡ addCall (now (header .entry)) (now (names .entry)) (now (symbols .entry)) (now (sections .entry)) (now (conversion .entry)) (now (item .entry)) ⌝ }
+    ensures { λ r. ⌜ Symbols.AddMeets (before header) (before names) (before symbols) (before sections) (before conversion) (before item) (Symbols.addExit r header names symbols sections) ⌝ }
 {
     ffi_symbols::add(header, names, symbols, sections, conversion, item)
 }
@@ -76,7 +74,7 @@ pub extern "C" fn hidvorn_remove(
     sections: &mut [u64],
     id: usize,
 ) -> u64
-    ensures { λ r. ⌜ removeLeft (told r (now (header .exit))) (now (symbols .exit)) (now (sections .exit)) ≡ removeCall (now (header .entry)) (now (symbols .entry)) (now (sections .entry)) id ⌝ }
+    ensures { λ r. ⌜ Symbols.RemoveMeets (before header) (before symbols) (before sections) id (Symbols.removeExit r header symbols sections) ⌝ }
 {
     ffi_symbols::remove(header, symbols, sections, id)
 }
@@ -88,7 +86,7 @@ pub extern "C" fn hidvorn_get(
     id: usize,
     out: &mut [u64],
 ) -> u64
-    ensures { λ r. ⌜ foundLeft (told r (now (header .exit))) (now (out .exit)) ≡ getCall (now (header .entry)) (now (symbols .entry)) id (now (out .entry)) ⌝ }
+    ensures { λ r. ⌜ Lookup.GetMeets (before header) (before symbols) id (before out) (Lookup.foundExit r header out) ⌝ }
 {
     ffi_lookup::get(header, symbols, id, out)
 }
@@ -101,7 +99,7 @@ pub extern "C" fn hidvorn_get_global(
     name: usize,
     out: &mut [u64],
 ) -> u64
-    ensures { λ r. ⌜ foundLeft (told r (now (header .exit))) (now (out .exit)) ≡ getGlobalCall (now (header .entry)) (now (names .entry)) (now (symbols .entry)) name (now (out .entry)) ⌝ }
+    ensures { λ r. ⌜ Lookup.GetGlobalMeets (before header) (before names) (before symbols) name (before out) (Lookup.foundExit r header out) ⌝ }
 {
     ffi_lookup::get_global(header, names, symbols, name, out)
 }
@@ -112,7 +110,7 @@ pub extern "C" fn hidvorn_section_symbol_id(
     sections: &[u64],
     section: usize,
 ) -> u64
-    ensures { λ r. ⌜ told r (now (header .exit)) ≡ sectionSymbolCall (now (header .entry)) (now (sections .entry)) section ⌝ }
+    ensures { λ r. ⌜ Lookup.SectionSymbolMeets (before header) (before sections) section (toldExit r header) ⌝ }
 {
     ffi_lookup::section_symbol_id(header, sections, section)
 }
@@ -130,9 +128,7 @@ pub extern "C" fn hidvorn_add_group(
     t: usize,
     n: usize,
 ) -> u64
-    ensures { λ r. ⌜ Merge.groupLeft (told r (now (header .exit))) (now (bytes .exit)) (now (names .exit)) (now (work .exit))
-        ≡ Merge.groupCall (now (header .entry)) (Group.objectOf (now (headers .entry)) (now (entries .entry)) (now (contents .entry)) (now (file .entry)) t)
-        (now (bytes .entry)) (now (names .entry)) (now (work .entry)) n ⌝ }
+    ensures { λ r. ⌜ Merge.GroupMeets (before header) (Merge.groupObject headers entries contents file t) (before bytes) (before names) (before work) n (Merge.groupExit r header bytes names work) ⌝ }
 {
     ffi_merge::add_group(
         header,
@@ -165,9 +161,7 @@ pub extern "C" fn hidvorn_merge_elf(
     file: &[u8],
     strings: usize,
 ) -> u64
-    ensures { λ r. ⌜ Merge.mergeLeft (told r (now (header .exit))) (Merge.rowsOf (now (bytes .exit)) (now (names .exit)) (now (symbols .exit)) (now (sections .exit)) (now (inputs .exit)) (now (lists .exit)) (now (work .exit)) (now (ids .exit)))
-        ≡ Merge.mergeCall (now (header .entry)) (Stages.objectOf (now (headers .entry)) (now (entries .entry)) (now (contents .entry)) (now (file .entry)) strings)
-        (Merge.rowsOf (now (bytes .entry)) (now (names .entry)) (now (symbols .entry)) (now (sections .entry)) (now (inputs .entry)) (now (lists .entry)) (now (work .entry)) (now (ids .entry))) ⌝ }
+    ensures { λ r. ⌜ Merge.MergeMeets (before header) (Merge.mergeObject headers entries contents file strings) (Merge.linkRows bytes names symbols sections inputs lists work ids) (toldExit r header) ⌝ }
 {
     ffi_merge::merge_elf(
         header,
@@ -206,9 +200,7 @@ pub extern "C" fn hidvorn_load_shared_object<'a>(
     soname: usize,
     asneeded: bool,
 ) -> u64
-    ensures { λ r. ⌜ Load.loadLeft (told r (now (header .exit))) (Load.rowsOf (now (bytes .exit)) (now (names .exit)) (now (symbols .exit)) (now (sections .exit)) (now (inputs .exit)) (now (lists .exit)) (now (marks .exit)))
-        ≡ Load.loadCall (now (header .entry)) (inputAs (now (entries .entry)) (now (file .entry)) (now (needs .entry)) (now (path .entry)) archived sonamed soname asneeded)
-        (Load.rowsOf (now (bytes .entry)) (now (names .entry)) (now (symbols .entry)) (now (sections .entry)) (now (inputs .entry)) (now (lists .entry)) (now (marks .entry))) ⌝ }
+    ensures { λ r. ⌜ LoadMeets (before header) (libraryIn entries file needs path archived sonamed soname asneeded) (Load.linkRows bytes names symbols sections inputs lists marks) (toldExit r header) ⌝ }
 {
     ffi_load::load_shared_object(
         header,
@@ -238,7 +230,7 @@ pub extern "C" fn hidvorn_archive_start(
     index: &[u8],
     rows: &mut [u64],
 ) -> u64
-    ensures { λ r. ⌜ walkLeft (told r (now (header .exit))) (now (walk .exit)) (now (rows .exit)) ≡ startCall (now (header .entry)) (now (walk .entry)) key (now (index .entry)) (now (rows .entry)) ⌝ }
+    ensures { λ r. ⌜ Archive.StartMeets (before header) (before walk) key (before index) (before rows) (Archive.walkExit r header walk rows) ⌝ }
 {
     ffi_archive::archive_start(header, walk, key, index, rows)
 }
@@ -253,7 +245,7 @@ pub extern "C" fn hidvorn_archive_next(
     names: &[u64],
     symbols: &[u64],
 ) -> u64
-    ensures { λ r. ⌜ walkLeft (told r (now (header .exit))) (now (walk .exit)) (now (rows .exit)) ≡ nextCall (now (header .entry)) (now (walk .entry)) (now (index .entry)) (now (rows .entry)) (now (bytes .entry)) (now (names .entry)) (now (symbols .entry)) ⌝ }
+    ensures { λ r. ⌜ Archive.NextMeets (before header) (before walk) (before index) (before rows) (before bytes) (before names) (before symbols) (Archive.walkExit r header walk rows) ⌝ }
 {
     ffi_archive::archive_next(header, walk, index, rows, bytes, names, symbols)
 }
@@ -270,7 +262,7 @@ pub extern "C" fn hidvorn_matches(
     contents: &[u64],
     file: &[u8],
 ) -> u64
-    ensures { λ r. ⌜ told r (now (header .exit)) ≡ matchesCall (now (header .entry)) (now (walk .entry)) (now (index .entry)) (now (rows .entry)) entry (now (headers .entry)) (now (entries .entry)) (now (contents .entry)) (now (file .entry)) ⌝ }
+    ensures { λ r. ⌜ Archive.MatchesMeets (before header) (before walk) (before index) (before rows) entry (before headers) (before entries) (before contents) (before file) (toldExit r header) ⌝ }
 {
     ffi_archive::matches(
         header,
@@ -298,8 +290,7 @@ pub extern "C" fn hidvorn_gc_run(
     entry: usize,
     work: &mut [u64],
 ) -> u64
-    ensures { λ r. ⌜ runLeft (told r (now (header .exit))) (now (symbols .exit)) (now (sections .exit)) (now (work .exit))
-        ≡ runCall (now (header .entry)) (listsOf (now (bytes .entry)) (now (names .entry)) (now (lists .entry)) (now (marks .entry))) (now (symbols .entry)) (now (sections .entry)) (entryOf entered entry) (now (work .entry)) ⌝ }
+    ensures { λ r. ⌜ RunMeets (before header) (listsIn bytes names lists marks) (before symbols) (before sections) (entryOf entered entry) (before work) (runExit r header symbols sections work) ⌝ }
 {
     ffi_collect::gc_run(
         header,

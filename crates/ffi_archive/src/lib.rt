@@ -1,9 +1,12 @@
 // The walk over an archive's members, and admission, for another language: the answer lies in a header (ffi_header), the walk in seven cells. A
 // header of fewer than 16 cells gives 1, and nothing is read or written; a walk of fewer than seven gives 1 at place 0 and is left.
 ghost use mathlib.Core.Path.{_≡_};
+ghost use Rattle.cells.specs.Slice.{before};
 ghost use Rattle.ffi_header.specs.Header.{told};
+ghost use Rattle.ffi_header.specs.Contract.{toldExit};
 ghost use Rattle.ffi_archive.specs.Cells.{walkIn, indexOut, countsOut, walkOut};
-ghost use Rattle.ffi_archive.specs.Calls.{begunReply, offeredReply, admittedReply, walkLeft, startFit, startCall, nextFit, nextCall, matchesCall};
+ghost use Rattle.ffi_archive.specs.Calls.{begunReply, offeredReply, admittedReply, walkLeft, startFit, nextFit};
+ghost use Rattle.ffi_archive.specs.Contract.{walkExit, StartMeets, NextMeets, MatchesMeets};
 use archive_walk::Begun;
 use archive_walk::Offer;
 use archive_walk::Walk;
@@ -111,7 +114,7 @@ pub fn archive_start(
     index: &[u8],
     rows: &mut [u64],
 ) -> u64
-    ensures { λ r. ⌜ walkLeft (told r (now (header .exit))) (now (walk .exit)) (now (rows .exit)) ≡ startCall (now (header .entry)) (now (walk .entry)) key (now (index .entry)) (now (rows .entry)) ⌝ }
+    ensures { λ r. ⌜ StartMeets (before header) (before walk) key (before index) (before rows) (walkExit r header walk rows) ⌝ }
 {
     if header.len() < 16 {
         return 1;
@@ -152,7 +155,7 @@ pub fn archive_next(
     names: &[u64],
     symbols: &[u64],
 ) -> u64
-    ensures { λ r. ⌜ walkLeft (told r (now (header .exit))) (now (walk .exit)) (now (rows .exit)) ≡ nextCall (now (header .entry)) (now (walk .entry)) (now (index .entry)) (now (rows .entry)) (now (bytes .entry)) (now (names .entry)) (now (symbols .entry)) ⌝ }
+    ensures { λ r. ⌜ NextMeets (before header) (before walk) (before index) (before rows) (before bytes) (before names) (before symbols) (walkExit r header walk rows) ⌝ }
 {
     if header.len() < 16 {
         return 1;
@@ -175,7 +178,7 @@ pub fn matches(
     contents: &[u64],
     file: &[u8],
 ) -> u64
-    ensures { λ r. ⌜ told r (now (header .exit)) ≡ matchesCall (now (header .entry)) (now (walk .entry)) (now (index .entry)) (now (rows .entry)) entry (now (headers .entry)) (now (entries .entry)) (now (contents .entry)) (now (file .entry)) ⌝ }
+    ensures { λ r. ⌜ MatchesMeets (before header) (before walk) (before index) (before rows) entry (before headers) (before entries) (before contents) (before file) (toldExit r header) ⌝ }
 {
     if header.len() < 16 {
         return 1;

@@ -1,9 +1,10 @@
 // Collection, for another language: the link and the answer lie in a header (ffi_header). A header of fewer than 16 cells gives 1, and nothing is
 // read or written.
 ghost use mathlib.Core.Path.{_≡_};
-ghost use Rattle.gc_sections.specs.Run.{saidOf, listsOf};
-ghost use Rattle.ffi_header.specs.Header.{told};
-ghost use Rattle.ffi_collect.specs.Calls.{collectedReply, entryOf, runLeft, runCall};
+ghost use Rattle.cells.specs.Slice.{before};
+ghost use Rattle.gc_sections.specs.Run.{saidOf};
+ghost use Rattle.ffi_collect.specs.Calls.{collectedReply, entryOf};
+ghost use Rattle.ffi_collect.specs.Contract.{runExit, listsIn, RunMeets};
 use ffi_header::Reply;
 use gc_sections::Answer;
 use gc_sections::EntryPoint;
@@ -44,8 +45,7 @@ pub fn gc_run(
     entry: usize,
     work: &mut [u64],
 ) -> u64
-    ensures { λ r. ⌜ runLeft (told r (now (header .exit))) (now (symbols .exit)) (now (sections .exit)) (now (work .exit))
-        ≡ runCall (now (header .entry)) (listsOf (now (bytes .entry)) (now (names .entry)) (now (lists .entry)) (now (marks .entry))) (now (symbols .entry)) (now (sections .entry)) (entryOf entered entry) (now (work .entry)) ⌝ }
+    ensures { λ r. ⌜ RunMeets (before header) (listsIn bytes names lists marks) (before symbols) (before sections) (entryOf entered entry) (before work) (runExit r header symbols sections work) ⌝ }
 {
     if header.len() < 16 {
         return 1;

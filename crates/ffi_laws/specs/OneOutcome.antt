@@ -1,171 +1,122 @@
 -- "that its contract admits no second outcome" (document 01, acceptance a), of the exported calls: what a caller in another language sees of one is the
--- number that it returns, its header and every cell lent to be written; a contract equates these, put together by the builder that stands in the
--- `ensures`, with the call's definition. Whatever that gives, two outcomes that meet it are equal.
+-- number that it returns, its header and every cell lent to be written. The contracts are the predicates that stand in the `ensures` of `ffi`; two
+-- exits that meet one are equal.
 -- Assumes nothing.
 use Prim.Native.Nat.{ℕ}
 use mathlib.Core.Path.{_≡_, sym, ap, _∙_}
 use mathlib.Core.List.{List}
+use denote.Triple.Both.{Both}
+use Rattle.section_groups.specs.Group as Group
+use Rattle.merge_stages.specs.Stages as Stages
+use Rattle.shared_objects.specs.Load.{Input}
+use Rattle.gc_sections.specs.declared.EntryPoint.{EntryPoint}
+use Rattle.gc_sections.specs.Run.{Lists}
 use Rattle.ffi_header.specs.Header.{Told, told}
-use Rattle.ffi_names.specs.Calls as Names
-use Rattle.ffi_symbols.specs.Calls as Symbols
-use Rattle.ffi_lookup.specs.Calls as Lookup
-use Rattle.ffi_merge.specs.Calls as Merge
-use Rattle.ffi_load.specs.Calls as Load
-use Rattle.ffi_archive.specs.Calls as Archive
-use Rattle.ffi_collect.specs.Calls as Collect
+use Rattle.ffi_header.specs.Contract.{ToldExit}
+use Rattle.ffi_names.specs.Calls as NamesCalls
+use Rattle.ffi_names.specs.Contract as Names
+use Rattle.ffi_symbols.specs.Calls as SymbolsCalls
+use Rattle.ffi_symbols.specs.Contract as Symbols
+use Rattle.ffi_lookup.specs.Calls as LookupCalls
+use Rattle.ffi_lookup.specs.Contract as Lookup
+use Rattle.ffi_merge.specs.Calls as MergeCalls
+use Rattle.ffi_merge.specs.Contract as Merge
+use Rattle.ffi_load.specs.Calls as LoadCalls
+use Rattle.ffi_load.specs.Contract as Load
+use Rattle.ffi_archive.specs.Calls as ArchiveCalls
+use Rattle.ffi_archive.specs.Contract as Archive
+use Rattle.ffi_collect.specs.Calls as CollectCalls
+use Rattle.ffi_collect.specs.Contract as Collect
 
--- resolve, find, section_symbol_id, matches
-pub record ToldExit : Type 0 where
-  pub number : ℕ
-  pub header : List ℕ
+-- ---- calls that write the header alone
 
-abbrev pub toldSeen : ToldExit → Told
-toldSeen e = told (e .number) (e .header)
+told-one : (z : Told) (x y : ToldExit) → told (x .number) (x .header) ≡ z → told (y .number) (y .header) ≡ z → x ≡ y
+told-one z x y e f = ap {B = ToldExit} (λ (o : Told). record { number = o .number; header = o .header }) (e ∙ sym f)
 
-pub told-one-outcome : (z : Told) (x y : ToldExit) → toldSeen x ≡ z → toldSeen y ≡ z → x ≡ y
-told-one-outcome z x y e f = ap {B = ToldExit} (λ (o : Told). record { number = o .number; header = o .header }) (e ∙ sym f)
+module _ (h : List ℕ) (x y : ToldExit) where
+  pub resolve-one-outcome : (bytes names : List ℕ) (id : ℕ) → Names.ResolveMeets h bytes names id x → Names.ResolveMeets h bytes names id y → x ≡ y
+  resolve-one-outcome bytes names id e f = told-one (NamesCalls.resolveCall h bytes names id) x y e f
+
+  pub find-one-outcome : (bytes names name : List ℕ) → Names.FindMeets h bytes names name x → Names.FindMeets h bytes names name y → x ≡ y
+  find-one-outcome bytes names name e f = told-one (NamesCalls.findCall h bytes names name) x y e f
+
+  pub section-symbol-one-outcome : (sections : List ℕ) (section : ℕ) → Lookup.SectionSymbolMeets h sections section x → Lookup.SectionSymbolMeets h sections section y → x ≡ y
+  section-symbol-one-outcome sections section e f = told-one (LookupCalls.sectionSymbolCall h sections section) x y e f
+
+  pub matches-one-outcome : (walk index rows : List ℕ) (entry : ℕ) (headers entries contents file : List ℕ) → Archive.MatchesMeets h walk index rows entry headers entries contents file x
+      → Archive.MatchesMeets h walk index rows entry headers entries contents file y → x ≡ y
+  matches-one-outcome walk index rows entry headers entries contents file e f =
+      told-one (ArchiveCalls.matchesCall h walk index rows entry headers entries contents file) x y e f
+
+-- ---- the others
 
 -- intern
-pub record InternExit : Type 0 where
-  pub number : ℕ
-  pub header : List ℕ
-  pub bytes : List ℕ
-  pub names : List ℕ
-
-abbrev pub internSeen : InternExit → Names.InternLeft
-internSeen e = Names.internLeft (told (e .number) (e .header)) (e .bytes) (e .names)
-
-pub intern-one-outcome : (z : Names.InternLeft) (x y : InternExit) → internSeen x ≡ z → internSeen y ≡ z → x ≡ y
-intern-one-outcome z x y e f = ap {B = InternExit} (λ (o : Names.InternLeft). record { number = o .told .number; header = o .told .header; bytes = o .bytes; names = o .names }) (e ∙ sym f)
+pub intern-one-outcome : (h bytes names name : List ℕ) (x y : Names.InternExit) → Names.InternMeets h bytes names name x → Names.InternMeets h bytes names name y → x ≡ y
+intern-one-outcome h bytes names name x y e f = ap {B = Names.InternExit} (λ (o : NamesCalls.InternLeft). record { number = o .told .number; header = o .told .header; bytes = o .bytes; names = o .names }) (e ∙ sym f)
 
 -- new
-pub record NewExit : Type 0 where
-  pub number : ℕ
-  pub header : List ℕ
-  pub bytes : List ℕ
-  pub names : List ℕ
-  pub symbols : List ℕ
-  pub sections : List ℕ
-
-abbrev pub newSeen : NewExit → Symbols.NewLeft
-newSeen e = Symbols.newLeft (told (e .number) (e .header)) (e .bytes) (e .names) (e .symbols) (e .sections)
-
-pub new-one-outcome : (z : Symbols.NewLeft) (x y : NewExit) → newSeen x ≡ z → newSeen y ≡ z → x ≡ y
-new-one-outcome z x y e f = ap {B = NewExit} (λ (o : Symbols.NewLeft). record { number = o .told .number; header = o .told .header; bytes = o .bytes; names = o .names; symbols = o .symbols; sections = o .sections }) (e ∙ sym f)
+pub new-one-outcome : (h : List ℕ) (key : ℕ) (bytes names symbols sections : List ℕ) (x y : Symbols.NewExit) → Symbols.NewMeets h key bytes names symbols sections x
+    → Symbols.NewMeets h key bytes names symbols sections y → x ≡ y
+new-one-outcome h key bytes names symbols sections x y e f = ap {B = Symbols.NewExit} (λ (o : SymbolsCalls.NewLeft). record { number = o .told .number; header = o .told .header; bytes = o .bytes; names = o .names; symbols = o .symbols; sections = o .sections }) (e ∙ sym f)
 
 -- add
-pub record AddExit : Type 0 where
-  pub number : ℕ
-  pub header : List ℕ
-  pub names : List ℕ
-  pub symbols : List ℕ
-  pub sections : List ℕ
-
-abbrev pub addSeen : AddExit → Symbols.AddLeft
-addSeen e = Symbols.addLeft (told (e .number) (e .header)) (e .names) (e .symbols) (e .sections)
-
-pub add-one-outcome : (z : Symbols.AddLeft) (x y : AddExit) → addSeen x ≡ z → addSeen y ≡ z → x ≡ y
-add-one-outcome z x y e f = ap {B = AddExit} (λ (o : Symbols.AddLeft). record { number = o .told .number; header = o .told .header; names = o .names; symbols = o .symbols; sections = o .sections }) (e ∙ sym f)
+pub add-one-outcome : (h names symbols sections conversion item : List ℕ) (x y : Symbols.AddExit) → Symbols.AddMeets h names symbols sections conversion item x
+    → Symbols.AddMeets h names symbols sections conversion item y → x ≡ y
+add-one-outcome h names symbols sections conversion item x y e f = ap {B = Symbols.AddExit} (λ (o : SymbolsCalls.AddLeft). record { number = o .told .number; header = o .told .header; names = o .names; symbols = o .symbols; sections = o .sections }) (e ∙ sym f)
 
 -- remove
-pub record RemoveExit : Type 0 where
-  pub number : ℕ
-  pub header : List ℕ
-  pub symbols : List ℕ
-  pub sections : List ℕ
-
-abbrev pub removeSeen : RemoveExit → Symbols.RemoveLeft
-removeSeen e = Symbols.removeLeft (told (e .number) (e .header)) (e .symbols) (e .sections)
-
-pub remove-one-outcome : (z : Symbols.RemoveLeft) (x y : RemoveExit) → removeSeen x ≡ z → removeSeen y ≡ z → x ≡ y
-remove-one-outcome z x y e f = ap {B = RemoveExit} (λ (o : Symbols.RemoveLeft). record { number = o .told .number; header = o .told .header; symbols = o .symbols; sections = o .sections }) (e ∙ sym f)
+pub remove-one-outcome : (h symbols sections : List ℕ) (id : ℕ) (x y : Symbols.RemoveExit) → Symbols.RemoveMeets h symbols sections id x → Symbols.RemoveMeets h symbols sections id y → x ≡ y
+remove-one-outcome h symbols sections id x y e f = ap {B = Symbols.RemoveExit} (λ (o : SymbolsCalls.RemoveLeft). record { number = o .told .number; header = o .told .header; symbols = o .symbols; sections = o .sections }) (e ∙ sym f)
 
 -- get, get_global
-pub record FoundExit : Type 0 where
-  pub number : ℕ
-  pub header : List ℕ
-  pub out : List ℕ
+found-one : (z : LookupCalls.FoundLeft) (x y : Lookup.FoundExit) → LookupCalls.foundLeft (told (x .number) (x .header)) (x .out) ≡ z → LookupCalls.foundLeft (told (y .number) (y .header)) (y .out) ≡ z → x ≡ y
+found-one z x y e f = ap {B = Lookup.FoundExit} (λ (o : LookupCalls.FoundLeft). record { number = o .told .number; header = o .told .header; out = o .out }) (e ∙ sym f)
 
-abbrev pub foundSeen : FoundExit → Lookup.FoundLeft
-foundSeen e = Lookup.foundLeft (told (e .number) (e .header)) (e .out)
+module _ (h out : List ℕ) (x y : Lookup.FoundExit) where
+  pub get-one-outcome : (symbols : List ℕ) (id : ℕ) → Lookup.GetMeets h symbols id out x → Lookup.GetMeets h symbols id out y → x ≡ y
+  get-one-outcome symbols id e f = found-one (LookupCalls.getCall h symbols id out) x y e f
 
-pub found-one-outcome : (z : Lookup.FoundLeft) (x y : FoundExit) → foundSeen x ≡ z → foundSeen y ≡ z → x ≡ y
-found-one-outcome z x y e f = ap {B = FoundExit} (λ (o : Lookup.FoundLeft). record { number = o .told .number; header = o .told .header; out = o .out }) (e ∙ sym f)
+  pub get-global-one-outcome : (names symbols : List ℕ) (name : ℕ) → Lookup.GetGlobalMeets h names symbols name out x → Lookup.GetGlobalMeets h names symbols name out y → x ≡ y
+  get-global-one-outcome names symbols name e f = found-one (LookupCalls.getGlobalCall h names symbols name out) x y e f
 
 -- add_group
-pub record GroupExit : Type 0 where
-  pub number : ℕ
-  pub header : List ℕ
-  pub bytes : List ℕ
-  pub names : List ℕ
-  pub work : List ℕ
+pub group-one-outcome : (h : List ℕ) (o : Group.Object) (bytes names work : List ℕ) (n : ℕ) (x y : Merge.GroupExit) → Merge.GroupMeets h o bytes names work n x → Merge.GroupMeets h o bytes names work n y → x ≡ y
+group-one-outcome h o bytes names work n x y e f = ap {B = Merge.GroupExit} (λ (o : MergeCalls.GroupLeft). record { number = o .told .number; header = o .told .header; bytes = o .bytes; names = o .names; work = o .work }) (e ∙ sym f)
 
-abbrev pub groupSeen : GroupExit → Merge.GroupLeft
-groupSeen e = Merge.groupLeft (told (e .number) (e .header)) (e .bytes) (e .names) (e .work)
-
-pub group-one-outcome : (z : Merge.GroupLeft) (x y : GroupExit) → groupSeen x ≡ z → groupSeen y ≡ z → x ≡ y
-group-one-outcome z x y e f = ap {B = GroupExit} (λ (o : Merge.GroupLeft). record { number = o .told .number; header = o .told .header; bytes = o .bytes; names = o .names; work = o .work }) (e ∙ sym f)
-
--- merge_elf
+-- merge_elf: the number and the header, and the rows
 pub record MergeExit : Type 0 where
-  pub number : ℕ
-  pub header : List ℕ
-  pub bytes : List ℕ
-  pub names : List ℕ
-  pub symbols : List ℕ
-  pub sections : List ℕ
-  pub inputs : List ℕ
-  pub lists : List ℕ
-  pub work : List ℕ
-  pub ids : List ℕ
+  pub told : ToldExit
+  pub rows : MergeCalls.Rows
 
-abbrev pub mergeSeen : MergeExit → Merge.MergeLeft
-mergeSeen e = Merge.mergeLeft (told (e .number) (e .header)) (Merge.rowsOf (e .bytes) (e .names) (e .symbols) (e .sections) (e .inputs) (e .lists) (e .work) (e .ids))
+abbrev pub mergeRows : MergeCalls.Rows → MergeExit → Both MergeCalls.Rows MergeCalls.Rows
+mergeRows c e = record { entry = c; exit = e .rows }
 
-pub merge-one-outcome : (z : Merge.MergeLeft) (x y : MergeExit) → mergeSeen x ≡ z → mergeSeen y ≡ z → x ≡ y
-merge-one-outcome z x y e f = ap {B = MergeExit} (λ (o : Merge.MergeLeft). record { number = o .told .number; header = o .told .header; bytes = o .rows .bytes; names = o .rows .names; symbols = o .rows .symbols; sections = o .rows .sections; inputs = o .rows .inputs; lists = o .rows .lists; work = o .rows .work; ids = o .rows .ids }) (e ∙ sym f)
+pub merge-one-outcome : (h : List ℕ) (o : Stages.Object) (c : MergeCalls.Rows) (x y : MergeExit) → Merge.MergeMeets h o (mergeRows c x) (x .told) → Merge.MergeMeets h o (mergeRows c y) (y .told) → x ≡ y
+merge-one-outcome h o c x y e f = ap {B = MergeExit} (λ (o : MergeCalls.MergeLeft). record { told = record { number = o .told .number; header = o .told .header }; rows = o .rows }) (e ∙ sym f)
 
 -- load_shared_object
 pub record LoadExit : Type 0 where
-  pub number : ℕ
-  pub header : List ℕ
-  pub bytes : List ℕ
-  pub names : List ℕ
-  pub symbols : List ℕ
-  pub sections : List ℕ
-  pub inputs : List ℕ
-  pub lists : List ℕ
-  pub marks : List ℕ
+  pub told : ToldExit
+  pub rows : LoadCalls.Rows
 
-abbrev pub loadSeen : LoadExit → Load.LoadLeft
-loadSeen e = Load.loadLeft (told (e .number) (e .header)) (Load.rowsOf (e .bytes) (e .names) (e .symbols) (e .sections) (e .inputs) (e .lists) (e .marks))
+abbrev pub loadRows : LoadCalls.Rows → LoadExit → Both LoadCalls.Rows LoadCalls.Rows
+loadRows c e = record { entry = c; exit = e .rows }
 
-pub load-one-outcome : (z : Load.LoadLeft) (x y : LoadExit) → loadSeen x ≡ z → loadSeen y ≡ z → x ≡ y
-load-one-outcome z x y e f = ap {B = LoadExit} (λ (o : Load.LoadLeft). record { number = o .told .number; header = o .told .header; bytes = o .rows .bytes; names = o .rows .names; symbols = o .rows .symbols; sections = o .rows .sections; inputs = o .rows .inputs; lists = o .rows .lists; marks = o .rows .marks }) (e ∙ sym f)
+pub load-one-outcome : (h : List ℕ) (o : Input) (c : LoadCalls.Rows) (x y : LoadExit) → Load.LoadMeets h o (loadRows c x) (x .told) → Load.LoadMeets h o (loadRows c y) (y .told) → x ≡ y
+load-one-outcome h o c x y e f = ap {B = LoadExit} (λ (o : LoadCalls.LoadLeft). record { told = record { number = o .told .number; header = o .told .header }; rows = o .rows }) (e ∙ sym f)
 
 -- start and next of a walk
-pub record WalkExit : Type 0 where
-  pub number : ℕ
-  pub header : List ℕ
-  pub walk : List ℕ
-  pub rows : List ℕ
+walk-one : (z : ArchiveCalls.WalkLeft) (x y : Archive.WalkExit) → ArchiveCalls.walkLeft (told (x .number) (x .header)) (x .walk) (x .rows) ≡ z → ArchiveCalls.walkLeft (told (y .number) (y .header)) (y .walk) (y .rows) ≡ z → x ≡ y
+walk-one z x y e f = ap {B = Archive.WalkExit} (λ (o : ArchiveCalls.WalkLeft). record { number = o .told .number; header = o .told .header; walk = o .walk; rows = o .rows }) (e ∙ sym f)
 
-abbrev pub walkSeen : WalkExit → Archive.WalkLeft
-walkSeen e = Archive.walkLeft (told (e .number) (e .header)) (e .walk) (e .rows)
+module _ (h walk : List ℕ) (x y : Archive.WalkExit) where
+  pub start-one-outcome : (key : ℕ) (index rows : List ℕ) → Archive.StartMeets h walk key index rows x → Archive.StartMeets h walk key index rows y → x ≡ y
+  start-one-outcome key index rows e f = walk-one (ArchiveCalls.startCall h walk key index rows) x y e f
 
-pub walk-one-outcome : (z : Archive.WalkLeft) (x y : WalkExit) → walkSeen x ≡ z → walkSeen y ≡ z → x ≡ y
-walk-one-outcome z x y e f = ap {B = WalkExit} (λ (o : Archive.WalkLeft). record { number = o .told .number; header = o .told .header; walk = o .walk; rows = o .rows }) (e ∙ sym f)
+  pub next-one-outcome : (index rows bytes names symbols : List ℕ) → Archive.NextMeets h walk index rows bytes names symbols x → Archive.NextMeets h walk index rows bytes names symbols y → x ≡ y
+  next-one-outcome index rows bytes names symbols e f = walk-one (ArchiveCalls.nextCall h walk index rows bytes names symbols) x y e f
 
 -- a collection
-pub record RunExit : Type 0 where
-  pub number : ℕ
-  pub header : List ℕ
-  pub symbols : List ℕ
-  pub sections : List ℕ
-  pub work : List ℕ
-
-abbrev pub runSeen : RunExit → Collect.RunLeft
-runSeen e = Collect.runLeft (told (e .number) (e .header)) (e .symbols) (e .sections) (e .work)
-
-pub run-one-outcome : (z : Collect.RunLeft) (x y : RunExit) → runSeen x ≡ z → runSeen y ≡ z → x ≡ y
-run-one-outcome z x y e f = ap {B = RunExit} (λ (o : Collect.RunLeft). record { number = o .told .number; header = o .told .header; symbols = o .symbols; sections = o .sections; work = o .work }) (e ∙ sym f)
+pub run-one-outcome : (h : List ℕ) (c : Lists) (symbols sections : List ℕ) (entry : EntryPoint) (work : List ℕ) (x y : Collect.RunExit) → Collect.RunMeets h c symbols sections entry work x
+    → Collect.RunMeets h c symbols sections entry work y → x ≡ y
+run-one-outcome h c symbols sections entry work x y e f = ap {B = Collect.RunExit} (λ (o : CollectCalls.RunLeft). record { number = o .told .number; header = o .told .header; symbols = o .symbols; sections = o .sections; work = o .work }) (e ∙ sym f)

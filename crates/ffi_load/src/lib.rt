@@ -1,9 +1,11 @@
 // The load of a shared object, for another language: the link and the answer lie in a header (ffi_header). A header of fewer than 16 cells gives 1,
 // and nothing is read or written.
 ghost use mathlib.Core.Path.{_≡_};
-ghost use Rattle.shared_objects.specs.Load.{saidOf, inputAs};
-ghost use Rattle.ffi_header.specs.Header.{saying, told};
-ghost use Rattle.ffi_load.specs.Calls.{rowsOf, loadLeft, loadCall};
+ghost use Rattle.cells.specs.Slice.{before};
+ghost use Rattle.shared_objects.specs.Load.{saidOf};
+ghost use Rattle.ffi_header.specs.Header.{saying};
+ghost use Rattle.ffi_header.specs.Contract.{toldExit};
+ghost use Rattle.ffi_load.specs.Contract.{linkRows, libraryIn, LoadMeets};
 use ffi_header::Reply;
 use shared_objects::Answer;
 
@@ -36,9 +38,7 @@ pub fn load_shared_object<'a>(
     soname: usize,
     asneeded: bool,
 ) -> u64
-    ensures { λ r. ⌜ loadLeft (told r (now (header .exit))) (rowsOf (now (bytes .exit)) (now (names .exit)) (now (symbols .exit)) (now (sections .exit)) (now (inputs .exit)) (now (lists .exit)) (now (marks .exit)))
-        ≡ loadCall (now (header .entry)) (inputAs (now (entries .entry)) (now (file .entry)) (now (needs .entry)) (now (path .entry)) archived sonamed soname asneeded)
-        (rowsOf (now (bytes .entry)) (now (names .entry)) (now (symbols .entry)) (now (sections .entry)) (now (inputs .entry)) (now (lists .entry)) (now (marks .entry))) ⌝ }
+    ensures { λ r. ⌜ LoadMeets (before header) (libraryIn entries file needs path archived sonamed soname asneeded) (linkRows bytes names symbols sections inputs lists marks) (toldExit r header) ⌝ }
 {
     if header.len() < 16 {
         return 1;

@@ -2,8 +2,11 @@
 // (ffi_cells). A header of fewer than 16 cells gives 1, and nothing is read or written; fewer than 9 cells for a symbol give 1 at place 0 and are
 // left.
 ghost use mathlib.Core.Path.{_≡_};
+ghost use Rattle.cells.specs.Slice.{before};
 ghost use Rattle.ffi_header.specs.Header.{told};
-ghost use Rattle.ffi_lookup.specs.Calls.{foundLeft, foundOf, getCall, getGlobalCall, sectionSymbolReply, sectionSymbolCall};
+ghost use Rattle.ffi_header.specs.Contract.{toldExit};
+ghost use Rattle.ffi_lookup.specs.Calls.{foundLeft, foundOf, sectionSymbolReply};
+ghost use Rattle.ffi_lookup.specs.Contract.{foundExit, GetMeets, GetGlobalMeets, SectionSymbolMeets};
 use ffi_header::Reply;
 use link::Interned;
 use link::SectionId;
@@ -26,7 +29,7 @@ fn found(header: &mut [u64], out: &mut [u64], a: Found) -> u64
 }
 
 pub fn get(header: &mut [u64], symbols: &[u64], id: usize, out: &mut [u64]) -> u64
-    ensures { λ r. ⌜ foundLeft (told r (now (header .exit))) (now (out .exit)) ≡ getCall (now (header .entry)) (now (symbols .entry)) id (now (out .entry)) ⌝ }
+    ensures { λ r. ⌜ GetMeets (before header) (before symbols) id (before out) (foundExit r header out) ⌝ }
 {
     if header.len() < 16 {
         return 1;
@@ -46,7 +49,7 @@ pub fn get_global(
     name: usize,
     out: &mut [u64],
 ) -> u64
-    ensures { λ r. ⌜ foundLeft (told r (now (header .exit))) (now (out .exit)) ≡ getGlobalCall (now (header .entry)) (now (names .entry)) (now (symbols .entry)) name (now (out .entry)) ⌝ }
+    ensures { λ r. ⌜ GetGlobalMeets (before header) (before names) (before symbols) name (before out) (foundExit r header out) ⌝ }
 {
     if header.len() < 16 {
         return 1;
@@ -70,7 +73,7 @@ fn section_symbol(a: SectionSymbol) -> Reply
 
 // The values are 1 where the section has a symbol, and its id.
 pub fn section_symbol_id(header: &mut [u64], sections: &[u64], section: usize) -> u64
-    ensures { λ r. ⌜ told r (now (header .exit)) ≡ sectionSymbolCall (now (header .entry)) (now (sections .entry)) section ⌝ }
+    ensures { λ r. ⌜ SectionSymbolMeets (before header) (before sections) section (toldExit r header) ⌝ }
 {
     if header.len() < 16 {
         return 1;

@@ -1,12 +1,12 @@
 // The merge of an object, and a group added by itself, for another language: the link and the answer lie in a header (ffi_header). A header of fewer
 // than 16 cells gives 1, and nothing is read or written. There are no values.
 ghost use mathlib.Core.Path.{_≡_};
-ghost use Rattle.section_groups.specs.Group as Group;
-ghost use Rattle.merge_stages.specs.Stages as Stages;
+ghost use Rattle.cells.specs.Slice.{before};
 ghost use Rattle.add_group.specs.AddGroup as AddGroup;
 ghost use Rattle.merge_elf.specs.Merge as Merge;
-ghost use Rattle.ffi_header.specs.Header.{refusedOf, told};
-ghost use Rattle.ffi_merge.specs.Calls.{groupLeft, groupCall, rowsOf, mergeLeft, mergeCall};
+ghost use Rattle.ffi_header.specs.Header.{refusedOf};
+ghost use Rattle.ffi_header.specs.Contract.{toldExit};
+ghost use Rattle.ffi_merge.specs.Contract.{groupExit, groupObject, GroupMeets, linkRows, mergeObject, MergeMeets};
 use ffi_header::Reply;
 
 fn grouped(a: add_group::Answer) -> Reply
@@ -31,9 +31,7 @@ pub fn add_group(
     t: usize,
     n: usize,
 ) -> u64
-    ensures { λ r. ⌜ groupLeft (told r (now (header .exit))) (now (bytes .exit)) (now (names .exit)) (now (work .exit))
-        ≡ groupCall (now (header .entry)) (Group.objectOf (now (headers .entry)) (now (entries .entry)) (now (contents .entry)) (now (file .entry)) t)
-        (now (bytes .entry)) (now (names .entry)) (now (work .entry)) n ⌝ }
+    ensures { λ r. ⌜ GroupMeets (before header) (groupObject headers entries contents file t) (before bytes) (before names) (before work) n (groupExit r header bytes names work) ⌝ }
 {
     if header.len() < 16 {
         return 1;
@@ -81,9 +79,7 @@ pub fn merge_elf(
     file: &[u8],
     strings: usize,
 ) -> u64
-    ensures { λ r. ⌜ mergeLeft (told r (now (header .exit))) (rowsOf (now (bytes .exit)) (now (names .exit)) (now (symbols .exit)) (now (sections .exit)) (now (inputs .exit)) (now (lists .exit)) (now (work .exit)) (now (ids .exit)))
-        ≡ mergeCall (now (header .entry)) (Stages.objectOf (now (headers .entry)) (now (entries .entry)) (now (contents .entry)) (now (file .entry)) strings)
-        (rowsOf (now (bytes .entry)) (now (names .entry)) (now (symbols .entry)) (now (sections .entry)) (now (inputs .entry)) (now (lists .entry)) (now (work .entry)) (now (ids .entry))) ⌝ }
+    ensures { λ r. ⌜ MergeMeets (before header) (mergeObject headers entries contents file strings) (linkRows bytes names symbols sections inputs lists work ids) (toldExit r header) ⌝ }
 {
     if header.len() < 16 {
         return 1;

@@ -3,11 +3,14 @@
 ghost use mathlib.Core.Path.{_≡_};
 ghost use lib.ListN.{getD};
 ghost use Prim.Native.Nat.{_*_, _+_};
+ghost use Rattle.cells.specs.Slice.{before};
 ghost use Rattle.link.specs.Bounds.{lesser};
 ghost use Rattle.interner.specs.Names.{storeOf};
 ghost use Rattle.interner.specs.Calls.{said, lentOf};
-ghost use Rattle.ffi_header.specs.Header.{saying, told};
-ghost use Rattle.ffi_names.specs.Calls.{firstOf, partReply, foundReply, findReply, internLeft, internCall, resolveCall, findCall};
+ghost use Rattle.ffi_header.specs.Header.{saying};
+ghost use Rattle.ffi_header.specs.Contract.{toldExit};
+ghost use Rattle.ffi_names.specs.Calls.{firstOf, partReply, foundReply, findReply};
+ghost use Rattle.ffi_names.specs.Contract.{internExit, InternMeets, ResolveMeets, FindMeets};
 use ffi_header::Reply;
 use interner::Answer;
 use link::Interned;
@@ -25,7 +28,7 @@ fn interned(a: Answer) -> Reply
 
 // The value is the name's id.
 pub fn intern(header: &mut [u64], bytes: &mut [u8], names: &mut [u64], name: &[u8]) -> u64
-    ensures { λ r. ⌜ internLeft (told r (now (header .exit))) (now (bytes .exit)) (now (names .exit)) ≡ internCall (now (header .entry)) (now (bytes .entry)) (now (names .entry)) (now (name .entry)) ⌝ }
+    ensures { λ r. ⌜ InternMeets (before header) (before bytes) (before names) (before name) (internExit r header bytes names) ⌝ }
 {
     if header.len() < 16 {
         return 1;
@@ -59,7 +62,7 @@ fn part_reply(names: &[u64], id: usize, bytes: usize, len: usize, number: u64, p
 
 // The values are where the name starts in the bytes, and its length.
 pub fn resolve(header: &mut [u64], bytes: &[u8], names: &[u64], id: usize) -> u64
-    ensures { λ r. ⌜ told r (now (header .exit)) ≡ resolveCall (now (header .entry)) (now (bytes .entry)) (now (names .entry)) id ⌝ }
+    ensures { λ r. ⌜ ResolveMeets (before header) (before bytes) (before names) id (toldExit r header) ⌝ }
 {
     if header.len() < 16 {
         return 1;
@@ -108,7 +111,7 @@ fn find_reply(l: Link, bytes: &[u8], names: &[u64], name: &[u8]) -> Reply
 
 // The values are 1 and the name's id where it was issued, else 0 and 0. No name is issued.
 pub fn find(header: &mut [u64], bytes: &[u8], names: &[u64], name: &[u8]) -> u64
-    ensures { λ r. ⌜ told r (now (header .exit)) ≡ findCall (now (header .entry)) (now (bytes .entry)) (now (names .entry)) (now (name .entry)) ⌝ }
+    ensures { λ r. ⌜ FindMeets (before header) (before bytes) (before names) (before name) (toldExit r header) ⌝ }
 {
     if header.len() < 16 {
         return 1;

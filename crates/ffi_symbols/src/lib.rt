@@ -2,9 +2,11 @@
 // in cells of its own (ffi_cells). A header of fewer than 16 cells gives 1, and nothing is read or written; other cells that are too few give 1 at
 // place 0 and are left.
 ghost use mathlib.Core.Path.{_≡_};
+ghost use Rattle.cells.specs.Slice.{before};
 ghost use Rattle.symbols.specs.Calls.{said};
 ghost use Rattle.ffi_header.specs.Header.{saying, told};
-ghost use Rattle.ffi_symbols.specs.Calls.{newLeft, newCall, addLeft, addKnown, addCall, removeLeft, removeCall};
+ghost use Rattle.ffi_symbols.specs.Calls.{addLeft, addKnown};
+ghost use Rattle.ffi_symbols.specs.Contract.{newExit, NewMeets, addExit, AddMeets, removeExit, RemoveMeets};
 use ffi_header::Reply;
 use link::SymbolId;
 use symbols::Answer;
@@ -29,7 +31,7 @@ pub fn new(
     symbols: &mut [u64],
     sections: &mut [u64],
 ) -> u64
-    ensures { λ r. ⌜ newLeft (told r (now (header .exit))) (now (bytes .exit)) (now (names .exit)) (now (symbols .exit)) (now (sections .exit)) ≡ newCall (now (header .entry)) key (now (bytes .entry)) (now (names .entry)) (now (symbols .entry)) (now (sections .entry)) ⌝ }
+    ensures { λ r. ⌜ NewMeets (before header) key (before bytes) (before names) (before symbols) (before sections) (newExit r header bytes names symbols sections) ⌝ }
 {
     if header.len() < 16 {
         return 1;
@@ -68,7 +70,7 @@ pub fn add(
     conversion: &[u64],
     item: &[u64],
 ) -> u64
-    ensures { λ r. ⌜ addLeft (told r (now (header .exit))) (now (names .exit)) (now (symbols .exit)) (now (sections .exit)) ≡ addCall (now (header .entry)) (now (names .entry)) (now (symbols .entry)) (now (sections .entry)) (now (conversion .entry)) (now (item .entry)) ⌝ }
+    ensures { λ r. ⌜ AddMeets (before header) (before names) (before symbols) (before sections) (before conversion) (before item) (addExit r header names symbols sections) ⌝ }
 {
     if header.len() < 16 {
         return 1;
@@ -82,7 +84,7 @@ pub fn add(
 
 // The value is the id.
 pub fn remove(header: &mut [u64], symbols: &mut [u64], sections: &mut [u64], id: usize) -> u64
-    ensures { λ r. ⌜ removeLeft (told r (now (header .exit))) (now (symbols .exit)) (now (sections .exit)) ≡ removeCall (now (header .entry)) (now (symbols .entry)) (now (sections .entry)) id ⌝ }
+    ensures { λ r. ⌜ RemoveMeets (before header) (before symbols) (before sections) id (removeExit r header symbols sections) ⌝ }
 {
     if header.len() < 16 {
         return 1;

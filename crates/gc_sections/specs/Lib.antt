@@ -3,6 +3,7 @@ pub mod Roots
 pub mod Reach
 pub mod Sweep
 pub mod Run
+pub mod Contract
 pub mod EachWays
 pub mod ReachWays
 pub mod RunWays

@@ -1,12 +1,14 @@
 // Section collection: what no relocation reaches from the roots is dropped, and its symbols are removed.
 ghost use mathlib.Core.Path.{_≡_};
 ghost use Prim.Native.Nat.{_+_, _≤_};
+ghost use Rattle.cells.specs.Slice.{before};
 ghost use Rattle.symbols.specs.Remove.{rowsOf};
 ghost use Rattle.gc_sections.specs.Each.{each};
 ghost use Rattle.gc_sections.specs.Roots.{valueLead, leadOf, readable, rooted, isRoot, nameIs};
 ghost use Rattle.gc_sections.specs.Reach.{walkOf, saveOf, lowerOf, reachOf, addOf, rootSymbol, rootSection, entryOf, endOf, relocation, relocations, visit, clearCell, startOf, rootsOf, processOf, walked};
 ghost use Rattle.gc_sections.specs.Sweep.{sweptOf, dropUnreached, droppedNow, purgedOf, purgeSymbol, sweepSections, purgeSymbols};
-ghost use Rattle.gc_sections.specs.Run.{outcome, listsOf, lentOf, judgeCells, judgeOf, sweepOf, finishOf, runOf};
+ghost use Rattle.gc_sections.specs.Run.{outcome, lentOf, judgeCells, judgeOf, sweepOf, finishOf};
+ghost use Rattle.gc_sections.specs.Contract.{runExit, listsIn, RunMeets};
 use link::Interned;
 use link::Lent;
 use link::Link;
@@ -639,7 +641,7 @@ pub fn run(
     entry: EntryPoint,
     work: &mut [u64],
 ) -> Outcome
-    ensures { λ r. ⌜ outcome (now (symbols .exit)) (now (sections .exit)) (now (work .exit)) r ≡ runOf l (listsOf (now (bytes .entry)) (now (names .entry)) (now (lists .entry)) (now (marks .entry))) (now (symbols .entry)) (now (sections .entry)) entry (now (work .entry)) ⌝ }
+    ensures { λ r. ⌜ RunMeets l (listsIn bytes names lists marks) (before symbols) (before sections) entry (before work) (runExit symbols sections work r) ⌝ }
 {
     let lent = lent_of(
         bytes.len(),

@@ -1,10 +1,12 @@
 // The filter of an object's symbols by the groups' marks.
 ghost use mathlib.Core.Path.{_≡_};
-ghost use Rattle.section_groups.specs.Filter.{sectionAfter, symbolOk, filterOf};
+ghost use Rattle.cells.specs.Slice.{before};
+ghost use Rattle.section_groups.specs.Filter.{symbolOk};
+ghost use Rattle.section_groups.specs.Contract.{SectionAfterMeets, FilterMeets};
 
 // The section of a symbol after the filter: undefined where it is removed.
 pub fn section_after(work: &[u64], section: u64) -> u64
-    ensures { λ r. ⌜ r ≡ sectionAfter (now (work .entry)) section ⌝ }
+    ensures { λ r. ⌜ SectionAfterMeets (before work) section r ⌝ }
 {
     if section < 0xff00 {
         if cells::row_get(work, section as usize, 1) == 2 {
@@ -30,7 +32,7 @@ fn symbol_ok(work: &[u64], entries: &[u64], i: usize) -> bool
 
 // The first local symbol in a removed section; as many as there are where none is.
 pub fn filter_symbol_table(work: &[u64], entries: &[u64]) -> usize
-    ensures { λ r. ⌜ r ≡ filterOf (now (work .entry)) (now (entries .entry)) ⌝ }
+    ensures { λ r. ⌜ FilterMeets (before work) (before entries) r ⌝ }
 {
     let rows = entries.len() / 8;
     let mut i = 0;

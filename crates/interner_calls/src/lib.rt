@@ -1,8 +1,10 @@
 // The calls on names: a new table, intern, resolve.
 ghost use mathlib.Core.Path.{_≡_};
 ghost use Prim.Native.Nat.{_<_};
+ghost use Rattle.cells.specs.Slice.{before};
 ghost use Rattle.interner.specs.Names.{storeOf};
-ghost use Rattle.interner.specs.Calls.{outcome, lentOf, refusedOf, issuedOf, internOf, noNames, clearHeads, newOf, resolved, resolveOf};
+ghost use Rattle.interner.specs.Calls.{outcome, lentOf, refusedOf, issuedOf, noNames, clearHeads};
+ghost use Rattle.interner.specs.Contract.{namesExit, InternMeets, NewNamesMeets, resolveExit, ResolveMeets};
 use interner::Answer;
 use interner::Outcome;
 use link::Interned;
@@ -61,7 +63,7 @@ fn issue(l: Link, bytes: &mut [u8], names: &mut [u64], x: &[u8]) -> Outcome
 
 // Equal bytes get the same id. 22; 1; then, for a name not issued yet, 2.
 pub fn intern(l: Link, bytes: &mut [u8], names: &mut [u64], x: &[u8]) -> Outcome
-    ensures { λ r. ⌜ outcome (now (bytes .exit)) (now (names .exit)) r ≡ internOf (storeOf (now (bytes .entry)) (now (names .entry)) l) (now (x .entry)) ⌝ }
+    ensures { λ r. ⌜ InternMeets (storeOf (before bytes) (before names) l) (before x) (namesExit bytes names r) ⌝ }
 {
     let head = link_judge::judge_change(l, lent_names(l, bytes.len(), names.len()));
     if head.number != 0 {
@@ -98,7 +100,7 @@ fn clear_heads(names: &mut [u64])
 // A link without rows but the empty name, whose id is 0. Whatever the cells held before doesn't matter. Any number is a key of the hash; answers
 // don't depend on it, and who doesn't know it can't choose names that share a chain.
 pub fn new(key: usize, bytes: &mut [u8], names: &mut [u64]) -> Outcome
-    ensures { λ r. ⌜ outcome (now (bytes .exit)) (now (names .exit)) r ≡ newOf key (now (bytes .entry)) (now (names .entry)) ⌝ }
+    ensures { λ r. ⌜ NewNamesMeets key (before bytes) (before names) (namesExit bytes names r) ⌝ }
 {
     let rows = link::name_rows(names.len());
     if rows == 0 {
@@ -121,7 +123,7 @@ pub fn resolve<'a>(
     number: &mut u64,
     place: &mut u64,
 ) -> &'a [u8]
-    ensures { λ r. ⌜ resolved (now r) (now (number .exit)) (now (place .exit)) ≡ resolveOf (storeOf (now (bytes .entry)) (now (names .entry)) l) id ⌝ }
+    ensures { λ r. ⌜ ResolveMeets (storeOf (before bytes) (before names) l) id (resolveExit (now r) (now (number .exit)) (now (place .exit))) ⌝ }
     ensures place { λ r. ⌜ r .ptr .0 ≡ bytes .entry .ptr .0 ⌝ }
 {
     let head = link_judge::judge(l, lent_names(l, bytes.len(), names.len()));

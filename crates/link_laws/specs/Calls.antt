@@ -10,7 +10,7 @@ use Rattle.link.specs.declared.SymbolId.{SymbolId}
 use Rattle.link.specs.declared.SectionId.{SectionId}
 use Rattle.link.specs.declared.Refusal.{Refusal}
 use Rattle.link.specs.Judge.{refused}
-use Rattle.link.specs.Said.{Said, numberIn, placeIn}
+use Rattle.link.specs.Said.{Said, SaidWith, numberIn, placeIn}
 use Rattle.interner.specs.Names.{storeOf}
 use Rattle.interner.specs.Calls as Names
 use Rattle.interner.specs.Calls.{internOf, resolveOf}
@@ -131,21 +131,24 @@ callLeft (collect marks entry work) s = runOf (s .table .link) (listsIn s marks)
 abbrev pub refusalBy : Said → Refusal
 refusalBy a = refused (numberIn a) (placeIn a)
 
+abbrev pub refusalWith : {A : Type 0} → SaidWith A → Refusal
+refusalWith a = refused (a .number) (a .place)
+
 -- 0 and 0 for a result
 abbrev pub refusalIn : (k : Call) → LeftBy k → Refusal
 refusalIn (intern x) o = refusalBy (o .said)
 refusalIn (resolve id) o = o .refusal
 refusalIn (add conversion u) o = refusalBy (o .said)
 refusalIn (remove id) o = refusalBy (o .said)
-refusalIn (get id) o = Lookup.refusalOf o
-refusalIn (getGlobal name) o = Lookup.refusalOf o
-refusalIn (sectionSymbol section) o = refused 0 0
+refusalIn (get id) o = refusalWith (Lookup.said o)
+refusalIn (getGlobal name) o = refusalWith (Lookup.said o)
+refusalIn (sectionSymbol section) o = refusalWith (Lookup.sectionSymbolSaid o)
 refusalIn (addGroup o work n) x = x .said
 refusalIn (merge o work ids) x = x .said
 refusalIn (load o marks) x = refusalBy (x .said)
-refusalIn (archiveStart key index cells) o = refused (Archive.begunNumber (o .started .begun)) (Archive.begunPlace (o .started .begun))
-refusalIn (archiveNext index cells w) o = refused (Archive.numberOf (o .moved .offer)) (Archive.placeOf (o .moved .offer))
-refusalIn (matches headers entries contents file index cells w e) o = refused (Matches.numberOf o) (Matches.placeOf o)
+refusalIn (archiveStart key index cells) o = refusalWith (Archive.begunSaid (o .started .begun))
+refusalIn (archiveNext index cells w) o = refusalWith (Archive.offerSaid (o .moved .offer))
+refusalIn (matches headers entries contents file index cells w e) o = refusalWith (Matches.said o)
 refusalIn (collect marks entry work) o = refused (o .said .number) (o .said .place)
 
 abbrev pub callRefusal : Call → Linked → Refusal

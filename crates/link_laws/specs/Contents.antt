@@ -105,7 +105,7 @@ call-logged (merge o work ids) s met m =
     (sym (log-rows (mergeSteps o (allIn s work ids)) (s .table) (merge-makes o (allIn s work ids) .accepted))) (merge-logged o (allIn s work ids) met m)
 call-logged (load o marks) s met m =
     subst (Rank.All (FromLibrary o (libraryIn s marks)))
-    (sym (log-rows (loadSteps o (libraryIn s marks)) (s .table) (load-makes o (libraryIn s marks) .accepted))) (load-logged o (libraryIn s marks))
+    (sym (log-rows (loadSteps o (libraryIn s marks)) (s .table) (load-makes o (libraryIn s marks) .accepted))) (load-logged o (libraryIn s marks) met m)
 call-logged (archiveStart key index cells) s met m = tt
 call-logged (archiveNext index cells w) s met m = tt
 call-logged (matches headers entries contents file index cells w e) s met m = tt

@@ -1,5 +1,5 @@
 -- "that its contract admits no second outcome is proved" (document 01, acceptance a). What a caller sees of a call is its result and every cell that it
--- lent to be written (`Exit`); a contract says of these, by the builder that stands in the `ensures`, what the definition gives (`Meets`). Two exits
+-- lent to be written (`Exit`); its contract (`Meets`) is the predicate that stands in the `ensures`, from the crate that defines the call. Two exits
 -- that meet it are equal: the builders lose nothing.
 -- Assumes nothing.
 use Prim.Native.Nat.{ℕ}
@@ -7,132 +7,107 @@ use native.Mathlib.Omega.{arith}
 use mathlib.Core.Path.{_≡_, refl, sym, ap, _∙_}
 use mathlib.Core.Bool.{Bool}
 use mathlib.Core.List.{List}
-use Rattle.strings.specs.Lookup.{Looked, looked, lookUp}
+use denote.Triple.Both.{Both}
+use Rattle.strings.specs.Lookup.{Looked}
+use Rattle.strings.specs.Contract.{StringExit, StringMeets}
 use Rattle.link.specs.declared.Link.{Link}
-use Rattle.link.specs.declared.Refusal.{Refusal}
-use Rattle.link.specs.Judge.{refused}
 use Rattle.interner.specs.declared.Outcome as Interner
 use Rattle.interner.specs.Calls as Names
-use Rattle.symbols.specs.declared.Symbols as Table
+use Rattle.interner.specs.Contract.{ResolveExit, InternMeets, NewNamesMeets, ResolveMeets}
+use Rattle.interner.specs.Contract as Interning
 use Rattle.symbols.specs.declared.Outcome as Symbols
 use Rattle.symbols.specs.declared.Found.{Found}
 use Rattle.symbols.specs.declared.SectionSymbol.{SectionSymbol}
 use Rattle.symbols.specs.Calls as Calls
-use Rattle.symbols.specs.New.{NewLeft, newOutcome, newOf}
-use Rattle.symbols.specs.Remove.{RemoveLeft, removeOutcome}
-use Rattle.section_groups.specs.Filter.{filterOf}
+use Rattle.symbols.specs.New.{NewLeft, newOutcome}
+use Rattle.symbols.specs.Remove.{RemoveLeft, rowsOf, removeOutcome}
+use Rattle.symbols.specs.Contract.{NewExit, NewMeets, AddExit, AddMeets, RemoveExit, RemoveMeets, GetMeets, GetGlobalMeets, SectionSymbolMeets}
+use Rattle.section_groups.specs.Contract.{SectionAfterMeets, FilterMeets}
 use Rattle.add_group.specs.declared.Outcome as Group
 use Rattle.add_group.specs.AddGroup as AddGroup
+use Rattle.add_group.specs.Contract as Grouping
+use Rattle.add_group.specs.Contract.{GroupMeets}
 use Rattle.merge_elf.specs.declared.Outcome as Merge
 use Rattle.merge_elf.specs.Merge as Merging
+use Rattle.merge_elf.specs.Contract as Merges
+use Rattle.merge_elf.specs.Contract.{MergeMeets}
 use Rattle.shared_objects.specs.declared.Outcome as Shared
 use Rattle.shared_objects.specs.Load as Loading
-use Rattle.archive_walk.specs.declared.Started.{Started}
-use Rattle.archive_walk.specs.declared.Moved.{Moved}
+use Rattle.shared_objects.specs.Contract as Loads
+use Rattle.shared_objects.specs.Contract.{LoadMeets}
 use Rattle.archive_walk.specs.Walk as Archive
+use Rattle.archive_walk.specs.Contract.{StartExit, StartMeets, NextExit, NextMeets}
 use Rattle.object_requirement.specs.declared.Admission.{Admission}
+use Rattle.object_requirement.specs.Contract.{MatchesMeets}
 use Rattle.gc_sections.specs.declared.Outcome as Collection
 use Rattle.gc_sections.specs.Run as Collecting
+use Rattle.gc_sections.specs.Contract as Collects
+use Rattle.gc_sections.specs.Contract.{RunMeets}
+use Rattle.symbol_laws.specs.History.{table, store}
 use Rattle.merge_laws.specs.Calls.{Linked}
-use Rattle.link_laws.specs.Calls.{Call, intern, resolve, add, remove, get, getGlobal, sectionSymbol, addGroup, merge, load, archiveStart, archiveNext, matches, collect, LeftBy, callLeft}
+use Rattle.link_laws.specs.Calls.{Call, intern, resolve, add, remove, get, getGlobal, sectionSymbol, addGroup, merge, load, archiveStart, archiveNext, matches, collect, LeftBy, callLeft, viewIn, groupIn, listsIn}
 use Rattle.link_laws.specs.OneOutcome.{names-answer, symbols-answer}
 
 -- ---- what a caller sees: the lent cells at exit, and the result
 
-pub record InternExit : Type 0 where
-  pub bytes : List ℕ
-  pub names : List ℕ
-  pub result : Interner.Outcome
-
--- the bytes of the part that is handed back, and the two lent numbers
-pub record ResolveExit : Type 0 where
-  pub result : List ℕ
-  pub number : ℕ
-  pub place : ℕ
-
-pub record AddExit : Type 0 where
-  pub names : List ℕ
-  pub symbols : List ℕ
-  pub sections : List ℕ
-  pub result : Symbols.Outcome
-
-pub record RemoveExit : Type 0 where
-  pub symbols : List ℕ
-  pub sections : List ℕ
-  pub result : Symbols.Outcome
-
-pub record GroupExit : Type 0 where
-  pub bytes : List ℕ
-  pub names : List ℕ
-  pub work : List ℕ
-  pub result : Group.Outcome
-
 pub record MergeExit : Type 0 where
-  pub bytes : List ℕ
-  pub names : List ℕ
-  pub symbols : List ℕ
-  pub sections : List ℕ
-  pub inputs : List ℕ
-  pub lists : List ℕ
-  pub work : List ℕ
-  pub ids : List ℕ
+  pub cells : Merges.Cells
   pub result : Merge.Outcome
 
 pub record LoadExit : Type 0 where
-  pub bytes : List ℕ
-  pub names : List ℕ
-  pub symbols : List ℕ
-  pub sections : List ℕ
-  pub inputs : List ℕ
-  pub lists : List ℕ
-  pub marks : List ℕ
+  pub cells : Loads.Cells
   pub result : Shared.Outcome
 
-pub record StartExit : Type 0 where
-  pub cells : List ℕ
-  pub result : Started
-
-pub record NextExit : Type 0 where
-  pub cells : List ℕ
-  pub result : Moved
-
-pub record CollectExit : Type 0 where
-  pub symbols : List ℕ
-  pub sections : List ℕ
-  pub work : List ℕ
-  pub result : Collection.Outcome
-
-pub record NewExit : Type 0 where
-  pub bytes : List ℕ
-  pub names : List ℕ
-  pub symbols : List ℕ
-  pub sections : List ℕ
-  pub result : Symbols.Outcome
-
--- a string lookup: the bytes of the part, and the lent yes or no
-pub record StringExit : Type 0 where
-  pub result : List ℕ
-  pub found : Bool
-
 abbrev pub Exit : Call → Type 0
-Exit (intern x) = InternExit
+Exit (intern x) = Interning.Exit
 Exit (resolve id) = ResolveExit
 Exit (add conversion u) = AddExit
 Exit (remove id) = RemoveExit
 Exit (get id) = Found
 Exit (getGlobal name) = Found
 Exit (sectionSymbol section) = SectionSymbol
-Exit (addGroup o work n) = GroupExit
+Exit (addGroup o work n) = Grouping.Exit
 Exit (merge o work ids) = MergeExit
 Exit (load o marks) = LoadExit
 Exit (archiveStart key index cells) = StartExit
 Exit (archiveNext index cells w) = NextExit
 Exit (matches headers entries contents file index cells w e) = Admission
-Exit (collect marks entry work) = CollectExit
+Exit (collect marks entry work) = Collects.Exit
 
 -- ---- the contracts
 
--- the left side of the call's `ensures`
+-- the link's cells and those lent beside them, before the call and after it
+abbrev mergeCells : Linked → List ℕ → List ℕ → Merges.Cells → Both Merges.Cells Merges.Cells
+mergeCells s work ids c =
+    record {
+      entry = Merges.cellsOf (s .table .bytes) (s .table .names) (s .table .symbols) (s .table .sections) (s .inputs) (s .lists) work ids;
+      exit = c;
+    }
+
+abbrev loadCells : Linked → List ℕ → Loads.Cells → Both Loads.Cells Loads.Cells
+loadCells s marks c =
+    record {
+      entry = Loads.cellsOf (s .table .bytes) (s .table .names) (s .table .symbols) (s .table .sections) (s .inputs) (s .lists) marks;
+      exit = c;
+    }
+
+abbrev pub Meets : (k : Call) → Linked → Exit k → Type 0
+Meets (intern x) s e = InternMeets (store (s .table)) x e
+Meets (resolve id) s e = ResolveMeets (store (s .table)) id e
+Meets (add conversion u) s e = AddMeets (table (s .table)) conversion u e
+Meets (remove id) s e = RemoveMeets (s .table .link) (rowsOf (s .table .symbols) (s .table .sections)) id e
+Meets (get id) s e = GetMeets (s .table .link) (s .table .symbols) id e
+Meets (getGlobal name) s e = GetGlobalMeets (s .table .link) (s .table .names) (s .table .symbols) name e
+Meets (sectionSymbol section) s e = SectionSymbolMeets (s .table .link) (s .table .sections) section e
+Meets (addGroup o work n) s e = GroupMeets o (groupIn (s .table) work) n e
+Meets (merge o work ids) s e = MergeMeets o (mergeCells s work ids (e .cells)) (s .table .link) (e .result)
+Meets (load o marks) s e = LoadMeets o (loadCells s marks (e .cells)) (s .table .link) (e .result)
+Meets (archiveStart key index cells) s e = StartMeets key index cells e
+Meets (archiveNext index cells w) s e = NextMeets index cells w (viewIn (s .table)) e
+Meets (matches headers entries contents file index cells w i) s e = MatchesMeets headers entries contents file index cells w i e
+Meets (collect marks entry work) s e = RunMeets (s .table .link) (listsIn s marks) (s .table .symbols) (s .table .sections) entry work e
+
+-- the left side of the contract: what the exit is in the terms of the call's definition
 abbrev pub seen : (k : Call) → Exit k → LeftBy k
 seen (intern x) e = Names.outcome (e .bytes) (e .names) (e .result)
 seen (resolve id) e = Names.resolved (e .result) (e .number) (e .place)
@@ -143,26 +118,32 @@ seen (getGlobal name) e = e
 seen (sectionSymbol section) e = e
 seen (addGroup o work n) e = AddGroup.leftOf (e .bytes) (e .names) (e .work) (e .result)
 seen (merge o work ids) e =
-    Merging.outcome (e .bytes) (e .names) (e .symbols) (e .sections) (e .inputs) (e .lists) (e .work) (e .ids) (e .result)
-seen (load o marks) e = Loading.outcome (e .bytes) (e .names) (e .symbols) (e .sections) (e .inputs) (e .lists) (e .marks) (e .result)
+    Merging.outcome (e .cells .bytes) (e .cells .names) (e .cells .symbols) (e .cells .sections) (e .cells .inputs) (e .cells .lists) (e .cells .work)
+    (e .cells .ids) (e .result)
+seen (load o marks) e =
+    Loading.outcome (e .cells .bytes) (e .cells .names) (e .cells .symbols) (e .cells .sections) (e .cells .inputs) (e .cells .lists) (e .cells .marks)
+    (e .result)
 seen (archiveStart key index cells) e = Archive.startLeft (e .cells) (e .result)
 seen (archiveNext index cells w) e = Archive.stepMoved (e .cells) (e .result)
 seen (matches headers entries contents file index cells w i) e = e
 seen (collect marks entry work) e = Collecting.outcome (e .symbols) (e .sections) (e .work) (e .result)
 
-abbrev pub Meets : (k : Call) → Linked → Exit k → Type 0
-Meets k s e = seen k e ≡ callLeft k s
-
-abbrev pub NewMeets : ℕ → List ℕ → List ℕ → List ℕ → List ℕ → NewExit → Type 0
-NewMeets key bytes names symbols sections e =
-    newOutcome (e .bytes) (e .names) (e .symbols) (e .sections) (e .result) ≡ newOf key bytes names symbols sections
-
-abbrev pub StringMeets : List ℕ → ℕ → StringExit → Type 0
-StringMeets table offset e = looked (e .result) (e .found) ≡ lookUp table offset
-
--- the filter of a symbol table writes nothing
-abbrev pub FilterMeets : List ℕ → List ℕ → ℕ → Type 0
-FilterMeets work entries r = r ≡ filterOf work entries
+-- so all that is proved of `callLeft` is proved of every exit that meets the contract
+pub meets-left : (k : Call) (s : Linked) (e : Exit k) → Meets k s e → seen k e ≡ callLeft k s
+meets-left (intern x) s e h = h
+meets-left (resolve id) s e h = h
+meets-left (add conversion u) s e h = h
+meets-left (remove id) s e h = h
+meets-left (get id) s e h = h
+meets-left (getGlobal name) s e h = h
+meets-left (sectionSymbol section) s e h = h
+meets-left (addGroup o work n) s e h = h
+meets-left (merge o work ids) s e h = h
+meets-left (load o marks) s e h = h
+meets-left (archiveStart key index cells) s e h = h
+meets-left (archiveNext index cells w) s e h = h
+meets-left (matches headers entries contents file index cells w i) s e h = h
+meets-left (collect marks entry work) s e h = h
 
 -- ---- no second outcome
 
@@ -175,10 +156,10 @@ symbols-outcome a b e f =
     ap {B = Symbols.Outcome} (λ (l : Link). record { table = record { link = l }; answer = a .answer }) e
     ∙ ap {B = Symbols.Outcome} (λ v. record { table = b .table; answer = v }) (symbols-answer (a .answer) (b .answer) f)
 
-abbrev internExit : List ℕ → List ℕ → Interner.Outcome → InternExit
+abbrev internExit : List ℕ → List ℕ → Interner.Outcome → Interning.Exit
 internExit a b r = record { bytes = a; names = b; result = r }
 
-intern-one : (x y : InternExit) → Names.outcome (x .bytes) (x .names) (x .result) ≡ Names.outcome (y .bytes) (y .names) (y .result) → x ≡ y
+intern-one : (x y : Interning.Exit) → Names.outcome (x .bytes) (x .names) (x .result) ≡ Names.outcome (y .bytes) (y .names) (y .result) → x ≡ y
 intern-one x y e =
     let a′ : x .bytes ≡ y .bytes = ap (λ (o : Names.Left). o .store .bytes) e in
     let b′ : x .names ≡ y .names = ap (λ (o : Names.Left). o .store .names) e in
@@ -209,10 +190,10 @@ remove-one x y e =
     let same : removeExit (x .symbols) (x .sections) (x .result) ≡ removeExit (y .symbols) (y .sections) (y .result) = cc in
     same
 
-abbrev groupExit : List ℕ → List ℕ → List ℕ → Group.Outcome → GroupExit
+abbrev groupExit : List ℕ → List ℕ → List ℕ → Group.Outcome → Grouping.Exit
 groupExit a b c r = record { bytes = a; names = b; work = c; result = r }
 
-group-one : (x y : GroupExit) → AddGroup.leftOf (x .bytes) (x .names) (x .work) (x .result) ≡ AddGroup.leftOf (y .bytes) (y .names) (y .work) (y .result) → x ≡ y
+group-one : (x y : Grouping.Exit) → AddGroup.leftOf (x .bytes) (x .names) (x .work) (x .result) ≡ AddGroup.leftOf (y .bytes) (y .names) (y .work) (y .result) → x ≡ y
 group-one x y e =
     let a′ : x .bytes ≡ y .bytes = ap (λ (o : AddGroup.Left). o .bytes) e in
     let b′ : x .names ≡ y .names = ap (λ (o : AddGroup.Left). o .names) e in
@@ -222,50 +203,50 @@ group-one x y e =
     same
 
 abbrev mergeExit : List ℕ → List ℕ → List ℕ → List ℕ → List ℕ → List ℕ → List ℕ → List ℕ → Merge.Outcome → MergeExit
-mergeExit a b c d e f g h r = record { bytes = a; names = b; symbols = c; sections = d; inputs = e; lists = f; work = g; ids = h; result = r }
+mergeExit a b c d e f g h r = record { cells = Merges.cellsOf a b c d e f g h; result = r }
 
-merge-one : (x y : MergeExit) → Merging.outcome (x .bytes) (x .names) (x .symbols) (x .sections) (x .inputs) (x .lists) (x .work) (x .ids) (x .result) ≡ Merging.outcome (y .bytes) (y .names) (y .symbols) (y .sections) (y .inputs) (y .lists) (y .work) (y .ids) (y .result) → x ≡ y
+merge-one : (x y : MergeExit) → Merging.outcome (x .cells .bytes) (x .cells .names) (x .cells .symbols) (x .cells .sections) (x .cells .inputs) (x .cells .lists) (x .cells .work) (x .cells .ids) (x .result) ≡ Merging.outcome (y .cells .bytes) (y .cells .names) (y .cells .symbols) (y .cells .sections) (y .cells .inputs) (y .cells .lists) (y .cells .work) (y .cells .ids) (y .result) → x ≡ y
 merge-one x y e =
-    let a′ : x .bytes ≡ y .bytes = ap (λ (o : Merging.Left). o .cells .bytes) e in
-    let b′ : x .names ≡ y .names = ap (λ (o : Merging.Left). o .cells .names) e in
-    let c′ : x .symbols ≡ y .symbols = ap (λ (o : Merging.Left). o .cells .symbols) e in
-    let d′ : x .sections ≡ y .sections = ap (λ (o : Merging.Left). o .cells .sections) e in
-    let e′ : x .inputs ≡ y .inputs = ap (λ (o : Merging.Left). o .cells .inputs) e in
-    let f′ : x .lists ≡ y .lists = ap (λ (o : Merging.Left). o .cells .lists) e in
-    let g′ : x .work ≡ y .work = ap (λ (o : Merging.Left). o .cells .work) e in
-    let h′ : x .ids ≡ y .ids = ap (λ (o : Merging.Left). o .cells .ids) e in
-    let l′ : x .result .link ≡ y .result .link = ap (λ (o : Merging.Left). o .cells .stage .link) e in
+    let a′ : x .cells .bytes ≡ y .cells .bytes = ap (λ (o : Merging.Left). o .cells .bytes) e in
+    let b′ : x .cells .names ≡ y .cells .names = ap (λ (o : Merging.Left). o .cells .names) e in
+    let c′ : x .cells .symbols ≡ y .cells .symbols = ap (λ (o : Merging.Left). o .cells .symbols) e in
+    let d′ : x .cells .sections ≡ y .cells .sections = ap (λ (o : Merging.Left). o .cells .sections) e in
+    let e′ : x .cells .inputs ≡ y .cells .inputs = ap (λ (o : Merging.Left). o .cells .inputs) e in
+    let f′ : x .cells .lists ≡ y .cells .lists = ap (λ (o : Merging.Left). o .cells .lists) e in
+    let g′ : x .cells .work ≡ y .cells .work = ap (λ (o : Merging.Left). o .cells .work) e in
+    let h′ : x .cells .ids ≡ y .cells .ids = ap (λ (o : Merging.Left). o .cells .ids) e in
+    let k′ : x .result .link ≡ y .result .link = ap (λ (o : Merging.Left). o .cells .stage .link) e in
     let m′ : x .result .answer ≡ y .result .answer = ap (λ (o : Merging.Left). o .answer) e in
     let r′ : x .result ≡ y .result =
-    ap {B = Merge.Outcome} (λ (l : Link). record { link = l; answer = x .result .answer }) l′
+    ap {B = Merge.Outcome} (λ (l : Link). record { link = l; answer = x .result .answer }) k′
     ∙ ap {B = Merge.Outcome} (λ v. record { link = y .result .link; answer = v }) m′ in
-    let same : mergeExit (x .bytes) (x .names) (x .symbols) (x .sections) (x .inputs) (x .lists) (x .work) (x .ids) (x .result) ≡ mergeExit (y .bytes) (y .names) (y .symbols) (y .sections) (y .inputs) (y .lists) (y .work) (y .ids) (y .result) = cc in
+    let same : mergeExit (x .cells .bytes) (x .cells .names) (x .cells .symbols) (x .cells .sections) (x .cells .inputs) (x .cells .lists) (x .cells .work) (x .cells .ids) (x .result) ≡ mergeExit (y .cells .bytes) (y .cells .names) (y .cells .symbols) (y .cells .sections) (y .cells .inputs) (y .cells .lists) (y .cells .work) (y .cells .ids) (y .result) = cc in
     same
 
 abbrev loadExit : List ℕ → List ℕ → List ℕ → List ℕ → List ℕ → List ℕ → List ℕ → Shared.Outcome → LoadExit
-loadExit a b c d e f g r = record { bytes = a; names = b; symbols = c; sections = d; inputs = e; lists = f; marks = g; result = r }
+loadExit a b c d e f g r = record { cells = Loads.cellsOf a b c d e f g; result = r }
 
-load-one : (x y : LoadExit) → Loading.outcome (x .bytes) (x .names) (x .symbols) (x .sections) (x .inputs) (x .lists) (x .marks) (x .result) ≡ Loading.outcome (y .bytes) (y .names) (y .symbols) (y .sections) (y .inputs) (y .lists) (y .marks) (y .result) → x ≡ y
+load-one : (x y : LoadExit) → Loading.outcome (x .cells .bytes) (x .cells .names) (x .cells .symbols) (x .cells .sections) (x .cells .inputs) (x .cells .lists) (x .cells .marks) (x .result) ≡ Loading.outcome (y .cells .bytes) (y .cells .names) (y .cells .symbols) (y .cells .sections) (y .cells .inputs) (y .cells .lists) (y .cells .marks) (y .result) → x ≡ y
 load-one x y e =
-    let a′ : x .bytes ≡ y .bytes = ap (λ (o : Loading.Left). o .cells .bytes) e in
-    let b′ : x .names ≡ y .names = ap (λ (o : Loading.Left). o .cells .names) e in
-    let c′ : x .symbols ≡ y .symbols = ap (λ (o : Loading.Left). o .cells .symbols) e in
-    let d′ : x .sections ≡ y .sections = ap (λ (o : Loading.Left). o .cells .sections) e in
-    let e′ : x .inputs ≡ y .inputs = ap (λ (o : Loading.Left). o .cells .inputs) e in
-    let f′ : x .lists ≡ y .lists = ap (λ (o : Loading.Left). o .cells .lists) e in
-    let g′ : x .marks ≡ y .marks = ap (λ (o : Loading.Left). o .cells .marks) e in
-    let l′ : x .result .link ≡ y .result .link = ap (λ (o : Loading.Left). o .cells .link) e in
+    let a′ : x .cells .bytes ≡ y .cells .bytes = ap (λ (o : Loading.Left). o .cells .bytes) e in
+    let b′ : x .cells .names ≡ y .cells .names = ap (λ (o : Loading.Left). o .cells .names) e in
+    let c′ : x .cells .symbols ≡ y .cells .symbols = ap (λ (o : Loading.Left). o .cells .symbols) e in
+    let d′ : x .cells .sections ≡ y .cells .sections = ap (λ (o : Loading.Left). o .cells .sections) e in
+    let e′ : x .cells .inputs ≡ y .cells .inputs = ap (λ (o : Loading.Left). o .cells .inputs) e in
+    let f′ : x .cells .lists ≡ y .cells .lists = ap (λ (o : Loading.Left). o .cells .lists) e in
+    let g′ : x .cells .marks ≡ y .cells .marks = ap (λ (o : Loading.Left). o .cells .marks) e in
+    let k′ : x .result .link ≡ y .result .link = ap (λ (o : Loading.Left). o .cells .link) e in
     let m′ : x .result .answer ≡ y .result .answer = ap (λ (o : Loading.Left). o .answer) e in
     let r′ : x .result ≡ y .result =
-    ap {B = Shared.Outcome} (λ (l : Link). record { link = l; answer = x .result .answer }) l′
+    ap {B = Shared.Outcome} (λ (l : Link). record { link = l; answer = x .result .answer }) k′
     ∙ ap {B = Shared.Outcome} (λ v. record { link = y .result .link; answer = v }) m′ in
-    let same : loadExit (x .bytes) (x .names) (x .symbols) (x .sections) (x .inputs) (x .lists) (x .marks) (x .result) ≡ loadExit (y .bytes) (y .names) (y .symbols) (y .sections) (y .inputs) (y .lists) (y .marks) (y .result) = cc in
+    let same : loadExit (x .cells .bytes) (x .cells .names) (x .cells .symbols) (x .cells .sections) (x .cells .inputs) (x .cells .lists) (x .cells .marks) (x .result) ≡ loadExit (y .cells .bytes) (y .cells .names) (y .cells .symbols) (y .cells .sections) (y .cells .inputs) (y .cells .lists) (y .cells .marks) (y .result) = cc in
     same
 
-abbrev collectExit : List ℕ → List ℕ → List ℕ → Collection.Outcome → CollectExit
+abbrev collectExit : List ℕ → List ℕ → List ℕ → Collection.Outcome → Collects.Exit
 collectExit a b c r = record { symbols = a; sections = b; work = c; result = r }
 
-collect-one : (x y : CollectExit) → Collecting.outcome (x .symbols) (x .sections) (x .work) (x .result) ≡ Collecting.outcome (y .symbols) (y .sections) (y .work) (y .result) → x ≡ y
+collect-one : (x y : Collects.Exit) → Collecting.outcome (x .symbols) (x .sections) (x .work) (x .result) ≡ Collecting.outcome (y .symbols) (y .sections) (y .work) (y .result) → x ≡ y
 collect-one x y e =
     let a′ : x .symbols ≡ y .symbols = ap (λ (o : Collecting.Left). o .symbols) e in
     let b′ : x .sections ≡ y .sections = ap (λ (o : Collecting.Left). o .sections) e in
@@ -319,11 +300,15 @@ seen-one (collect marks entry work) x y e = collect-one x y e
 
 -- of every call on a link
 pub one-outcome : (k : Call) (s : Linked) (x y : Exit k) → Meets k s x → Meets k s y → x ≡ y
-one-outcome k s x y e f = seen-one k x y (e ∙ sym f)
+one-outcome k s x y e f = seen-one k x y (meets-left k s x e ∙ sym (meets-left k s y f))
 
 -- of a new table
 pub new-one-outcome : (key : ℕ) (bytes names symbols sections : List ℕ) (x y : NewExit) → NewMeets key bytes names symbols sections x → NewMeets key bytes names symbols sections y → x ≡ y
 new-one-outcome key bytes names symbols sections x y e f = new-one x y (e ∙ sym f)
+
+-- of the names of a new table, which are part of it
+pub new-names-one-outcome : (key : ℕ) (bytes names : List ℕ) (x y : Interning.Exit) → NewNamesMeets key bytes names x → NewNamesMeets key bytes names y → x ≡ y
+new-names-one-outcome key bytes names x y e f = intern-one x y (e ∙ sym f)
 
 -- of a string lookup, and of the filter
 pub string-one-outcome : (table : List ℕ) (offset : ℕ) (x y : StringExit) → StringMeets table offset x → StringMeets table offset y → x ≡ y
@@ -331,3 +316,6 @@ string-one-outcome table offset x y e f = ap {B = StringExit} (λ (o : Looked). 
 
 pub filter-one-outcome : (work entries : List ℕ) (x y : ℕ) → FilterMeets work entries x → FilterMeets work entries y → x ≡ y
 filter-one-outcome work entries x y e f = e ∙ sym f
+
+pub section-after-one-outcome : (work : List ℕ) (section x y : ℕ) → SectionAfterMeets work section x → SectionAfterMeets work section y → x ≡ y
+section-after-one-outcome work section x y e f = e ∙ sym f

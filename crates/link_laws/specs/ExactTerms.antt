@@ -34,7 +34,7 @@ use Rattle.link_laws.specs.ArchiveExactly.{start-exactly, start-numbered
 use Rattle.link_laws.specs.CollectExactly.{collect-exactly}
 
 -- over a link whose names are as every link has them
-call-exactly : (k : Call) (s : Linked) (met : List (List ℕ)) → Marked (s .table) met → callRefusal k s ≡ firstOf (rules k s)
+pub call-exactly : (k : Call) (s : Linked) (met : List (List ℕ)) → Marked (s .table) met → callRefusal k s ≡ firstOf (rules k s)
 call-exactly (intern x) s met m = intern-exactly x s (m .good .chained)
 call-exactly (resolve id) s met m = resolve-exactly s id
 call-exactly (add conversion u) s met m = add-exactly conversion u s
@@ -51,7 +51,7 @@ call-exactly (matches headers entries contents file index cells w e) s met m = m
 call-exactly (collect marks entry work) s met m = collect-exactly marks entry work s
 
 -- no rule has the number of a result
-rules-numbered : (k : Call) (s : Linked) → numbered (rules k s) ≡ true
+pub rules-numbered : (k : Call) (s : Linked) → numbered (rules k s) ≡ true
 rules-numbered (intern x) s = refl
 rules-numbered (resolve id) s = refl
 rules-numbered (add conversion u) s = refl

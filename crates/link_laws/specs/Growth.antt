@@ -157,7 +157,7 @@ module _ (s : State) (g : Growth) (c : Chained (store s)) where
   find-grown : (x : List ℕ) → find (store s) x < count (store s) → find (store t) x ≡ find (store s) x
   find-grown x h = find-known (store t) x chained-grown (find (store s) x) h (name-same (find (store s) x) h ∙ found (store s) x c .hit h)
 
-marked-grown : (s : State) (g : Growth) (met : List (List ℕ)) → Marked s met → Marked (grown s g) met
+pub marked-grown : (s : State) (g : Growth) (met : List (List ℕ)) → Marked s met → Marked (grown s g) met
 marked-grown s g met m =
     let c = m .good .chained in
     record {

@@ -76,6 +76,11 @@ pub mod LibraryLoads
 pub mod SectionCount
 pub mod Removal
 pub mod LookedUp
+pub mod LocalRows
+pub mod SectionSymbols
+pub mod GivenRows
+pub mod NewExactly
+pub mod ExactLinks
 pub mod Growth
 pub mod Words
 pub mod Page
@@ -86,4 +91,5 @@ pub mod BuiltSections
 pub mod ObjectSections
 pub mod Contents
 pub mod OwnEntries
+pub mod EntryNames
 pub mod KeyFree

@@ -7,9 +7,8 @@ use mathlib.Core.Path.{_≡_, refl, sym, ap, _∙_, subst}
 use mathlib.Core.Bool.{Bool, true, false, cond, _&&_, _||_, false≢true}
 use mathlib.Core.List.{List, [], _∷_, _++_, append-nil}
 use lib.Dec.{eqb, ltb}
-use lib.ListN.{getD, set, length, length-set}
-use lib.Seq.{getD-set-other, getD-set-same}
-use borrow.Author.Tests.{eqb-true, eqb-false, eq-eqb, ltb-true, ltb-false, lt-ltb, le-ltb}
+use lib.ListN.{length}
+use borrow.Author.Tests.{eqb-false, ltb-true, ltb-false, le-ltb}
 use Rattle.cells.specs.Split.{by-test}
 use Rattle.gabi.specs.StringTable.{sameName, among}
 use Rattle.interner.specs.Names.{findOf}
@@ -19,19 +18,17 @@ use Rattle.section_groups.specs.Group as Group
 use Rattle.section_groups.specs.Group.{markGroupOf, markRemovedOf, groupSectionOf, groupsFrom, groupsOf}
 use Rattle.merge_stages.specs.Stages.{All, Object, Tabled, groupObject}
 use Rattle.symbol_laws.specs.History.{State, store}
-use Rattle.merge_laws.specs.Loop.{loop, loop-next, loop-going}
-use Rattle.merge_laws.specs.GroupStage.{groups-loop}
-use Rattle.merge_laws.specs.GroupMarks.{group-marks, group-removes}
+use Rattle.merge_laws.specs.GroupMarks.{group-marks, mark-lent}
+use Rattle.merge_laws.specs.Accepted.{going, next-going}
+use Rattle.merge_laws.specs.WorkGroups.{group-cell, removed-cell, group-long, mark-after, told, told-more, told-same, groups-next}
 use Rattle.merge_laws.specs.Marked.{Marked}
 use Rattle.merge_laws.specs.Whole.{tableIn}
-use Rattle.merge_laws.specs.MergeSteps.{groupFirst}
 use Rattle.merge_laws.specs.FirstKept as FirstKept
 use Rattle.merge_laws.specs.FirstKept.{metTo, to-marked, met-group, met-other}
 use Rattle.merge_laws.specs.Stops.{reserved, object, prepared, grouped, marked, groupsTo}
-use Rattle.link_laws.specs.Rules.{some, taken}
+use Rattle.link_laws.specs.Rules.{some}
 use Rattle.link_laws.specs.InternExactly.{among-found}
 use Rattle.link_laws.specs.ObjectRules.{cellAt, isSection}
-use Rattle.link_laws.specs.LoadNeeded.{both}
 use Rattle.link_laws.specs.GroupRules.{isMet, signature, listed}
 use Rattle.link_laws.specs.GroupExactly.{loaded-is}
 use Rattle.link_laws.specs.MergeSymbols.{find-is, looked-found, looked-name}
@@ -93,48 +90,6 @@ module _ (o : Group.Object) (s : Group.Step) (n : ℕ) (group : isSection (o .he
       looked-name (o .headers) (o .file) (cellAt (o .headers) (o .table) 3) (cellAt (o .entries) (cellAt (o .headers) n 4) 0)
       (sym (looked-found (o .headers) (o .file) (cellAt (o .headers) (o .table) 3) (cellAt (o .entries) (cellAt (o .headers) n 4) 0)) ∙ signed)
 
--- the marks of a group's section, and of the one that it lists
-module _ (w : List ℕ) (n k : ℕ) (b : Bool) where
-  abbrev after : List ℕ
-  after = markRemovedOf (markGroupOf w n) b k
-
-  group-long : length (markGroupOf w n) ≡ length w
-  unfolding markGroupOf
-  group-long = by-test (eqb (cellAt w n 1) 2) (λ e. rw e) (λ e. rw e (length-set w (n * 8 + 1) 1))
-
-  marks-long : length after ≡ length w
-  unfolding markRemovedOf
-  marks-long = by-test b (λ e. rw e (length-set (markGroupOf w n) (k * 8 + 1) 2 ∙ group-long)) (λ e. rw e group-long)
-
-  group-other : (q : ℕ) → (q ≡ n * 8 + 1 → ⊥) → getD (markGroupOf w n) q 0 ≡ getD w q 0
-  unfolding markGroupOf
-  group-other q u = by-test (eqb (cellAt w n 1) 2) (λ e. rw e) (λ e. rw e (getD-set-other w (n * 8 + 1) q 1 0 u))
-
-  cells-other : (m f : ℕ) → f < 8 → (f ≡ 1 → ⊥) → cellAt after m f ≡ cellAt w m f
-  unfolding markRemovedOf
-  cells-other m f l u =
-      let g = group-other (m * 8 + f) (λ z. u (omega arith)) in
-      by-test b (λ e. rw e (getD-set-other (markGroupOf w n) (k * 8 + 1) (m * 8 + f) 2 0 (λ z. u (omega arith)) ∙ g)) (λ e. rw e g)
-
-  -- of another section
-  mark-other : (m : ℕ) → (m ≡ n → ⊥) → (b ≡ true → m ≡ k → ⊥) → cellAt after m 1 ≡ cellAt w m 1
-  unfolding markRemovedOf
-  mark-other m u v =
-      let g = group-other (m * 8 + 1) (λ z. u (omega arith)) in
-      by-test b (λ e. rw e (getD-set-other (markGroupOf w n) (k * 8 + 1) (m * 8 + 1) 2 0 (λ z. v e (omega arith)) ∙ g)) (λ e. rw e g)
-
-  -- of its own
-  mark-own : n * 8 + 1 < length w → (b ≡ true → n ≡ k → ⊥) → cellAt after n 1 ≡ cond (eqb (cellAt w n 1) 2) 2 1
-  unfolding markRemovedOf markGroupOf
-  mark-own l v =
-      by-test (eqb (cellAt w n 1) 2)
-      (λ e.
-      let z : cellAt w n 1 ≡ 2 = eqb-true _ _ e in
-      by-test b (λ d. rw (e, d) (getD-set-other w (k * 8 + 1) (n * 8 + 1) 2 0 (λ q. v d (omega arith)) ∙ z)) (λ d. rw (e, d) z))
-      (λ e.
-      let z = getD-set-same w (n * 8 + 1) 1 0 l in
-      by-test b (λ d. rw (e, d) (getD-set-other (set w (n * 8 + 1) 1) (k * 8 + 1) (n * 8 + 1) 2 0 (λ q. v d (omega arith)) ∙ z)) (λ d. rw (e, d) z))
-
 -- ---- all groups of an object
 
 module _ (o : Object) (a : All) (met : List (List ℕ)) (m : Marked (tableIn a) met) (passed : grouped o a .stage .number ≡ 0) where
@@ -150,27 +105,6 @@ module _ (o : Object) (a : All) (met : List (List ℕ)) (m : Marked (tableIn a) 
   abbrev t : State
   t = tableIn a
 
-  abbrev number : Group.Step → ℕ
-  number s = s .stage .number
-
-  upto : (n : ℕ) → groupsTo o a n ≡ loop number (groupSectionOf g) n 0 (groupFirst (prepared o a))
-  upto n = groups-loop g n 0 (groupFirst (prepared o a))
-
-  going : (n : ℕ) → n ≤ rows → number (groupsTo o a n) ≡ 0
-  unfolding groupsOf
-  going n l =
-      ap number (upto n)
-      ∙ loop-going number (groupSectionOf g) rows 0 n (groupFirst (prepared o a)) refl (ap number (sym (upto rows)) ∙ passed) l
-
-  next : (n : ℕ) → n < rows → groupsTo o a (suc n) ≡ groupSectionOf g (groupsTo o a n) n
-  next n l =
-      upto (suc n) ∙ loop-next number (groupSectionOf g) n 0 (groupFirst (prepared o a)) (ap number (sym (upto n)) ∙ going n (omega arith))
-      ∙ ap (groupSectionOf g (loop number (groupSectionOf g) n 0 (groupFirst (prepared o a)))) (zero-add n)
-      ∙ ap (λ (s : Group.Step). groupSectionOf g s n) (sym (upto n))
-
-  taken-on : (n : ℕ) → n < rows → number (groupSectionOf g (groupsTo o a n) n) ≡ 0
-  taken-on n l = ap number (sym (next n l)) ∙ going (suc n) (omega arith)
-
   met-to : (n : ℕ) → n ≤ rows → (x : List ℕ) → among x (metTo o a met n) ≡ isMetBefore d t n x
   met-to zero l x = ap (among x) (append-nil met) ∙ met-is t met m x ∙ or-none (isMet t x)
     where
@@ -184,12 +118,12 @@ module _ (o : Object) (a : All) (met : List (List ℕ)) (m : Marked (tableIn a) 
       ∙ or-assoc (isMet t x) (some (λ h. isSection (o .headers) h 7 && sameName (signature g h) x) 0 n) (isSection (o .headers) n 7 && sameName (signature g n) x) in
       by-test (isSection (o .headers) n 7)
       (λ e.
-      let q = met-group o a met m n (going n (omega arith)) (loaded-is (o .headers) n 7 ∙ e) (taken-on n l) in
+      let q = met-group o a met m n (going o a passed n (omega arith)) (loaded-is (o .headers) n 7 ∙ e) (next-going o a passed n l) in
       ap (among x) q ∙ among-snoc x _ (metTo o a met n)
-      ∙ ap (λ (b : Bool). b || sameName (FirstKept.signature o a n) x) before ∙ ap (λ (y : List ℕ). isMetBefore d t n x || sameName y x) (signature-is g (groupsTo o a n) n e (taken-on n l))
+      ∙ ap (λ (b : Bool). b || sameName (FirstKept.signature o a n) x) before ∙ ap (λ (y : List ℕ). isMetBefore d t n x || sameName y x) (signature-is g (groupsTo o a n) n e (next-going o a passed n l))
       ∙ sym (last ∙ rw e))
       (λ e.
-      let q = met-other o a met m n (going n (omega arith)) (loaded-is (o .headers) n 7 ∙ e) in
+      let q = met-other o a met m n (going o a passed n (omega arith)) (loaded-is (o .headers) n 7 ∙ e) in
       ap (among x) q ∙ before ∙ sym (last ∙ rw e (or-false (isMetBefore d t n x))))
     where
       or-false : (b : Bool) → b || false ≡ b
@@ -205,7 +139,7 @@ module _ (o : Object) (a : All) (met : List (List ℕ)) (m : Marked (tableIn a) 
   removing s h = isSection (o .headers) h 7 && eqb (listed g h) s && isMetBefore d t h (signature g h)
 
   abbrev markIs : ℕ → ℕ → ℕ
-  markIs n s = cond (some (removing s) 0 n) 2 (cond (isSection (o .headers) s 7 && ltb s n) 1 0)
+  markIs n s = cond (some (removing s) 0 n) 2 (cond (ltb s n && isSection (o .headers) s 7) 1 0)
 
   pub record Marks (w : List ℕ) (n : ℕ) : Type 0 where
     pub long : length w ≡ length first
@@ -215,24 +149,6 @@ module _ (o : Object) (a : All) (met : List (List ℕ)) (m : Marked (tableIn a) 
   -- of one group more
   one-last : (n s : ℕ) → some (removing s) 0 (suc n) ≡ some (removing s) 0 n || removing s n
   one-last n s = some-last (removing s) n 0 ∙ ap (λ (k : ℕ). some (removing s) 0 n || removing s k) (zero-add n)
-
-  or-true : (b : Bool) → b || true ≡ true
-  or-true true = refl
-  or-true false = refl
-
-  or-false : (b : Bool) → b || false ≡ b
-  or-false true = refl
-  or-false false = refl
-
-  and-false : (b : Bool) → b && false ≡ false
-  and-false true = refl
-  and-false false = refl
-
-  -- a section below n is below n + 1, and another than n only so
-  below-next : (s n : ℕ) → (s ≡ n → ⊥) → ltb s (suc n) ≡ ltb s n
-  below-next s n u =
-      by-test (ltb s n) (λ e. let l : s < n = ltb-true _ _ e in rw e (lt-ltb s (suc n) (omega arith)))
-      (λ e. let l : n ≤ s = ltb-false _ _ e in rw e (le-ltb s (suc n) (omega (arith, u))))
 
   module _ (lent : rows ≤ length first / 8) (n : ℕ) (l : n < rows) (h : Marks (groupsTo o a n .work) n) where
     abbrev w : List ℕ
@@ -248,14 +164,9 @@ module _ (o : Object) (a : All) (met : List (List ℕ)) (m : Marked (tableIn a) 
           others = h .others;
           marks =
               λ s z.
-              h .marks s z
-              ∙ sym (rw (one-last n s, e, or-false (some (removing s) 0 n))
-              (ap (λ (b : Bool). cond (some (removing s) 0 n) 2 (cond b 1 0)) (same s)));
+              h .marks s z ∙ told-same (λ k. isSection (o .headers) k 7) s n e (some (removing s) 0 n)
+              ∙ ap (λ (b : Bool). told (λ k. isSection (o .headers) k 7) s n (suc n) b) (sym (one-last n s ∙ ap (_||_ (some (removing s) 0 n)) (rw e)));
         })
-      where
-        same : (s : ℕ) → isSection (o .headers) s 7 && ltb s (suc n) ≡ isSection (o .headers) s 7 && ltb s n
-        same s =
-            by-test (eqb s n) (λ q. let p : s ≡ n = eqb-true _ _ q in rw (p, e)) (λ q. ap (_&&_ (isSection (o .headers) s 7)) (below-next s n (eqb-false _ _ q)))
 
     -- a group
     module _ (e : isSection (o .headers) n 7 ≡ true) where
@@ -272,75 +183,47 @@ module _ (o : Object) (a : All) (met : List (List ℕ)) (m : Marked (tableIn a) 
       group = loaded-is (o .headers) n 7 ∙ e
 
       again-is : among (FirstKept.signature o a n) (metTo o a met n) ≡ again
-      again-is = met-to n (omega arith) (FirstKept.signature o a n) ∙ ap (isMetBefore d t n) (signature-is g s₀ n e (taken-on n l))
+      again-is = met-to n (omega arith) (FirstKept.signature o a n) ∙ ap (isMetBefore d t n) (signature-is g s₀ n e (next-going o a passed n l))
 
-      work-is : groupSectionOf g s₀ n .work ≡ after w n k again
+      abbrev after : List ℕ
+      after = markRemovedOf (markGroupOf w n) again k
+
+      work-is : groupSectionOf g s₀ n .work ≡ after
       work-is =
-          group-marks (a .symbols) (reserved o a .sections) g s₀ (metTo o a met n) (to-marked o a met m n) n group (taken-on n l)
+          group-marks (a .symbols) (reserved o a .sections) g s₀ (metTo o a met n) (to-marked o a met m n) n group (next-going o a passed n l)
           ∙ ap (λ (b : Bool). markRemovedOf (markGroupOf w n) b k) again-is
 
-      removed-here : again ≡ true → cellAt (after w n k again) k 1 ≡ 2
-      removed-here b =
-          ap (λ (v : List ℕ). cellAt v k 1) (sym work-is)
-          ∙ group-removes (a .symbols) (reserved o a .sections) g s₀ (metTo o a met n) (to-marked o a met m n) n group (taken-on n l) (again-is ∙ b)
-
-      removing-is : (s : ℕ) → removing s n ≡ eqb k s && again
-      removing-is s = rw e
-
-      mark-is : (s : ℕ) → cellAt first s 1 ≡ 0 → cellAt (after w n k again) s 1 ≡ markIs (suc n) s
+      mark-is : (s : ℕ) → cellAt first s 1 ≡ 0 → cellAt after s 1 ≡ markIs (suc n) s
       mark-is s z =
-          by-test (eqb k s && again)
-          (λ b.
-          let p = both (eqb k s) again b in
-          let q : k ≡ s = eqb-true _ _ (p .0) in
-          ap (λ (x : ℕ). cellAt (after w n k again) x 1) (sym q) ∙ removed-here (p .1)
-          ∙ sym (taken 2 (cond (isSection (o .headers) s 7 && ltb s (suc n)) 1 0) (one-last n s ∙ ap (_||_ (some (removing s) 0 n)) (removing-is s ∙ b) ∙ or-true (some (removing s) 0 n))))
-          (λ b.
-          let none : some (removing s) 0 (suc n) ≡ some (removing s) 0 n = one-last n s ∙ ap (_||_ (some (removing s) 0 n)) (removing-is s ∙ b) ∙ or-false (some (removing s) 0 n) in
-          let apart : again ≡ true → s ≡ k → ⊥ = λ c q. false≢true (sym b ∙ rw (eq-eqb k s (sym q), c)) in
-          by-test (eqb s n)
-          (λ c.
-          let q : s ≡ n = eqb-true _ _ c in
-          let own = mark-own w n k again (omega (arith, h .long, lent)) (λ f r. apart f (q ∙ r)) in
-          let here = h .marks n (ap (λ (x : ℕ). cellAt first x 1) (sym q) ∙ z) in
-          let group-now : isSection (o .headers) s 7 && ltb s (suc n) ≡ true = rw (q, e, lt-ltb n (suc n) (omega arith)) in
-          ap (λ (x : ℕ). cellAt (after w n k again) x 1) q ∙ own
-          ∙ ap (λ (x : ℕ). cond (eqb x 2) 2 1) here
-          ∙ stays (some (removing n) 0 n)
-          ∙ ap (λ (x : ℕ). cond (some (removing x) 0 n) 2 1) (sym q)
-          ∙ ap (λ (b : Bool). cond b 2 1) (sym none)
-          ∙ ap (λ (b : Bool). cond (some (removing s) 0 (suc n)) 2 (cond b 1 0)) (sym group-now))
-          (λ c.
-          let u : s ≡ n → ⊥ = eqb-false _ _ c in
-          mark-other w n k again s u apart ∙ h .marks s z
-          ∙ ap (λ (b : Bool). cond b 2 (cond (isSection (o .headers) s 7 && ltb s n) 1 0)) (sym none)
-          ∙ ap (λ (b : Bool). cond (some (removing s) 0 (suc n)) 2 (cond (isSection (o .headers) s 7 && b) 1 0)) (sym (below-next s n u))))
+          mark-after w n k s again (omega (arith, h .long, lent))
+          (λ b. mark-lent (a .symbols) (reserved o a .sections) g s₀ (metTo o a met n) (to-marked o a met m n) n group (next-going o a passed n l) (again-is ∙ b))
+          ∙ ap (λ (x : ℕ). cond (again && eqb k s) 2 (cond (eqb s n) (cond (eqb x 2) 2 1) x)) (h .marks s z)
+          ∙ told-more (λ j. isSection (o .headers) j 7) s n e (some (removing s) 0 n) (again && eqb k s)
+          ∙ ap (λ (b : Bool). told (λ j. isSection (o .headers) j 7) s n (suc n) b) (sym (one-last n s ∙ ap (_||_ (some (removing s) 0 n)) (rw e (and-comm (eqb k s) again))))
         where
-          stays : (r : Bool) → _≡_ {A = ℕ} (cond (eqb (cond r 2 (cond (isSection (o .headers) n 7 && ltb n n) 1 0)) 2) 2 1) (cond r 2 1)
-          stays true = refl
-          stays false = rw (e, le-ltb n n (omega arith))
+          and-comm : (b c : Bool) → b && c ≡ c && b
+          and-comm true true = refl
+          and-comm true false = refl
+          and-comm false true = refl
+          and-comm false false = refl
 
       group-section : Marks (groupSectionOf g s₀ n .work) (suc n)
       group-section =
           subst (λ (v : List ℕ). Marks v (suc n)) (sym work-is)
           (record {
-            long = marks-long w n k again ∙ h .long;
-            others = λ s f p q. cells-other w n k again s f p q ∙ h .others s f p q;
+            long = group-long w again n k ∙ h .long;
+            others = λ s f p q. removed-cell (markGroupOf w n) again k s f p q ∙ group-cell w n s f p q ∙ h .others s f p q;
             marks = mark-is;
           })
 
     one-section : Marks (groupsTo o a (suc n) .work) (suc n)
     one-section =
-        subst (λ (s : Group.Step). Marks (s .work) (suc n)) (sym (next n l))
+        subst (λ (s : Group.Step). Marks (s .work) (suc n)) (sym (groups-next o a passed n l))
         (by-test (isSection (o .headers) n 7) (λ e. group-section e) (λ e. other-section e))
 
   marks-to : rows ≤ length first / 8 → (n : ℕ) → n ≤ rows → Marks (groupsTo o a n .work) n
   unfolding groupsFrom
-  marks-to lent zero l = record { long = refl; others = λ s f p q. refl; marks = λ s z. z ∙ none (isSection (o .headers) s 7) ∙ ap (λ (b : Bool). cond (isSection (o .headers) s 7 && b) 1 0) (sym (le-ltb s 0 (omega arith))) }
-    where
-      none : (b : Bool) → _≡_ {A = ℕ} 0 (cond (b && false) 1 0)
-      none true = refl
-      none false = refl
+  marks-to lent zero l = record { long = refl; others = λ s f p q. refl; marks = λ s z. z ∙ ap (λ (b : Bool). cond (b && isSection (o .headers) s 7) 1 0) (sym (le-ltb s 0 (omega arith))) }
   marks-to lent (suc n) l = one-section lent n (omega arith) (marks-to lent n (omega arith))
 
   pub all-marks : rows ≤ length first / 8 → Marks (marked o a .work) rows

@@ -22,7 +22,8 @@ use Rattle.link_laws.specs.TableRules.{conversionIn}
 use Rattle.link_laws.specs.ObjectRules.{cellAt, isKind, isSection}
 use Rattle.link_laws.specs.MergeRules.{Found, absent, found, lastIn, numberIn, loadedTable, entriesIn, loaded, isRemoved, conversionOf, tableOf}
 use Rattle.link_laws.specs.MergeExactly.{foundIn}
-use Rattle.link_laws.specs.MergeReading.{Placed, all-placed, Noted, all-noted, Cleared, all-cleared}
+use Rattle.merge_laws.specs.WorkNotes.{Noted, all-noted, Cleared, all-cleared}
+use Rattle.link_laws.specs.MergeReading.{Placed, none-placed, all-placed, table, conversions, last-found}
 use Rattle.link_laws.specs.MergeMarks.{Marks, all-marks}
 
 -- ---- the loaded table
@@ -72,22 +73,11 @@ module _ (o : Object) (a : All) (few : length (o .headers) / 8 ≤ 65280) (lent 
 
   placed : Placed (o .headers) (a .stage .link .sections) (length (a .work)) (a .stage .link .slots) (length (a .sections)) (reserved o a) rows
   placed =
-      let none : a .stage .link .sections ≡ a .stage .link .sections + 0 = omega arith in
-      all-placed (o .headers) (a .stage .link .sections) (length (a .work)) (a .stage .link .slots) (length (a .sections)) (reserveFirst a) few lent
-      (record {
-        count = none;
-        work-long = refl;
-        rows-long = refl;
-        rows-top = refl;
-        table = refl;
-        conversions = λ m l. absurd (omega arith);
-        unmarked = λ m l. absurd (omega arith);
-        untabled = λ m l. absurd (omega arith);
-      })
-      passed
+      all-placed (o .headers) (a .stage .link .sections) (length (a .work)) (a .stage .link .slots) (length (a .sections)) (reserveFirst a) few
+      (none-placed (o .headers) _ _ _ _ (reserveFirst a) refl refl refl refl refl lent) passed
 
   pub object-is : object o a ≡ loaded o
-  object-is = tabled-is o (reserved o a .reserved .table) ∙ ap (tabledBy o) (placed .table)
+  object-is = tabled-is o (reserved o a .reserved .table) ∙ ap (tabledBy o) (table (o .headers) (a .stage .link .sections) (length (a .work)) (a .stage .link .slots) (length (a .sections)) (reserved o a) rows placed (omega arith))
 
   -- ---- before the groups
 
@@ -98,7 +88,7 @@ module _ (o : Object) (a : All) (few : length (o .headers) / 8 ≤ 65280) (lent 
   tables = noteTablesOf (o .headers) sectioned
 
   noted : Noted (o .headers) few sectioned (omega (arith, lent, placed .work-long)) tables rows
-  noted = all-noted (o .headers) few sectioned (omega (arith, lent, placed .work-long)) (placed .untabled)
+  noted = all-noted (o .headers) few sectioned (omega (arith, lent, placed .work-long)) (λ m l. placed .noted .clean m 2 l (omega arith) (omega arith))
 
   cleared : Cleared rows (o .entries) tables (prepared o a .work) (length (o .entries) / 8)
   cleared = all-cleared rows (o .entries) tables
@@ -120,18 +110,18 @@ module _ (o : Object) (a : All) (few : length (o .headers) / 8 ≤ 65280) (lent 
   before-conversion s k =
       by-section s k
       (λ l.
-      ap conversionIn (cleared .others s 0 l (omega arith) ∙ noted .others s 0 (omega arith) (λ q. omega arith)) ∙ placed .conversions s l
+      ap conversionIn (cleared .others s 0 l (omega arith) ∙ noted .others s 0 (omega arith) (λ q. omega arith)) ∙ conversions (o .headers) (a .stage .link .sections) (length (a .work)) (a .stage .link .slots) (length (a .sections)) (reserved o a) rows placed (omega arith) s l
       ∙ rw (lt-ltb s rows l))
       (λ f p z. ap conversionIn (z 0 (omega arith)) ∙ rw (le-ltb s rows p))
 
   before-mark : (s : ℕ) → Asked s → cellAt (prepared o a .work) s 1 ≡ 0
   before-mark s k =
       by-section s k
-      (λ l. cleared .others s 1 l (omega arith) ∙ noted .others s 1 (omega arith) (λ q. omega arith) ∙ placed .unmarked s l)
+      (λ l. cleared .others s 1 l (omega arith) ∙ noted .others s 1 (omega arith) (λ q. omega arith) ∙ placed .noted .clean s 1 l (omega arith) (omega arith))
       (λ f p z. z 1 (omega arith))
 
   before-table : (n : ℕ) → n < rows → foundIn (cellAt (prepared o a .work) n 2) ≡ tableOf d t n
-  before-table n l = ap foundIn (cleared .others n 2 l (omega arith)) ∙ noted .tables n l
+  before-table n l = ap foundIn (cleared .others n 2 l (omega arith) ∙ noted .tables n l) ∙ last-found (o .headers) few n rows (omega arith)
 
   long : length (prepared o a .work) ≡ length (a .work)
   long = cleared .long ∙ noted .long ∙ placed .work-long
@@ -154,12 +144,11 @@ module _ (o : Object) (a : All) (few : length (o .headers) / 8 ≤ 65280) (lent 
     mark-is : (s : ℕ) → Asked s → cellAt work s 1 ≡ cond (isRemoved d t s) 2 (cond (isSection (o .headers) s 7) 1 0)
     mark-is s k =
         marks .marks s (before-mark s k)
-        ∙ ap (λ (x : Tabled). cond (isRemoved x t s) 2 (cond (isSection (o .headers) s 7 && ltb s rows) 1 0)) object-is
+        ∙ ap (λ (x : Tabled). cond (isRemoved x t s) 2 (cond (ltb s rows && isSection (o .headers) s 7) 1 0)) object-is
         ∙ ap (λ (b : Bool). cond (isRemoved d t s) 2 (cond b 1 0)) (inside (ltb s rows) (isKind (o .headers) s 7))
       where
-        inside : (b k : Bool) → b && k && b ≡ b && k
-        inside true true = refl
-        inside true false = refl
+        inside : (b k : Bool) → b && (b && k) ≡ b && k
+        inside true k = refl
         inside false k = refl
 
     pub removed-is : (s : ℕ) → Asked s → eqb (cellAt work s 1) 2 ≡ isRemoved d t s

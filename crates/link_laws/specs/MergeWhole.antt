@@ -41,7 +41,7 @@ use Rattle.link_laws.specs.MergeGroups as Groups
 use Rattle.link_laws.specs.MergeGroups.{groupSaid, group-rules-numbered, groups-exactly}
 use Rattle.link_laws.specs.MergeBuilds as Builds
 use Rattle.link_laws.specs.MergeBuilds.{Names, builds-exactly, builds-good}
-use Rattle.link_laws.specs.MergeReading.{sections-exactly}
+use Rattle.link_laws.specs.MergeReading.{none-placed, sections-exactly}
 use Rattle.link_laws.specs.MergeObject.{object-is}
 use Rattle.link_laws.specs.MergeIds.{all-ids}
 use Rattle.link_laws.specs.MergeSame.{filter-same, symbol-same, identified-same, build-same}
@@ -290,22 +290,8 @@ module _ (o : Object) (a : All) where
     module _ (h : eqb (Merge.headIn o a .number) 0 ≡ true) where
       sections-said : sectionSaid (reserved o a) ≡ firstOf (sectionList o a)
       sections-said =
-          let none : a .stage .link .sections ≡ a .stage .link .sections + 0 = omega arith in
-          sections-exactly (o .headers) (a .stage .link .sections) (length (a .work)) (a .stage .link .slots) (length (a .sections)) (reserveFirst a) (few h) (lent h)
-          (record {
-            placed =
-                record {
-                  count = none;
-                  work-long = refl;
-                  rows-long = refl;
-                  rows-top = refl;
-                  table = refl;
-                  conversions = λ m l. absurd (omega arith);
-                  unmarked = λ m l. absurd (omega arith);
-                  untabled = λ m l. absurd (omega arith);
-                };
-            met = refl;
-          })
+          sections-exactly (o .headers) (a .stage .link .sections) (length (a .work)) (a .stage .link .slots) (length (a .sections)) (reserveFirst a) (few h)
+          (record { placed = none-placed (o .headers) _ _ _ _ (reserveFirst a) refl refl refl refl refl (lent h); met = refl })
           refl
 
       module _ (p : reserved o a .reserved .number ≡ 0) where

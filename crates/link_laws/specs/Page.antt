@@ -24,11 +24,13 @@ use lib.Dec.{eqb}
 use lib.ListN.{length}
 use Rattle.gabi.specs.Resolution as Resolution
 use Rattle.link.specs.declared.SymbolId.{SymbolId}
+use Rattle.link.specs.declared.SectionId.{SectionId}
 use Rattle.link.specs.Bounds.{notLent}
 use Rattle.link.specs.Said.{numberIn}
 use Rattle.symbol.specs.Row.{symbolAt}
 use Rattle.symbol.specs.RowLaws.{symbolOf}
 use Rattle.symbols.specs.declared.Found.the-variants.{Row}
+use Rattle.symbols.specs.declared.SectionSymbol.the-variants as Section
 use Rattle.symbols.specs.New.{newOf}
 use Rattle.symbols.specs.Lookup.{notFound}
 use Rattle.shared_objects.specs.declared.Answer.the-variants.{NotNeeded}
@@ -46,26 +48,31 @@ use Rattle.symbol_laws.specs.Rank.{firstOf}
 use Rattle.symbol_laws.specs.Rows.{rowAt}
 use Rattle.symbol_laws.specs.ObjectWords.{sectionsIn, program, loadedAs}
 use Rattle.symbol_laws.specs.Agreement as Agreement
-use Rattle.symbol_laws.specs.History.{Entry, rows}
-use Rattle.merge_laws.specs.Calls.{Linked}
+use Rattle.symbol_laws.specs.History.{Entry, opened, rows}
+use Rattle.merge_laws.specs.Calls.{Linked, linked}
 use Rattle.merge_laws.specs.MergeWords.{namedBy, isRemoved}
-use Rattle.link_laws.specs.Calls.{Call, remove, get, getGlobal, merge, load, archiveStart, archiveNext, collect, libraryIn, listsIn, viewIn, callLeft, callRefusal, callNumber, callNext, runCalls, RemovesNothing}
+use Rattle.link_laws.specs.Calls.{Call, remove, get, getGlobal, sectionSymbol, merge, load, archiveStart, archiveNext, collect, libraryIn, listsIn, viewIn, callLeft, refusalBy, callRefusal, callNumber, callNext, runCalls, RemovesNothing}
 use Rattle.link_laws.specs.Leaves.{byElements}
 use Rattle.link_laws.specs.Elements as Elements
 use Rattle.link_laws.specs.Contracts.{Exit, Meets}
 use Rattle.link_laws.specs.Kept.{signatures}
 use Rattle.link_laws.specs.Walks.{nextIn, withWalk, walkAfter, tablesAt, joined, walk-is}
 use Rattle.link_laws.specs.WalkIn as WalkIn
-use Rattle.link_laws.specs.Growth.{Turn, Quiet}
+use Rattle.link_laws.specs.SectionSymbols.{SectionRow, LocalSection, LastOf}
+use Rattle.link_laws.specs.Growth.{Turn, Quiet, runTurns}
 use Rattle.link_laws.specs.NeededIn.{NeededIn}
 use Rattle.link_laws.specs.Words.{idOf, lookup, undefined, adds, tied, undefined-seen, tied-seen}
 use Rattle.link_laws.specs.Rules as Rules
 use Rattle.link_laws.specs.CallRules.{rules}
 use Rattle.link_laws.specs.ExactTerms as ExactTerms
+use Rattle.link_laws.specs.ExactLinks.{lentAs}
+use Rattle.link_laws.specs.NewExactly.{newRules}
 use Rattle.link_laws.specs.BuiltSections.{SparesAll}
 use Rattle.link_laws.specs.ObjectSections as ObjectSections
 use Rattle.link_laws.specs.ObjectSections.{sectionId}
+use Rattle.link_laws.specs.GivenRows.{AllStand}
 use Rattle.link_laws.specs.Contents.{FromCalls}
+use Rattle.link_laws.specs.EntryNames.{AllBear}
 use Rattle.link_laws.specs.OwnEntries.{entryOf, AllFrom, entriesOf}
 use Rattle.link_laws.specs.Terms as Terms
 
@@ -82,6 +89,17 @@ module _ (key : ℕ) (bytes names symbols sections inputs lists : List ℕ) (new
 
   pub accepted : eqb (callNumber k on) 0 ≡ not (Rules.someHolds (rules k on))
   accepted = Terms.accepted key bytes names symbols sections inputs lists new ks k
+
+-- the same where lists grew before calls (Turn, Growth.antt), and any cells are lent at the end for symbols, sections, inputs and lists (lentAs, ExactLinks.antt)
+pub exactly-any : (key : ℕ) (bytes names symbols sections inputs lists : List ℕ) → numberIn (newOf key bytes names symbols sections .said) ≡ 0 → (ts : List Turn)
+    (symbols′ sections′ inputs′ lists′ : List ℕ) (k : Call)
+    → let on = lentAs (runTurns ts (linked (opened (newOf key bytes names symbols sections)) inputs lists)) symbols′ sections′ inputs′ lists′ in
+    callRefusal k on ≡ Rules.firstOf (rules k on)
+exactly-any = Terms.exactly-any
+
+-- and of `Symbols::new` itself, for any lists
+pub new-exactly : (key : ℕ) (bytes names symbols sections : List ℕ) → refusalBy (newOf key bytes names symbols sections .said) ≡ Rules.firstOf (newRules names symbols)
+new-exactly = Terms.new-exactly
 
 -- "and leaves behind what that table says": a refused call leaves everything of the link; a merge or a load what its elements before left, and a broken link
 pub left : (k : Call) (s : Linked) → byElements k ≡ false → callNumber k s ≢ 0 → callNext k s ≡ s
@@ -119,6 +137,11 @@ module _ (key : ℕ) (bytes names symbols sections inputs lists : List ℕ) (new
         (Resolution.resolve (entriesOf ks s0 [] (rows (x ∷ xs)) from))
     resolution b x xs e from = Terms.gabi-agrees-own key bytes names symbols sections inputs lists new ks quiet (idOf b end .0) x xs e from
 
+    -- these are the entries of that name: its bytes are what the string table of an object or a library has for the symbol (AllBear, EntryNames.antt)
+    pub named : (b : List ℕ) (x : Entry) (xs : List Entry) → adds b ks s0 ≡ x ∷ xs → (from : AllFrom ks s0 [] (rows (x ∷ xs)))
+        → AllBear b (idOf b end .0) ks s0 [] (x ∷ xs) from
+    named = Terms.adds-bear key bytes names symbols sections inputs lists new ks quiet
+
     -- ---- 3. "each global name has the id of its first accepted add and the content of its first accepted strong definition, else weak definition, else add"
 
     pub demand-3a : (b : List ℕ) (x : Entry) (xs : List Entry) → adds b ks s0 ≡ x ∷ xs
@@ -142,6 +165,17 @@ module _ (key : ℕ) (bytes names symbols sections inputs lists : List ℕ) (new
     pub removed-name : (b : List ℕ) (x : Entry) (xs : List Entry) → adds b ks s0 ≡ x ∷ xs → callNumber (remove (record { 0 = x .id })) end ≡ 0 → (ls : List Call)
         → callLeft (getGlobal (idOf b end)) (runCalls ls (callNext (remove (record { 0 = x .id })) end)) ≡ notFound 21 (idOf b end .0)
     removed-name b = Terms.lookup-removed key bytes names symbols sections inputs lists new ks quiet lent (idOf b end .0)
+
+    -- a section's symbol is its last local `Section` row, and there is none where there is no such row (LocalSection, LastOf, SectionSymbols.antt: by `get`)
+    pub section-symbol : (y : SectionId) (i : SymbolId) → (callLeft (sectionSymbol y) end ≡ Section.Symbol i) ↔ LastOf end y i
+    section-symbol = Terms.section-last key bytes names symbols sections inputs lists new ks quiet lent
+
+    pub section-none : (y : SectionId) → (callLeft (sectionSymbol y) end ≡ Section.None) ↔ ((i : SymbolId) → LocalSection end y i → ⊥)
+    section-none = Terms.section-none key bytes names symbols sections inputs lists new ks quiet lent
+
+    -- "`remove` of any `Section` row drops that entry"; after that, and after any other calls, those added since count (Terms.section-newest)
+    pub section-removed : (y : SectionId) (i : SymbolId) → callNumber (remove i) end ≡ 0 → SectionRow end y i → callLeft (sectionSymbol y) (callNext (remove i) end) ≡ Section.None
+    section-removed = Terms.section-removed key bytes names symbols sections inputs lists new ks lent
 
     -- ---- as-needed: "not needed" is answered exactly to a library that isn't
 
@@ -217,6 +251,15 @@ module _ (key : ℕ) (bytes names symbols sections inputs lists : List ℕ) (new
         (namedBy (o .headers) (o .contents) n (sectionsIn (o .headers)))
     relocations o work ids ok n unremoved ls spared =
         Terms.program-built key bytes names symbols sections inputs lists new ks lent o work ids ok n unremoved ls spared
+
+    -- and these ids stand for the object's symbols to the end: id 0 for a null first one; a local's row has its entry's type, its value through the object's sections, its
+    -- name; any other id is the one that the symbol's name has (Stands, GivenRows.antt)
+    pub relocation-symbols : (o : Stages.Object) (work ids : List ℕ) (ok : callNumber (merge o work ids) end ≡ 0) (n : ℕ)
+        → isRemoved (o .headers) (o .entries) (o .contents) (o .file) (signatures ks s0) (sectionsIn (o .headers)) n ≡ false → (ls : List Call)
+        → SparesAll ls (callNext (merge o work ids) end) (sectionId o end n) → (kind : ℕ) (named : List ℕ)
+        → let then = runCalls ls (callNext (merge o work ids) end) in
+        (x : ObjectSections.ObjectSection o work ids end then n kind named) → AllStand o end (signatures ks s0) then named (x .given)
+    relocation-symbols = Terms.symbols-stand key bytes names symbols sections inputs lists new ks lent
 
     module _ (marks : List ℕ) (entry : EntryPoint) (work : List ℕ) where
       abbrev pub Before : ℕ → Type 0

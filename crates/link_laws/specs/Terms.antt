@@ -17,6 +17,7 @@ use Rattle.gabi.specs.Archive.{Named, wants, extracts}
 use Rattle.gabi.specs.Groups as Gabi
 use Rattle.link.specs.declared.Interned.{Interned}
 use Rattle.link.specs.declared.SymbolId.{SymbolId}
+use Rattle.link.specs.declared.SectionId.{SectionId}
 use Rattle.link.specs.Bounds.{notLent}
 use Rattle.link.specs.Judge.{refused, changeOf}
 use Rattle.link.specs.Said.{numberIn}
@@ -32,6 +33,7 @@ use Rattle.upcoming_symbol.specs.Judge.{inRange}
 use Rattle.upcoming_symbol.specs.Upcoming.{nameOf}
 use Rattle.symbol_rows.specs.Holder.{globalAt}
 use Rattle.symbols.specs.declared.Found.the-variants as Fd
+use Rattle.symbols.specs.declared.SectionSymbol.the-variants as Answers
 use Rattle.symbols.specs.New.{newOf}
 use Rattle.symbols.specs.Add.{fileOf, fileIssued}
 use Rattle.symbols.specs.Lookup.{notFound}
@@ -62,6 +64,7 @@ use Rattle.gc_sections.specs.declared.EntryPoint.{EntryPoint}
 use Rattle.gc_sections.specs.declared.Answer.{Answer}
 use Rattle.gc_sections.specs.declared.Answer.the-variants.{Dropped, Refused}
 use Rattle.gc_laws.specs.Demand as Collection
+use Rattle.gc_laws.specs.Reached as Roots
 use Rattle.symbol_laws.specs.Rank.{firstOf}
 use Rattle.symbol_laws.specs.Rows.{rowAt}
 use Rattle.symbol_laws.specs.History.{opened, Entry, only, rows, store, upcoming}
@@ -75,7 +78,7 @@ use Rattle.symbol_laws.specs.Gabi.{Means, AllMean, symOf, symOfRow, means-own, 
 use Rattle.symbol_laws.specs.Duplicate as Duplicate
 use Rattle.symbol_laws.specs.Hidden as Hidden
 use Rattle.symbol_laws.specs.Hidden.{isHidden, notPassedOn}
-use Rattle.symbol_laws.specs.ObjectWords.{sectionsIn, program, uninitialized, loadedAs}
+use Rattle.symbol_laws.specs.ObjectWords.{sectionsIn, entriesIn, program, uninitialized, loadedAs}
 use Rattle.symbol_laws.specs.Agreement as Agreement
 use Rattle.extraction_laws.specs.Member.{memberOf}
 use Rattle.extraction_laws.specs.Taken as Taken
@@ -96,6 +99,7 @@ use Rattle.merge_laws.specs.Placed.{rowOf}
 use Rattle.merge_laws.specs.RowStays as RowStays
 use Rattle.merge_laws.specs.Terms as MergeTerms
 use Rattle.merge_laws.specs.MergeWords.{namedBy, ownSignatures, isRemoved}
+use Rattle.merge_laws.specs.MergeWords as ObjectWords
 use Rattle.load_laws.specs.Accepted as LoadRows
 use Rattle.load_laws.specs.Terms as LoadTerms
 use Rattle.merge_laws.specs.Lookups as Lookups
@@ -104,11 +108,14 @@ use Rattle.merge_laws.specs.Past as Past
 use Rattle.merge_laws.specs.Calls.{Linked, linked, allIn}
 use Rattle.merge_laws.specs.SymbolDuplicates as InMerge
 use Rattle.load_laws.specs.SymbolDuplicates as InLoad
-use Rattle.link_laws.specs.Calls.{Call, intern, resolve, add, remove, get, getGlobal, addGroup, merge, load, archiveStart, archiveNext, matches, collect, viewIn, groupIn, libraryIn, listsIn, LeftBy, callLeft, callRefusal, callNumber, callNext, callNotes, runCalls, logCalls, Removes, RemovesNothing}
+use Rattle.link_laws.specs.Calls.{Call, intern, resolve, add, remove, get, getGlobal, sectionSymbol, addGroup, merge, load, archiveStart, archiveNext, matches, collect, viewIn, groupIn, libraryIn, listsIn, LeftBy, callLeft, refusalBy, callRefusal, callNumber, callNext, callNotes, runCalls, logCalls, Removes, RemovesNothing}
 use Rattle.link_laws.specs.Table.{refusals, callNumbers}
 use Rattle.link_laws.specs.Rules as Rules
 use Rattle.link_laws.specs.CallRules.{rules}
 use Rattle.link_laws.specs.ExactTerms as ExactTerms
+use Rattle.link_laws.specs.ExactLinks as ExactLinks
+use Rattle.link_laws.specs.NewExactly as NewExactly
+use Rattle.link_laws.specs.NewExactly.{newRules}
 use Rattle.link_laws.specs.Numbers as Numbers
 use Rattle.link_laws.specs.Leaves as Leaves
 use Rattle.link_laws.specs.Leaves.{byElements}
@@ -134,7 +141,10 @@ use Rattle.link_laws.specs.RowPlaces as RowPlaces
 use Rattle.link_laws.specs.RowPlaces.{libraryLent}
 use Rattle.link_laws.specs.CutShort as CutShort
 use Rattle.link_laws.specs.Contracts as Contracts
-use Rattle.link_laws.specs.Contracts.{Exit, Meets, NewExit, NewMeets, StringExit, StringMeets, FilterMeets}
+use Rattle.link_laws.specs.Contracts.{Exit, Meets}
+use Rattle.symbols.specs.Contract.{NewExit, NewMeets}
+use Rattle.strings.specs.Contract.{StringExit, StringMeets}
+use Rattle.section_groups.specs.Contract.{FilterMeets}
 use Rattle.link_laws.specs.KeyFree as KeyFree
 use Rattle.link_laws.specs.KeyFree.{Alike, SameAnswers}
 use Rattle.link_laws.specs.Idle as Idle
@@ -149,6 +159,9 @@ use Rattle.link_laws.specs.LibraryLoads.{LoadedAt, new-inputs}
 use Rattle.link_laws.specs.Removal.{Ready}
 use Rattle.link_laws.specs.LookedUp as LookedUp
 use Rattle.link_laws.specs.LookedUp.{calls-later, calls-whole, inv-ready, new-whole}
+use Rattle.link_laws.specs.LocalRows.{Shown, calls-onto, calls-stay, inv-shown}
+use Rattle.link_laws.specs.SectionSymbols as SectionSymbols
+use Rattle.link_laws.specs.SectionSymbols.{SectionRow, LocalSection, LastOf}
 use Rattle.link_laws.specs.Growth.{Turn, Quiet, runTurns, logTurns, Some, turns-reached}
 use Rattle.link_laws.specs.NeededIn as NeededIn
 use Rattle.link_laws.specs.NeededIn.{NeededIn}
@@ -161,8 +174,11 @@ use Rattle.link_laws.specs.Extraction as Extraction
 use Rattle.link_laws.specs.BuiltSections.{SparesAll}
 use Rattle.link_laws.specs.ObjectSections as ObjectSections
 use Rattle.link_laws.specs.ObjectSections.{sectionId}
+use Rattle.link_laws.specs.GivenRows as GivenRows
+use Rattle.link_laws.specs.GivenRows.{Stands, AllStand}
 use Rattle.link_laws.specs.Contents as Contents
 use Rattle.link_laws.specs.Contents.{FromCalls}
+use Rattle.link_laws.specs.EntryNames as EntryNames
 use Rattle.link_laws.specs.OwnEntries.{entryOf, AllFrom, entriesOf, all-mean, all-show}
 use Rattle.link_laws.specs.Admitted as Admitted
 use Rattle.link_laws.specs.Admitted.{answerIn}
@@ -377,9 +393,30 @@ module _ (key : ℕ) (bytes names symbols sections inputs lists : List ℕ) (new
 
 -- and of a walk that a start began, by the index' own names: ExactTerms.exactly-next
 
+-- the same where lists grew before calls, and where other cells are lent for symbols, sections, inputs and lists than the link's: there the rules of 1 for counts above
+-- what is lent arise
+module _ (key : ℕ) (bytes names symbols sections inputs lists : List ℕ) (new : numberIn (newOf key bytes names symbols sections .said) ≡ 0) (ts : List Turn)
+    (symbols′ sections′ inputs′ lists′ : List ℕ) (k : Call) where
+  abbrev lent-any : Linked
+  lent-any = ExactLinks.on key bytes names symbols sections inputs lists new ts symbols′ sections′ inputs′ lists′
+
+  pub exactly-any : callRefusal k lent-any ≡ Rules.firstOf (rules k lent-any)
+  exactly-any = ExactLinks.exactly-any key bytes names symbols sections inputs lists new ts symbols′ sections′ inputs′ lists′ k
+
+  pub accepted-any : eqb (callNumber k lent-any) 0 ≡ not (Rules.someHolds (rules k lent-any))
+  accepted-any = ExactLinks.accepted-any key bytes names symbols sections inputs lists new ts symbols′ sections′ inputs′ lists′ k
+
+-- `Symbols::new`
+pub new-exactly : (key : ℕ) (bytes names symbols sections : List ℕ) → refusalBy (newOf key bytes names symbols sections .said) ≡ Rules.firstOf (newRules names symbols)
+new-exactly = NewExactly.new-exactly
+
+pub new-accepted : (key : ℕ) (bytes names symbols sections : List ℕ)
+    → eqb (numberIn (newOf key bytes names symbols sections .said)) 0 ≡ not (Rules.someHolds (newRules names symbols))
+new-accepted = NewExactly.new-accepted
+
 -- ---- a. "A public call's result and every lent cell after it, refusal or not, follow from its inputs alone"
 
--- what a caller sees of a call are its result and every cell lent to be written (Exit); its contract is Meets, whose left side stands in the `ensures`. Two
+-- what a caller sees of a call are its result and every cell lent to be written (Exit); its contract is Meets, made of the predicates that stand in the `ensures`. Two
 -- outcomes that meet it are equal: of every call on a link, of a new table, of a string lookup and of the filter of a symbol table
 pub one-outcome : (k : Call) (s : Linked) (x y : Exit k) → Meets k s x → Meets k s y → x ≡ y
 one-outcome = Contracts.one-outcome
@@ -414,6 +451,12 @@ module _ (key other : ℕ) (bytes names symbols sections inputs lists : List ℕ
 module _ (key : ℕ) (bytes names symbols sections inputs lists : List ℕ) (new : numberIn (newOf key bytes names symbols sections .said) ≡ 0) where
   abbrev pub start : Linked
   start = linked (opened (newOf key bytes names symbols sections)) inputs lists
+
+  start-ready : Ready (start .table)
+  start-ready = inv-ready (start .table) [] (new-inv key bytes names symbols sections new)
+
+  start-shown : Shown (start .table)
+  start-shown = inv-shown (start .table) (new-inv key bytes names symbols sections new)
 
   -- ---- any sequence of calls, those that remove too
 
@@ -532,6 +575,51 @@ module _ (key : ℕ) (bytes names symbols sections inputs lists : List ℕ) (new
       pub get-removed : (i : SymbolId) → callNumber (remove i) after ≡ 0 → (ls : List Call) → callLeft (get i) (runCalls ls (callNext (remove i) after)) ≡ notFound 21 (i .0)
       get-removed = LookedUp.removed-got after _ lasting ready
 
+      -- ---- lookups by a section: "`remove` of any `Section` row drops that entry"; so does a collection that drops such a row, and nothing else does
+
+      pub section-removed : (y : SectionId) (i : SymbolId) → callNumber (remove i) after ≡ 0 → SectionRow after y i
+          → callLeft (sectionSymbol y) (callNext (remove i) after) ≡ Answers.None
+      section-removed y = SectionSymbols.removed-none after _ lasting ready y
+
+      pub section-unremoved : (y : SectionId) (i : SymbolId) → (SectionRow after y i → ⊥)
+          → callLeft (sectionSymbol y) (callNext (remove i) after) ≡ callLeft (sectionSymbol y) after
+      section-unremoved y = SectionSymbols.removed-other after _ lasting ready y
+
+      module _ (y : SectionId) (marks : List ℕ) (entry : EntryPoint) (work : List ℕ) (a b : ℕ) (ok : callLeft (collect marks entry work) after .answer ≡ Dropped a b) where
+        abbrev pub StoodBefore : Type 0
+        StoodBefore = Collection.Before (after .table .link) (listsIn after marks) (after .table .symbols) (after .table .sections) entry work (y .0)
+
+        abbrev pub IsReached : Type 0
+        IsReached = Roots.Reached (after .table .link) (listsIn after marks) (after .table .symbols) (after .table .sections) entry (y .0)
+
+        pub section-collected : (i : SymbolId) → SectionRow after y i → StoodBefore → (IsReached → ⊥)
+            → callLeft (sectionSymbol y) (callNext (collect marks entry work) after) ≡ Answers.None
+        section-collected = SectionSymbols.collected-none after _ lasting ready y marks entry work a b ok
+
+        pub section-uncollected : ((i : SymbolId) → SectionRow after y i → StoodBefore → IsReached)
+            → callLeft (sectionSymbol y) (callNext (collect marks entry work) after) ≡ callLeft (sectionSymbol y) after
+        section-uncollected = SectionSymbols.collected-other after _ lasting ready y marks entry work a b ok
+
+      -- "A local `Section` row becomes its section's symbol, the last one winning": one that was added since; else the answer is what it was
+      some-symbol : 1 ≤ after .table .link .symbols
+      some-symbol = omega (arith, calls-stay ks start start-ready start-shown .more, SectionSymbols.new-fresh key bytes names symbols sections new .one)
+
+      shown : Shown (after .table)
+      shown = calls-stay ks start start-ready start-shown .shown
+
+      module _ (ls : List Call) (quiet : RemovesNothing ls after) (y : SectionId) where
+        abbrev pub onward : Linked
+        onward = runCalls ls after
+
+        pub section-newest : (i : SymbolId) → after .table .link .symbols ≤ i .0 → LastOf onward y i → callLeft (sectionSymbol y) onward ≡ Answers.Symbol i
+        section-newest =
+            SectionSymbols.since-last after onward _ (lasting-on ls after _ lasting) (calls-later ls after ready .ready) (calls-onto ls after quiet ready shown) some-symbol y
+
+        pub section-unchanged : ((i : SymbolId) → after .table .link .symbols ≤ i .0 → LocalSection onward y i → ⊥)
+            → callLeft (sectionSymbol y) onward ≡ callLeft (sectionSymbol y) after
+        section-unchanged =
+            SectionSymbols.since-none after onward _ (lasting-on ls after _ lasting) (calls-later ls after ready .ready) (calls-onto ls after quiet ready shown) some-symbol y
+
       -- "Rows past the count are never written", of inputs and lists; and one that was counted before the call isn't written either
       pub lists-past : (k : Call) → Lists.ListsLeft after (callNext k after)
       lists-past k = Lists.call-listed k after (lasting .lent)
@@ -580,6 +668,12 @@ module _ (key : ℕ) (bytes names symbols sections inputs lists : List ℕ) (new
         pub signatures-own : signatures (merge o work ids ∷ []) after ≡ ownSignatures (o .headers) (o .entries) (o .contents) (o .file) (sectionsIn (o .headers))
         signatures-own = ObjectSections.signatures-own after _ lasting o work ids ok
 
+        -- the ids that it gave the symbols stand for them after any calls: of a local one the row has what the symbol's entry says, any other is its name's
+        pub cell-stands : (ls : List Call) (k id : ℕ)
+            → k < entriesIn (ObjectWords.symbolsOf (o .headers) (o .entries) (o .contents) (o .file)) → getD (callLeft (merge o work ids) after .cells .ids) k 0 ≡ id + 1
+            → Stands o after (signatures ks start) (runCalls ls (callNext (merge o work ids) after)) k id
+        cell-stands = GivenRows.cell-stands after _ lasting ready shown some-symbol o work ids ok
+
         module _ (n : ℕ) (unremoved : isRemoved (o .headers) (o .entries) (o .contents) (o .file) (signatures ks start) (sectionsIn (o .headers)) n ≡ false) (ls : List Call)
             (spared : SparesAll ls (callNext (merge o work ids) after) (sectionId o after n)) where
           abbrev pub then : Linked
@@ -591,6 +685,11 @@ module _ (key : ℕ) (bytes names symbols sections inputs lists : List ℕ) (new
 
           pub uninitialized-built : loadedAs (o .headers) n uninitialized ≡ true → ObjectSections.ObjectSection o work ids after then n uninitialized []
           uninitialized-built = ObjectSections.uninitialized-built after _ lasting o work ids ok n unremoved ls spared
+
+          -- the ids that it names stand for the object's symbols still: of a local one the row has what the symbol's entry says, any other is its name's
+          pub symbols-stand : (kind : ℕ) (named : List ℕ) (x : ObjectSections.ObjectSection o work ids after then n kind named)
+              → AllStand o after (signatures ks start) then named (x .given)
+          symbols-stand kind named x = GivenRows.all-stand after _ lasting ready shown some-symbol o work ids ok ls named (x .given) (x .gives)
 
           -- so collection goes by the objects' relocations: such a section names another just if one of the ids that its table's symbols were given lies there
           pub lists-in : then .table .link .lists ≤ length (then .lists)
@@ -735,6 +834,13 @@ module _ (key : ℕ) (bytes names symbols sections inputs lists : List ℕ) (new
     pub adds-from : (n : ℕ) (x : Entry) (xs : List Entry) → acceptedAdds n ≡ x ∷ xs → AllFrom ks start [] (rows (x ∷ xs))
     adds-from n x xs e = subst (λ (l : List Entry). AllFrom ks start [] (rows l)) e (Contents.adds-from ks start [] (new-marked key bytes names symbols sections new) n)
 
+    -- these entries bear the name: by its bytes, an object's and a library's symbols; a direct add by the id that the caller gave it
+    pub adds-bear : (b : List ℕ) (x : Entry) (xs : List Entry) → acceptedAdds (find (store (end .table)) b) ≡ x ∷ xs → (from : AllFrom ks start [] (rows (x ∷ xs)))
+        → EntryNames.AllBear b (find (store (end .table)) b) ks start [] (x ∷ xs) from
+    adds-bear b x xs e from =
+        EntryNames.adds-bear b (find (store (end .table)) b) ks start [] (new-marked key bytes names symbols sections new)
+        (EntryNames.issued-by (end .table) (logCalls ks start) held (marked ks .good .chained) b x xs e) (x ∷ xs) e from
+
     module _ (n : ℕ) (x : Entry) (xs : List Entry) (e : acceptedAdds n ≡ x ∷ xs) (from : AllFrom ks start [] (rows (x ∷ xs))) where
       abbrev pub ownEntries : List Sym
       ownEntries = entriesOf ks start [] (rows (x ∷ xs)) from
@@ -871,6 +977,15 @@ module _ (key : ℕ) (bytes names symbols sections inputs lists : List ℕ) (new
       get-present i h =
           LookedUp.got-present end _ (lasting ks lent) (ready ks lent) i h
           (calls-whole ks start quiet (inv-ready (start .table) [] (new-inv key bytes names symbols sections new)) (new-whole key bytes names symbols sections new) (i .0) h)
+
+      -- "A local `Section` row becomes its section's symbol, the last one winning"; "A section without a symbol answers "none""
+      pub section-last : (y : SectionId) (i : SymbolId) → (callLeft (sectionSymbol y) end ≡ Answers.Symbol i) ↔ LastOf end y i
+      section-last =
+          SectionSymbols.last-of start (SectionSymbols.new-fresh key bytes names symbols sections new) start-ready start-shown ks quiet _ (lasting ks lent) (ready ks lent)
+
+      pub section-none : (y : SectionId) → (callLeft (sectionSymbol y) end ≡ Answers.None) ↔ ((i : SymbolId) → LocalSection end y i → ⊥)
+      section-none =
+          SectionSymbols.none-of start (SectionSymbols.new-fresh key bytes names symbols sections new) start-ready start-shown ks quiet _ (lasting ks lent) (ready ks lent)
 
     -- ---- "Under as-needed, an unneeded library answers "not needed" and changes nothing"
 

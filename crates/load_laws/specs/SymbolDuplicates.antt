@@ -97,7 +97,7 @@ module _ (entries file : List ℕ) (s : State) (i : ℕ) where
   planAt = planOf (view (adding s)) (symbolName entries file i .name) (field entries i 1) (field entries i 3)
 
   module _ (f : symbolName entries file i .found ≡ true) (d : eqb (field entries i 4) 0 ≡ false) where
-    symbol-number : symbolOf entries file s i .stage .number ≡ refusalOf (planAt .decision)
+    pub symbol-number : symbolOf entries file s i .stage .number ≡ refusalOf (planAt .decision)
     unfolding symbolOf lookedOf namedOf
     symbol-number = rw (f, d) (define-number (adding s) (symbolName entries file i .name) (field entries i 1) (field entries i 3) i)
 
@@ -136,7 +136,7 @@ module _ (o : Input) (a : All) where
   abbrev pub tableTo : ℕ → History.State
   tableTo i = symbolTable (symbolsTo i)
 
-  steps-lead : (i : ℕ) → runSteps (stepsTo i) (tableIn a) ≡ tableTo i
+  pub steps-lead : (i : ℕ) → runSteps (stepsTo i) (tableIn a) ≡ tableTo i
   steps-lead i = symbols-make-to (o .entries) (o .file) i first .leads
 
   -- the accepted adds before symbol i
@@ -347,18 +347,18 @@ module _ (o : Input) (a : All) where
   joined : (s r b e : List Step) → ((s ++ r) ++ b) ++ e ≡ s ++ ((r ++ b) ++ e)
   joined s r b e = ap (λ (l : List Step). l ++ e) (append-assoc s r b) ∙ append-assoc s (r ++ b) e
 
-  record Begins (i : ℕ) : Type 0 where
-    rest : List Step
-    is : loadSteps o a ≡ stepsTo i ++ rest
+  pub record Begins (i : ℕ) : Type 0 where
+    pub rest : List Step
+    pub is : loadSteps o a ≡ stepsTo i ++ rest
 
-  steps-begin : (i : ℕ) → Comes i → Begins i
+  pub steps-begin-to : (i : ℕ) → headIn o a .number ≡ 0 → want o a .needed ≡ true → Stops.fits (o .entries) (o .file) (o .needs) (linksIn a) (nameOf o) ≡ true
+      → i ≤ rowsIn (o .entries) → symbolsTo i .stage .number ≡ 0 → Begins i
   unfolding loadSteps askedSteps wantedSteps librarySteps issuedSteps keptSteps contentsSteps
-  steps-begin i c =
+  steps-begin-to i head needed named small going =
       let next : State → ℕ → State = symbolOf (o .entries) (o .file) in
-      let small : i ≤ rowsIn (o .entries) = omega (arith, c .below) in
       let k =
       steps-split numberOf next (symbolSteps (o .entries) (o .file)) i (rowsIn (o .entries)) 0 first small
-      (ap numberOf (sym (symbols-loop (o .entries) (o .file) i 0 first)) ∙ c .going) in
+      (ap numberOf (sym (symbols-loop (o .entries) (o .file) i 0 first)) ∙ going) in
       let symbols : List Step = loopSteps numberOf next (symbolSteps (o .entries) (o .file)) i 0 first in
       let lists : List Step =
       listStageSteps (o .file) (o .needs) (a .inputs) added (idOf (tableIn a) (nameOf o)) (first .stage .link .lists) in
@@ -366,10 +366,13 @@ module _ (o : Input) (a : All) where
       record {
         rest = (k .rest ++ lists) ++ last;
         is =
-            rw (eq-eqb (headIn o a .number) 0 (c .head), c .needed, c .named)
+            rw (eq-eqb (headIn o a .number) 0 head, needed, named)
             (ap (λ (l : List Step). part (issue (nameOf o)) ∷ ((l ++ lists) ++ last)) (k .is)
             ∙ ap (_∷_ (part (issue (nameOf o)))) (joined symbols (k .rest) lists last));
       }
+
+  steps-begin : (i : ℕ) → Comes i → Begins i
+  steps-begin i c = steps-begin-to i (c .head) (c .needed) (c .named) (omega (arith, c .below)) (c .going)
 
   pub log-begins : (i : ℕ) → Comes i → LogBegins i
   log-begins i c =

@@ -1,2 +1,3 @@
 pub mod Merge
+pub mod Contract
 pub mod Ways

@@ -2,7 +2,8 @@
 ghost use mathlib.Core.Path.{_≡_};
 ghost use Rattle.link.specs.Judge.{goingOf};
 ghost use Rattle.merge_stages.specs.Stages.{allOf, objectOf};
-ghost use Rattle.merge_elf.specs.Merge.{headOf, endedAs, outcome, finishedOf, mergeOf};
+ghost use Rattle.merge_elf.specs.Merge.{headOf, endedAs, outcome, finishedOf};
+ghost use Rattle.merge_elf.specs.Contract.{cellsIn, objectIn, MergeMeets};
 use link::Lent;
 use link::Link;
 use link::Refusal;
@@ -137,9 +138,7 @@ pub fn merge_elf(
     file: &[u8],
     strings: usize,
 ) -> Outcome
-    ensures { λ r. ⌜ outcome (now (bytes .exit)) (now (names .exit)) (now (symbols .exit)) (now (sections .exit)) (now (inputs .exit)) (now (lists .exit)) (now (work .exit)) (now (ids .exit)) r
-        ≡ mergeOf (objectOf (now (headers .entry)) (now (entries .entry)) (now (contents .entry)) (now (file .entry)) strings)
-        (allOf (now (bytes .entry)) (now (names .entry)) (now (symbols .entry)) (now (sections .entry)) (now (inputs .entry)) (now (lists .entry)) (now (work .entry)) (now (ids .entry)) (goingOf l)) ⌝ }
+    ensures { λ r. ⌜ MergeMeets (objectIn headers entries contents file strings) (cellsIn bytes names symbols sections inputs lists work ids) l r ⌝ }
 {
     let lent = Lent {
         names: names.len() / link::NAME_CELLS,

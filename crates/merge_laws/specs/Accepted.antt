@@ -256,7 +256,7 @@ module _ (o : Object) (a : All) where
     abbrev stepsOf : ℕ → List Step
     stepsOf n = loopSteps symbolNumber (symbolOf (symbolReader o a)) (symbolSteps (symbolReader o a)) n 0 firstSymbol
 
-    symbol-going : (n : ℕ) → n ≤ rowsIn (object o a .entries) → symbolsTo o a n .stage .number ≡ 0
+    pub symbol-going : (n : ℕ) → n ≤ rowsIn (object o a .entries) → symbolsTo o a n .stage .number ≡ 0
     unfolding symbolsOf
     symbol-going n h =
         ap symbolNumber (symbols-loop (symbolReader o a) n 0 firstSymbol)

@@ -65,9 +65,9 @@ module _ (o : Object) (a : All) where
   -- the id that the merge gives symbol k of the loaded table
   pub data Gives (k id : ℕ) : Type 0 where
     -- "The first symbol, if named empty, undefined and of type 0, maps to id 0"
-    null : GivenIds.first reader (symbolsTo o a k) k ≡ true → id ≡ 0 → Gives k id
+    null : k < rowsIn (object o a .entries) → GivenIds.first reader (symbolsTo o a k) k ≡ true → id ≡ 0 → Gives k id
     -- the answer to its add
-    answered : nameOf reader k .found ≡ true → adds (inputOf (reader .entries) (reader .work)) (nameOf reader k .name) k ≡ true
+    answered : k < rowsIn (object o a .entries) → nameOf reader k .found ≡ true → adds (inputOf (reader .entries) (reader .work)) (nameOf reader k .name) k ≡ true
         → Symbols.symbolOf reader (symbolsTo o a k) k .stage .number ≡ 0 → id ≡ GivenIds.answer reader (symbolsTo o a k) k → Gives k id
 
   abbrev pub AllGive : List ℕ → List ℕ → Type 0
@@ -80,15 +80,15 @@ module _ (o : Object) (a : All) where
     below-to : (i : ℕ) → Below (tableTo o a i)
     below-to i = subst Below (steps-make o a i .leads) (steps-below (stepsTo o a i) (tableIn a) below)
 
-    gives : (k : ℕ) → k < rowsIn (object o a .entries) → getD (added o a .ids) k 0 ≢ 0 → Gives k (idIn (added o a .ids) k)
+    pub gives : (k : ℕ) → k < rowsIn (object o a .entries) → getD (added o a .ids) k 0 ≢ 0 → Gives k (idIn (added o a .ids) k)
     gives k h u =
         let first : Symbols.State = symbolFirst (symbolsIn (marked o a)) in
         let room : k < length (first .ids) = omega (arith, passed o a (merge-passes o a ok .0) .ids, entries-most (o .headers) (o .entries) (reserved o a .reserved .table)) in
         go (GivenIds.id-given reader first refl (symbols-going o a ok) k h room (below-to k) u)
       where
         go : GivenIds.IdOf reader (symbolFirst (symbolsIn (marked o a))) refl (symbols-going o a ok) k h (omega (arith, passed o a (merge-passes o a ok .0) .ids, entries-most (o .headers) (o .entries) (reserved o a .reserved .table))) → Gives k (idIn (added o a .ids) k)
-        go (GivenIds.null f e) = null f e
-        go (GivenIds.answered f d z e) = answered f d z e
+        go (GivenIds.null f e) = null h f e
+        go (GivenIds.answered f d z e) = answered h f d z e
 
     all-give : (limit : ℕ) → limit ≤ rowsIn (object o a .entries) → (ks : List ℕ) → symbolsOk (added o a .ids) limit ks ≡ true → AllGive ks (idsOf (added o a .ids) ks)
     unfolding symbolsOk

@@ -1,19 +1,20 @@
 -- Of the groups of one signature the first is kept, over several objects too; and what becomes of the symbols of the others.
 -- Assumes nothing.
-use Prim.Native.Nat.{ℕ, suc}
+use Prim.Native.Nat.{ℕ, zero, suc, _≤_, _<_}
 use native.Mathlib.Nat.{zero-add}
+use native.Mathlib.Omega.{arith}
 use mathlib.Core.Path.{_≡_, refl, sym, ap, _∙_, subst}
-use mathlib.Core.Bool.{Bool, true, false, cond, not, false≢true}
+use mathlib.Core.Bool.{Bool, true, false, cond, not, _||_, false≢true}
 use mathlib.Core.List.{List, [], _∷_, _++_, append-nil, append-assoc}
 use mathlib.Core.Logic.{_≢_}
 use lib.Dec.{eqb, ltb}
 use lib.ListN.{getD, length}
-use borrow.Author.Tests.{eqb-true, eq-eqb}
+use borrow.Author.Tests.{eqb-true, eqb-false, eq-eqb, ne-eqb}
 use Rattle.cells.specs.Split.{by-test}
 use Rattle.gabi.specs.StringTable.{among}
-use Rattle.gabi.specs.SymbolTable.{isLocal}
+use Rattle.gabi.specs.SymbolTable.{isLocal, isGlobal, isWeak}
 use Rattle.gabi.specs.Groups as Gabi
-use Rattle.gabi.specs.Groups.{stays, gone, afterDiscard, undefine}
+use Rattle.gabi.specs.Groups.{stays, gone, unsaid, afterDiscard, undefine}
 use Rattle.elf_object.specs.Rows.{field, elfAt, firstAt, isLoaded, markAt}
 use Rattle.section_groups.specs.Group as Group
 use Rattle.section_groups.specs.Group.{markGroupOf, markRemovedOf, groupSectionOf, signatureOf}
@@ -124,6 +125,12 @@ module _ (o : Object) (a : All) where
 abbrev pub removedIn : List ℕ → ℕ → Bool
 removedIn work s = cond (eqb s 0) false (cond (ltb s 0xff00) (eqb (markAt work s) 2) false)
 
+named : (b : ℕ) → b ≢ 0 → b ≤ 2 → (eqb b 1 || eqb b 2) ≡ true
+named zero n h = absurd (n refl)
+named (suc zero) n h = refl
+named (suc (suc zero)) n h = refl
+named (suc (suc (suc b))) n h = absurd (omega arith)
+
 module _ (work entries : List ℕ) (i : ℕ) where
   abbrev section : ℕ
   section = field entries i 4
@@ -137,18 +144,29 @@ module _ (work entries : List ℕ) (i : ℕ) where
   removed-other : removedIn work section ≡ true → section ≢ 0
   removed-other e z = false≢true (rw (eq-eqb _ _ z) at e)
 
-  -- a symbol that passes is what the gABI makes of it
-  pub filter-agrees : symbolOk work entries i ≡ true → afterDiscard (removedIn work section) (symOf (elfAt entries i)) ≡ stays (symOf (filteredAt entries work i))
-  unfolding symbolOk afterDiscard undefine isLocal
-  filter-agrees e =
+  -- a symbol that passes is what the gABI makes of it, where that says what becomes of it
+  pub filter-agrees : (removedIn work section ≡ true → field entries i 1 ≤ 2) → symbolOk work entries i ≡ true
+      → afterDiscard (removedIn work section) (symOf (elfAt entries i)) ≡ stays (symOf (filteredAt entries work i))
+  unfolding symbolOk afterDiscard undefine isLocal isGlobal isWeak
+  filter-agrees low e =
       by-test (removedIn work section)
       (λ r.
       by-test (eqb (field entries i 1) 0)
       (λ b.
       let z : sectionAfter work section ≡ 0 = after-is ∙ rw r in
       by-test (eqb (sectionAfter work section) section) (λ c. absurd (removed-other r (sym (eqb-true _ _ c) ∙ z))) (λ c. absurd (false≢true (rw (b, c) at e))))
-      (λ b. rw (after-is, r, b)))
+      (λ b. rw (after-is, r, b, named (field entries i 1) (eqb-false _ _ b) (low r))))
       (λ r. rw (after-is, r))
+
+  -- and of the other bindings it says nothing; they pass here too, to be refused (12) where they are added
+  pub filter-unsaid : removedIn work section ≡ true → 2 < field entries i 1
+      → (symbolOk work entries i ≡ true) × (afterDiscard (removedIn work section) (symOf (elfAt entries i)) ≡ unsaid)
+  unfolding symbolOk afterDiscard isLocal isGlobal isWeak
+  filter-unsaid r h =
+      let z : eqb (field entries i 1) 0 ≡ false = ne-eqb _ _ (λ (e : field entries i 1 ≡ 0). omega arith) in
+      let o : eqb (field entries i 1) 1 ≡ false = ne-eqb _ _ (λ (e : field entries i 1 ≡ 1). omega arith) in
+      let t : eqb (field entries i 1) 2 ≡ false = ne-eqb _ _ (λ (e : field entries i 1 ≡ 2). omega arith) in
+      (rw z, rw (r, z, o, t))
 
   -- "a local in a dropped group is an error": where the filter stops, the gABI discards the symbol
   pub filter-differs : symbolOk work entries i ≡ false → afterDiscard (removedIn work section) (symOf (elfAt entries i)) ≡ gone

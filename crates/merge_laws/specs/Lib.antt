@@ -44,3 +44,5 @@ pub mod RowsBelow
 pub mod BuiltNames
 pub mod ObjectContents
 pub mod LogContents
+pub mod NamesOn
+pub mod SymbolNames

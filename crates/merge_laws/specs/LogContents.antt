@@ -4,26 +4,25 @@ use Prim.Native.Nat.{ℕ, zero, suc, _+_, _<_}
 use native.Mathlib.Omega.{arith}
 use native.Mathlib.Nat.{zero-add}
 use mathlib.Core.Path.{_≡_, refl, sym, ap, _∙_, subst}
-use mathlib.Core.Bool.{true}
+use mathlib.Core.Bool.{true, false}
 use mathlib.Core.List.{List, [], _∷_, _++_}
 use mathlib.Core.Logic.{_≢_}
 use lib.Dec.{eqb, ltb}
-use borrow.Author.Tests.{eqb-true, eqb-false, ne-eqb}
+use borrow.Author.Tests.{eqb-true, eqb-false, ne-eqb, ltb-false}
 use Rattle.cells.specs.Split.{by-test}
 use Rattle.gabi.specs.StringTable.{nameAt}
 use Rattle.strings.specs.Lookup.{Looked}
-use Rattle.interner_laws.specs.Good.{find}
+use Rattle.interner_laws.specs.Good.{Issued}
 use Rattle.symbol.specs.declared.Row.{Row}
 use Rattle.symbol_rows.specs.declared.Decision.{Decision}
 use Rattle.symbol_rows.specs.Decide.{refusalOf}
 use Rattle.elf_object.specs.Rows.{rowsIn, field}
 use Rattle.section_groups.specs.Group.{groupSectionOf}
-use Rattle.merge_plan.specs.Plan.{inputOf, plannedOf, readOf, rowedOf}
-use Rattle.upcoming_symbol.specs.Upcoming.{elfRowOf}
+use Rattle.merge_plan.specs.Plan.{inputOf}
 use Rattle.merge_symbols.specs.Stage as Symbols
 use Rattle.merge_symbols.specs.Stage.{symbolOf, lookedOf, namedOf, commitOf, keptOf, acceptRow, symbolsOf}
 use Rattle.merge_stages.specs.Stages.{All, Object, symbolsIn, afterSymbols}
-use Rattle.merge_elf.specs.Merge.{headIn}
+use Rattle.merge_elf.specs.Merge.{headIn, mergeOf}
 use Rattle.symbol_laws.specs.Rank as Rank
 use Rattle.symbol_laws.specs.History.{store}
 use Rattle.symbol_laws.specs.ObjectWords.{sectionsIn, entriesIn}
@@ -37,7 +36,8 @@ use Rattle.merge_laws.specs.Markless.{added-append, loop-none}
 use Rattle.merge_laws.specs.GroupStage as GroupStage
 use Rattle.merge_laws.specs.SymbolStage.{numberOf, symbols-loop}
 use Rattle.merge_laws.specs.SymbolIds.{nameOf, planOf}
-use Rattle.merge_laws.specs.SymbolDuplicates.{tableTo, rowTo}
+use Rattle.merge_laws.specs.SymbolDuplicates.{rowTo, Comes}
+use Rattle.merge_laws.specs.SymbolNames.{row-named}
 use Rattle.merge_laws.specs.Whole.{tableIn}
 use Rattle.merge_laws.specs.Stops.{reserved, object, prepared, grouped, marked, symbolReader, symbolsTo, added, filtered}
 use Rattle.merge_laws.specs.FirstKept.{reader}
@@ -85,12 +85,12 @@ module _ (o : Object) (a : All) (met : List (List ℕ)) where
   abbrev nameBytes : ℕ → List ℕ
   nameBytes = Words.symbolName (o .headers) (o .entries) (o .contents) (o .file)
 
-  -- the row of symbol i of the loaded table: what its entry says, under the id that its name has or gets there
+  -- the row of symbol i of the loaded table: what its entry says; in the link that the merge leaves its name has the bytes of the symbol's
   pub record FromSymbol (r : Row) : Type 0 where
     pub number : ℕ
     pub below : number < entriesIn table
     pub content : Contents.Content (o .headers) (o .entries) (o .contents) (o .file) (a .stage .link .sections) met table number r
-    pub name : r .name .0 ≡ find (store (tableTo o a number)) (nameBytes number)
+    pub named : Issued (store (tableIn (mergeOf o a .cells))) (r .name .0) (nameBytes number)
 
   module _ (known : Marked (tableIn a) met) where
     abbrev first : Symbols.State
@@ -100,33 +100,41 @@ module _ (o : Object) (a : All) (met : List (List ℕ)) where
     next = symbolOf (symbolReader o a)
 
     module _ (head : headIn o a .number ≡ 0) (goes : reserved o a .reserved .number ≡ 0) (passes : grouped o a .stage .number ≡ 0) where
-      row-name : (i : ℕ) → i < rowsIn (object o a .entries) → rowTo o a i .name .0 ≡ find (store (tableTo o a i)) (nameBytes i)
-      unfolding plannedOf readOf rowedOf elfRowOf
-      row-name i h =
-          ap (find (store (tableTo o a i)))
-          (ap (λ (x : Looked). x .name) (names-are o a head goes i (field (object o a .entries) i 0) h)
-          ∙ ap (λ (l : List ℕ). nameAt (Words.symbolNames (o .headers) (o .file) (sectionsIn (o .headers))) (field l i 0)) (symbols-are o a head goes))
+      name-own : (i : ℕ) → i < rowsIn (object o a .entries) → nameOf (symbolReader o a) i .name ≡ nameBytes i
+      name-own i h =
+          ap (λ (x : Looked). x .name) (names-are o a head goes i (field (object o a .entries) i 0) h)
+          ∙ ap (λ (l : List ℕ). nameAt (Words.symbolNames (o .headers) (o .file) (sectionsIn (o .headers))) (field l i 0)) (symbols-are o a head goes)
 
-      from-symbol : (i : ℕ) → i < rowsIn (object o a .entries) → next (symbolsTo o a i) i .stage .number ≡ 0 → nameOf (symbolReader o a) i .found ≡ true
+      from-symbol : (i : ℕ) → Comes o a i → next (symbolsTo o a i) i .stage .number ≡ 0 → nameOf (symbolReader o a) i .found ≡ true
           → adds (inputOf (object o a .entries) (marked o a .work)) (nameOf (symbolReader o a) i .name) i ≡ true → rowTo o a i .visibility ≢ 0 → FromSymbol (rowTo o a i)
-      from-symbol i h z f d g =
+      from-symbol i c z f d g =
+          let h = c .below in
           record {
             number = i;
             below = subst (λ (l : List ℕ). i < rowsIn l) (symbols-are o a head goes) h;
             content = Contents.content o a head goes passes met known i h z f d g;
-            name = row-name i h;
+            named = subst (Issued (store (tableIn (mergeOf o a .cells))) (rowTo o a i .name .0)) (name-own i h) (row-named o a met known i c z f d);
           }
 
       -- the symbols from i on
-      rows-from : (n i : ℕ) → i + n ≡ rowsIn (object o a .entries) → numberOf (loop numberOf next i 0 first) ≡ 0
+      rows-from : ltb (filtered o a) (rowsIn (object o a .entries)) ≡ false → (n i : ℕ) → i + n ≡ rowsIn (object o a .entries) → numberOf (loop numberOf next i 0 first) ≡ 0
           → Rank.All FromSymbol (addedRows (loopSteps numberOf next (symbolSteps (symbolReader o a)) n i (loop numberOf next i 0 first)))
-      rows-from zero i e z = tt
-      rows-from (suc n) i e z =
+      rows-from filter zero i e z = tt
+      rows-from filter (suc n) i e z =
           let t : Symbols.State = loop numberOf next i 0 first in
           let same : symbolsTo o a i ≡ t = symbols-loop (symbolReader o a) i 0 first in
           let mine : Rank.All FromSymbol (addedRows (symbolSteps (symbolReader o a) t i)) =
           subst (λ (s : Symbols.State). Rank.All FromSymbol (addedRows (symbolSteps (symbolReader o a) s i))) same
-          (symbol-rows (symbolReader o a) (symbolsTo o a i) i FromSymbol (from-symbol i (omega arith))) in
+          (symbol-rows (symbolReader o a) (symbolsTo o a i) i FromSymbol
+          (from-symbol i
+          (record {
+            head = head;
+            sections = goes;
+            groups = passes;
+            filter = ltb-false _ _ filter;
+            below = omega arith;
+            going = ap numberOf same ∙ z;
+          }))) in
           by-test (eqb (numberOf (next t i)) 0)
           (λ b.
           let k : loop numberOf next (i + 1) 0 first ≡ next t i =
@@ -134,21 +142,21 @@ module _ (o : Object) (a : All) (met : List (List ℕ)) where
           rw (b, added-append (symbolSteps (symbolReader o a) t i) (loopSteps numberOf next (symbolSteps (symbolReader o a)) n (i + 1) (next t i)))
           (all-append FromSymbol (addedRows (symbolSteps (symbolReader o a) t i)) _ mine
           (subst (λ (s : Symbols.State). Rank.All FromSymbol (addedRows (loopSteps numberOf next (symbolSteps (symbolReader o a)) n (i + 1) s))) k
-          (rows-from n (i + 1) (omega arith) (ap numberOf k ∙ eqb-true _ _ b)))))
+          (rows-from filter n (i + 1) (omega arith) (ap numberOf k ∙ eqb-true _ _ b)))))
           (λ b. rw b mine)
 
-      table-rows : Rank.All FromSymbol (addedRows (tableSteps (object o a) (marked o a .work) (symbolsIn (marked o a))))
+      table-rows : ltb (filtered o a) (rowsIn (object o a .entries)) ≡ false → Rank.All FromSymbol (addedRows (tableSteps (object o a) (marked o a .work) (symbolsIn (marked o a))))
       unfolding tableSteps
-      table-rows =
+      table-rows filter =
           let build = afterSymbols (symbolsIn (marked o a)) (added o a) in
           rw (added-append (loopSteps numberOf next (symbolSteps (symbolReader o a)) (rowsIn (object o a .entries)) 0 first) _, built-none (object o a) (marked o a .work) build)
-          (all-append FromSymbol (addedRows (loopSteps numberOf next (symbolSteps (symbolReader o a)) (rowsIn (object o a .entries)) 0 first)) [] (rows-from (rowsIn (object o a .entries)) 0 (zero-add _) refl) tt)
+          (all-append FromSymbol (addedRows (loopSteps numberOf next (symbolSteps (symbolReader o a)) (rowsIn (object o a .entries)) 0 first)) [] (rows-from filter (rowsIn (object o a .entries)) 0 (zero-add _) refl) tt)
 
       filter-rows : Rank.All FromSymbol (addedRows (filterSteps (object o a) (marked o a)))
       unfolding filterSteps filteredSteps
       filter-rows =
           by-test (eqb (grouped o a .stage .number) 0)
-          (λ b. by-test (ltb (filtered o a) (rowsIn (object o a .entries))) (λ c. rw (b, c) tt) (λ c. rw (b, c) table-rows)) (λ b. rw b tt)
+          (λ b. by-test (ltb (filtered o a) (rowsIn (object o a .entries))) (λ c. rw (b, c) tt) (λ c. rw (b, c) (table-rows c))) (λ b. rw b tt)
 
     -- groups refused: no symbol is come to
     filter-none : grouped o a .stage .number ≢ 0 → Rank.All FromSymbol (addedRows (filterSteps (object o a) (marked o a)))

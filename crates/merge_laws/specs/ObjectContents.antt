@@ -13,17 +13,19 @@ use lib.Seq.{getD-take, getD-drop}
 use borrow.Author.Tests.{eqb-true, eqb-false, ltb-true, ltb-false, lt-ltb, ne-eqb}
 use Rattle.cells.specs.Split.{by-test}
 use Rattle.gabi.specs.StringTable.{nameAt}
-use Rattle.gabi.specs.SymbolTable.{stbWeak, shnUndef, shnLoreserve, shnAbs}
+use Rattle.gabi.specs.SymbolTable.{stbLocal, stbWeak, shnUndef, shnLoreserve, shnAbs}
 use Rattle.strings.specs.Lookup.{Looked}
 use Rattle.interner.specs.Names.{storeOf, fitsOf}
 use Rattle.symbol.specs.declared.Row.{Row}
 use Rattle.symbol.specs.declared.Words.{Words}
+use Rattle.symbol.specs.declared.SymbolVisibility.the-variants.{Local}
 use Rattle.symbol.specs.declared.SymbolValue.{SymbolValue}
 use Rattle.symbol.specs.declared.SymbolValue.the-variants as Val
 use Rattle.symbol.specs.Codes.{typeAt, visibilityAt, valueAt, successor}
 use Rattle.symbol_rows.specs.Decide.{refusalOf}
 use Rattle.symbol_rows.specs.Holder.{holderOf}
 use Rattle.upcoming_symbol.specs.Upcoming.{inSection, conversionFrom, convertedOf, undefinedOf, valueOf, elfRowOf}
+use Rattle.upcoming_symbol.specs.Judge.{shownOf, hiddenOf, judgeOf}
 use Rattle.elf_object.specs.Rows as Elf
 use Rattle.elf_object.specs.Rows.{rowsIn, field, conversionAt, markAt, tableEntries, entriesFrom, sectionOf}
 use Rattle.section_groups.specs.Filter.{sectionAfter}
@@ -86,6 +88,55 @@ module _ (headers entries contents file : List ℕ) (count : ℕ) (met : List (L
     pub shown : visibilityAt (r .visibility) ≡ shows (entry table i)
     pub value : IsValue (valueAt (r .value))
 
+  -- of a local symbol
+  pub record LocalContent (r : Row) : Type 0 where
+    pub bound : entry table i .binding ≡ stbLocal
+    pub type : IsType (entry table i .type) (typeAt (r .kind))
+    pub shown : visibilityAt (r .visibility) ≡ Local
+    pub value : IsValue (valueAt (r .value))
+
+  -- "undefined" by now
+  pub data IsUndefined : Type 0 where
+    nowhere : section ≡ shnUndef → IsUndefined
+    repeated : section < shnLoreserve → isDiscarded ≡ true → IsUndefined
+
+  -- "The first symbol, if named empty, undefined and of type 0"
+  pub record IsNull : Type 0 where
+    pub first : i ≡ 0
+    pub bare : length nameBytes ≡ 0
+    pub type : entry table i .type ≡ 0
+    pub undefined : IsUndefined
+
+local-shown : visibilityAt 0 ≡ Local
+unfolding visibilityAt
+local-shown = refl
+
+-- a row is local just if its symbol's binding is, where its visibility passes
+local-is : (b v : ℕ) → judgeOf b v ≡ 0 → b ≡ stbLocal
+unfolding judgeOf shownOf hiddenOf
+local-is b v e =
+    by-test (eqb b 0) (λ a. eqb-true _ _ a)
+    (λ a.
+    by-test (eqb v 0)
+    (λ c.
+    by-test (eqb b 1) (λ d. let z : _≡_ {A = ℕ} 1 0 = rw (c, a, d) at e in absurd (omega arith))
+    (λ d.
+    by-test (eqb b 2) (λ f. let z : _≡_ {A = ℕ} 3 0 = rw (c, a, d, f) at e in absurd (omega arith))
+    (λ f. let z : _≡_ {A = ℕ} 12 0 = rw (c, a, d, f) at e in absurd (omega arith))))
+    (λ c.
+    by-test (eqb v 2)
+    (λ g.
+    by-test (eqb b 1) (λ d. let z : _≡_ {A = ℕ} 2 0 = rw (c, g, a, d) at e in absurd (omega arith))
+    (λ d.
+    by-test (eqb b 2) (λ f. let z : _≡_ {A = ℕ} 4 0 = rw (c, g, a, d, f) at e in absurd (omega arith))
+    (λ f. let z : _≡_ {A = ℕ} 12 0 = rw (c, g, a, d, f) at e in absurd (omega arith))))
+    (λ g. let z : _≡_ {A = ℕ} 10 0 = rw (c, g) at e in absurd (omega arith))))
+
+local-code : (b v : ℕ) → b ≡ stbLocal → leb 5 (judgeOf b v) ≡ false → judgeOf b v ≡ 0
+unfolding judgeOf shownOf hiddenOf
+local-code b v e p =
+    by-test (eqb v 0) (λ c. rw (c, e)) (λ c. by-test (eqb v 2) (λ g. absurd (false≢true (sym (rw (c, g, e) at p)))) (λ g. absurd (false≢true (sym (rw (c, g) at p)))))
+
 -- ---- an entry of the loaded table is one of the object's
 
 part-field : (entries : List ℕ) (f c i : ℕ) → i < length (take (c * 8) (drop (f * 8) entries)) / 8
@@ -110,6 +161,10 @@ entry-in headers entries t i h =
     rw a (f + i, p, sym q))
 
 -- ---- values, over plain variables
+
+both : (x y : Bool) → x && y ≡ true → (x ≡ true) × (y ≡ true)
+both true y q = (refl, q)
+both false y q = absurd (false≢true q)
 
 reference-value : (b : ℕ) → valueAt (undefinedOf b) ≡ Val.Undefined (eqb b stbWeak)
 unfolding undefinedOf valueAt
@@ -237,17 +292,42 @@ module _ (o : Object) (a : All) (head : headIn o a .number ≡ 0) (goes : reserv
       (λ d.
       by-test (eqb sec 0xfff2) (λ f. absurd (false≢true (sym (rw (z, c, d, f) at p))))
       (λ f. rw (c, d, f) (converted-value (eqb-false _ _ c) b (rw (z, c, d, f) at p)))))))
-    where
-      both : (x y : Bool) → x && y ≡ true → (x ≡ true) × (y ≡ true)
-      both true y q = (refl, q)
-      both false y q = absurd (false≢true q)
+
+  after-zero : after ≡ 0 → IsUndefined headers (o .entries) (o .contents) (o .file) (a .stage .link .sections) met t i
+  after-zero e =
+      by-test (ltb sec 0xff00 && gone) (λ b. let (u, v) = both (ltb sec 0xff00) gone b in repeated (ltb-true _ _ u) v) (λ b. nowhere (sym (after-same b) ∙ e))
+
+  null-own : isFirst i empty (filteredAt t work i) ≡ true → IsNull headers (o .entries) (o .contents) (o .file) (a .stage .link .sections) met t i
+  unfolding isFirst
+  null-own e =
+      by-test (eqb i 0)
+      (λ b.
+      by-test (eqb after 0)
+      (λ c.
+      by-test (eqb (field t i 2) 0)
+      (λ d.
+      record {
+        first = eqb-true _ _ b;
+        bare = eqb-true _ _ (sym empty-is ∙ rw (b, c, d) at e);
+        type = eqb-true _ _ d;
+        undefined = after-zero (eqb-true _ _ c);
+      })
+      (λ d. absurd (false≢true (rw (b, c, d) at e))))
+      (λ c. absurd (false≢true (rw (b, c) at e))))
+      (λ b. absurd (false≢true (rw b at e)))
+
+  -- the first symbol, of the object's own table
+  pub null-is : isFirst i empty (filteredAt t work i) ≡ true
+      → IsNull headers (o .entries) (o .contents) (o .file) (a .stage .link .sections) met (symbolsOf headers (o .entries) (o .contents) (o .file)) i
+  null-is e =
+      subst (λ (l : List ℕ). IsNull headers (o .entries) (o .contents) (o .file) (a .stage .link .sections) met l i) (symbols-are o a head goes) (null-own e)
 
   abbrev row : Row
   row = rowTo o a i
 
-  -- accepted, to be added, and not local
+  -- accepted, and to be added
   module _ (ok : Symbols.symbolOf (symbolReader o a) (symbolsTo o a i) i .stage .number ≡ 0) (found : nameOf (symbolReader o a) i .found ≡ true)
-      (added : adds (inputOf t work) (nameOf (symbolReader o a) i .name) i ≡ true) (global : row .visibility ≢ 0) where
+      (added : adds (inputOf t work) (nameOf (symbolReader o a) i .name) i ≡ true) where
     decided : refusalOf (planOf (symbolReader o a) (symbolsTo o a i) i .decision) ≡ 0
     unfolding Symbols.symbolOf Symbols.lookedOf
     decided = commit-number (inputOf t work) (symbolsTo o a i) (nameOf (symbolReader o a) i .name) i (rw found at ok)
@@ -267,12 +347,29 @@ module _ (o : Object) (a : All) (head : headIn o a .number ≡ 0) (goes : reserv
         (λ d. decided-passes (s .stage .link) (s .symbols) (s .sections) row (holderOf (s .stage .link) (s .names) (s .symbols) (row .name)) (rw (f, b, c, d) at decided)))))
         (λ f. let z : _≡_ {A = ℕ} 2 0 = rw f at decided in absurd (omega arith))
 
-    content-own : Content headers (o .entries) (o .contents) (o .file) (a .stage .link .sections) met t i row
+    content-own : row .visibility ≢ 0 → Content headers (o .entries) (o .contents) (o .file) (a .stage .link .sections) met t i row
     unfolding plannedOf readOf rowedOf elfRowOf
-    content-own =
+    content-own global =
         let (p, q) = row-passes in
         record { passed = admitted-is (entry t i) global p; type = type-is (field t i 2); shown = shown-is (field t i 1) (field t i 3) global p; value = value-is q }
 
-    -- of the object's own table
-    pub content : Content headers (o .entries) (o .contents) (o .file) (a .stage .link .sections) met (symbolsOf headers (o .entries) (o .contents) (o .file)) i row
-    content = subst (λ (l : List ℕ). Content headers (o .entries) (o .contents) (o .file) (a .stage .link .sections) met l i row) (symbols-are o a head goes) content-own
+    -- of the object's own table, and not local
+    pub content : row .visibility ≢ 0 → Content headers (o .entries) (o .contents) (o .file) (a .stage .link .sections) met (symbolsOf headers (o .entries) (o .contents) (o .file)) i row
+    content global = subst (λ (l : List ℕ). Content headers (o .entries) (o .contents) (o .file) (a .stage .link .sections) met l i row) (symbols-are o a head goes) (content-own global)
+
+    local-own : row .visibility ≡ 0 → LocalContent headers (o .entries) (o .contents) (o .file) (a .stage .link .sections) met t i row
+    unfolding plannedOf readOf rowedOf elfRowOf
+    local-own z =
+        let (p, q) = row-passes in
+        record { bound = local-is (field t i 1) (field t i 3) z; type = type-is (field t i 2); shown = ap visibilityAt z ∙ local-shown; value = value-is q }
+
+    -- and local
+    pub local-content : row .visibility ≡ 0 → LocalContent headers (o .entries) (o .contents) (o .file) (a .stage .link .sections) met (symbolsOf headers (o .entries) (o .contents) (o .file)) i row
+    local-content z = subst (λ (l : List ℕ). LocalContent headers (o .entries) (o .contents) (o .file) (a .stage .link .sections) met l i row) (symbols-are o a head goes) (local-own z)
+
+    -- which of the two, by the binding
+    pub binding-local : entry (symbolsOf headers (o .entries) (o .contents) (o .file)) i .binding ≡ stbLocal → row .visibility ≡ 0
+    unfolding plannedOf readOf rowedOf elfRowOf
+    binding-local e =
+        let (p, q) = row-passes in
+        local-code (field t i 1) (field t i 3) (ap (λ (l : List ℕ). entry l i .binding) (symbols-are o a head goes) ∙ e) p

@@ -7,7 +7,7 @@ use mathlib.Core.Path.{_≡_, refl, sym, ap, _∙_, subst}
 use mathlib.Core.Bool.{Bool, true, false, false≢true}
 use mathlib.Core.List.{List, [], _∷_, _++_, append-assoc}
 use mathlib.Core.Logic.{_≢_}
-use lib.Dec.{eqb, leb}
+use lib.Dec.{eqb, ltb, leb}
 use lib.ListN.{length}
 use borrow.Author.Tests.{eqb-true, eqb-false, eq-eqb, ltb-false, le-ltb}
 use Rattle.cells.specs.Split.{by-test}
@@ -340,14 +340,15 @@ module _ (o : Object) (a : All) where
       ap (λ (l : List Step). (g ++ l) ++ e) (append-assoc s r b) ∙ ap (λ (l : List Step). l ++ e) (sym (append-assoc g s (r ++ b)))
       ∙ append-assoc (g ++ s) (r ++ b) e
 
-  pub steps-begin : (i : ℕ) → Comes i → Begins i
+  pub steps-begin-to : (i : ℕ) → headIn o a .number ≡ 0 → reserved o a .reserved .number ≡ 0 → grouped o a .stage .number ≡ 0
+      → ltb (filterOf (marked o a .work) (object o a .entries)) (rowsIn (object o a .entries)) ≡ false → i ≤ rowsIn (object o a .entries)
+      → symbolsTo o a i .stage .number ≡ 0 → Begins i
   unfolding mergeSteps stagesSteps reservedSteps groupStageSteps mergeGroupsSteps filterSteps filteredSteps tableSteps
-  steps-begin i c =
+  steps-begin-to i head sections groups-go filter small going =
       let first : Symbols.State = symbolFirst (symbolsIn (marked o a)) in
       let r : Symbols.Object = symbolReader o a in
       let n : ℕ = rowsIn (object o a .entries) in
-      let small : i ≤ n = omega (arith, c .below) in
-      let k = steps-split numberOf (symbolOf r) (symbolSteps r) i n 0 first small (ap numberOf (sym (symbols-loop r i 0 first)) ∙ c .going) in
+      let k = steps-split numberOf (symbolOf r) (symbolSteps r) i n 0 first small (ap numberOf (sym (symbols-loop r i 0 first)) ∙ going) in
       let reads : List Step = others (reserved o a .sections) (reserved o a .reserved .link) ∷ [] in
       let groups : List Step = groupsSteps (groupObject (object o a)) (groupFirst (prepared o a)) in
       let symbols : List Step = loopSteps numberOf (symbolOf r) (symbolSteps r) i 0 first in
@@ -357,14 +358,17 @@ module _ (o : Object) (a : All) where
         rest = (k .rest ++ build) ++ last;
         is =
             rw (
-              eq-eqb (headIn o a .number) 0 (c .head),
-              eq-eqb (reserved o a .reserved .number) 0 (c .sections),
-              eq-eqb (grouped o a .stage .number) 0 (c .groups),
-              le-ltb _ _ (c .filter),
+              eq-eqb (headIn o a .number) 0 head,
+              eq-eqb (reserved o a .reserved .number) 0 sections,
+              eq-eqb (grouped o a .stage .number) 0 groups-go,
+              filter,
             )
             (ap (λ (l : List Step). reads ++ ((groups ++ (l ++ build)) ++ last)) (k .is)
             ∙ ap (_++_ reads) (joined groups symbols (k .rest) build last));
       }
+
+  pub steps-begin : (i : ℕ) → Comes i → Begins i
+  steps-begin i c = steps-begin-to i (c .head) (c .sections) (c .groups) (le-ltb _ _ (c .filter)) (omega (arith, c .below)) (c .going)
 
   -- so the accepted adds before it are the first of the merge's
   pub record LogBegins (i : ℕ) : Type 0 where

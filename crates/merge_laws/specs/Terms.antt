@@ -9,7 +9,7 @@ use lib.ListN.{set, length}
 use Rattle.gabi.specs.SymbolTable.{Sym}
 use Rattle.gabi.specs.Resolution.{resolve}
 use Rattle.gabi.specs.Groups as Gabi
-use Rattle.gabi.specs.Groups.{stays, gone, afterDiscard}
+use Rattle.gabi.specs.Groups.{stays, gone, unsaid, afterDiscard}
 use Rattle.link.specs.Said.{numberIn, valueIn}
 use Rattle.link.specs.Judge.{refused, brokenOf}
 use Rattle.symbol_rows.specs.Holder.{globalAt}
@@ -233,10 +233,15 @@ module _ (o : Object) (a : All) where
 -- ---- symbols of a removed section
 
 module _ (work entries : List ℕ) (i : ℕ) where
-  -- "Non-local symbols there become undefined", as the gABI has it
-  pub filter-agrees : symbolOk work entries i ≡ true
+  -- "Non-local symbols there become undefined", as the gABI has it of global and weak ones
+  pub filter-agrees : (removedIn work (field entries i 4) ≡ true → field entries i 1 ≤ 2) → symbolOk work entries i ≡ true
       → afterDiscard (removedIn work (field entries i 4)) (symOf (elfAt entries i)) ≡ stays (symOf (filteredAt entries work i))
   filter-agrees = FirstKept.filter-agrees work entries i
+
+  -- of bindings above 2 it says nothing. They pass the filter, to be refused (12) where they are added
+  pub filter-unsaid : removedIn work (field entries i 4) ≡ true → 2 < field entries i 1
+      → (symbolOk work entries i ≡ true) × (afterDiscard (removedIn work (field entries i 4)) (symOf (elfAt entries i)) ≡ unsaid)
+  filter-unsaid = FirstKept.filter-unsaid work entries i
 
   -- "the first local gives 8", where the gABI discards it (Differences.antt has the smallest input)
   pub filter-differs : symbolOk work entries i ≡ false → afterDiscard (removedIn work (field entries i 4)) (symOf (elfAt entries i)) ≡ gone

@@ -113,17 +113,17 @@ no-entries headers entries (suc t) e =
 
 -- ---- a group writes marks only
 
-group-cell : (w : List ℕ) (n m f : ℕ) → f < 8 → f ≢ 1 → getD (markGroupOf w n) (m * 8 + f) 0 ≡ getD w (m * 8 + f) 0
+pub group-cell : (w : List ℕ) (n m f : ℕ) → f < 8 → f ≢ 1 → getD (markGroupOf w n) (m * 8 + f) 0 ≡ getD w (m * 8 + f) 0
 unfolding markGroupOf
 group-cell w n m f h u =
     by-test (eqb (markAt w n) 2) (λ t. rw t) (λ t. rw t (getD-set-other w (n * 8 + 1) (m * 8 + f) 1 0 (λ e. u (omega arith))))
 
-removed-cell : (w : List ℕ) (b : Bool) (n m f : ℕ) → f < 8 → f ≢ 1 → getD (markRemovedOf w b n) (m * 8 + f) 0 ≡ getD w (m * 8 + f) 0
+pub removed-cell : (w : List ℕ) (b : Bool) (n m f : ℕ) → f < 8 → f ≢ 1 → getD (markRemovedOf w b n) (m * 8 + f) 0 ≡ getD w (m * 8 + f) 0
 unfolding markRemovedOf
 removed-cell w true n m f h u = getD-set-other w (n * 8 + 1) (m * 8 + f) 2 0 (λ e. u (omega arith))
 removed-cell w false n m f h u = refl
 
-group-long : (w : List ℕ) (b : Bool) (n k : ℕ) → length (markRemovedOf (markGroupOf w n) b k) ≡ length w
+pub group-long : (w : List ℕ) (b : Bool) (n k : ℕ) → length (markRemovedOf (markGroupOf w n) b k) ≡ length w
 unfolding markRemovedOf markGroupOf
 group-long w b n k = by-test (eqb (markAt w n) 2) (λ t. rw t (last b w)) (λ t. rw t (last b (set w (n * 8 + 1) 1) ∙ length-set w (n * 8 + 1) 1))
   where
@@ -195,7 +195,7 @@ module _ (w : List ℕ) (n k m : ℕ) (repeated : Bool) (room : n < length w / 8
   unfolding markGroupOf
   group-length = by-test (eqb (markAt w n) 2) (λ a. rw a) (λ a. rw a (length-set w (n * 8 + 1) 1))
 
-  mark-after : markAt after m ≡ cond (repeated && eqb k m) 2 (cond (eqb m n) (cond (eqb (markAt w m) 2) 2 1) (markAt w m))
+  pub mark-after : markAt after m ≡ cond (repeated && eqb k m) 2 (cond (eqb m n) (cond (eqb (markAt w m) 2) 2 1) (markAt w m))
   unfolding markRemovedOf
   mark-after =
       let before : markAt (markGroupOf w n) m ≡ cond (eqb m n) (cond (eqb (markAt w m) 2) 2 1) (markAt w m) =
@@ -210,6 +210,46 @@ module _ (w : List ℕ) (n k m : ℕ) (repeated : Bool) (room : n < length w / 8
       rw (c, e) (getD-set-same (markGroupOf w n) (m * 8 + 1) 2 0 (omega (arith, group-length))))
       (λ c. let u : k ≢ m = eqb-false _ _ c in rw c (getD-set-other (markGroupOf w n) (k * 8 + 1) (m * 8 + 1) 2 0 (λ e. u (omega arith)) ∙ before))))
       (λ r. rw r before)
+
+-- the mark that is told of one section more: 2 where x or y says so, else 1 where a test holds
+module _ (g : ℕ → Bool) (m n : ℕ) where
+  abbrev pub told : ℕ → Bool → ℕ
+  told k x = cond x 2 (cond (ltb m k && g m) 1 0)
+
+  below-next : ltb m (suc n) ≡ cond (eqb m n) true (ltb m n)
+  below-next =
+      by-test (eqb m n) (λ a. rw a (lt-ltb m (suc n) (omega (arith, eqb-true m n a))))
+      (λ a.
+      let u : m ≢ n = eqb-false _ _ a in
+      by-test (ltb m n) (λ b. rw (a, b) (lt-ltb m (suc n) (omega (arith, ltb-true m n b)))) (λ b. rw (a, b) (le-ltb m (suc n) (omega (arith, ltb-false m n b)))))
+
+  own : (b : Bool) → g n ≡ b → eqb m n ≡ true → g m ≡ b
+  own b t e = ap g (eqb-true m n e) ∙ t
+
+  pub told-more : g n ≡ true → (x y : Bool) → cond y 2 (cond (eqb m n) (cond (eqb (told n x) 2) 2 1) (told n x)) ≡ told (suc n) (x || y)
+  told-more t true true = refl
+  told-more t true false = by-test (eqb m n) (λ a. rw a) (λ a. rw a)
+  told-more t false true = refl
+  told-more t false false =
+      rw below-next
+      (by-test (eqb m n) (λ a. rw (a, own true t a) (by-test (ltb m n) (λ b. rw b) (λ b. rw b))) (λ a. rw a))
+
+  pub told-same : g n ≡ false → (x : Bool) → told n x ≡ told (suc n) (x || false)
+  told-same t true = refl
+  told-same t false =
+      rw below-next
+      (by-test (eqb m n) (λ a. rw (a, own false t a) (by-test (ltb m n) (λ b. rw b) (λ b. rw b))) (λ a. rw a))
+
+-- one group more
+module _ (o : Object) (a : All) (passes : grouped o a .stage .number ≡ 0) where
+  pub groups-next : (n : ℕ) → n < rowsIn (o .headers) → groupsTo o a (suc n) ≡ groupSectionOf (reader o a) (groupsTo o a n) n
+  groups-next n h =
+      let first : Group.Step = groupFirst (prepared o a) in
+      let e : groupsTo o a n ≡ loop numberOf (groupSectionOf (reader o a)) n 0 first = groups-loop (reader o a) n 0 first in
+      groups-loop (reader o a) (suc n) 0 first
+      ∙ loop-next numberOf (groupSectionOf (reader o a)) n 0 first (ap numberOf (sym e) ∙ going o a passes n (omega arith))
+      ∙ ap (λ (j : ℕ). groupSectionOf (reader o a) (loop numberOf (groupSectionOf (reader o a)) n 0 first) j) (zero-add n)
+      ∙ ap (λ (s : Group.Step). groupSectionOf (reader o a) s n) (sym e)
 
 -- ---- a merge that passes its groups
 
@@ -229,8 +269,11 @@ module _ (o : Object) (a : All) (head : headIn o a .number ≡ 0) (goes : reserv
   pub noted : NotedTo headers count rows (reserved o a)
   noted = reserve-noted headers (reserveFirst a) few-rows (passed o a head .work) refl goes
 
+  untabled : (m : ℕ) → m < rows → getD (reserved o a .work) (m * 8 + 2) 0 ≡ 0
+  untabled m h = noted .clean m 2 h (omega arith) (omega arith)
+
   prepared-long : rows ≤ length (prepared o a .work) / 8
-  prepared-long = omega (arith, noted .room, done-long headers (o .entries) (reserved o a .work))
+  prepared-long = omega (arith, noted .room, done-long headers (o .entries) few-rows (reserved o a .work) (noted .room) untabled)
 
   -- ---- symbols
 
@@ -249,7 +292,7 @@ module _ (o : Object) (a : All) (head : headIn o a .number ≡ 0) (goes : reserv
 
   pub cell-stands : (m f : ℕ) → m < rows → f < 8 → f ≢ 1 → f ≢ 2 → getD (marked o a .work) (m * 8 + f) 0 ≡ getD (reserved o a .work) (m * 8 + f) 0
   cell-stands m f h g u v =
-      groups-cell (reader o a) (groupFirst (prepared o a)) m f g u ∙ done-cell headers (o .entries) few-rows (reserved o a .work) (noted .room) m h f g v
+      groups-cell (reader o a) (groupFirst (prepared o a)) m f g u ∙ done-cell headers (o .entries) few-rows (reserved o a .work) (noted .room) untabled m h f g v
 
   pub conversion-is : (m : ℕ) → m < rows → getD (marked o a .work) (m * 8 + 0) 0 ≡ conversionOf (classOf headers m) (count + rowedBelow headers m)
   conversion-is m h = cell-stands m 0 h (omega arith) (λ e. omega arith) (λ e. omega arith) ∙ noted .cells m h
@@ -257,12 +300,12 @@ module _ (o : Object) (a : All) (head : headIn o a .number ≡ 0) (goes : reserv
   -- a section number that a symbol has and the object hasn't
   pub conversion-none : (i m : ℕ) → i < rowsIn (o .entries) → field (o .entries) i 4 ≡ m → rows ≤ m → getD (marked o a .work) (m * 8 + 0) 0 ≡ 0
   conversion-none i m h e p =
-      groups-cell (reader o a) (groupFirst (prepared o a)) m 0 (omega arith) (λ e. omega arith) ∙ done-past headers (o .entries) (reserved o a .work) i m 0 h e p (omega arith)
+      groups-cell (reader o a) (groupFirst (prepared o a)) m 0 (omega arith) (λ e. omega arith) ∙ done-past headers (o .entries) few-rows (reserved o a .work) (noted .room) untabled i m 0 h e p (omega arith)
 
   pub relocations-are : (m : ℕ) → m < rows → relocationsOf headers (o .contents) (getD (marked o a .work) (m * 8 + 2) 0) ≡ namedBy headers (o .contents) m rows
   relocations-are m h =
       ap (relocationsOf headers (o .contents)) (groups-cell (reader o a) (groupFirst (prepared o a)) m 2 (omega arith) (λ e. omega arith))
-      ∙ done-names headers (o .entries) few-rows (reserved o a .work) (noted .room) m h (o .contents) (noted .clean m 2 h (omega arith) (omega arith))
+      ∙ done-names headers (o .entries) few-rows (reserved o a .work) (noted .room) untabled m h (o .contents)
 
   -- ---- marks
 
@@ -310,22 +353,13 @@ module _ (o : Object) (a : All) (head : headIn o a .number ≡ 0) (goes : reserv
     abbrev markTo : ℕ → ℕ → ℕ
     markTo n m = cond (removed n m) 2 (cond (ltb m n && loadedAs headers m group) 1 0)
 
-    groups-next : (n : ℕ) → n < rows → groupsTo o a (suc n) ≡ groupSectionOf (reader o a) (groupsTo o a n) n
-    groups-next n h =
-        let first : Group.Step = groupFirst (prepared o a) in
-        let e : groupsTo o a n ≡ loop numberOf (groupSectionOf (reader o a)) n 0 first = groups-loop (reader o a) n 0 first in
-        groups-loop (reader o a) (suc n) 0 first
-        ∙ loop-next numberOf (groupSectionOf (reader o a)) n 0 first (ap numberOf (sym e) ∙ going o a passes n (omega arith))
-        ∙ ap (λ (j : ℕ). groupSectionOf (reader o a) (loop numberOf (groupSectionOf (reader o a)) n 0 first) j) (zero-add n)
-        ∙ ap (λ (s : Group.Step). groupSectionOf (reader o a) s n) (sym e)
-
     work-next : (n : ℕ) → n < rows
         → groupsTo o a (suc n) .work
         ≡ cond (loadedAs headers n group)
         (markRemovedOf (markGroupOf (groupsTo o a n .work) n) (among (groupSignature headers (o .entries) (o .contents) (o .file) n) (met ++ ours n)) (groupSection headers (o .entries) (o .contents) (o .file) n))
         (groupsTo o a n .work)
     work-next n h =
-        ap (λ (s : Group.Step). s .work) (groups-next n h)
+        ap (λ (s : Group.Step). s .work) (groups-next o a passes n h)
         ∙ by-test (loadedAs headers n group)
         (λ t.
         let l : isLoaded headers n 7 ≡ true = loaded-same headers n 7 ∙ t in
@@ -368,39 +402,8 @@ module _ (o : Object) (a : All) (head : headIn o a .number ≡ 0) (goes : reserv
           rw t
           (mark-after (groupsTo o a n .work) n k m repeated (omega (arith, work-long n (omega arith))) (mark-room n (omega arith) t)
           ∙ ap (λ (x : ℕ). cond (repeated && eqb k m) 2 (cond (eqb m n) (cond (eqb x 2) 2 1) x)) before
-          ∙ grouped-mark n t (removed n m) (repeated && eqb k m)))
-          (λ t. rw t (before ∙ other-mark n t (removed n m)))
-        where
-          -- the tests of one more section
-          below-next : (n : ℕ) → ltb m (suc n) ≡ cond (eqb m n) true (ltb m n)
-          below-next n =
-              by-test (eqb m n) (λ a. rw a (lt-ltb m (suc n) (omega (arith, eqb-true m n a))))
-              (λ a.
-              let u : m ≢ n = eqb-false _ _ a in
-              by-test (ltb m n) (λ b. rw (a, b) (lt-ltb m (suc n) (omega (arith, ltb-true m n b)))) (λ b. rw (a, b) (le-ltb m (suc n) (omega (arith, ltb-false m n b)))))
-
-          own : (n : ℕ) → loadedAs headers n group ≡ true → eqb m n ≡ true → loadedAs headers m group ≡ true
-          own n t e = ap (λ (k : ℕ). loadedAs headers k group) (eqb-true m n e) ∙ t
-
-          own-not : (n : ℕ) → loadedAs headers n group ≡ false → eqb m n ≡ true → loadedAs headers m group ≡ false
-          own-not n t e = ap (λ (k : ℕ). loadedAs headers k group) (eqb-true m n e) ∙ t
-
-          grouped-mark : (n : ℕ) → loadedAs headers n group ≡ true → (x y : Bool)
-              → cond {A = ℕ} y 2 (cond (eqb m n) (cond (eqb (cond x 2 (cond (ltb m n && loadedAs headers m group) 1 0)) 2) 2 1) (cond x 2 (cond (ltb m n && loadedAs headers m group) 1 0)))
-              ≡ cond (x || y) 2 (cond (ltb m (suc n) && loadedAs headers m group) 1 0)
-          grouped-mark n t true true = refl
-          grouped-mark n t true false = by-test (eqb m n) (λ a. rw a) (λ a. rw a)
-          grouped-mark n t false true = refl
-          grouped-mark n t false false =
-              rw (below-next n)
-              (by-test (eqb m n) (λ a. rw (a, own n t a) (by-test (ltb m n) (λ b. rw b) (λ b. rw b))) (λ a. rw a))
-
-          other-mark : (n : ℕ) → loadedAs headers n group ≡ false → (x : Bool)
-              → cond {A = ℕ} x 2 (cond (ltb m n && loadedAs headers m group) 1 0) ≡ cond (x || false) 2 (cond (ltb m (suc n) && loadedAs headers m group) 1 0)
-          other-mark n t true = refl
-          other-mark n t false =
-              rw (below-next n)
-              (by-test (eqb m n) (λ a. rw (a, own-not n t a) (by-test (ltb m n) (λ b. rw b) (λ b. rw b))) (λ a. rw a))
+          ∙ told-more (λ j. loadedAs headers j group) m n t (removed n m) (repeated && eqb k m)))
+          (λ t. rw t (before ∙ told-same (λ j. loadedAs headers j group) m n t (removed n m)))
 
       pub mark-is : markAt (marked o a .work) m ≡ cond (removed rows m) 2 (cond (loadedAs headers m group) 1 0)
       unfolding groupsOf loadedAs
@@ -408,7 +411,7 @@ module _ (o : Object) (a : All) (head : headIn o a .number ≡ 0) (goes : reserv
 
     pub clean-section : (m : ℕ) → m < rows → markAt (prepared o a .work) m ≡ 0
     clean-section m h =
-        done-cell headers (o .entries) few-rows (reserved o a .work) (noted .room) m h 1 (omega arith) (λ e. omega arith) ∙ noted .clean m 1 h (omega arith) (omega arith)
+        done-cell headers (o .entries) few-rows (reserved o a .work) (noted .room) untabled m h 1 (omega arith) (λ e. omega arith) ∙ noted .clean m 1 h (omega arith) (omega arith)
 
     pub clean-past : (i m : ℕ) → i < rowsIn (o .entries) → field (o .entries) i 4 ≡ m → rows ≤ m → markAt (prepared o a .work) m ≡ 0
-    clean-past i m h e p = done-past headers (o .entries) (reserved o a .work) i m 1 h e p (omega arith)
+    clean-past i m h e p = done-past headers (o .entries) few-rows (reserved o a .work) (noted .room) untabled i m 1 h e p (omega arith)

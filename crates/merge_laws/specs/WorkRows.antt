@@ -136,12 +136,12 @@ module _ (headers : List ℕ) (before : ℕ) (few : rowsIn headers ≤ 65280) (s
   abbrev number : ℕ
   number = refusalOf (linkIn s) (s .sections) class (s .reserved .table)
 
-  class-room : class ≡ 2 → number ≡ 0 → Sections.roomOf (linkIn s) (s .sections) ≡ true
+  pub class-room : class ≡ 2 → number ≡ 0 → Sections.roomOf (linkIn s) (s .sections) ≡ true
   unfolding refusalOf
   class-room c z =
       by-test (Sections.roomOf (linkIn s) (s .sections)) (λ t. t) (λ t. let q : _≡_ {A = ℕ} 2 0 = rw (c, t) at z in absurd (omega arith))
 
-  one-noted : number ≡ 0 → NotedTo headers before (suc n) (reserveOneOf headers s n)
+  pub one-noted : number ≡ 0 → NotedTo headers before (suc n) (reserveOneOf headers s n)
   unfolding reserveOneOf reserveClassOf takeRowOf Sections.reserveOf rowedBelow
   one-noted goes =
       by-test (eqb class 2)
@@ -161,7 +161,7 @@ module _ (headers : List ℕ) (before : ℕ) (few : rowsIn headers ≤ 65280) (s
       rw (eq-eqb _ _ goes, c)
       (record { room = noted-room; counted = rw e (h .counted); cells = noted-cells; clean = noted-clean; table = noted-table }))
 
-  one-number : reserveOneOf headers s n .reserved .number ≡ 0 → number ≡ 0
+  pub one-number : reserveOneOf headers s n .reserved .number ≡ 0 → number ≡ 0
   unfolding reserveOneOf reserveClassOf
   one-number e = by-test (eqb number 0) (λ t. eqb-true _ _ t) (λ t. rw t at e)
 

@@ -3,12 +3,13 @@
 -- Assumes nothing.
 use Prim.Native.Nat.{ℕ, zero, suc, _+_, _/_}
 use mathlib.Core.Bool.{Bool, true, false, cond}
-use mathlib.Core.List.{List, []}
+use mathlib.Core.List.{List, [], _∷_}
 use lib.Dec.{eqb, leb, ltb}
 use lib.ListN.{length}
 use Rattle.strings.specs.Lookup.{Looked, looked, lookUp}
 use Rattle.link.specs.declared.Refusal.{Refusal}
 use Rattle.link.specs.Judge.{refused}
+use Rattle.link.specs.Said.{SaidWith}
 use Rattle.archive_walk.specs.declared.Walk.{Walk}
 use Rattle.archive_walk.specs.Names.{requiredOf}
 use Rattle.elf_object.specs.Rows.{rowsIn, field, kindAt, linkAt, stringsAt, tableEntries}
@@ -26,6 +27,15 @@ abbrev pub placeOf : Admission → ℕ
 placeOf Yes = 0
 placeOf No = 0
 placeOf (Refused r) = r .place
+
+-- and value: admitted is 1, not admitted 0
+abbrev pub valuesOf : Admission → List ℕ
+valuesOf Yes = 1 ∷ []
+valuesOf No = 0 ∷ []
+valuesOf (Refused r) = []
+
+abbrev pub said : Admission → SaidWith ℕ
+said a = record { number = numberOf a; place = placeOf a; values = valuesOf a }
 
 -- ---- names
 

@@ -2,10 +2,12 @@
 // Every symbol table of the object is looked at, excluded or not, and so is its string section; nothing of the link is.
 ghost use mathlib.Core.Path.{_≡_};
 ghost use Prim.Native.Nat.{_+_, _<_};
+ghost use Rattle.cells.specs.Slice.{before};
 ghost use Rattle.strings.specs.Lookup.{looked};
 ghost use Rattle.elf_object.specs.Rows.{stringsAt};
 ghost use Rattle.archive_walk.specs.Names.{requiredOf};
-ghost use Rattle.object_requirement.specs.Matches.{isSection, nameAnywhere, bearsRequired, inTable, isTable, inSection, hasGlobalSymbol, offeredIn, matchesOf};
+ghost use Rattle.object_requirement.specs.Matches.{isSection, nameAnywhere, bearsRequired, inTable, isTable, inSection, hasGlobalSymbol, offeredIn};
+ghost use Rattle.object_requirement.specs.Contract.{MatchesMeets};
 use archive_walk::Walk;
 use link::Refusal;
 
@@ -187,7 +189,7 @@ pub fn matches(
     cells: &[u64],
     entry: usize,
 ) -> Admission
-    ensures { λ r. ⌜ r ≡ matchesOf (now (headers .entry)) (now (entries .entry)) (now (contents .entry)) (now (file .entry)) (now (index .entry)) (now (cells .entry)) w entry ⌝ }
+    ensures { λ r. ⌜ MatchesMeets (before headers) (before entries) (before contents) (before file) (before index) (before cells) w entry r ⌝ }
 {
     let judged = object_range::judge(headers, entries, contents.len(), file.len());
     if judged.number != 0 {

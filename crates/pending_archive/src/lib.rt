@@ -1,8 +1,7 @@
 // The walk lent by reference and moved on in place: the Rust's `PendingArchive::next(&mut self)`. Thin functions over `archive_pass::next`, proved by
 // hand.
-ghost use mathlib.Core.Path.{_≡_};
-ghost use Rattle.archive_walk.specs.Look.{tableOf};
-ghost use Rattle.archive_walk.specs.Walk.{stepMoved, nextOf};
+ghost use Rattle.cells.specs.Slice.{before};
+ghost use Rattle.archive_walk.specs.Contract.{nextExit, tableIn, NextMeets};
 use archive_walk::Moved;
 use archive_walk::Offer;
 use archive_walk::Walk;
@@ -18,7 +17,7 @@ pub fn next(
     names: &[u64],
     symbols: &[u64],
 ) -> Offer
-    ensures { λ r. ⌜ stepMoved (now (cells .exit)) (record { walk = now (walk .exit); offer = r }) ≡ nextOf (now (index .entry)) (now (cells .entry)) (now (walk .entry)) (tableOf l (now (bytes .entry)) (now (names .entry)) (now (symbols .entry))) ⌝ }
+    ensures { λ r. ⌜ NextMeets (before index) (before cells) (now (walk .entry)) (tableIn l bytes names symbols) (nextExit cells (record { walk = now (walk .exit); offer = r })) ⌝ }
 {
     let w = *walk;
     let m = archive_pass::next(w, index, cells, l, bytes, names, symbols);
@@ -36,7 +35,7 @@ pub fn next_by_value(
     names: &[u64],
     symbols: &[u64],
 ) -> Moved
-    ensures { λ r. ⌜ stepMoved (now (cells .exit)) r ≡ nextOf (now (index .entry)) (now (cells .entry)) w (tableOf l (now (bytes .entry)) (now (names .entry)) (now (symbols .entry))) ⌝ }
+    ensures { λ r. ⌜ NextMeets (before index) (before cells) w (tableIn l bytes names symbols) (nextExit cells r) ⌝ }
 {
     let mut x = w;
     let offer = next(&mut x, index, cells, l, bytes, names, symbols);

@@ -1,3 +1,4 @@
 pub mod Group
 pub mod Filter
+pub mod Contract
 pub mod Ways

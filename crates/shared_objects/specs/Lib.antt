@@ -1,4 +1,5 @@
 pub mod Stages
 pub mod StageWays
 pub mod Load
+pub mod Contract
 pub mod LoadWays

@@ -7,7 +7,8 @@ ghost use Rattle.link.specs.Judge.{goingOf};
 ghost use Rattle.link.specs.Counts.{lentOf};
 ghost use Rattle.library_need.specs.Need.{judgedAs};
 ghost use Rattle.shared_objects.specs.Stages.{inputLinks, inputOf, listLinks, listsOf, linksOf, contentsOf, libraryOf};
-ghost use Rattle.shared_objects.specs.Load.{wantOf, endedAs, inputAs, allOf, outcome, namedOf, loadOf};
+ghost use Rattle.shared_objects.specs.Load.{wantOf, endedAs, allOf, outcome, namedOf};
+ghost use Rattle.shared_objects.specs.Contract.{cellsIn, libraryIn, LoadMeets};
 use link::Interned;
 use link::Lent;
 use link::Link;
@@ -288,7 +289,7 @@ pub fn load_shared_object<'a>(
     soname: usize,
     asneeded: bool,
 ) -> Outcome
-    ensures { λ r. ⌜ outcome (now (bytes .exit)) (now (names .exit)) (now (symbols .exit)) (now (sections .exit)) (now (inputs .exit)) (now (lists .exit)) (now (marks .exit)) r ≡ loadOf (inputAs (now (entries .entry)) (now (file .entry)) (now (needs .entry)) (now (path .entry)) archived sonamed soname asneeded) (allOf (now (bytes .entry)) (now (names .entry)) (now (symbols .entry)) (now (sections .entry)) (now (inputs .entry)) (now (lists .entry)) (now (marks .entry)) l) ⌝ }
+    ensures { λ r. ⌜ LoadMeets (libraryIn entries file needs path archived sonamed soname asneeded) (cellsIn bytes names symbols sections inputs lists marks) l r ⌝ }
 {
     let lent = Lent {
         names: names.len() / link::NAME_CELLS,

@@ -1,10 +1,12 @@
 // The direct add to a symbol table: the first checks, the row, what is decided and what is written.
 ghost use mathlib.Core.Path.{_≡_};
+ghost use Rattle.cells.specs.Slice.{before};
 ghost use Rattle.link.specs.Bounds.{nameRows, sectionSlots};
 ghost use Rattle.upcoming_symbol.specs.Upcoming.{nameOf, rowOf};
 ghost use Rattle.symbol_rows.specs.Apply.{tableOf};
 ghost use Rattle.symbols.specs.Calls.{outcome, lentOf};
-ghost use Rattle.symbols.specs.Add.{judgeAddOf, fileOf, fileIssued, issuedOf, unissuedFile, placeOf, directHolderOf, decidedOf, committedOf, emptyAt, addRowOf, addOf};
+ghost use Rattle.symbols.specs.Add.{judgeAddOf, fileOf, fileIssued, issuedOf, unissuedFile, placeOf, directHolderOf, decidedOf, committedOf, emptyAt, addRowOf};
+ghost use Rattle.symbols.specs.Contract.{addExit, AddMeets};
 use link::Interned;
 use link::Link;
 use link::Refusal;
@@ -202,7 +204,7 @@ pub fn add(
     conversion: &[u64],
     upcoming: UpcomingSymbol,
 ) -> Outcome
-    ensures { λ r. ⌜ outcome (now (names .exit)) (now (symbols .exit)) (now (sections .exit)) r ≡ addOf (tableOf (now (names .entry)) (now (symbols .entry)) (now (sections .entry)) (table .link)) (now (conversion .entry)) upcoming ⌝ }
+    ensures { λ r. ⌜ AddMeets (tableOf (before names) (before symbols) (before sections) (table .link)) (before conversion) upcoming (addExit names symbols sections r) ⌝ }
 {
     let l = table.link;
     let head = judge_add(l, names.len(), symbols.len(), sections.len(), upcoming);

@@ -11,7 +11,7 @@ use lib.IntN.{ℤ, pos, negsuc}
 use lib.Dec.{eqb, ltb, leb}
 use borrow.Author.Tests.{eqb-true, eqb-false, ltb-true, ltb-false, leb-true}
 use Rattle.cells.specs.Split.{by-test}
-use Rattle.gabi.specs.SymbolTable.{Sym, stbGlobal, stbWeak, stvDefault, stvHidden}
+use Rattle.gabi.specs.SymbolTable.{Sym, stbGlobal, stbWeak, sttNotype, sttObject, sttFunc, sttSection, sttFile, stvDefault, stvHidden}
 use Rattle.link.specs.declared.Link.{Link}
 use Rattle.symbol.specs.declared.Row.{Row}
 use Rattle.symbol.specs.declared.SymbolType.{SymbolType}
@@ -30,11 +30,11 @@ use Rattle.upcoming_symbol.specs.Judge.{shownOf, hiddenOf, judgeOf}
 
 -- gABI's types 0 to 3. No row has another one (15, 16), though an add of one may be accepted that changes nothing
 pub data IsType : ℕ → SymbolType → Type 0 where
-  notype : IsType 0 Ty.NoType
-  object : IsType 1 Ty.Object
-  function : IsType 2 Ty.Function
-  section : IsType 3 Ty.Section
-  other : {n : ℕ} {t : SymbolType} → 4 ≤ n → IsType n t
+  notype : IsType sttNotype Ty.NoType
+  object : IsType sttObject Ty.Object
+  function : IsType sttFunc Ty.Function
+  section : IsType sttSection Ty.Section
+  other : {n : ℕ} {t : SymbolType} → sttFile ≤ n → IsType n t
 
 -- "v below 2^63 stays v, others become v − 2^64"
 pub data IsOffset (v : ℕ) : ℤ → Type 0 where

@@ -1,6 +1,8 @@
 // Lookups in a symbol table: by id, by global name, by section.
 ghost use mathlib.Core.Path.{_≡_};
-ghost use Rattle.symbols.specs.Lookup.{notFound, foundAt, getOf, heldOf, getGlobalOf, sectionSymbolOf};
+ghost use Rattle.cells.specs.Slice.{before};
+ghost use Rattle.symbols.specs.Lookup.{notFound, foundAt, heldOf};
+ghost use Rattle.symbols.specs.Contract.{GetMeets, GetGlobalMeets, SectionSymbolMeets};
 use link::Interned;
 use link::Refusal;
 use link::SectionId;
@@ -46,7 +48,7 @@ fn held_at(symbols: &[u64], name: Interned, holder: Holder) -> Found
 }
 
 pub fn get(table: Symbols, symbols: &[u64], id: SymbolId) -> Found
-    ensures { λ r. ⌜ r ≡ getOf (table .link) (now (symbols .entry)) id ⌝ }
+    ensures { λ r. ⌜ GetMeets (table .link) (before symbols) id r ⌝ }
 {
     let l = table.link;
     let head = link_judge::judge(l, symbols::lent_rows(l.chains, symbols.len(), l.slots));
@@ -60,7 +62,7 @@ pub fn get(table: Symbols, symbols: &[u64], id: SymbolId) -> Found
 }
 
 pub fn get_global(table: Symbols, names: &[u64], symbols: &[u64], name: Interned) -> Found
-    ensures { λ r. ⌜ r ≡ getGlobalOf (table .link) (now (names .entry)) (now (symbols .entry)) name ⌝ }
+    ensures { λ r. ⌜ GetGlobalMeets (table .link) (before names) (before symbols) name r ⌝ }
 {
     let l = table.link;
     let head = link_judge::judge(
@@ -76,7 +78,7 @@ pub fn get_global(table: Symbols, names: &[u64], symbols: &[u64], name: Interned
 
 // Any section may be asked, whether it is built or not.
 pub fn section_symbol_id(table: Symbols, sections: &[u64], section: SectionId) -> SectionSymbol
-    ensures { λ r. ⌜ r ≡ sectionSymbolOf (table .link) (now (sections .entry)) section ⌝ }
+    ensures { λ r. ⌜ SectionSymbolMeets (table .link) (before sections) section r ⌝ }
 {
     let l = table.link;
     let id = cells::get(

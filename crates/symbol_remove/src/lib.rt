@@ -1,6 +1,8 @@
 // Removal of a symbol from a symbol table; what else its row holds stays.
 ghost use mathlib.Core.Path.{_≡_};
-ghost use Rattle.symbols.specs.Remove.{rowsOf, dropSection, removeRowOf, removeOf, removeOutcome};
+ghost use Rattle.cells.specs.Slice.{before};
+ghost use Rattle.symbols.specs.Remove.{rowsOf, dropSection, removeRowOf};
+ghost use Rattle.symbols.specs.Contract.{removeExit, RemoveMeets};
 use link::Link;
 use link::SectionId;
 use link::SymbolId;
@@ -33,7 +35,7 @@ pub fn remove_row(l: Link, symbols: &mut [u64], sections: &mut [u64], id: Symbol
 
 // A global name is never forgotten; a removed id is accepted and changes nothing.
 pub fn remove(table: Symbols, symbols: &mut [u64], sections: &mut [u64], id: SymbolId) -> Outcome
-    ensures { λ r. ⌜ removeOutcome (now (symbols .exit)) (now (sections .exit)) r ≡ removeOf (table .link) (rowsOf (now (symbols .entry)) (now (sections .entry))) id ⌝ }
+    ensures { λ r. ⌜ RemoveMeets (table .link) (rowsOf (before symbols) (before sections)) id (removeExit symbols sections r) ⌝ }
 {
     let l = table.link;
     let head = link_judge::judge_change(

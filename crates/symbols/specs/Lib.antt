@@ -3,4 +3,5 @@ pub mod New
 pub mod Add
 pub mod Lookup
 pub mod Remove
+pub mod Contract
 pub mod Ways

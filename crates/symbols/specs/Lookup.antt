@@ -2,7 +2,7 @@
 -- Assumes nothing.
 use Prim.Native.Nat.{ℕ, _+_, _*_}
 use mathlib.Core.Bool.{cond}
-use mathlib.Core.List.{List}
+use mathlib.Core.List.{List, [], _∷_}
 use lib.Dec.{eqb, leb}
 use lib.ListN.{getD, length}
 use Rattle.link.specs.declared.Link.{Link}
@@ -11,6 +11,8 @@ use Rattle.link.specs.declared.SymbolId.{SymbolId}
 use Rattle.link.specs.declared.SectionId.{SectionId}
 use Rattle.link.specs.declared.Refusal.{Refusal}
 use Rattle.link.specs.Judge.{refused, judgeOf}
+use Rattle.link.specs.Said.{SaidWith}
+use Rattle.symbol.specs.declared.Symbol.{Symbol}
 use Rattle.symbol.specs.Row.{stateAt, symbolAt}
 use Rattle.symbol_rows.specs.declared.Holder.{Holder}
 use Rattle.symbol_rows.specs.declared.Holder.the-variants.{Unissued, Nobody, Removed, Known}
@@ -27,6 +29,22 @@ use Rattle.symbols.specs.Calls.{lentOf}
 abbrev pub refusalOf : Found → Refusal
 refusalOf (Fd.Row symbol) = refused 0 0
 refusalOf (Fd.Refused r) = r
+
+-- its value: the symbol
+abbrev pub symbolsIn : Found → List Symbol
+symbolsIn (Fd.Row symbol) = symbol ∷ []
+symbolsIn (Fd.Refused r) = []
+
+abbrev pub said : Found → SaidWith Symbol
+said a = record { number = refusalOf a .number; place = refusalOf a .place; values = symbolsIn a }
+
+-- of a section's symbol: its id, or "none"; nothing is refused
+abbrev pub sectionSymbolsIn : SectionSymbol → List SymbolId
+sectionSymbolsIn Sym.None = []
+sectionSymbolsIn (Sym.Symbol id) = id ∷ []
+
+abbrev pub sectionSymbolSaid : SectionSymbol → SaidWith SymbolId
+sectionSymbolSaid a = record { number = 0; place = 0; values = sectionSymbolsIn a }
 
 abbrev pub notFound : ℕ → ℕ → Found
 notFound number place = Fd.Refused (refused number place)

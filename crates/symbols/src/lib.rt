@@ -2,9 +2,11 @@
 ghost use mathlib.Core.Path.{_≡_};
 ghost use mathlib.Core.List.{List};
 ghost use Prim.Native.Nat.{ℕ};
+ghost use Rattle.cells.specs.Slice.{before};
 ghost use Rattle.interner.specs.Names.{storeOf};
 ghost use Rattle.symbols.specs.Calls.{refusedOf, lentOf, noRows};
-ghost use Rattle.symbols.specs.New.{newOutcome, newOf, nullOf, nullRow, oneSymbol, clearSymbols};
+ghost use Rattle.symbols.specs.New.{newOutcome, nullOf, nullRow, oneSymbol, clearSymbols};
+ghost use Rattle.symbols.specs.Contract.{NewMeets, newExit};
 use link::Interned;
 use link::Lent;
 use link::Link;
@@ -160,7 +162,7 @@ impl Symbols {
         symbols: &mut [u64],
         sections: &mut [u64],
     ) -> Outcome
-        ensures { λ r. ⌜ newOutcome (now (bytes .exit)) (now (names .exit)) (now (symbols .exit)) (now (sections .exit)) r ≡ newOf key (now (bytes .entry)) (now (names .entry)) (now (symbols .entry)) (now (sections .entry)) ⌝ }
+        ensures { λ r. ⌜ NewMeets key (before bytes) (before names) (before symbols) (before sections) (newExit bytes names symbols sections r) ⌝ }
     {
         if link::symbol_rows(symbols.len()) == 0 {
             return refused(no_rows(), 2, 0);

@@ -1,0 +1,30 @@
+-- The contracts of the exported collection: what a caller in another language sees of a call, the number returned, its header and every cell lent to be
+-- written, against the call's definition.
+-- Assumes nothing.
+use Prim.Native.Nat.{ℕ}
+use mathlib.Core.Path.{_≡_}
+use mathlib.Core.List.{List}
+use Rattle.cells.specs.Slice.{Slice, before, after}
+use Rattle.gc_sections.specs.declared.EntryPoint.{EntryPoint}
+use Rattle.gc_sections.specs.Run.{Lists, listsOf}
+use Rattle.ffi_header.specs.Header.{told}
+use Rattle.ffi_collect.specs.Calls.{runLeft, runCall}
+
+pub record RunExit : Type 0 where
+  pub number : ℕ
+  pub header : List ℕ
+  pub symbols : List ℕ
+  pub sections : List ℕ
+  pub work : List ℕ
+
+abbrev pub runExit : ℕ → Slice → Slice → Slice → Slice → RunExit
+runExit n header symbols sections work =
+    record { number = n; header = after header; symbols = after symbols; sections = after sections; work = after work }
+
+-- what is lent to be read
+abbrev pub listsIn : Slice → Slice → Slice → Slice → Lists
+listsIn bytes names lists marks = listsOf (before bytes) (before names) (before lists) (before marks)
+
+abbrev pub RunMeets : List ℕ → Lists → List ℕ → List ℕ → EntryPoint → List ℕ → RunExit → Type 0
+RunMeets h x symbols sections entry work e =
+    runLeft (told (e .number) (e .header)) (e .symbols) (e .sections) (e .work) ≡ runCall h x symbols sections entry work
