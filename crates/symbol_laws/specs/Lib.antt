@@ -21,3 +21,5 @@ pub mod ObjectWords
 pub mod ContentWords
 pub mod DirectContents
 pub mod Hidden
+pub mod Table
+pub mod BindingTable

@@ -1,6 +1,6 @@
 // The row that an upcoming symbol would become: its name, binding and visibility, value.
 ghost use mathlib.Core.Path.{_≡_};
-ghost use Rattle.upcoming_symbol.specs.Judge.{judgeOf};
+ghost use Rattle.upcoming_symbol.specs.Judge.{shownOf, hiddenOf, judgeOf};
 ghost use Rattle.upcoming_symbol.specs.Upcoming.{nameOf, inSection, convertedOf, valueOf, rowAre, elfRowOf, externalRowOf, rowOf};
 use link::Interned;
 use symbol::Row;
@@ -9,91 +9,47 @@ use upcoming_symbol::Conversion;
 use upcoming_symbol::ElfSymbol;
 use upcoming_symbol::UpcomingSymbol;
 
-// A row for each binding, a column for each visibility: the visibility of the symbol's row, or the number of the refusal. Of bytes, since it is
-// laid on the stack at each use.
-const JUDGED: [u8; 64] = [
-    0,
-    10,
-    11,
-    10,
-    1,
-    10,
-    2,
-    10,
-    3,
-    10,
-    4,
-    10,
-    12,
-    10,
-    12,
-    10,
-    12,
-    10,
-    12,
-    10,
-    12,
-    10,
-    12,
-    10,
-    12,
-    10,
-    12,
-    10,
-    12,
-    10,
-    12,
-    10,
-    12,
-    10,
-    12,
-    10,
-    12,
-    10,
-    12,
-    10,
-    12,
-    10,
-    12,
-    10,
-    12,
-    10,
-    12,
-    10,
-    12,
-    10,
-    12,
-    10,
-    12,
-    10,
-    12,
-    10,
-    12,
-    10,
-    12,
-    10,
-    12,
-    10,
-    12,
-    10,
-];
-
-fn wide(x: u8) -> u64
-    ensures { λ r. ⌜ r ≡ x ⌝ }
+// By visibility first, then by binding: the visibility of the symbol's row, or the number of the refusal.
+fn shown(binding: u64) -> u64
+    ensures { λ r. ⌜ r ≡ shownOf binding ⌝ }
 {
-    x as u64
+    if binding == 0 {
+        return 0;
+    }
+    if binding == 1 {
+        return 1;
+    }
+    if binding == 2 {
+        return 3;
+    }
+    12
+}
+
+fn hidden(binding: u64) -> u64
+    ensures { λ r. ⌜ r ≡ hiddenOf binding ⌝ }
+{
+    if binding == 0 {
+        return 11;
+    }
+    if binding == 1 {
+        return 2;
+    }
+    if binding == 2 {
+        return 4;
+    }
+    12
 }
 
 fn judge(binding: u64, visibility: u64) -> u64
     ensures { λ r. ⌜ r ≡ judgeOf binding visibility ⌝ }
 {
-    if 4 <= visibility {
-        return 10;
+    if visibility == 0 {
+        return shown(binding);
     }
-    if binding < 16 {
-        return wide(JUDGED[(binding * 4 + visibility) as usize]);
+    if visibility == 2 {
+        return hidden(binding);
     }
-    wide(JUDGED[(60 + visibility) as usize])
+    10
 }
 
 fn in_section(section: u64, empty: bool, value: u64) -> Words

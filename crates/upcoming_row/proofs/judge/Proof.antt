@@ -1,5 +1,5 @@
 use borrow.Author.Needs.{needs}
-use Rattle.upcoming_symbol.specs.Ways.{judge-beyond, judge-entry, judge-last}
+use Rattle.upcoming_symbol.specs.Ways.{judge-shown, judge-hidden, judge-other}
 use Rattle.upcoming_row.proofs.judge.Statement.{statement}
 use Rattle.upcoming_row.proofs.judge.Tie as tie
 
@@ -7,13 +7,8 @@ pub judge-spec : {M : Type 1} → statement M
 judge-spec =
     tie.close
     (tie.spec
-    (λ c. search judge-beyond)
-    (λ c. search needs)
-    (λ c. search needs)
-    (λ c. search needs)
-    (λ c. search needs)
-    (λ c. search judge-entry)
-    (λ c. search needs)
-    (λ c. search needs)
-    (λ c. search needs)
-    (λ c. search judge-last))
+    (λ c κs. search needs)
+    (λ c. search judge-shown)
+    (λ c κs. search needs)
+    (λ c. search judge-hidden)
+    (λ c. search judge-other))
