@@ -106,7 +106,7 @@ fn fill(
     sections: &mut [u64],
     count: usize,
 ) -> Symbols {
-    let o = Symbols::new(0, bytes, names, symbols, sections);
+    let o = Symbols::new(0, false, bytes, names, symbols, sections);
     add_twice(o.table, bytes, names, symbols, sections, count)
 }
 

@@ -561,7 +561,7 @@ fn run(
     sections: &mut [u64],
     refusals: &mut [u64],
 ) {
-    let o = Symbols::new(0, bytes, names, symbols, sections);
+    let o = Symbols::new(0, false, bytes, names, symbols, sections);
     read_and_print(o.table, buf, bytes, names, symbols, sections, refusals);
 }
 

@@ -111,7 +111,7 @@ fn removed(l: Link, symbols: &mut [u64], sections: &mut [u64], id: usize) -> Lin
 }
 
 fn empty(bytes: &mut [u8], names: &mut [u64], symbols: &mut [u64], sections: &mut [u64]) -> Link {
-    let o = Symbols::new(0, bytes, names, symbols, sections);
+    let o = Symbols::new(0, false, bytes, names, symbols, sections);
     let table = o.table;
     table.link
 }
@@ -274,6 +274,7 @@ fn print_admission(what: &[u8], a: Admission) {
 // An object of a symbol table of that kind and its string table, both with these flags, with one symbol. Entry 1 asks for b.
 fn admit(
     what: &[u8],
+    l: Link,
     cells: &[u64],
     table: u64,
     strings: u64,
@@ -322,6 +323,7 @@ fn admit(
         done: false,
     };
     let a = object_requirement::matches(
+        l,
         &headers,
         &entries,
         &contents,
@@ -335,21 +337,33 @@ fn admit(
 }
 
 // The member at 20 was offered by entry 1, for b.
-fn admissions(cells: &[u64]) {
-    admit(b"strong definition: ", cells, 3, 4, 0, 1, 1, 1, 1);
-    admit(b"weak definition: ", cells, 3, 4, 0, 1, 2, 1, 1);
-    admit(b"local definition: ", cells, 3, 4, 0, 1, 0, 1, 1);
-    admit(b"strong reference: ", cells, 3, 4, 0, 1, 1, 0, 1);
-    admit(b"another name: ", cells, 3, 4, 0, 3, 1, 1, 1);
-    admit(b"missing name: ", cells, 3, 4, 0, 9, 1, 1, 1);
-    admit(b"excluded sections: ", cells, 3, 4, 1, 1, 1, 1, 1);
-    admit(b"dynamic symbol table: ", cells, 10, 4, 0, 1, 1, 1, 1);
-    admit(b"names in no string table: ", cells, 3, 1, 0, 1, 1, 1, 1);
-    admit(b"binding 3: ", cells, 3, 4, 0, 1, 3, 1, 1);
-    admit(b"binding 16: ", cells, 3, 4, 0, 1, 16, 1, 1);
-    admit(b"an entry that isn't there: ", cells, 3, 4, 0, 1, 1, 1, 3);
+fn admissions(l: Link, cells: &[u64]) {
+    admit(b"strong definition: ", l, cells, 3, 4, 0, 1, 1, 1, 1);
+    admit(b"weak definition: ", l, cells, 3, 4, 0, 1, 2, 1, 1);
+    admit(b"local definition: ", l, cells, 3, 4, 0, 1, 0, 1, 1);
+    admit(b"strong reference: ", l, cells, 3, 4, 0, 1, 1, 0, 1);
+    admit(b"another name: ", l, cells, 3, 4, 0, 3, 1, 1, 1);
+    admit(b"missing name: ", l, cells, 3, 4, 0, 9, 1, 1, 1);
+    admit(b"excluded sections: ", l, cells, 3, 4, 1, 1, 1, 1, 1);
+    admit(b"dynamic symbol table: ", l, cells, 10, 4, 0, 1, 1, 1, 1);
+    admit(b"names in no string table: ", l, cells, 3, 1, 0, 1, 1, 1, 1);
+    admit(b"binding 3: ", l, cells, 3, 4, 0, 1, 3, 1, 1);
+    admit(b"binding 16: ", l, cells, 3, 4, 0, 1, 16, 1, 1);
+    admit(
+        b"an entry that isn't there: ",
+        l,
+        cells,
+        3,
+        4,
+        0,
+        1,
+        1,
+        1,
+        3,
+    );
     admit(
         b"cells cut short: ",
+        l,
         cells::part_of(cells, 0, 16),
         3,
         4,
@@ -359,6 +373,33 @@ fn admissions(cells: &[u64]) {
         1,
         1,
     );
+}
+
+// The same link in the gABI's profile.
+fn by_gabi(l: Link) -> Link {
+    Link {
+        names: l.names,
+        bytes: l.bytes,
+        symbols: l.symbols,
+        sections: l.sections,
+        inputs: l.inputs,
+        lists: l.lists,
+        chains: l.chains,
+        slots: l.slots,
+        key: l.key,
+        gabi: true,
+        broken: l.broken,
+    }
+}
+
+// "A weak or global definition, and nothing else, admits one."
+fn gabi_admissions(l: Link, cells: &[u64]) {
+    admit(b"gABI, strong definition: ", l, cells, 3, 4, 0, 1, 1, 1, 1);
+    admit(b"gABI, weak definition: ", l, cells, 3, 4, 0, 1, 2, 1, 1);
+    admit(b"gABI, local definition: ", l, cells, 3, 4, 0, 1, 0, 1, 1);
+    admit(b"gABI, strong reference: ", l, cells, 3, 4, 0, 1, 1, 0, 1);
+    admit(b"gABI, weak reference: ", l, cells, 3, 4, 0, 1, 2, 0, 1);
+    admit(b"gABI, another name: ", l, cells, 3, 4, 0, 3, 1, 1, 1);
 }
 
 // ---- all of them
@@ -373,7 +414,8 @@ fn over_table(
 ) {
     removed_name(cells, before, l, bytes, names, symbols);
     first_tied(cells, l, bytes, names, symbols);
-    admissions(cells);
+    admissions(l, cells);
+    gabi_admissions(by_gabi(l), cells);
 }
 
 fn run(

@@ -13,7 +13,7 @@ use Rattle.archive_index.specs.Index.{offsetOf}
 use Rattle.archive_index.specs.Rows.{memberAt, passAt, queueAt, storedName}
 use Rattle.archive_walk.specs.declared.Walk.{Walk}
 use Rattle.archive_walk.specs.declared.Offer.the-variants.{Member, Done}
-use Rattle.archive_walk.specs.Look.{Table, judgeTable, undefinedName}
+use Rattle.archive_walk.specs.Look.{Table, judgeTable, tiedName}
 use Rattle.archive_walk.specs.Names.{notedOf}
 use Rattle.archive_walk.specs.Walk.{stepOf, stepMoved, refusedMove, handedOut, ended, offerOf, Queue, queueOf, marked, enqueue, tieOf, tieAll, removedOf, passed, makeOf, searchOf, passOf, walkFits, goOf, nextOf}
 use Rattle.archive_laws.specs.Pass.{Rows, kept-rows, other-field, noted-rows}
@@ -25,7 +25,7 @@ module _ (key : ℕ) (s : List ℕ) (c : ℕ) where
   module _ (t : Table) (p : ℕ) where
     tied-good : (k : ℕ) (l : List ℕ) (n : ℕ) → k < c → Good l → Good (tieOf key c s t p k (queueOf l n) .cells)
     unfolding tieOf enqueue marked
-    tied-good k l n h y = go (undefinedName t (storedName s l k)) (eqb (passAt l r) 0) (eqb (passAt l r) p)
+    tied-good k l n h y = go (tiedName t (storedName s l k)) (eqb (passAt l r) 0) (eqb (passAt l r) p)
       where
         r : ℕ
         r = memberAt l k

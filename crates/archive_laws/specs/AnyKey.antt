@@ -21,7 +21,7 @@ use Rattle.archive_walk.specs.declared.Begun.the-variants.{Ready}
 use Rattle.archive_walk.specs.declared.Begun.the-variants as Begins
 use Rattle.archive_walk.specs.declared.Offer.{Offer}
 use Rattle.archive_walk.specs.declared.Offer.the-variants.{Member, Done}
-use Rattle.archive_walk.specs.Look.{Table, judgeTable, removedName, undefinedName}
+use Rattle.archive_walk.specs.Look.{Table, judgeTable, removedName, tiedName}
 use Rattle.archive_walk.specs.Names.{chained, chainAt, headedOf, notedOf, requiredOf}
 use Rattle.archive_walk.specs.Walk.{begunNumber, freshWalk, noWalk, begunOf, startOf, Step, stepOf, stepMoved, refusedMove, handedOut, ended, offerOf, Queue, queueOf, marked, enqueue, tieOf, tieAll, removedOf, passed, makeOf, searchOf, passOf, walkFits, goOf, nextOf}
 use Rattle.archive_laws.specs.Chains.{any-same}
@@ -134,7 +134,7 @@ module _ (s : List ℕ) where
       unfolding tieOf enqueue marked
       both-tied k l m n e =
           rw (same-name l m e k, same-member l m e k, same-pass l m e (memberAt l k))
-          (go (undefinedName t (storedName s l k)) (eqb (passAt l r) 0) (eqb (passAt l r) p))
+          (go (tiedName t (storedName s l k)) (eqb (passAt l r) 0) (eqb (passAt l r) p))
         where
           r : ℕ
           r = memberAt l k

@@ -13,7 +13,7 @@ use Rattle.byte_slices.specs.Ways.{same-true, same-refl}
 use Rattle.archive_index.specs.Index.{offsetOf, nameOf}
 use Rattle.archive_index.specs.Rows.{requiredAt, memberAt, storedName}
 use Rattle.archive_walk.specs.declared.Walk.{Walk}
-use Rattle.archive_walk.specs.Look.{Table, undefinedName}
+use Rattle.archive_walk.specs.Look.{Table, tiedName}
 use Rattle.archive_walk.specs.Names.{bearsOf, requiredOf}
 use Rattle.archive_laws.specs.Rounds.{Same, anyBelow}
 use Rattle.archive_laws.specs.Counts.{clash, any-in, any-out, any-none, first-one}
@@ -90,7 +90,7 @@ module _ (key : ℕ) (s : List ℕ) (c : ℕ) (l : List ℕ) (y : Rows key s c l
   asked-is = required-is ∙ any-same (bearsOf s l r x) (asks s c l e x) c bears-asks
 
   -- right after a pass over t that queued the member, or found none of its names undefined
-  module _ (t : Table) (mark : (j : ℕ) → j < c → Same s j e → requiredAt l j ≡ cond (undefinedName t (nameOf s c j)) 1 0) where
+  module _ (t : Table) (mark : (j : ℕ) → j < c → Same s j e → requiredAt l j ≡ cond (tiedName t (nameOf s c j)) 1 0) where
     abbrev ties : ℕ → Bool
     ties j = cond (eqb (offsetOf s j) (offsetOf s e)) (same (nameOf s c j) x) false
 
@@ -99,33 +99,33 @@ module _ (key : ℕ) (s : List ℕ) (c : ℕ) (l : List ℕ) (y : Rows key s c l
     never false = refl
 
     -- an entry of the member is marked where its name is undefined
-    asks-tied : (j : ℕ) → j < c → asks s c l e x j ≡ cond (undefinedName t (nameOf s c j)) (ties j) false
+    asks-tied : (j : ℕ) → j < c → asks s c l e x j ≡ cond (tiedName t (nameOf s c j)) (ties j) false
     asks-tied j g = go (ℕ-discrete (offsetOf s j) (offsetOf s e))
       where
         one : (b : Bool) → eqb (cond b 1 0) 1 ≡ b
         one true = refl
         one false = refl
 
-        go : Dec (offsetOf s j ≡ offsetOf s e) → asks s c l e x j ≡ cond (undefinedName t (nameOf s c j)) (ties j) false
-        go (yes d) = rw (mark j g d, one (undefinedName t (nameOf s c j)))
-        go (no d) = rw (ne-eqb (offsetOf s j) (offsetOf s e) d, never (eqb (requiredAt l j) 1), never (undefinedName t (nameOf s c j)))
+        go : Dec (offsetOf s j ≡ offsetOf s e) → asks s c l e x j ≡ cond (tiedName t (nameOf s c j)) (ties j) false
+        go (yes d) = rw (mark j g d, one (tiedName t (nameOf s c j)))
+        go (no d) = rw (ne-eqb (offsetOf s j) (offsetOf s e) d, never (eqb (requiredAt l j) 1), never (tiedName t (nameOf s c j)))
 
     -- whose name is x
-    tied-name : (j : ℕ) → cond (undefinedName t (nameOf s c j)) (ties j) false ≡ cond (undefinedName t x) (ties j) false
+    tied-name : (j : ℕ) → cond (tiedName t (nameOf s c j)) (ties j) false ≡ cond (tiedName t x) (ties j) false
     tied-name j = go (same (nameOf s c j) x) refl
       where
         go : (b : Bool) → same (nameOf s c j) x ≡ b
-            → cond (undefinedName t (nameOf s c j)) (cond (eqb (offsetOf s j) (offsetOf s e)) b false) false
-            ≡ cond (undefinedName t x) (cond (eqb (offsetOf s j) (offsetOf s e)) b false) false
+            → cond (tiedName t (nameOf s c j)) (cond (eqb (offsetOf s j) (offsetOf s e)) b false) false
+            ≡ cond (tiedName t x) (cond (eqb (offsetOf s j) (offsetOf s e)) b false) false
         go true d = rw (same-true (nameOf s c j) x d)
-        go false d = rw (never (eqb (offsetOf s j) (offsetOf s e)), never (undefinedName t (nameOf s c j)), never (undefinedName t x))
+        go false d = rw (never (eqb (offsetOf s j) (offsetOf s e)), never (tiedName t (nameOf s c j)), never (tiedName t x))
 
     outside : (b : Bool) → anyBelow (λ j. cond b (ties j) false) c ≡ cond b (anyBelow ties c) false
     outside true = refl
     outside false = any-none (λ j. false) c (λ j g. refl)
 
-    pub asked-then : requiredOf s l w e x ≡ cond (undefinedName t x) (inIndex s c e x) false
+    pub asked-then : requiredOf s l w e x ≡ cond (tiedName t x) (inIndex s c e x) false
     unfolding inIndex
     asked-then =
-        asked-is ∙ any-same (asks s c l e x) (λ j. cond (undefinedName t x) (ties j) false) c (λ j g. asks-tied j g ∙ tied-name j)
-        ∙ outside (undefinedName t x)
+        asked-is ∙ any-same (asks s c l e x) (λ j. cond (tiedName t x) (ties j) false) c (λ j g. asks-tied j g ∙ tied-name j)
+        ∙ outside (tiedName t x)

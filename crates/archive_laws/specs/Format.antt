@@ -1,5 +1,5 @@
 -- The reading of an index is right: of the bytes of any list of entries (the System V format, gabi/specs/ArchiveIndex.antt), whatever stands behind them, the
--- count, each offset and each name are the list's, and a start over them is refused for too many entries or too few rows alone.
+-- count, each offset and each name are the list's, and opening them is refused for too many entries or too few rows alone.
 -- Assumes nothing.
 use Prim.Native.Nat.{ℕ, zero, suc, _+_, _*_, _/_, _%_, _<_, _≤_}
 use native.Mathlib.Nat.{div-div-eq-div-mul, div-add-mod', mod-eq-of-lt, suc-add}
@@ -140,7 +140,7 @@ module _ (es : List Entry) (rest : List ℕ) where
   unfolding countOf indexBytes
   count-read many = word-read bytes ((offsets es ++ names es) ++ rest) 0 (length es) many (append-assoc (word (length es)) (offsets es ++ names es) rest)
 
-  -- a start is refused for their number or for the rows lent, and for nothing else
+  -- opening them is refused for their number, else for the rows lent (openRowsOf), and for nothing else
   pub start-read : length es < 4294967296 → AllFit es → (cells : List ℕ)
       → openOf bytes cells ≡ cond (ltb 65535 (length es)) (refusedAs cells 1 65535) (openRowsOf bytes cells (length es) (namesAt (length es)))
   unfolding openOf openEntriesOf openNamesOf

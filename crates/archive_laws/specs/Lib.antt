@@ -3,6 +3,7 @@ pub mod Format
 pub mod Counts
 pub mod RoundLaws
 pub mod Chains
+pub mod Profiles
 pub mod Runs
 pub mod Pass
 pub mod Bits

@@ -14,7 +14,7 @@ use lib.Seq.{getD-set-same, getD-set-other}
 use borrow.Author.Tests.{ne-eqb, ltb-true, ltb-false}
 use Rattle.archive_index.specs.Index.{offsetOf, nameOf}
 use Rattle.archive_index.specs.Rows.{requiredAt, memberAt, passAt, queueAt, storedName}
-use Rattle.archive_walk.specs.Look.{Table, removedName, undefinedName}
+use Rattle.archive_walk.specs.Look.{Table, removedName, tiedName}
 use Rattle.archive_walk.specs.Names.{notedOf}
 use Rattle.archive_walk.specs.Walk.{Queue, queueOf, marked, enqueue, tieOf, tieAll, removedOf}
 use Rattle.archive_laws.specs.Rounds.{among, Once, none, more, isFirst, anyBelow, pullAt, pull}
@@ -241,13 +241,13 @@ module _ (key : ℕ) (s : List ℕ) (c : ℕ) where
 
   module _ (t : Table) (p : ℕ) (pos : p ≡ 0 → ⊥) where
     abbrev tie : ℕ → Bool
-    tie k = undefinedName t (nameOf s c k)
+    tie k = tiedName t (nameOf s c k)
 
     made-at : (k : ℕ) (l : List ℕ) (n : ℕ) → k < c → Sound l n → Made p l n (pullAt s tie (queueList l n) k) (tieOf key c s t p k (queueOf l n))
     unfolding tieOf enqueue pullAt
     made-at k l n h y =
         rw (y .rows .name k h)
-        (go (undefinedName t (nameOf s c k)) (eqb (passAt l (memberAt l k)) 0) (eqb (passAt l (memberAt l k)) p) (among s k (queueList l n)) refl (y .marks .mark k h))
+        (go (tiedName t (nameOf s c k)) (eqb (passAt l (memberAt l k)) 0) (eqb (passAt l (memberAt l k)) p) (among s k (queueList l n)) refl (y .marks .mark k h))
       where
         none : Made p l n (queueList l n) (queueOf l n)
         none = record { sound = y; queue = refl; more = omega arith; front = λ i g. refl; low = λ w. w }

@@ -47,7 +47,7 @@ module _ (s : List ℕ) where
   membersOf [] = []
   membersOf (k ∷ q) = membersOf q ++ (offsetOf s k ∷ [])
 
--- the members that the index ties to a name undefined in t, in the index' order
+-- the members of the entries whose names tie in t (tiedName), in the index' order
 abbrev pub tiedMembers : List ℕ → Table → List ℕ
 tiedMembers s t = membersFrom s (tiedIn s (countOf s) t) (countOf s) 0
 
@@ -223,7 +223,7 @@ module _ (key : ℕ) (s cells : List ℕ) (begun : begunNumber (startOf key s ce
         ap (λ (z : Rounds). z .queue) b ∙ rounds-queue s c (viewsOf s c us) (seen r) q
 
     -- the call over t makes a pass, those over us none, and then the pass is over: it offered, behind what was offered before, the members that the index
-    -- ties to a name undefined in t, first-seen, those not offered before
+    -- ties to a name that ties in t, first-seen, those not offered before
     pub pass-offers : stepRun s t before .walk .passes ≡ before .walk .passes + 1 → after .walk .passes ≡ stepRun s t before .walk .passes → Over after
         → offered s after ≡ offered s before ++ without (offered s before) (firstSeen (tiedMembers s t))
     pass-offers p same o =

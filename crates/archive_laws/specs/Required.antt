@@ -13,7 +13,7 @@ use lib.Seq.{getD-set-same, getD-set-other}
 use borrow.Author.Tests.{eq-eqb, ne-eqb}
 use Rattle.archive_index.specs.Index.{offsetOf, nameOf}
 use Rattle.archive_index.specs.Rows.{requiredAt, memberAt, passAt}
-use Rattle.archive_walk.specs.Look.{Table, undefinedName}
+use Rattle.archive_walk.specs.Look.{Table, tiedName}
 use Rattle.archive_walk.specs.Names.{notedOf}
 use Rattle.archive_walk.specs.Walk.{Queue, queueOf, marked, enqueue, tieOf, tieAll}
 use Rattle.archive_laws.specs.Rounds.{among}
@@ -37,7 +37,7 @@ module _ (key : ℕ) (s : List ℕ) (c : ℕ) (t : Table) (p : ℕ) (pos : p ≡
   q₀ = queueList l₀ n₀
 
   abbrev tie : ℕ → Bool
-  tie k = undefinedName t (nameOf s c k)
+  tie k = tiedName t (nameOf s c k)
 
   -- entry j's mark after the pass: set where it ties a member that was not queued before
   abbrev pub markOf : ℕ → ℕ
@@ -130,7 +130,7 @@ module _ (key : ℕ) (s : List ℕ) (c : ℕ) (t : Table) (p : ℕ) (pos : p ≡
     unfolding tieOf enqueue
     mid-step =
         rw (m .sound .rows .name k h)
-        (go (undefinedName t (nameOf s c k)) (eqb (passAt l (memberAt l k)) 0) (eqb (passAt l (memberAt l k)) p) (among s k q₀) (among s k (queueList l n)) refl refl refl
+        (go (tiedName t (nameOf s c k)) (eqb (passAt l (memberAt l k)) 0) (eqb (passAt l (memberAt l k)) p) (among s k q₀) (among s k (queueList l n)) refl refl refl
         (m .sound .marks .mark k h) (m .by k h))
       where
         unit : tie k ≡ true → among s k q₀ ≡ false → markOf k ≡ 1

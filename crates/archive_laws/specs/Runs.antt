@@ -10,7 +10,7 @@ use Rattle.archive_index.specs.Rows.{queueAt}
 use Rattle.archive_walk.specs.declared.Walk.{Walk}
 use Rattle.archive_walk.specs.declared.Offer.{Offer}
 use Rattle.archive_walk.specs.declared.Offer.the-variants.{Member, Done, Refused}
-use Rattle.archive_walk.specs.Look.{Table, judgeTable, removedName, undefinedName}
+use Rattle.archive_walk.specs.Look.{Table, judgeTable, removedName, tiedName}
 use Rattle.archive_walk.specs.Walk.{Step, freshWalk, startOf, nextOf}
 use Rattle.archive_laws.specs.Rounds.{anyBelow, View, Rounds, roundsOf}
 
@@ -19,10 +19,10 @@ unfoldable pub queueList : List ℕ → ℕ → List ℕ
 queueList l zero = []
 queueList l (suc n) = queueAt l n ∷ queueList l n
 
--- what a call over c entries sees of a table: the index ties entry k to an undefined name; a pass is refused by 1, or by 21 at a removed name
+-- what a call over c entries sees of a table: entry k's name ties (tiedName); a pass is refused by 1, or by 21 at a removed name
 abbrev pub viewOf : List ℕ → ℕ → Table → View
 viewOf s c t = record {
-  tied = λ k. undefinedName t (nameOf s c k);
+  tied = λ k. tiedName t (nameOf s c k);
   refused = cond (eqb (judgeTable t .number) 0) (anyBelow (λ k. removedName t (nameOf s c k)) c) true;
 }
 

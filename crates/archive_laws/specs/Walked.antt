@@ -1,4 +1,5 @@
--- What is promised of a whole walk: a start, then any number of calls for the next member, each over any table.
+-- What is promised of a whole walk: a start, then any number of calls for the next member, each over any table. A name "undefined" is one that
+-- ties (`tiedName`): undefined where the table's link has the old profile, undefined and strong in the gABI's (Profiles.antt).
 -- Assumes nothing.
 use Prim.Native.Nat.{ℕ, _+_, _<_, _≤_}
 use mathlib.Core.Path.{_≡_}
@@ -8,7 +9,7 @@ use lib.Dec.{eqb}
 use Rattle.byte_slices.specs.Bytes.{same}
 use Rattle.archive_index.specs.Index.{offsetOf, nameOf}
 use Rattle.archive_index.specs.Rows.{requiredAt, headAt}
-use Rattle.archive_walk.specs.Look.{Table, undefinedName}
+use Rattle.archive_walk.specs.Look.{Table, tiedName}
 use Rattle.archive_walk.specs.Names.{along, requiredOf}
 use Rattle.archive_walk.specs.Walk.{walkFits, nextOf}
 use Rattle.archive_laws.specs.Rounds.{anyBelow, among, Once, members, pull, rounds, fresh}
@@ -19,7 +20,7 @@ use Rattle.archive_laws.specs.Runs.{queueList, viewsOf, Run, stepRun, se
 
 -- the index ties entry k to a name that is undefined in t
 abbrev pub tiedIn : List ℕ → ℕ → Table → ℕ → Bool
-tiedIn s c t k = undefinedName t (nameOf s c k)
+tiedIn s c t k = tiedName t (nameOf s c k)
 
 -- entry j, of the member of entry e, bears the name x, and is marked as required
 abbrev pub asks : List ℕ → ℕ → List ℕ → ℕ → List ℕ → ℕ → Bool
@@ -42,7 +43,7 @@ pub record Pass (s : List ℕ) (c : ℕ) (t : Table) (r r′ : Run) : Type 0 whe
   -- the names that admission will ask for: those of the tied entries of the members that this pass queues; earlier ones stay
   pub required : (k : ℕ) → k < c → requiredAt (r′ .cells) k ≡ cond (tiedIn s c t k) (cond (among s k (r .offers)) (requiredAt (r .cells) k) 1) (requiredAt (r .cells) k)
   -- so of a member that was not offered before just those names are required that the index ties to it and that are undefined at the pass
-  pub names : (e : ℕ) → e < c → among s e (r .offers) ≡ false → (x : List ℕ) → requiredOf s (r′ .cells) (r′ .walk) e x ≡ cond (undefinedName t x) (inIndex s c e x) false
+  pub names : (e : ℕ) → e < c → among s e (r .offers) ≡ false → (x : List ℕ) → requiredOf s (r′ .cells) (r′ .walk) e x ≡ cond (tiedName t x) (inIndex s c e x) false
   pub pulled : queueIn r′ ≡ pull s (tiedIn s c t) c 0 (r .offers)
 
 pub record Walked (s : List ℕ) (c : ℕ) (ts : List Table) (r : Run) : Type 0 where

@@ -193,7 +193,7 @@ fn run(
     symbols: &mut [u64],
     sections: &mut [u64],
 ) {
-    let o = Symbols::new(0, bytes, names, symbols, sections);
+    let o = Symbols::new(0, false, bytes, names, symbols, sections);
     let table = o.table;
     let l = undefined(table.link, bytes, names, symbols, sections, name);
     list(index, cells, l, bytes, names, symbols);

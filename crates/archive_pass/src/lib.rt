@@ -3,7 +3,7 @@ ghost use mathlib.Core.Path.{_≡_};
 ghost use Prim.Native.Nat.{_+_, _<_};
 ghost use lib.ListN.{length};
 ghost use Rattle.cells.specs.Slice.{before};
-ghost use Rattle.archive_walk.specs.Look.{tableOf, judgeTable, nameHolder, removedName, undefinedName};
+ghost use Rattle.archive_walk.specs.Look.{tableOf, judgeTable, nameHolder, removedName, tiesRow, tiedName};
 ghost use Rattle.archive_walk.specs.Walk.{stepMoved, refusedMove, offerOf, queueOf, marked, enqueue, tieOf, tieAll, removedOf, makeOf, passOf, walkFits};
 ghost use Rattle.archive_walk.specs.Contract.{nextExit, tableIn, NextMeets};
 use archive_walk::Moved;
@@ -13,6 +13,7 @@ use link::Interned;
 use link::Lent;
 use link::Link;
 use link::Refusal;
+use link::SymbolId;
 use symbol_rows::Holder;
 
 fn judge_table(l: Link, bytes: &[u8], names: &[u64], symbols: &[u64]) -> Refusal
@@ -51,16 +52,25 @@ fn is_removed(l: Link, bytes: &[u8], names: &[u64], symbols: &[u64], x: &[u8]) -
     }
 }
 
-// Weak or not.
-fn is_undefined(l: Link, bytes: &[u8], names: &[u64], symbols: &[u64], x: &[u8]) -> bool
-    ensures { λ r. ⌜ r ≡ undefinedName (tableOf l (now (bytes .entry)) (now (names .entry)) (now (symbols .entry))) (now (x .entry)) ⌝ }
+// A row that is undefined, weak or not; in the gABI's profile strong too.
+fn row_ties(gabi: bool, symbols: &[u64], id: SymbolId) -> bool
+    ensures { λ r. ⌜ r ≡ tiesRow gabi (now (symbols .entry)) id ⌝ }
+{
+    if gabi {
+        return symbol_rows::is_strong_undefined(symbols, id);
+    }
+    cells::row_get(symbols, id.0, 5) == 7
+}
+
+fn is_tied(l: Link, bytes: &[u8], names: &[u64], symbols: &[u64], x: &[u8]) -> bool
+    ensures { λ r. ⌜ r ≡ tiedName (tableOf l (now (bytes .entry)) (now (names .entry)) (now (symbols .entry))) (now (x .entry)) ⌝ }
 {
     let holder = name_holder(l, bytes, names, symbols, x);
     match holder {
         Holder::Unissued => false,
         Holder::Nobody => false,
         Holder::Removed => false,
-        Holder::Known { id } => cells::row_get(symbols, id.0, 5) == 7,
+        Holder::Known { id } => row_ties(l.gabi, symbols, id),
     }
 }
 
@@ -101,7 +111,7 @@ fn mark(w: Walk, index: &[u8], cells: &mut [u64], queued: usize, p: usize, k: us
     cells::row_put(cells, queued, 7, k as u64);
 }
 
-// Entry k in pass p, its name undefined, its member represented by r; answers how many members are queued then.
+// Entry k in pass p, its name tied, its member represented by r; answers how many members are queued then.
 fn put_in_queue(
     w: Walk,
     index: &[u8],
@@ -141,7 +151,7 @@ fn tie(
     requires { ⌜ queued < 0xffffffffffffffff ⌝ }
     ensures { λ n. ⌜ queueOf (now (cells .exit)) n ≡ tieOf (w .key) (w .entries) (now (index .entry)) (tableOf l (now (bytes .entry)) (now (names .entry)) (now (symbols .entry))) p k (queueOf (now (cells .entry)) queued) ⌝ }
 {
-    if is_undefined(
+    if is_tied(
         l,
         bytes,
         names,

@@ -1,20 +1,20 @@
 -- What a pass asks of the table lent to it: names of the index are looked up, never interned.
 -- Assumes nothing.
 use Prim.Native.Nat.{ℕ}
-use mathlib.Core.Bool.{Bool, true, false}
+use mathlib.Core.Bool.{Bool, true, false, cond}
 use mathlib.Core.List.{List}
-use lib.Dec.{eqb}
 use lib.ListN.{length}
 use Rattle.link.specs.declared.Link.{Link}
 use Rattle.link.specs.declared.Lent.{Lent}
 use Rattle.link.specs.declared.Refusal.{Refusal}
+use Rattle.link.specs.declared.SymbolId.{SymbolId}
 use Rattle.link.specs.Bounds.{notLent, nameRows}
 use Rattle.link.specs.Judge.{judgeOf}
 use Rattle.interner.specs.Names.{findOf}
-use Rattle.symbol.specs.Row.{field}
 use Rattle.symbol_rows.specs.declared.Holder.{Holder}
 use Rattle.symbol_rows.specs.declared.Holder.the-variants.{Unissued, Nobody, Removed, Known}
 use Rattle.symbol_rows.specs.Holder.{holderOf}
+use Rattle.symbol_rows.specs.Undefined.{undefinedRow, strongUndefined}
 
 -- the link, and what of it a call is lent
 pub record Table : Type 0 where
@@ -44,12 +44,12 @@ wasRemoved Nobody = false
 wasRemoved Removed = true
 wasRemoved (Known id) = false
 
--- weak or not: cell 5 of a symbol's row is its value's kind, 7 undefined
+-- weak or not
 abbrev pub isUndefined : List ℕ → Holder → Bool
 isUndefined symbols Unissued = false
 isUndefined symbols Nobody = false
 isUndefined symbols Removed = false
-isUndefined symbols (Known id) = eqb (field symbols (id .0) 5) 7
+isUndefined symbols (Known id) = undefinedRow symbols id
 
 unfoldable pub removedName : Table → List ℕ → Bool
 removedName t x = wasRemoved (nameHolder t x)
@@ -57,3 +57,18 @@ removedName t x = wasRemoved (nameHolder t x)
 -- the row of x is present and undefined
 unfoldable pub undefinedName : Table → List ℕ → Bool
 undefinedName t x = isUndefined (t .symbols) (nameHolder t x)
+
+-- Which names tie a member, by the link's profile. The old: any name that is undefined; document 01: "Weak references pull members". The
+-- gABI's, document 02, 2026-02: "a weak reference ties no member", "the mission's walk then reads "undefined and strong" for "undefined"".
+unfoldable pub tiesRow : Bool → List ℕ → SymbolId → Bool
+tiesRow gabi symbols id = cond gabi (strongUndefined symbols id) (undefinedRow symbols id)
+
+abbrev pub ties : Bool → List ℕ → Holder → Bool
+ties gabi symbols Unissued = false
+ties gabi symbols Nobody = false
+ties gabi symbols Removed = false
+ties gabi symbols (Known id) = tiesRow gabi symbols id
+
+-- the row of x is present and undefined, in the gABI's profile strong too
+unfoldable pub tiedName : Table → List ℕ → Bool
+tiedName t x = ties (t .link .gabi) (t .symbols) (nameHolder t x)

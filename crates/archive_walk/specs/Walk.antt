@@ -12,7 +12,7 @@ use Rattle.archive_index.specs.Index.{offsetOf}
 use Rattle.archive_index.specs.Rows.{memberAt, passAt, queueAt, storedName, noHeads}
 use Rattle.archive_index.specs.Open.{openOf}
 use Rattle.archive_walk.specs.Names.{notedOf}
-use Rattle.archive_walk.specs.Look.{Table, judgeTable, removedName, undefinedName}
+use Rattle.archive_walk.specs.Look.{Table, judgeTable, removedName, tiedName}
 use Rattle.archive_walk.specs.declared.Walk.{Walk}
 use Rattle.archive_walk.specs.declared.Begun.{Begun}
 use Rattle.archive_walk.specs.declared.Begun.the-variants.{Ready}
@@ -136,7 +136,7 @@ enqueue key c s p k r q =
 
 -- entry k in pass p
 unfoldable pub tieOf : ℕ → ℕ → List ℕ → Table → ℕ → ℕ → Queue → Queue
-tieOf key c s t p k q = cond (undefinedName t (storedName s (q .cells) k)) (enqueue key c s p k (memberAt (q .cells) k) q) q
+tieOf key c s t p k q = cond (tiedName t (storedName s (q .cells) k)) (enqueue key c s p k (memberAt (q .cells) k) q) q
 
 -- the n entries from k on
 unfoldable pub tieAll : ℕ → ℕ → List ℕ → Table → ℕ → ℕ → ℕ → Queue → Queue

@@ -22,6 +22,7 @@ use Rattle.symbol.specs.Row.{field}
 use Rattle.symbol_rows.specs.declared.Holder.{Holder}
 use Rattle.symbol_rows.specs.declared.Holder.the-variants.{Unissued, Nobody, Removed, Known}
 use Rattle.symbol_rows.specs.Holder.{holderOf}
+use Rattle.symbol_rows.specs.Undefined.{strongUndefined}
 use Rattle.archive_index.specs.declared.Opened.{Opened}
 use Rattle.archive_index.specs.Index.{offsetOf}
 use Rattle.archive_index.specs.Rows.{requiredAt, memberAt, passAt, queueAt, storedName, nextAt, headAt, noHeads}
@@ -33,7 +34,7 @@ use Rattle.archive_walk.specs.declared.Begun.the-variants.{Ready}
 use Rattle.archive_walk.specs.declared.Begun.the-variants as Begins
 use Rattle.archive_walk.specs.declared.Offer.the-variants.{Member, Done, Refused}
 use Rattle.archive_walk.specs.declared.Moved.{Moved}
-use Rattle.archive_walk.specs.Look.{Table, lentOf, judgeTable, nameHolder, removedName, undefinedName}
+use Rattle.archive_walk.specs.Look.{Table, lentOf, judgeTable, nameHolder, removedName, tiesRow, tiedName}
 use Rattle.archive_walk.specs.Walk.{startLeft, freshWalk, noWalk, begunOf, startOf, stepMoved, refusedMove, handedOut, ended, offerOf, Queue, queueOf, marked, enqueue, tieOf, tieAll, removedOf, passed, makeOf, searchOf, passOf, walkFits, goOf, nextOf}
 use Rattle.archive_walk.specs.Names.{nameChain, along, bearsOf, borneFrom, chained, headedOf, notedOf, requiredOf}
 
@@ -159,21 +160,30 @@ module _ (t : Table) (x : List ℕ) where
     unfolding removedName
     removed-known id e f q = q ∙ sym (rw (← e, f))
 
-    pub undefined-unissued : h ≡ nameHolder t x → h ≡ Unissued → y ≡ false → y ≡ undefinedName t x
-    unfolding undefinedName
-    undefined-unissued e f q = q ∙ sym (rw (← e, f))
+    pub tied-unissued : h ≡ nameHolder t x → h ≡ Unissued → y ≡ false → y ≡ tiedName t x
+    unfolding tiedName
+    tied-unissued e f q = q ∙ sym (rw (← e, f))
 
-    pub undefined-nobody : h ≡ nameHolder t x → h ≡ Nobody → y ≡ false → y ≡ undefinedName t x
-    unfolding undefinedName
-    undefined-nobody e f q = q ∙ sym (rw (← e, f))
+    pub tied-nobody : h ≡ nameHolder t x → h ≡ Nobody → y ≡ false → y ≡ tiedName t x
+    unfolding tiedName
+    tied-nobody e f q = q ∙ sym (rw (← e, f))
 
-    pub undefined-removed : h ≡ nameHolder t x → h ≡ Removed → y ≡ false → y ≡ undefinedName t x
-    unfolding undefinedName
-    undefined-removed e f q = q ∙ sym (rw (← e, f))
+    pub tied-removed : h ≡ nameHolder t x → h ≡ Removed → y ≡ false → y ≡ tiedName t x
+    unfolding tiedName
+    tied-removed e f q = q ∙ sym (rw (← e, f))
 
-    pub undefined-known : (id : SymbolId) (v : ℕ) → h ≡ nameHolder t x → h ≡ Known id → v ≡ field (t .symbols) (id .0) 5 → y ≡ eqb v 7 → y ≡ undefinedName t x
-    unfolding undefinedName
-    undefined-known id v e f g q = q ∙ sym (rw (← e, f, ← g))
+    pub tied-known : (id : SymbolId) → h ≡ nameHolder t x → h ≡ Known id → y ≡ tiesRow (t .link .gabi) (t .symbols) id → y ≡ tiedName t x
+    unfolding tiedName
+    tied-known id e f q = q ∙ sym (rw (← e, f))
+
+module _ (gabi : Bool) (symbols : List ℕ) (id : SymbolId) (y : Bool) where
+  pub ties-strong : gabi ≡ true → y ≡ strongUndefined symbols id → y ≡ tiesRow gabi symbols id
+  unfolding tiesRow
+  ties-strong e q = q ∙ sym (rw e)
+
+  pub ties-undefined : (v : ℕ) → gabi ≡ false → v ≡ field symbols (id .0) 5 → y ≡ eqb v 7 → y ≡ tiesRow gabi symbols id
+  unfolding tiesRow
+  ties-undefined v e f q = q ∙ sym (rw (e, ← f))
 
 -- ---- a pass
 
@@ -212,12 +222,12 @@ module _ (w : Walk) (s l : List ℕ) (n p k r : ℕ) (t : Queue) (by : ℕ) wher
   queue-old e z f q = q ∙ sym (rw (← e, ne-eqb _ _ z, ne-eqb _ _ f))
 
 module _ (w : Walk) (s : List ℕ) (t : Table) (p k : ℕ) (l : List ℕ) (n : ℕ) (u : Queue) (x : List ℕ) (b : Bool) where
-  pub tie-undefined : (r : ℕ) → x ≡ storedName s l k → b ≡ undefinedName t x → b ≡ true → r ≡ memberAt l k → u ≡ enqueue (w .key) (w .entries) s p k r (queueOf l n)
+  pub tie-tied : (r : ℕ) → x ≡ storedName s l k → b ≡ tiedName t x → b ≡ true → r ≡ memberAt l k → u ≡ enqueue (w .key) (w .entries) s p k r (queueOf l n)
       → u ≡ tieOf (w .key) (w .entries) s t p k (queueOf l n)
   unfolding tieOf
-  tie-undefined r e f g h q = q ∙ sym (rw (← e, ← f, g, ← h))
+  tie-tied r e f g h q = q ∙ sym (rw (← e, ← f, g, ← h))
 
-  pub tie-not : x ≡ storedName s l k → b ≡ undefinedName t x → b ≡ false → u ≡ queueOf l n → u ≡ tieOf (w .key) (w .entries) s t p k (queueOf l n)
+  pub tie-not : x ≡ storedName s l k → b ≡ tiedName t x → b ≡ false → u ≡ queueOf l n → u ≡ tieOf (w .key) (w .entries) s t p k (queueOf l n)
   unfolding tieOf
   tie-not e f g q = q ∙ sym (rw (← e, ← f, g))
 
@@ -242,7 +252,7 @@ module _ (key c : ℕ) (s : List ℕ) where
   tie-most : (t : Table) (p k : ℕ) (q : Queue) → tieOf key c s t p k q .queued ≤ q .queued + 1
   unfolding tieOf
   tie-most t p k q =
-      pick (λ (u : Queue). u .queued ≤ q .queued + 1) (undefinedName t (storedName s (q .cells) k)) _ _
+      pick (λ (u : Queue). u .queued ≤ q .queued + 1) (tiedName t (storedName s (q .cells) k)) _ _
       (λ e. enqueue-most p k (memberAt (q .cells) k) q) (λ e. omega arith)
 
 pub count-on : (key c : ℕ) (s : List ℕ) (t : Table) (p k : ℕ) (l m : List ℕ) (a n j : ℕ) → queueOf m j ≡ tieOf key c s t p k (queueOf l n) → n ≤ a + k → j ≤ a + (k + 1)

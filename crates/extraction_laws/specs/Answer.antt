@@ -1,5 +1,5 @@
--- What admission answers, over every walk: the answer of `matches` itself, yes or no, against the gABI's extraction; exact, with the two known places
--- as terms of their own.
+-- What admission answers, over every walk: the answer of `matches` itself, yes or no, against the gABI's extraction; exact, in the old profile with
+-- the two known places as terms of their own, in the gABI's without them.
 -- Assumes nothing.
 use Prim.Native.Nat.{ℕ, _+_, _/_, _<_, _≤_}
 use native.Mathlib.Omega.{arith}
@@ -11,13 +11,14 @@ use lib.ListN.{length}
 use borrow.Author.Tests.{eq-eqb, lt-ltb, le-ltb}
 use Rattle.cells.specs.Split.{by-test}
 use Rattle.gabi.specs.StringTable as Strings
-use Rattle.gabi.specs.SymbolTable.{isGlobal}
 use Rattle.gabi.specs.Archive.{Named, extracts}
 use Rattle.archive_index.specs.Index.{countOf}
+use Rattle.link.specs.declared.Link.{Link}
 use Rattle.archive_walk.specs.declared.Walk.{Walk}
-use Rattle.archive_walk.specs.Look.{Table, undefinedName}
+use Rattle.archive_walk.specs.Look.{Table, undefinedName, tiedName}
 use Rattle.archive_walk.specs.Names.{requiredOf}
 use Rattle.archive_walk.specs.Walk.{begunNumber, startOf}
+use Rattle.archive_laws.specs.Profiles.{strongName, tied-old, tied-gabi}
 use Rattle.archive_laws.specs.Rounds.{among, View, pull, Rounds, frontOf, passRound, round, rounds, fresh}
 use Rattle.archive_laws.specs.RoundLaws.{pull-keeps}
 use Rattle.archive_laws.specs.Runs.{viewOf, viewsOf, Run, stepRun, history, startRun, seen}
@@ -29,9 +30,9 @@ use Rattle.object_requirement.specs.declared.Admission.{Admission}
 use Rattle.object_requirement.specs.declared.Admission.the-variants.{Yes, No}
 use Rattle.object_requirement.specs.Matches.{admission, offeredIn, matchesOf, hasGlobalSymbol}
 use Rattle.extraction_laws.specs.Some.{some-same}
-use Rattle.extraction_laws.specs.Member.{memberOf, object-admits}
+use Rattle.extraction_laws.specs.Member.{admitting, memberOf, object-admits}
 use Rattle.extraction_laws.specs.MemberWords.{symbolsOf, member-is}
-use Rattle.extraction_laws.specs.Taken.{lists, taken, taken-either, extracts-is}
+use Rattle.extraction_laws.specs.Taken.{lists, takenIn, taken, taken-either, either-taken, taken-same, extracts-is, gabi-extracts}
 use Rattle.extraction_laws.specs.Chosen as Chosen
 
 -- the two answers
@@ -128,11 +129,11 @@ module _ (s : List ℕ) where
 
 -- ---- an answer in a walk
 
-matches-says : (headers entries contents file s l : List ℕ) (w : Walk) (e : ℕ) (b : Bool) → judgeOf headers entries (length contents) (length file) .number ≡ 0
-    → w .length ≤ length s → w .entries ≤ length l / 8 → e < w .entries → hasGlobalSymbol headers entries file (requiredOf s l w e) ≡ b
-    → matchesOf headers entries contents file s l w e ≡ says b
+pub matches-says : (link : Link) (headers entries contents file s l : List ℕ) (w : Walk) (e : ℕ) (b : Bool) → judgeOf headers entries (length contents) (length file) .number ≡ 0
+    → w .length ≤ length s → w .entries ≤ length l / 8 → e < w .entries → hasGlobalSymbol (link .gabi) headers entries file (requiredOf s l w e) ≡ b
+    → matchesOf link headers entries contents file s l w e ≡ says b
 unfolding matchesOf offeredIn
-matches-says headers entries contents file s l w e b j a d h q =
+matches-says link headers entries contents file s l w e b j a d h q =
     rw (eq-eqb _ 0 j, le-ltb (length s) (w .length) a, le-ltb (length l / 8) (w .entries) d, lt-ltb e (w .entries) h, q) (answer b)
   where
     answer : (b : Bool) → admission b ≡ says b
@@ -151,40 +152,45 @@ module _ (key : ℕ) (s l : List ℕ) (start : begunNumber (startOf key s l .sta
   pass : Pass s (countOf s) t before after
   pass = walked key s l start ts .pass t made
 
-  -- the member of entry e, not offered before, is this object, whose fields are in range; the index lists its global and weak definitions
+  -- the member of entry e, not offered before, is this object, whose fields are in range; the index lists its global and weak definitions;
+  -- admission is lent this link
   module _ (e : ℕ) (low : e < countOf s) (new : among s e (before .offers) ≡ false) (headers entries contents file : List ℕ)
       (ranged : judgeOf headers entries (length contents) (length file) .number ≡ 0)
-      (listed : (x : List ℕ) → inIndex s (countOf s) e x ≡ lists (symbolsOf headers entries file) x) where
+      (listed : (x : List ℕ) → inIndex s (countOf s) e x ≡ lists (symbolsOf headers entries file) x) (link : Link) where
     abbrev pub member : List Named
     member = symbolsOf headers entries file
 
     listed-own : (x : List ℕ) → inIndex s (countOf s) e x ≡ lists (memberOf headers entries file) x
     listed-own x = listed x ∙ ap (λ (m : List Named). lists m x) (sym (member-is headers entries file))
 
-    asked : hasGlobalSymbol headers entries file (requiredOf s (after .cells) (after .walk) e) ≡ taken (undefinedName t) member
+    abbrev pub answer : Bool
+    answer = takenIn (link .gabi) (tiedName t) member
+
+    asked : hasGlobalSymbol (link .gabi) headers entries file (requiredOf s (after .cells) (after .walk) e) ≡ answer
     asked =
-        Chosen.admitted s (countOf s) t before after pass e low new headers entries file listed-own
-        ∙ ap (taken (undefinedName t)) (member-is headers entries file)
+        Chosen.admitted (link .gabi) s (countOf s) t before after pass e low new headers entries file listed-own
+        ∙ ap (takenIn (link .gabi) (tiedName t)) (member-is headers entries file)
 
     answered : (r : Run) → Fine key s (countOf s) r → ((x : List ℕ) → requiredOf s (r .cells) (r .walk) e x ≡ requiredOf s (after .cells) (after .walk) e x)
-        → matchesOf headers entries contents file s (r .cells) (r .walk) e ≡ says (taken (undefinedName t) member)
+        → matchesOf link headers entries contents file s (r .cells) (r .walk) e ≡ says answer
     answered r f same =
-        matches-says headers entries contents file s (r .cells) (r .walk) e (taken (undefinedName t) member) ranged (f .whole)
+        matches-says link headers entries contents file s (r .cells) (r .walk) e answer ranged (f .whole)
         (omega (arith, f .entries, f .sound .rows .room)) (rw (f .entries) low)
-        (object-admits (requiredOf s (r .cells) (r .walk) e) headers entries file
-        ∙ some-same (λ d. isGlobal (d .symbol) && requiredOf s (r .cells) (r .walk) e (d .name)) (λ d. isGlobal (d .symbol) && requiredOf s (after .cells) (after .walk) e (d .name))
+        (object-admits (link .gabi) (requiredOf s (r .cells) (r .walk) e) headers entries file
+        ∙ some-same (λ d. admitting (link .gabi) (d .symbol) && requiredOf s (r .cells) (r .walk) e (d .name))
+        (λ d. admitting (link .gabi) (d .symbol) && requiredOf s (after .cells) (after .walk) e (d .name))
         (memberOf headers entries file) (λ d. rw (same (d .name)))
-        ∙ sym (object-admits (requiredOf s (after .cells) (after .walk) e) headers entries file) ∙ asked)
+        ∙ sym (object-admits (link .gabi) (requiredOf s (after .cells) (after .walk) e) headers entries file) ∙ asked)
 
-    -- right after the pass: yes, just if a symbol of binding 1 bears a name that is undefined at the pass and that the member defines
-    pub answer-is : matchesOf headers entries contents file s (after .cells) (after .walk) e ≡ says (taken (undefinedName t) member)
+    -- right after the pass: yes, just if a symbol that may admit the member bears a name that ties at the pass and that the member defines
+    pub answer-is : matchesOf link headers entries contents file s (after .cells) (after .walk) e ≡ says answer
     answer-is = answered after (subst (Fine key s (countOf s)) (history-snoc s ts t (startRun key s l)) (walk-fine key s l start (ts ++ (t ∷ [])))) (λ x. refl)
 
     -- a member that is let in was queued by the pass
-    pub let-in-queued : matchesOf headers entries contents file s (after .cells) (after .walk) e ≡ Yes → among s e (queueIn after) ≡ true
+    pub let-in-queued : matchesOf link headers entries contents file s (after .cells) (after .walk) e ≡ Yes → among s e (queueIn after) ≡ true
     let-in-queued y =
-        Chosen.queued s (countOf s) t before after pass e low new headers entries file listed-own
-        (ap (taken (undefinedName t)) (member-is headers entries file) ∙ yes (taken (undefinedName t) member) (sym answer-is ∙ y))
+        Chosen.queued (link .gabi) s (countOf s) t before after pass e low new headers entries file listed-own
+        (ap (takenIn (link .gabi) (tiedName t)) (member-is headers entries file) ∙ yes answer (sym answer-is ∙ y))
       where
         yes : (b : Bool) → says b ≡ Yes → b ≡ true
         yes true q = refl
@@ -193,15 +199,39 @@ module _ (key : ℕ) (s l : List ℕ) (start : begunNumber (startOf key s l .sta
     -- and for a queued member the answer is the same after any further calls, over whatever tables: "a queued one is offered though its name is
     -- defined since"
     pub answer-later : among s e (queueIn after) ≡ true → (us : List Table)
-        → matchesOf headers entries contents file s (history s us after .cells) (history s us after .walk) e ≡ says (taken (undefinedName t) member)
+        → matchesOf link headers entries contents file s (history s us after .cells) (history s us after .walk) e ≡ says answer
     answer-later q us =
         let same : after ≡ history s (ts ++ (t ∷ [])) (startRun key s l) = sym (history-snoc s ts t (startRun key s l)) in
         let q′ : among s e (queueIn (history s (ts ++ (t ∷ [])) (startRun key s l))) ≡ true = rw same at q in
         answered (history s us after) (rw same (fine-on s key l start us (ts ++ (t ∷ []))))
         (λ x. rw same (names-on s key l start us (ts ++ (t ∷ [])) e low q′ x))
 
-    -- by the gABI: wanted names, and names with weak references only
-    pub by-gabi : (wanted : List (List ℕ)) (weakly : List ℕ → Bool) → ((x : List ℕ) → lists member x ≡ true → undefinedName t x ≡ Strings.among x wanted || weakly x)
-        → taken (undefinedName t) member ≡ admitted wanted weakly member
-    by-gabi wanted weakly either =
-        taken-either member (λ x. Strings.among x wanted) weakly (undefinedName t) either ∙ sym (admitted-is member wanted weakly)
+    -- ---- by the gABI
+
+    -- the old profile: a symbol of binding 1 bears a name that is undefined at the pass; wanted names, and names with weak references only
+    module _ (old : t .link .gabi ≡ false) (asks : link .gabi ≡ false) where
+      pub answer-old : answer ≡ taken (undefinedName t) member
+      answer-old = rw asks (taken-same member false (tiedName t) (undefinedName t) (λ x. tied-old t x old))
+
+      pub by-gabi : (wanted : List (List ℕ)) (weakly : List ℕ → Bool) → ((x : List ℕ) → lists member x ≡ true → undefinedName t x ≡ Strings.among x wanted || weakly x)
+          → answer ≡ admitted wanted weakly member
+      by-gabi wanted weakly either =
+          answer-old ∙ taken-either member (λ x. Strings.among x wanted) weakly (undefinedName t) either ∙ sym (admitted-is member wanted weakly)
+
+    -- the gABI's: a definition, global or weak, of a name that is undefined and strong at the pass; late: wanted names that the table has as weak
+    module _ (gabi : t .link .gabi ≡ true) (asks : link .gabi ≡ true) where
+      abbrev strongly : List ℕ → Bool
+      strongly x = undefinedName t x && strongName t x
+
+      pub answer-gabi : answer ≡ takenIn true strongly member
+      answer-gabi = rw asks (taken-same member true (tiedName t) strongly (λ x. tied-gabi t x gabi))
+
+      pub exactly-gabi : (wanted : List (List ℕ)) → ((x : List ℕ) → lists member x ≡ true → strongly x ≡ Strings.among x wanted) → answer ≡ extracts member wanted
+      exactly-gabi wanted agree = answer-gabi ∙ gabi-extracts member strongly wanted agree
+
+      pub late-references : (wanted : List (List ℕ)) (late : List ℕ → Bool) → ((x : List ℕ) → lists member x ≡ true → Strings.among x wanted ≡ strongly x || late x)
+          → answer || takenIn true late member ≡ extracts member wanted
+      late-references wanted late either =
+          ap (λ (b : Bool). b || takenIn true late member) answer-gabi
+          ∙ sym (either-taken member true strongly late (λ x. Strings.among x wanted) either)
+          ∙ gabi-extracts member (λ x. Strings.among x wanted) wanted (λ x h. refl)

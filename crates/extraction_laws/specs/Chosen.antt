@@ -2,17 +2,15 @@
 -- Assumes nothing.
 use Prim.Native.Nat.{ℕ, _<_}
 use mathlib.Core.Path.{_≡_, sym, ap, _∙_}
-use mathlib.Core.Bool.{Bool, true, false, cond, _&&_, _||_}
+use mathlib.Core.Bool.{Bool, true, false, cond, _&&_}
 use mathlib.Core.List.{List}
 use lib.Dec.{eqb}
 use borrow.Author.Tests.{eqb-true}
 use Rattle.byte_slices.specs.Bytes.{same}
 use Rattle.byte_slices.specs.Ways.{same-true}
-use Rattle.gabi.specs.StringTable as Strings
-use Rattle.gabi.specs.SymbolTable.{isGlobal}
-use Rattle.gabi.specs.Archive.{Named, extracts}
+use Rattle.gabi.specs.Archive.{Named}
 use Rattle.archive_index.specs.Index.{offsetOf, nameOf}
-use Rattle.archive_walk.specs.Look.{Table, undefinedName}
+use Rattle.archive_walk.specs.Look.{Table, tiedName}
 use Rattle.archive_walk.specs.Names.{requiredOf}
 use Rattle.archive_laws.specs.Rounds.{Same, among}
 use Rattle.archive_laws.specs.Counts.{any-out, among-same}
@@ -20,63 +18,54 @@ use Rattle.archive_laws.specs.Runs.{Run}
 use Rattle.archive_laws.specs.Walked.{inIndex, queueIn, Pass}
 use Rattle.object_requirement.specs.Matches.{hasGlobalSymbol}
 use Rattle.extraction_laws.specs.Some.{and-left, and-right, and-cond, both-ways, and-in, In, some-out, some-same}
-use Rattle.extraction_laws.specs.Member.{memberOf, object-admits}
-use Rattle.extraction_laws.specs.Taken.{lists, taken, weakOffers, extracts-is, takes-as-gabi}
+use Rattle.extraction_laws.specs.Member.{admitting, memberOf, object-admits}
+use Rattle.extraction_laws.specs.Taken.{lists, takenIn}
 
 -- a call that made a pass over t (every such call of a walk is one: archive_laws, `walked`); entry e's member was not offered before, and is this object,
--- whose global and weak definitions the index lists
-module _ (s : List ℕ) (c : ℕ) (t : Table) (r r′ : Run) (pass : Pass s c t r r′) (e : ℕ) (low : e < c) (new : among s e (r .offers) ≡ false)
+-- whose global and weak definitions the index lists; admission is asked by a link of that profile
+module _ (gabi : Bool) (s : List ℕ) (c : ℕ) (t : Table) (r r′ : Run) (pass : Pass s c t r r′) (e : ℕ) (low : e < c) (new : among s e (r .offers) ≡ false)
     (headers entries file : List ℕ) (listed : (x : List ℕ) → inIndex s c e x ≡ lists (memberOf headers entries file) x) where
   abbrev member : List Named
   member = memberOf headers entries file
 
   -- the names required of it
-  required-is : (x : List ℕ) → requiredOf s (r′ .cells) (r′ .walk) e x ≡ undefinedName t x && lists member x
-  required-is x = pass .names e low new x ∙ rw (listed x) (and-cond (undefinedName t x) (lists member x))
+  required-is : (x : List ℕ) → requiredOf s (r′ .cells) (r′ .walk) e x ≡ tiedName t x && lists member x
+  required-is x = pass .names e low new x ∙ rw (listed x) (and-cond (tiedName t x) (lists member x))
 
   -- admission
-  pub admitted : hasGlobalSymbol headers entries file (requiredOf s (r′ .cells) (r′ .walk) e) ≡ taken (undefinedName t) member
+  pub admitted : hasGlobalSymbol gabi headers entries file (requiredOf s (r′ .cells) (r′ .walk) e) ≡ takenIn gabi (tiedName t) member
   admitted =
-      object-admits (requiredOf s (r′ .cells) (r′ .walk) e) headers entries file
-      ∙ some-same (λ d. isGlobal (d .symbol) && requiredOf s (r′ .cells) (r′ .walk) e (d .name)) (λ d. isGlobal (d .symbol) && (undefinedName t (d .name) && lists member (d .name))) member
+      object-admits gabi (requiredOf s (r′ .cells) (r′ .walk) e) headers entries file
+      ∙ some-same (λ d. admitting gabi (d .symbol) && requiredOf s (r′ .cells) (r′ .walk) e (d .name)) (λ d. admitting gabi (d .symbol) && (tiedName t (d .name) && lists member (d .name))) member
       (λ d. rw (required-is (d .name)))
 
   -- a member that would be admitted is queued by the pass
-  pub queued : taken (undefinedName t) member ≡ true → among s e (queueIn r′) ≡ true
+  pub queued : takenIn gabi (tiedName t) member ≡ true → among s e (queueIn r′) ≡ true
   unfolding inIndex
-  queued h = go (some-out (λ d. isGlobal (d .symbol) && (undefinedName t (d .name) && lists member (d .name))) member h)
+  queued h = go (some-out (λ d. admitting gabi (d .symbol) && (tiedName t (d .name) && lists member (d .name))) member h)
     where
-      tied : (x : List ℕ) (j : ℕ) → j < c → undefinedName t x ≡ true → cond (eqb (offsetOf s j) (offsetOf s e)) (same (nameOf s c j) x) false ≡ true → among s e (queueIn r′) ≡ true
+      tied : (x : List ℕ) (j : ℕ) → j < c → tiedName t x ≡ true → cond (eqb (offsetOf s j) (offsetOf s e)) (same (nameOf s c j) x) false ≡ true → among s e (queueIn r′) ≡ true
       tied x j g u w =
           let b = rw (and-cond (eqb (offsetOf s j) (offsetOf s e)) (same (nameOf s c j) x)) at w in
           let o : Same s j e = eqb-true (offsetOf s j) (offsetOf s e) (and-left (eqb (offsetOf s j) (offsetOf s e)) (same (nameOf s c j) x) b) in
           let n : nameOf s c j ≡ x = same-true (nameOf s c j) x (and-right (eqb (offsetOf s j) (offsetOf s e)) (same (nameOf s c j) x) b) in
-          sym (among-same s (queueIn r′) j e o) ∙ pass .all j g (ap (undefinedName t) n ∙ u)
+          sym (among-same s (queueIn r′) j e o) ∙ pass .all j g (ap (tiedName t) n ∙ u)
 
-      go : ((d : Named) × In d member × (isGlobal (d .symbol) && (undefinedName t (d .name) && lists member (d .name)) ≡ true)) → among s e (queueIn r′) ≡ true
+      go : ((d : Named) × In d member × (admitting gabi (d .symbol) && (tiedName t (d .name) && lists member (d .name)) ≡ true)) → among s e (queueIn r′) ≡ true
       go (d, i, q) =
-          let rest = and-right (isGlobal (d .symbol)) (undefinedName t (d .name) && lists member (d .name)) q in
-          let u : undefinedName t (d .name) ≡ true = and-left (undefinedName t (d .name)) (lists member (d .name)) rest in
-          by u (any-out (λ j. cond (eqb (offsetOf s j) (offsetOf s e)) (same (nameOf s c j) (d .name)) false) c (listed (d .name) ∙ and-right (undefinedName t (d .name)) (lists member (d .name)) rest))
+          let rest = and-right (admitting gabi (d .symbol)) (tiedName t (d .name) && lists member (d .name)) q in
+          let u : tiedName t (d .name) ≡ true = and-left (tiedName t (d .name)) (lists member (d .name)) rest in
+          by u (any-out (λ j. cond (eqb (offsetOf s j) (offsetOf s e)) (same (nameOf s c j) (d .name)) false) c (listed (d .name) ∙ and-right (tiedName t (d .name)) (lists member (d .name)) rest))
         where
-          by : undefinedName t (d .name) ≡ true → ((j : ℕ) × (j < c) × (cond (eqb (offsetOf s j) (offsetOf s e)) (same (nameOf s c j) (d .name)) false ≡ true)) → among s e (queueIn r′) ≡ true
+          by : tiedName t (d .name) ≡ true → ((j : ℕ) × (j < c) × (cond (eqb (offsetOf s j) (offsetOf s e)) (same (nameOf s c j) (d .name)) false ≡ true)) → among s e (queueIn r′) ≡ true
           by u (j, g, w) = tied (d .name) j g u w
 
   -- the walk's choice and admission
   abbrev pub chosen : Bool
-  chosen = among s e (queueIn r′) && hasGlobalSymbol headers entries file (requiredOf s (r′ .cells) (r′ .walk) e)
+  chosen = among s e (queueIn r′) && hasGlobalSymbol gabi headers entries file (requiredOf s (r′ .cells) (r′ .walk) e)
 
-  pub chosen-is : chosen ≡ taken (undefinedName t) member
+  pub chosen-is : chosen ≡ takenIn gabi (tiedName t) member
   chosen-is =
-      both-ways chosen (taken (undefinedName t) member)
-      (λ h. sym admitted ∙ and-right (among s e (queueIn r′)) (hasGlobalSymbol headers entries file (requiredOf s (r′ .cells) (r′ .walk) e)) h)
-      (λ h. and-in (among s e (queueIn r′)) (hasGlobalSymbol headers entries file (requiredOf s (r′ .cells) (r′ .walk) e)) (queued h) (admitted ∙ h))
-
-  -- of the gABI's wanted names: all undefined names that the member defines, but for those that have weak references only
-  module _ (wanted : List (List ℕ)) (agree : (x : List ℕ) → lists member x ≡ true → undefinedName t x ≡ Strings.among x wanted) where
-    -- the gABI extracts what is chosen, and a member whose weak definition is wanted
-    pub gabi-extracts : extracts member wanted ≡ chosen || weakOffers wanted member
-    gabi-extracts = extracts-is member (undefinedName t) wanted agree ∙ ap (λ (b : Bool). b || weakOffers wanted member) (sym chosen-is)
-
-    pub chosen-as-gabi : weakOffers wanted member ≡ false → chosen ≡ extracts member wanted
-    chosen-as-gabi h = chosen-is ∙ takes-as-gabi member (undefinedName t) wanted agree h
+      both-ways chosen (takenIn gabi (tiedName t) member)
+      (λ h. sym admitted ∙ and-right (among s e (queueIn r′)) (hasGlobalSymbol gabi headers entries file (requiredOf s (r′ .cells) (r′ .walk) e)) h)
+      (λ h. and-in (among s e (queueIn r′)) (hasGlobalSymbol gabi headers entries file (requiredOf s (r′ .cells) (r′ .walk) e)) (queued h) (admitted ∙ h))

@@ -7,3 +7,4 @@ pub mod Differences
 pub mod Terms
 pub mod MemberWords
 pub mod Answer
+pub mod Admission

@@ -9,16 +9,20 @@ use Rattle.gabi.specs.StringTable.{sameName, among, same-eq, same-refl}
 use Rattle.gabi.specs.SymbolTable.{Sym, isGlobal, isWeak, isDefinition}
 use Rattle.gabi.specs.Resolution.{isWeakDefinition}
 use Rattle.gabi.specs.Archive.{Named, offers, extracts}
-use Rattle.extraction_laws.specs.Some.{clash, and-in, and-left, and-right, or-left, or-right, or-out, or-none, both-ways, In, here, there, some, some-in, some-out}
-use Rattle.extraction_laws.specs.Member.{admits}
+use Rattle.extraction_laws.specs.Some.{clash, and-in, and-left, and-right, or-left, or-right, or-out, or-none, both-ways, In, here, there, some, some-in, some-out, some-same}
+use Rattle.extraction_laws.specs.Member.{admitting, admitsIn}
 
 -- the name x is in the index for this member: an index lists global and weak definitions
 abbrev pub lists : List Named → List ℕ → Bool
 lists member x = some (λ e. offers (e .symbol) && sameName (e .name) x) member
 
--- of the names in the index for the member those that are undefined are required; a global symbol has to bear one
+-- of the names in the index for the member those that tie it are required; a symbol that may admit it has to bear one, in the old profile a
+-- global one
+abbrev pub takenIn : Bool → (List ℕ → Bool) → List Named → Bool
+takenIn gabi tied member = admitsIn gabi (λ x. tied x && lists member x) member
+
 abbrev pub taken : (List ℕ → Bool) → List Named → Bool
-taken undefined member = admits (λ x. undefined x && lists member x) member
+taken undefined member = takenIn false undefined member
 
 -- a weak definition of the member bears a wanted name
 abbrev pub weakOffers : List (List ℕ) → List Named → Bool
@@ -26,7 +30,7 @@ weakOffers wanted member = some (λ e. isWeakDefinition (e .symbol) && among (e 
 
 -- ---- the gABI's extraction, as a test on some symbol
 
-extracts-some : (member : List Named) (wanted : List (List ℕ)) → extracts member wanted ≡ some (λ e. offers (e .symbol) && among (e .name) wanted) member
+pub extracts-some : (member : List Named) (wanted : List (List ℕ)) → extracts member wanted ≡ some (λ e. offers (e .symbol) && among (e .name) wanted) member
 unfolding extracts some
 extracts-some [] wanted = refl
 extracts-some (e ∷ member) wanted = rw (extracts-some member wanted)
@@ -124,25 +128,60 @@ module _ (member : List Named) where
     pub takes-as-gabi : weakOffers wanted member ≡ false → taken undefined member ≡ extracts member wanted
     takes-as-gabi h = sym (extracts-is ∙ or-none (taken undefined member) (weakOffers wanted member) h)
 
+  pub taken-same : (gabi : Bool) (f g : List ℕ → Bool) → ((x : List ℕ) → f x ≡ g x) → takenIn gabi f member ≡ takenIn gabi g member
+  taken-same gabi f g h =
+      some-same (λ e. admitting gabi (e .symbol) && (f (e .name) && lists member (e .name))) (λ e. admitting gabi (e .symbol) && (g (e .name) && lists member (e .name)))
+      member (λ e. rw (h (e .name)))
+
+  -- ---- in the gABI's profile what is taken for its wanted names is extracted, exactly
+
+  module _ (tied : List ℕ → Bool) (wanted : List (List ℕ)) (agree : (x : List ℕ) → lists member x ≡ true → tied x ≡ among x wanted) where
+    abbrev wantedOf : Named → Bool
+    wantedOf e = offers (e .symbol) && among (e .name) wanted
+
+    abbrev tiedOf : Named → Bool
+    tiedOf e = offers (e .symbol) && (tied (e .name) && lists member (e .name))
+
+    pub gabi-extracts : takenIn true tied member ≡ extracts member wanted
+    gabi-extracts =
+        both-ways (some tiedOf member) (some wantedOf member) (λ h. there-then (some-out tiedOf member h)) (λ h. here-then (some-out wantedOf member h))
+        ∙ sym (extracts-some member wanted)
+      where
+        there-then : ((e : Named) × In e member × (tiedOf e ≡ true)) → some wantedOf member ≡ true
+        there-then (e, i, q) =
+            let o : offers (e .symbol) ≡ true = and-left (offers (e .symbol)) (tied (e .name) && lists member (e .name)) q in
+            let rest = and-right (offers (e .symbol)) (tied (e .name) && lists member (e .name)) q in
+            some-in wantedOf member e i
+            (and-in (offers (e .symbol)) (among (e .name) wanted) o
+            (sym (agree (e .name) (and-right (tied (e .name)) (lists member (e .name)) rest)) ∙ and-left (tied (e .name)) (lists member (e .name)) rest))
+
+        here-then : ((e : Named) × In e member × (wantedOf e ≡ true)) → some tiedOf member ≡ true
+        here-then (e, i, q) =
+            let o : offers (e .symbol) ≡ true = and-left (offers (e .symbol)) (among (e .name) wanted) q in
+            let listed : lists member (e .name) ≡ true = lists-own e i o in
+            some-in tiedOf member e i
+            (and-in (offers (e .symbol)) (tied (e .name) && lists member (e .name)) o
+            (and-in (tied (e .name)) (lists member (e .name)) (agree (e .name) listed ∙ and-right (offers (e .symbol)) (among (e .name) wanted) q) listed))
+
   -- ---- weak references pull members: what is taken for names referred to strongly or weakly is taken for the ones or for the others
 
-  module _ (f g h : List ℕ → Bool) (either : (x : List ℕ) → lists member x ≡ true → h x ≡ f x || g x) where
+  module _ (gabi : Bool) (f g h : List ℕ → Bool) (either : (x : List ℕ) → lists member x ≡ true → h x ≡ f x || g x) where
     abbrev takes : (List ℕ → Bool) → Named → Bool
-    takes u e = isGlobal (e .symbol) && (u (e .name) && lists member (e .name))
+    takes u e = admitting gabi (e .symbol) && (u (e .name) && lists member (e .name))
 
     takes-in : (u : List ℕ → Bool) (e : Named) → In e member → takes h e ≡ true → u (e .name) ≡ true → some (takes u) member ≡ true
     takes-in u e i q p =
         some-in (takes u) member e i
-        (and-in (isGlobal (e .symbol)) (u (e .name) && lists member (e .name)) (and-left (isGlobal (e .symbol)) (h (e .name) && lists member (e .name)) q)
+        (and-in (admitting gabi (e .symbol)) (u (e .name) && lists member (e .name)) (and-left (admitting gabi (e .symbol)) (h (e .name) && lists member (e .name)) q)
         (and-in (u (e .name)) (lists member (e .name)) p
-        (and-right (h (e .name)) (lists member (e .name)) (and-right (isGlobal (e .symbol)) (h (e .name) && lists member (e .name)) q))))
+        (and-right (h (e .name)) (lists member (e .name)) (and-right (admitting gabi (e .symbol)) (h (e .name) && lists member (e .name)) q))))
 
     apart : some (takes h) member ≡ true → some (takes f) member || some (takes g) member ≡ true
     apart p = go (some-out (takes h) member p)
       where
         go : ((e : Named) × In e member × (takes h e ≡ true)) → some (takes f) member || some (takes g) member ≡ true
         go (e, i, q) =
-            let rest = and-right (isGlobal (e .symbol)) (h (e .name) && lists member (e .name)) q in
+            let rest = and-right (admitting gabi (e .symbol)) (h (e .name) && lists member (e .name)) q in
             or-out (f (e .name)) (g (e .name))
             (sym (either (e .name) (and-right (h (e .name)) (lists member (e .name)) rest)) ∙ and-left (h (e .name)) (lists member (e .name)) rest)
             (λ a. or-left (some (takes f) member) (some (takes g) member) (takes-in f e i q a))
@@ -153,15 +192,18 @@ module _ (member : List Named) where
       where
         go : ((e : Named) × In e member × (takes u e ≡ true)) → some (takes h) member ≡ true
         go (e, i, q) =
-            let rest = and-right (isGlobal (e .symbol)) (u (e .name) && lists member (e .name)) q in
+            let rest = and-right (admitting gabi (e .symbol)) (u (e .name) && lists member (e .name)) q in
             some-in (takes h) member e i
-            (and-in (isGlobal (e .symbol)) (h (e .name) && lists member (e .name)) (and-left (isGlobal (e .symbol)) (u (e .name) && lists member (e .name)) q)
+            (and-in (admitting gabi (e .symbol)) (h (e .name) && lists member (e .name)) (and-left (admitting gabi (e .symbol)) (u (e .name) && lists member (e .name)) q)
             (and-in (h (e .name)) (lists member (e .name)) (w (e .name) (and-right (u (e .name)) (lists member (e .name)) rest) (and-left (u (e .name)) (lists member (e .name)) rest)) (and-right (u (e .name)) (lists member (e .name)) rest)))
 
-    pub taken-either : taken h member ≡ taken f member || taken g member
-    taken-either =
+    pub either-taken : takenIn gabi h member ≡ takenIn gabi f member || takenIn gabi g member
+    either-taken =
         both-ways (some (takes h) member) (some (takes f) member || some (takes g) member) apart
         (λ p. or-out (some (takes f) member) (some (takes g) member) p (together f (λ x l a. either x l ∙ or-left (f x) (g x) a)) (together g (λ x l a. either x l ∙ or-right (f x) (g x) a)))
+
+  pub taken-either : (f g h : List ℕ → Bool) → ((x : List ℕ) → lists member x ≡ true → h x ≡ f x || g x) → taken h member ≡ taken f member || taken g member
+  taken-either = either-taken false
 
 -- ---- the wanted names as a list: those that the member bears
 

@@ -35,20 +35,20 @@ unfoldable pub weakOnly : List Sym → Bool
 weakOnly l = isZeroValue (resolve l)
 
 -- what agrees with the gABI's resolution is undefined just there
-pub row-undefined : (c : Row) (cs : List Row) (g : Sym) (row : Row) (v : Resolution) → Agrees c cs g row v → eqb (row .value .kind) 7 ≡ isUnresolved v || isZeroValue v
+pub row-undefined : (gabi : Bool) (c : Row) (cs : List Row) (g : Sym) (row : Row) (v : Resolution) → Agrees gabi c cs g row v → eqb (row .value .kind) 7 ≡ isUnresolved v || isZeroValue v
 unfolding isUnresolved
-row-undefined c cs g row (defined k) a = back (eqb (row .value .kind) 7) (a .1)
+row-undefined gabi c cs g row (defined k) a = back (eqb (row .value .kind) 7) (a .1)
   where
     back : (b : Bool) → not b ≡ true → b ≡ false
     back true q = sym q
     back false q = refl
-row-undefined c cs g row duplicate a = absurd a
-row-undefined c cs g row unresolved a = back (eqb (row .value .kind) 7) (a .1)
+row-undefined gabi c cs g row duplicate a = absurd a
+row-undefined gabi c cs g row unresolved a = back (eqb (row .value .kind) 7) (a .1)
   where
     back : (b : Bool) → not b ≡ false → b ≡ true
     back true q = refl
     back false q = sym q
-row-undefined c cs g row zeroValue a = back (eqb (row .value .kind) 7) (a .1)
+row-undefined gabi c cs g row zeroValue a = back (eqb (row .value .kind) 7) (a .1)
   where
     back : (b : Bool) → not b ≡ false → b ≡ true
     back true q = refl
@@ -62,9 +62,9 @@ abbrev pub idOf : State → List ℕ → ℕ
 idOf s x = findOf (s .bytes) (s .names) (s .link) x
 
 module _ (s : State) (x : List ℕ) where
-  undefined-held : (y : Entry) (ys : List Entry) → Resolved s (idOf s x) y ys → undefinedName (lentTable s) x ≡ eqb (rowAt (s .symbols) (y .id) .value .kind) 7
+  undefined-held : (gabi : Bool) (y : Entry) (ys : List Entry) → Resolved gabi s (idOf s x) y ys → undefinedName (lentTable s) x ≡ eqb (rowAt (s .symbols) (y .id) .value .kind) 7
   unfolding undefinedName nameHolder holderOf heldBy
-  undefined-held y ys h =
+  undefined-held gabi y ys h =
       rw (lt-leb (s .link .names) (idOf s x) (h .issued), h .id, ne-eqb (y .id) 0 (λ q. omega (arith, h .real)), lt-leb (s .link .symbols) (y .id) (h .counted), h .present)
 
   undefined-nobody : (idOf s x < s .link .names → globalAt (s .names) (idOf s x) ≡ 0) → undefinedName (lentTable s) x ≡ false
@@ -72,23 +72,23 @@ module _ (s : State) (x : List ℕ) where
   undefined-nobody h = by-test (leb (s .link .names) (idOf s x)) (λ t. rw t) (λ t. rw (t, h (leb-false (s .link .names) (idOf s x) t)))
 
 -- after a new table and any sequence of calls that removes nothing
-module _ (key : ℕ) (bytes names symbols sections : List ℕ) (new : numberIn (newOf key bytes names symbols sections .said) ≡ 0)
-    (ks : List Call) (quiet : RemovesNothing ks (Terms.start key bytes names symbols sections new)) (x : List ℕ) where
+module _ (key : ℕ) (gabi : Bool) (bytes names symbols sections : List ℕ) (new : numberIn (newOf key gabi bytes names symbols sections .said) ≡ 0)
+    (ks : List Call) (quiet : RemovesNothing ks (Terms.start key gabi bytes names symbols sections new)) (x : List ℕ) where
   abbrev end : State
-  end = Terms.end key bytes names symbols sections new ks quiet
+  end = Terms.end key gabi bytes names symbols sections new ks quiet
 
   abbrev adds : List Entry
-  adds = Terms.adds key bytes names symbols sections new ks quiet (idOf end x)
+  adds = Terms.adds key gabi bytes names symbols sections new ks quiet (idOf end x)
 
   -- a name under which g and gs were accepted is undefined just where the gABI wants it from an archive, or it has weak references only
   pub undefined-wanted : (y : Entry) (ys : List Entry) → adds ≡ y ∷ ys → (g : Sym) (gs : List Sym) → AllMean (rows (y ∷ ys)) (g ∷ gs)
       → undefinedName (lentTable end) x ≡ wants (g ∷ gs) || weakOnly (g ∷ gs)
   unfolding wants weakOnly
   undefined-wanted y ys e g gs m =
-      undefined-held end x y ys (Terms.demand-3a key bytes names symbols sections new ks quiet (idOf end x) y ys e)
-      ∙ row-undefined (y .row) (rows ys) g (rowAt (end .symbols) (y .id)) (resolve (g ∷ gs))
-      (Terms.gabi-agrees-any key bytes names symbols sections new ks quiet (idOf end x) y ys e g gs m)
+      undefined-held end x gabi y ys (Terms.demand-3a key gabi bytes names symbols sections new ks quiet (idOf end x) y ys e)
+      ∙ row-undefined gabi (y .row) (rows ys) g (rowAt (end .symbols) (y .id)) (resolve (g ∷ gs))
+      (Terms.gabi-agrees-any key gabi bytes names symbols sections new ks quiet (idOf end x) y ys e g gs m)
 
   -- a name under which nothing was accepted isn't
   pub undefined-none : adds ≡ [] → undefinedName (lentTable end) x ≡ false
-  undefined-none e = undefined-nobody end x (λ i. Terms.no-row key bytes names symbols sections new ks quiet (idOf end x) e i)
+  undefined-none e = undefined-nobody end x (λ i. Terms.no-row key gabi bytes names symbols sections new ks quiet (idOf end x) e i)

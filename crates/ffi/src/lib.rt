@@ -1,5 +1,5 @@
 // The calls for another language, as numbers and slices: `rt staticlib ffi` writes target/staticlib/libffi.a. A slice is a pointer and a length. A
-// header of at least 16 cells holds the link and the answer (ffi_header); the result is the number of the refusal, 0 for a result. The library that
+// header of at least 24 cells holds the link and the answer (ffi_header); the result is the number of the refusal, 0 for a result. The library that
 // a call stands for says which values it answers.
 ghost use Rattle.cells.specs.Slice.{before};
 ghost use Rattle.ffi_header.specs.Contract.{toldExit};
@@ -17,14 +17,15 @@ ghost use Rattle.ffi_collect.specs.Contract.{runExit, listsIn, RunMeets};
 pub extern "C" fn hidvorn_new(
     header: &mut [u64],
     key: usize,
+    profile: u64,
     bytes: &mut [u8],
     names: &mut [u64],
     symbols: &mut [u64],
     sections: &mut [u64],
 ) -> u64
-    ensures { λ r. ⌜ Symbols.NewMeets (before header) key (before bytes) (before names) (before symbols) (before sections) (Symbols.newExit r header bytes names symbols sections) ⌝ }
+    ensures { λ r. ⌜ Symbols.NewMeets (before header) key profile (before bytes) (before names) (before symbols) (before sections) (Symbols.newExit r header bytes names symbols sections) ⌝ }
 {
-    ffi_symbols::new(header, key, bytes, names, symbols, sections)
+    ffi_symbols::new(header, key, profile, bytes, names, symbols, sections)
 }
 
 #[no_mangle]

@@ -74,4 +74,4 @@ nextCall h c index rows b n s =
 unfoldable pub matchesCall : List ℕ → List ℕ → List ℕ → List ℕ → ℕ → List ℕ → List ℕ → List ℕ → List ℕ → Told
 matchesCall h c index rows entry headers entries contents file =
     cond (isShort h) (told 1 h)
-    (cond (noWalk c) (answerOf h (refusalOf 1 0)) (answerOf h (admittedReply (matchesOf headers entries contents file index rows (walkIn c) entry))))
+    (cond (noWalk c) (answerOf h (refusalOf 1 0)) (answerOf h (admittedReply (matchesOf (linkIn h) headers entries contents file index rows (walkIn c) entry))))

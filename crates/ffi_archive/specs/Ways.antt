@@ -58,15 +58,15 @@ module _ (h c : List ℕ) (key : ℕ) (index rows : List ℕ) (t : WalkLeft) whe
   unfolding startFit
   start-told s m r y e f g i q = simp (q, i, g, f, ← e)
 
-  pub start-short : length h < 16 → t ≡ walkLeft (told 1 h) c rows → t ≡ startCall h c key index rows
+  pub start-short : length h < 24 → t ≡ walkLeft (told 1 h) c rows → t ≡ startCall h c key index rows
   unfolding startCall isShort
   start-short i q = simp (q, lt-ltb _ _ i)
 
-  pub start-none : (r : Reply) (y : Told) → 16 ≤ length h → length c < 7 → r ≡ refusalOf 1 0 → y ≡ answerOf h r → t ≡ walkLeft y c rows → t ≡ startCall h c key index rows
+  pub start-none : (r : Reply) (y : Told) → 24 ≤ length h → length c < 7 → r ≡ refusalOf 1 0 → y ≡ answerOf h r → t ≡ walkLeft y c rows → t ≡ startCall h c key index rows
   unfolding startCall isShort noWalk
   start-none r y i j e f q = simp (q, f, e, le-ltb _ _ i, lt-ltb _ _ j)
 
-  pub start-fits : 16 ≤ length h → 7 ≤ length c → t ≡ startFit h c key index rows → t ≡ startCall h c key index rows
+  pub start-fits : 24 ≤ length h → 7 ≤ length c → t ≡ startFit h c key index rows → t ≡ startCall h c key index rows
   unfolding startCall isShort noWalk
   start-fits i j q = simp (q, le-ltb _ _ i, le-ltb _ _ j)
 
@@ -76,29 +76,29 @@ module _ (h c index rows : List ℕ) (t : WalkLeft) (b n s : List ℕ) where
   unfolding nextFit
   next-told l w x m r y k u e f g i q = simp (q, i, g, f, ← k, ← u, ← e)
 
-  pub next-short : length h < 16 → t ≡ walkLeft (told 1 h) c rows → t ≡ nextCall h c index rows b n s
+  pub next-short : length h < 24 → t ≡ walkLeft (told 1 h) c rows → t ≡ nextCall h c index rows b n s
   unfolding nextCall isShort
   next-short i q = simp (q, lt-ltb _ _ i)
 
-  pub next-none : (r : Reply) (y : Told) → 16 ≤ length h → length c < 7 → r ≡ refusalOf 1 0 → y ≡ answerOf h r → t ≡ walkLeft y c rows
+  pub next-none : (r : Reply) (y : Told) → 24 ≤ length h → length c < 7 → r ≡ refusalOf 1 0 → y ≡ answerOf h r → t ≡ walkLeft y c rows
       → t ≡ nextCall h c index rows b n s
   unfolding nextCall isShort noWalk
   next-none r y i j e f q = simp (q, f, e, le-ltb _ _ i, lt-ltb _ _ j)
 
-  pub next-fits : 16 ≤ length h → 7 ≤ length c → t ≡ nextFit h c index rows b n s → t ≡ nextCall h c index rows b n s
+  pub next-fits : 24 ≤ length h → 7 ≤ length c → t ≡ nextFit h c index rows b n s → t ≡ nextCall h c index rows b n s
   unfolding nextCall isShort noWalk
   next-fits i j q = simp (q, le-ltb _ _ i, le-ltb _ _ j)
 
 module _ (h c index rows : List ℕ) (entry : ℕ) (headers entries contents file : List ℕ) (t : Told) where
-  pub matches-short : length h < 16 → t ≡ told 1 h → t ≡ matchesCall h c index rows entry headers entries contents file
+  pub matches-short : length h < 24 → t ≡ told 1 h → t ≡ matchesCall h c index rows entry headers entries contents file
   unfolding matchesCall isShort
   matches-short i q = simp (q, lt-ltb _ _ i)
 
-  pub matches-none : (r : Reply) → 16 ≤ length h → length c < 7 → r ≡ refusalOf 1 0 → t ≡ answerOf h r → t ≡ matchesCall h c index rows entry headers entries contents file
+  pub matches-none : (r : Reply) → 24 ≤ length h → length c < 7 → r ≡ refusalOf 1 0 → t ≡ answerOf h r → t ≡ matchesCall h c index rows entry headers entries contents file
   unfolding matchesCall isShort noWalk
   matches-none r i j e q = simp (q, e, le-ltb _ _ i, lt-ltb _ _ j)
 
-  pub matches-told : (w : Walk) (a : Admission) (r : Reply) → 16 ≤ length h → 7 ≤ length c → w ≡ walkIn c → a ≡ matchesOf headers entries contents file index rows w entry
+  pub matches-told : (l : Link) (w : Walk) (a : Admission) (r : Reply) → 24 ≤ length h → 7 ≤ length c → l ≡ linkIn h → w ≡ walkIn c → a ≡ matchesOf l headers entries contents file index rows w entry
       → r ≡ admittedReply a → t ≡ answerOf h r → t ≡ matchesCall h c index rows entry headers entries contents file
   unfolding matchesCall isShort noWalk
-  matches-told w a r i j e f g q = simp (q, g, le-ltb _ _ i, le-ltb _ _ j, ← e, ← f)
+  matches-told l w a r i j k e f g q = simp (q, g, le-ltb _ _ i, le-ltb _ _ j, ← k, ← e, ← f)

@@ -1,5 +1,5 @@
 // The walk over an archive's members, and admission, for another language: the answer lies in a header (ffi_header), the walk in seven cells. A
-// header of fewer than 16 cells gives 1, and nothing is read or written; a walk of fewer than seven gives 1 at place 0 and is left.
+// header of fewer than 24 cells gives 1, and nothing is read or written; a walk of fewer than seven gives 1 at place 0 and is left.
 ghost use mathlib.Core.Path.{_≡_};
 ghost use Rattle.cells.specs.Slice.{before};
 ghost use Rattle.ffi_header.specs.Header.{told};
@@ -116,7 +116,7 @@ pub fn archive_start(
 ) -> u64
     ensures { λ r. ⌜ StartMeets (before header) (before walk) key (before index) (before rows) (walkExit r header walk rows) ⌝ }
 {
-    if header.len() < 16 {
+    if header.len() < ffi_header::HEADER_CELLS {
         return 1;
     }
     if walk.len() < 7 {
@@ -157,7 +157,7 @@ pub fn archive_next(
 ) -> u64
     ensures { λ r. ⌜ NextMeets (before header) (before walk) (before index) (before rows) (before bytes) (before names) (before symbols) (walkExit r header walk rows) ⌝ }
 {
-    if header.len() < 16 {
+    if header.len() < ffi_header::HEADER_CELLS {
         return 1;
     }
     if walk.len() < 7 {
@@ -166,7 +166,7 @@ pub fn archive_next(
     next_fit(header, walk, index, rows, bytes, names, symbols)
 }
 
-// The value is 1 where the object is admitted, else 0; the link isn't looked at.
+// The value is 1 where the object is admitted, else 0; of the link its profile alone is looked at.
 pub fn matches(
     header: &mut [u64],
     walk: &[u64],
@@ -180,13 +180,14 @@ pub fn matches(
 ) -> u64
     ensures { λ r. ⌜ MatchesMeets (before header) (before walk) (before index) (before rows) entry (before headers) (before entries) (before contents) (before file) (toldExit r header) ⌝ }
 {
-    if header.len() < 16 {
+    if header.len() < ffi_header::HEADER_CELLS {
         return 1;
     }
     if walk.len() < 7 {
         return ffi_header::answer(header, ffi_header::refusal(1, 0));
     }
+    let l = ffi_header::link_in(header);
     let w = walk_in(walk);
-    let a = object_requirement::matches(headers, entries, contents, file, w, index, rows, entry);
+    let a = object_requirement::matches(l, headers, entries, contents, file, w, index, rows, entry);
     ffi_header::answer(header, admitted(a))
 }

@@ -21,11 +21,11 @@ pub entry-known : (b : Bool) (n : ℕ) (t : EntryPoint) (k : Bool) → b ≡ k �
 entry-known b n t k e q = simp (q, e)
 
 module _ (h : List ℕ) (lists : Lists) (s x : List ℕ) (w : List ℕ) (t : RunLeft) where
-  pub run-short : (entry : EntryPoint) → length h < 16 → t ≡ runLeft (told 1 h) s x w → t ≡ runCall h lists s x entry w
+  pub run-short : (entry : EntryPoint) → length h < 24 → t ≡ runLeft (told 1 h) s x w → t ≡ runCall h lists s x entry w
   unfolding runCall isShort
   run-short entry i q = simp (q, lt-ltb _ _ i)
 
-  pub run-told : (entered : Bool) (entry : ℕ) (l : Link) (p : EntryPoint) (o : Left) (r : Reply) (y : Told) → 16 ≤ length h → l ≡ linkIn h → p ≡ entryOf entered entry
+  pub run-told : (entered : Bool) (entry : ℕ) (l : Link) (p : EntryPoint) (o : Left) (r : Reply) (y : Told) → 24 ≤ length h → l ≡ linkIn h → p ≡ entryOf entered entry
       → o ≡ runOf l lists s x p w → r ≡ collectedReply (o .said) → y ≡ tellOf h (o .link) r → t ≡ runLeft y (o .symbols) (o .sections) (o .work)
       → t ≡ runCall h lists s x (entryOf entered entry) w
   unfolding runCall isShort

@@ -1,4 +1,4 @@
-// Collection, for another language: the link and the answer lie in a header (ffi_header). A header of fewer than 16 cells gives 1, and nothing is
+// Collection, for another language: the link and the answer lie in a header (ffi_header). A header of fewer than 24 cells gives 1, and nothing is
 // read or written.
 ghost use mathlib.Core.Path.{_≡_};
 ghost use Rattle.cells.specs.Slice.{before};
@@ -47,7 +47,7 @@ pub fn gc_run(
 ) -> u64
     ensures { λ r. ⌜ RunMeets (before header) (listsIn bytes names lists marks) (before symbols) (before sections) (entryOf entered entry) (before work) (runExit r header symbols sections work) ⌝ }
 {
-    if header.len() < 16 {
+    if header.len() < ffi_header::HEADER_CELLS {
         return 1;
     }
     let l = ffi_header::link_in(header);

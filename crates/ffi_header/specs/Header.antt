@@ -1,10 +1,10 @@
--- A link and an answer in the cells of a header: 0 to 8 and 15 the link, 9 the refusal's number, 10 its place, 11 to 14 the values.
+-- A link and an answer in the cells of a header: 0 to 8, 15 and 16 the link, 9 the refusal's number, 10 its place, 11 to 14 the values.
 -- Assumes nothing.
 use Prim.Native.Nat.{ℕ}
 use mathlib.Core.Bool.{Bool, true, false, cond}
 use mathlib.Core.List.{List, [], _∷_}
 use lib.Dec.{eqb, ltb}
-use lib.ListN.{getD, length}
+use lib.ListN.{getD, set, length}
 use Rattle.cells.specs.Rows.{putRow}
 use Rattle.link.specs.declared.Link.{Link}
 use Rattle.link.specs.declared.Refusal.{Refusal}
@@ -20,7 +20,7 @@ flagOf b = cond b 1 0
 
 -- a call that is lent such a header returns 1 and changes nothing
 unfoldable pub isShort : List ℕ → Bool
-isShort h = ltb (length h) 16
+isShort h = ltb (length h) 24
 
 unfoldable pub linkIn : List ℕ → Link
 linkIn h =
@@ -34,6 +34,7 @@ linkIn h =
       chains = getD h 6 0;
       slots = getD h 7 0;
       key = getD h 15 0;
+      gabi = isSet (getD h 16 0);
       broken = isSet (getD h 8 0);
     }
 
@@ -65,9 +66,13 @@ unfoldable pub countsIn : List ℕ → Link → List ℕ
 countsIn h l =
     putRow h 0 (l .names ∷ l .bytes ∷ l .symbols ∷ l .sections ∷ l .inputs ∷ l .lists ∷ l .chains ∷ l .slots ∷ [])
 
+-- cell 16
+unfoldable pub profileIn : List ℕ → Link → List ℕ
+profileIn h l = set h 16 (flagOf (l .gabi))
+
 -- the link that is handed back, and the answer
 unfoldable pub headerOf : List ℕ → Link → Reply → List ℕ
-headerOf h l r = replyIn (countsIn h l) (flagOf (l .broken)) (l .key) r
+headerOf h l r = replyIn (profileIn (countsIn h l) l) (flagOf (l .broken)) (l .key) r
 
 -- the number that a call returns, and its header
 pub record Told : Type 0 where
@@ -81,6 +86,6 @@ told number header = record { number = number; header = header }
 unfoldable pub tellOf : List ℕ → Link → Reply → Told
 tellOf h l r = told (r .number) (headerOf h l r)
 
--- a call that doesn't change a link: cells 8 and 15 keep their numbers
+-- a call that doesn't change a link: cells 8, 15 and 16 keep their numbers
 unfoldable pub answerOf : List ℕ → Reply → Told
 answerOf h r = told (r .number) (replyIn h (getD h 8 0) (getD h 15 0) r)

@@ -4,12 +4,12 @@ use Prim.Native.Nat.{ℕ}
 use mathlib.Core.Path.{_≡_}
 use mathlib.Core.Bool.{Bool, true, false}
 use mathlib.Core.List.{List, [], _∷_}
-use lib.ListN.{getD}
+use lib.ListN.{getD, set}
 use borrow.Author.Tests.{eq-eqb, ne-eqb}
 use Rattle.cells.specs.Rows.{putRow}
 use Rattle.link.specs.declared.Link.{Link}
 use Rattle.ffi_header.specs.declared.Reply.{Reply}
-use Rattle.ffi_header.specs.Header.{isSet, flagOf, linkIn, replyIn, countsIn, headerOf, Told, told, tellOf, answerOf}
+use Rattle.ffi_header.specs.Header.{isSet, flagOf, linkIn, replyIn, countsIn, profileIn, headerOf, Told, told, tellOf, answerOf}
 
 -- ---- the header
 
@@ -23,16 +23,20 @@ module _ (c : ℕ) (t : Bool) where
   set-so e q = simp (q, ne-eqb _ _ e)
 
 module _ (h : List ℕ) where
-  pub link-read : (t : Link) (a b c d e f g i j m : ℕ) (k : Bool) → a ≡ getD h 0 0 → b ≡ getD h 1 0 → c ≡ getD h 2 0 → d ≡ getD h 3 0 → e ≡ getD h 4 0
-      → f ≡ getD h 5 0 → g ≡ getD h 6 0 → i ≡ getD h 7 0 → m ≡ getD h 15 0 → j ≡ getD h 8 0 → k ≡ isSet j
-      → t ≡ record { names = a; bytes = b; symbols = c; sections = d; inputs = e; lists = f; chains = g; slots = i; key = m; broken = k } → t ≡ linkIn h
+  pub link-read : (t : Link) (a b c d e f g i j m n : ℕ) (k p : Bool) → a ≡ getD h 0 0 → b ≡ getD h 1 0 → c ≡ getD h 2 0 → d ≡ getD h 3 0 → e ≡ getD h 4 0
+      → f ≡ getD h 5 0 → g ≡ getD h 6 0 → i ≡ getD h 7 0 → m ≡ getD h 15 0 → n ≡ getD h 16 0 → p ≡ isSet n → j ≡ getD h 8 0 → k ≡ isSet j
+      → t ≡ record { names = a; bytes = b; symbols = c; sections = d; inputs = e; lists = f; chains = g; slots = i; key = m; gabi = p; broken = k } → t ≡ linkIn h
   unfolding linkIn
-  link-read t a b c d e f g i j m k q0 q1 q2 q3 q4 q5 q6 q7 qm q8 q9 q = simp (q, q0, q1, q2, q3, q4, q5, q6, q7, qm, q9, q8)
+  link-read t a b c d e f g i j m n k p q0 q1 q2 q3 q4 q5 q6 q7 qm qn qp q8 q9 q = simp (q, q0, q1, q2, q3, q4, q5, q6, q7, qm, qp, qn, q9, q8)
 
   pub counts-put : (m : List ℕ) (l : Link)
       → m ≡ putRow h 0 (l .names ∷ l .bytes ∷ l .symbols ∷ l .sections ∷ l .inputs ∷ l .lists ∷ l .chains ∷ l .slots ∷ []) → m ≡ countsIn h l
   unfolding countsIn
   counts-put m l q = q
+
+  pub profile-put : (m : List ℕ) (l : Link) (b : ℕ) → b ≡ flagOf (l .gabi) → m ≡ set h 16 b → m ≡ profileIn h l
+  unfolding profileIn
+  profile-put m l b e q = simp (q, e)
 
   module _ (r : Reply) where
     pub reply-put : (m : List ℕ) (b k : ℕ) → m ≡ putRow h 1 (b ∷ r .number ∷ r .place ∷ r .first ∷ r .second ∷ r .third ∷ r .fourth ∷ k ∷ []) → m ≡ replyIn h b k r
@@ -44,6 +48,7 @@ module _ (h : List ℕ) where
       unfolding answerOf
       answer-told b k m e g f q = simp (q, f, e, g)
 
-      pub tell-told : (l : Link) (c m : List ℕ) (b : ℕ) → c ≡ countsIn h l → b ≡ flagOf (l .broken) → m ≡ replyIn c b (l .key) r → t ≡ told (r .number) m → t ≡ tellOf h l r
+      pub tell-told : (l : Link) (c d m : List ℕ) (b : ℕ) → c ≡ countsIn h l → d ≡ profileIn c l → b ≡ flagOf (l .broken) → m ≡ replyIn d b (l .key) r → t ≡ told (r .number) m
+          → t ≡ tellOf h l r
       unfolding tellOf headerOf
-      tell-told l c m b e f g q = simp (q, g, f, e)
+      tell-told l c d m b e p f g q = simp (q, g, f, p, e)

@@ -1,9 +1,14 @@
 // A link and an answer in the cells of a header, for the calls from another language. Cells 0 to 8 hold the link (names, bytes, symbols, sections,
-// inputs, lists, chains, slots, broken) and 15 its key, 9 the number of the refusal, 10 its place, 11 to 14 the values of the answer.
+// inputs, lists, chains, slots, broken), 15 its key and 16 its profile, 9 the number of the refusal, 10 its place, 11 to 14 the values of the answer.
 ghost use mathlib.Core.Path.{_≡_};
-ghost use Rattle.ffi_header.specs.Header.{isSet, flagOf, linkIn, resultOf, refusalOf, refusedOf, replyIn, countsIn, told, tellOf, answerOf};
+ghost use Rattle.ffi_header.specs.Header.{isSet, flagOf, linkIn, resultOf, refusalOf, refusedOf, replyIn, countsIn, profileIn, told, tellOf, answerOf};
 use link::Link;
 use link::Refusal;
+
+// Cells of a header, and the one that holds the profile: 0 the old one, else the gABI's. Those behind it are left.
+pub const HEADER_CELLS: usize = 24;
+
+const PROFILE: usize = 16;
 
 // Number 0 is a result, with its values; a refusal has none.
 pub struct Reply {
@@ -49,6 +54,7 @@ pub fn link_in(header: &[u64]) -> Link
         chains: cells::get(header, 6) as usize,
         slots: cells::get(header, 7) as usize,
         key: cells::get(header, 15) as usize,
+        gabi: is_set(cells::get(header, PROFILE)),
         broken: is_set(cells::get(header, 8)),
     }
 }
@@ -98,11 +104,18 @@ fn put_counts(header: &mut [u64], l: Link)
     );
 }
 
+fn put_profile(header: &mut [u64], l: Link)
+    ensures { λ _. ⌜ now (header .exit) ≡ profileIn (now (header .entry)) l ⌝ }
+{
+    cells::put(header, PROFILE, flag(l.gabi));
+}
+
 // The link that a call hands back, and its answer.
 pub fn tell(header: &mut [u64], l: Link, r: Reply) -> u64
     ensures { λ n. ⌜ told n (now (header .exit)) ≡ tellOf (now (header .entry)) l r ⌝ }
 {
     put_counts(header, l);
+    put_profile(header, l);
     put_reply(header, flag(l.broken), l.key as u64, r);
     r.number
 }

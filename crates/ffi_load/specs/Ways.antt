@@ -16,11 +16,11 @@ pub said-known : (a : Answer) (t : Reply) (k : Answer) → a ≡ k → t ≡ say
 said-known a t k e q = simp (q, e)
 
 module _ (h : List ℕ) (o : Input) (m : Rows) (t : LoadLeft) where
-  pub load-short : length h < 16 → t ≡ loadLeft (told 1 h) m → t ≡ loadCall h o m
+  pub load-short : length h < 24 → t ≡ loadLeft (told 1 h) m → t ≡ loadCall h o m
   unfolding loadCall isShort
   load-short i q = simp (q, lt-ltb _ _ i)
 
-  pub load-told : (l : Link) (w : Left) (r : Reply) (y : Told) → 16 ≤ length h → l ≡ linkIn h → w ≡ loadOf o (withLink m l) → r ≡ saying (w .said)
+  pub load-told : (l : Link) (w : Left) (r : Reply) (y : Told) → 24 ≤ length h → l ≡ linkIn h → w ≡ loadOf o (withLink m l) → r ≡ saying (w .said)
       → y ≡ tellOf h (w .cells .link) r → t ≡ loadLeft y (rowsIn (w .cells)) → t ≡ loadCall h o m
   unfolding loadCall isShort
   load-told l w r y i e f g j q = simp (q, j, g, le-ltb _ _ i, ← e, ← f)

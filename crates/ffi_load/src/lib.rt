@@ -1,4 +1,4 @@
-// The load of a shared object, for another language: the link and the answer lie in a header (ffi_header). A header of fewer than 16 cells gives 1,
+// The load of a shared object, for another language: the link and the answer lie in a header (ffi_header). A header of fewer than 24 cells gives 1,
 // and nothing is read or written.
 ghost use mathlib.Core.Path.{_≡_};
 ghost use Rattle.cells.specs.Slice.{before};
@@ -40,7 +40,7 @@ pub fn load_shared_object<'a>(
 ) -> u64
     ensures { λ r. ⌜ LoadMeets (before header) (libraryIn entries file needs path archived sonamed soname asneeded) (linkRows bytes names symbols sections inputs lists marks) (toldExit r header) ⌝ }
 {
-    if header.len() < 16 {
+    if header.len() < ffi_header::HEADER_CELLS {
         return 1;
     }
     let l = ffi_header::link_in(header);

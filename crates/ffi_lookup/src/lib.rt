@@ -1,5 +1,5 @@
 // Lookups of symbols, for another language: the link and the answer lie in a header (ffi_header), a symbol that was found in cells of its own
-// (ffi_cells). A header of fewer than 16 cells gives 1, and nothing is read or written; fewer than 9 cells for a symbol give 1 at place 0 and are
+// (ffi_cells). A header of fewer than 24 cells gives 1, and nothing is read or written; fewer than 9 cells for a symbol give 1 at place 0 and are
 // left.
 ghost use mathlib.Core.Path.{_≡_};
 ghost use Rattle.cells.specs.Slice.{before};
@@ -31,7 +31,7 @@ fn found(header: &mut [u64], out: &mut [u64], a: Found) -> u64
 pub fn get(header: &mut [u64], symbols: &[u64], id: usize, out: &mut [u64]) -> u64
     ensures { λ r. ⌜ GetMeets (before header) (before symbols) id (before out) (foundExit r header out) ⌝ }
 {
-    if header.len() < 16 {
+    if header.len() < ffi_header::HEADER_CELLS {
         return 1;
     }
     if out.len() < 9 {
@@ -51,7 +51,7 @@ pub fn get_global(
 ) -> u64
     ensures { λ r. ⌜ GetGlobalMeets (before header) (before names) (before symbols) name (before out) (foundExit r header out) ⌝ }
 {
-    if header.len() < 16 {
+    if header.len() < ffi_header::HEADER_CELLS {
         return 1;
     }
     if out.len() < 9 {
@@ -75,7 +75,7 @@ fn section_symbol(a: SectionSymbol) -> Reply
 pub fn section_symbol_id(header: &mut [u64], sections: &[u64], section: usize) -> u64
     ensures { λ r. ⌜ SectionSymbolMeets (before header) (before sections) section (toldExit r header) ⌝ }
 {
-    if header.len() < 16 {
+    if header.len() < ffi_header::HEADER_CELLS {
         return 1;
     }
     let l = ffi_header::link_in(header);

@@ -23,21 +23,21 @@ pub merged-known : (a : MergeAnswer.Answer) (t : Reply) (k : MergeAnswer.Answer)
 merged-known a t k e q = simp (q, e)
 
 module _ (h : List ℕ) (o : Group.Object) (b n w : List ℕ) (section : ℕ) (t : GroupLeft) where
-  pub group-short : length h < 16 → t ≡ groupLeft (told 1 h) b n w → t ≡ groupCall h o b n w section
+  pub group-short : length h < 24 → t ≡ groupLeft (told 1 h) b n w → t ≡ groupCall h o b n w section
   unfolding groupCall isShort
   group-short i q = simp (q, lt-ltb _ _ i)
 
-  pub group-told : (l : Link) (v : AddGroup.Left) (r : Reply) (y : Told) → 16 ≤ length h → l ≡ linkIn h → v ≡ AddGroup.addGroupOf o (AddGroup.stateOf b n w l) section
+  pub group-told : (l : Link) (v : AddGroup.Left) (r : Reply) (y : Told) → 24 ≤ length h → l ≡ linkIn h → v ≡ AddGroup.addGroupOf o (AddGroup.stateOf b n w l) section
       → r ≡ refusedOf (v .said) → y ≡ tellOf h (v .outcome .link) r → t ≡ groupLeft y (v .bytes) (v .names) (v .work) → t ≡ groupCall h o b n w section
   unfolding groupCall isShort
   group-told l v r y i e f g j q = simp (q, j, g, le-ltb _ _ i, ← e, ← f)
 
 module _ (h : List ℕ) (o : Object) (m : Rows) (t : MergeLeft) where
-  pub merge-short : length h < 16 → t ≡ mergeLeft (told 1 h) m → t ≡ mergeCall h o m
+  pub merge-short : length h < 24 → t ≡ mergeLeft (told 1 h) m → t ≡ mergeCall h o m
   unfolding mergeCall isShort
   merge-short i q = simp (q, lt-ltb _ _ i)
 
-  pub merge-told : (l : Link) (w : Merge.Left) (r : Reply) (y : Told) → 16 ≤ length h → l ≡ linkIn h → w ≡ Merge.mergeOf o (withLink m l) → r ≡ refusedOf (w .said)
+  pub merge-told : (l : Link) (w : Merge.Left) (r : Reply) (y : Told) → 24 ≤ length h → l ≡ linkIn h → w ≡ Merge.mergeOf o (withLink m l) → r ≡ refusedOf (w .said)
       → y ≡ tellOf h (w .cells .stage .link) r → t ≡ mergeLeft y (rowsIn (w .cells)) → t ≡ mergeCall h o m
   unfolding mergeCall isShort
   merge-told l w r y i e f g j q = simp (q, j, g, le-ltb _ _ i, ← e, ← f)

@@ -1,5 +1,5 @@
 // The merge of an object, and a group added by itself, for another language: the link and the answer lie in a header (ffi_header). A header of fewer
-// than 16 cells gives 1, and nothing is read or written. There are no values.
+// than 24 cells gives 1, and nothing is read or written. There are no values.
 ghost use mathlib.Core.Path.{_≡_};
 ghost use Rattle.cells.specs.Slice.{before};
 ghost use Rattle.add_group.specs.AddGroup as AddGroup;
@@ -33,7 +33,7 @@ pub fn add_group(
 ) -> u64
     ensures { λ r. ⌜ GroupMeets (before header) (groupObject headers entries contents file t) (before bytes) (before names) (before work) n (groupExit r header bytes names work) ⌝ }
 {
-    if header.len() < 16 {
+    if header.len() < ffi_header::HEADER_CELLS {
         return 1;
     }
     let l = ffi_header::link_in(header);
@@ -81,7 +81,7 @@ pub fn merge_elf(
 ) -> u64
     ensures { λ r. ⌜ MergeMeets (before header) (mergeObject headers entries contents file strings) (linkRows bytes names symbols sections inputs lists work ids) (toldExit r header) ⌝ }
 {
-    if header.len() < 16 {
+    if header.len() < ffi_header::HEADER_CELLS {
         return 1;
     }
     let l = ffi_header::link_in(header);

@@ -21,11 +21,11 @@ pub said-known : (a : Answer) (t : Reply) (k : Answer) → a ≡ k → t ≡ say
 said-known a t k e q = simp (q, e)
 
 module _ (h b n x : List ℕ) (t : InternLeft) where
-  pub intern-short : length h < 16 → t ≡ internLeft (told 1 h) b n → t ≡ internCall h b n x
+  pub intern-short : length h < 24 → t ≡ internLeft (told 1 h) b n → t ≡ internCall h b n x
   unfolding internCall isShort
   intern-short s q = simp (q, lt-ltb _ _ s)
 
-  pub intern-told : (l : Link) (w : Left) (r : Reply) (y : Told) → 16 ≤ length h → l ≡ linkIn h → w ≡ internOf (storeOf b n l) x → r ≡ saying (w .said)
+  pub intern-told : (l : Link) (w : Left) (r : Reply) (y : Told) → 24 ≤ length h → l ≡ linkIn h → w ≡ internOf (storeOf b n l) x → r ≡ saying (w .said)
       → y ≡ tellOf h (w .store .link) r → t ≡ internLeft y (w .store .bytes) (w .store .names) → t ≡ internCall h b n x
   unfolding internCall isShort
   intern-told l w r y s e f g i q = simp (q, i, g, le-ltb _ _ s, ← e, ← f)
@@ -49,11 +49,11 @@ module _ (n : List ℕ) (id bytes : ℕ) where
     part-refused z q = simp (q, ne-eqb _ _ z)
 
 module _ (h b n : List ℕ) (id : ℕ) (t : Told) where
-  pub resolve-short : length h < 16 → t ≡ told 1 h → t ≡ resolveCall h b n id
+  pub resolve-short : length h < 24 → t ≡ told 1 h → t ≡ resolveCall h b n id
   unfolding resolveCall isShort
   resolve-short s q = simp (q, lt-ltb _ _ s)
 
-  pub resolve-told : (l : Link) (w : Resolved) (r : Reply) → 16 ≤ length h → l ≡ linkIn h → w ≡ resolveOf (storeOf b n l) (record { 0 = id })
+  pub resolve-told : (l : Link) (w : Resolved) (r : Reply) → 24 ≤ length h → l ≡ linkIn h → w ≡ resolveOf (storeOf b n l) (record { 0 = id })
       → r ≡ resolveReply b n id w → t ≡ answerOf h r → t ≡ resolveCall h b n id
   unfolding resolveCall isShort
   resolve-told l w r s e f g q = simp (q, g, le-ltb _ _ s, ← e, ← f)
@@ -78,10 +78,10 @@ module _ (s : Store) (x : List ℕ) (t : Reply) (n : Lent) (k : Refusal) where
   find-answered id a e z f q = simp (q, ← a, ← e, eq-eqb _ _ z, ← f)
 
 module _ (h b n x : List ℕ) (t : Told) where
-  pub find-short : length h < 16 → t ≡ told 1 h → t ≡ findCall h b n x
+  pub find-short : length h < 24 → t ≡ told 1 h → t ≡ findCall h b n x
   unfolding findCall isShort
   find-short s q = simp (q, lt-ltb _ _ s)
 
-  pub find-told : (l : Link) (r : Reply) → 16 ≤ length h → l ≡ linkIn h → r ≡ findReply (storeOf b n l) x → t ≡ answerOf h r → t ≡ findCall h b n x
+  pub find-told : (l : Link) (r : Reply) → 24 ≤ length h → l ≡ linkIn h → r ≡ findReply (storeOf b n l) x → t ≡ answerOf h r → t ≡ findCall h b n x
   unfolding findCall isShort
   find-told l r s e f q = simp (q, f, le-ltb _ _ s, ← e)

@@ -1,4 +1,4 @@
-// Names, for another language: the link and the answer lie in a header (ffi_header). A header of fewer than 16 cells gives 1, and nothing is
+// Names, for another language: the link and the answer lie in a header (ffi_header). A header of fewer than 24 cells gives 1, and nothing is
 // read or written.
 ghost use mathlib.Core.Path.{_≡_};
 ghost use lib.ListN.{getD};
@@ -30,7 +30,7 @@ fn interned(a: Answer) -> Reply
 pub fn intern(header: &mut [u64], bytes: &mut [u8], names: &mut [u64], name: &[u8]) -> u64
     ensures { λ r. ⌜ InternMeets (before header) (before bytes) (before names) (before name) (internExit r header bytes names) ⌝ }
 {
-    if header.len() < 16 {
+    if header.len() < ffi_header::HEADER_CELLS {
         return 1;
     }
     let l = ffi_header::link_in(header);
@@ -64,7 +64,7 @@ fn part_reply(names: &[u64], id: usize, bytes: usize, len: usize, number: u64, p
 pub fn resolve(header: &mut [u64], bytes: &[u8], names: &[u64], id: usize) -> u64
     ensures { λ r. ⌜ ResolveMeets (before header) (before bytes) (before names) id (toldExit r header) ⌝ }
 {
-    if header.len() < 16 {
+    if header.len() < ffi_header::HEADER_CELLS {
         return 1;
     }
     let l = ffi_header::link_in(header);
@@ -113,7 +113,7 @@ fn find_reply(l: Link, bytes: &[u8], names: &[u64], name: &[u8]) -> Reply
 pub fn find(header: &mut [u64], bytes: &[u8], names: &[u64], name: &[u8]) -> u64
     ensures { λ r. ⌜ FindMeets (before header) (before bytes) (before names) (before name) (toldExit r header) ⌝ }
 {
-    if header.len() < 16 {
+    if header.len() < ffi_header::HEADER_CELLS {
         return 1;
     }
     let l = ffi_header::link_in(header);

@@ -1,8 +1,9 @@
 -- What the calls return, and every lent cell after them.
 -- Assumes nothing.
 use Prim.Native.Nat.{ℕ}
-use mathlib.Core.Bool.{cond}
+use mathlib.Core.Bool.{true, false, cond}
 use mathlib.Core.List.{List}
+use lib.Dec.{eqb}
 use Rattle.upcoming_symbol.specs.declared.UpcomingSymbol.{UpcomingSymbol}
 use Rattle.symbol_rows.specs.Apply.{tableOf}
 use Rattle.symbols.specs.Calls as Table
@@ -28,8 +29,19 @@ abbrev pub newTold : List ℕ → New.NewLeft → NewLeft
 newTold h w =
     newLeft (tellOf h (w .table .link) (saying (w .said))) (w .bytes) (w .table .names) (w .table .symbols) (w .table .sections)
 
-unfoldable pub newCall : List ℕ → ℕ → List ℕ → List ℕ → List ℕ → List ℕ → NewLeft
-newCall h key b n s x = cond (isShort h) (newLeft (told 1 h) b n s x) (newTold h (New.newOf key b n s x))
+-- the profiles' numbers
+abbrev pub oldProfile : ℕ
+oldProfile = 0
+
+abbrev pub gabiProfile : ℕ
+gabiProfile = 1
+
+-- another number than the two: 1 at place 0, before all else
+unfoldable pub newCall : List ℕ → ℕ → ℕ → List ℕ → List ℕ → List ℕ → List ℕ → NewLeft
+newCall h key profile b n s x =
+    cond (isShort h) (newLeft (told 1 h) b n s x)
+    (cond (eqb profile oldProfile) (newTold h (New.newOf key false b n s x))
+    (cond (eqb profile gabiProfile) (newTold h (New.newOf key true b n s x)) (newLeft (answerOf h (refusalOf 1 0)) b n s x)))
 
 -- ---- add
 

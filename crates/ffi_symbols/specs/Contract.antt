@@ -27,9 +27,9 @@ newExit n header bytes names symbols sections =
       sections = after sections;
     }
 
-abbrev pub NewMeets : List ℕ → ℕ → List ℕ → List ℕ → List ℕ → List ℕ → NewExit → Type 0
-NewMeets h key bytes names symbols sections e =
-    newLeft (told (e .number) (e .header)) (e .bytes) (e .names) (e .symbols) (e .sections) ≡ newCall h key bytes names symbols sections
+abbrev pub NewMeets : List ℕ → ℕ → ℕ → List ℕ → List ℕ → List ℕ → List ℕ → NewExit → Type 0
+NewMeets h key profile bytes names symbols sections e =
+    newLeft (told (e .number) (e .header)) (e .bytes) (e .names) (e .symbols) (e .sections) ≡ newCall h key profile bytes names symbols sections
 
 pub record AddExit : Type 0 where
   pub number : ℕ

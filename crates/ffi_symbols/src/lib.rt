@@ -1,11 +1,12 @@
 // A new table, symbols added and removed, for another language: the link and the answer lie in a header (ffi_header), a symbol that is to be added
-// in cells of its own (ffi_cells). A header of fewer than 16 cells gives 1, and nothing is read or written; other cells that are too few give 1 at
+// in cells of its own (ffi_cells). A header of fewer than 24 cells gives 1, and nothing is read or written; other cells that are too few give 1 at
 // place 0 and are left.
 ghost use mathlib.Core.Path.{_≡_};
 ghost use Rattle.cells.specs.Slice.{before};
 ghost use Rattle.symbols.specs.Calls.{said};
+ghost use Rattle.symbols.specs.New as New;
 ghost use Rattle.ffi_header.specs.Header.{saying, told};
-ghost use Rattle.ffi_symbols.specs.Calls.{addLeft, addKnown};
+ghost use Rattle.ffi_symbols.specs.Calls.{newLeft, newTold, addLeft, addKnown};
 ghost use Rattle.ffi_symbols.specs.Contract.{newExit, NewMeets, addExit, AddMeets, removeExit, RemoveMeets};
 use ffi_header::Reply;
 use link::SymbolId;
@@ -22,25 +23,52 @@ fn added(a: Answer) -> Reply
     }
 }
 
-// The value is the null symbol's id. What the lent cells held before doesn't matter. Any number is a key of the names' hash.
-pub fn new(
+// The profiles' numbers.
+const OLD: u64 = 0;
+
+const GABI: u64 = 1;
+
+fn new_in(
     header: &mut [u64],
     key: usize,
+    gabi: bool,
     bytes: &mut [u8],
     names: &mut [u64],
     symbols: &mut [u64],
     sections: &mut [u64],
 ) -> u64
-    ensures { λ r. ⌜ NewMeets (before header) key (before bytes) (before names) (before symbols) (before sections) (newExit r header bytes names symbols sections) ⌝ }
+    ensures { λ r. ⌜ newLeft (told r (now (header .exit))) (now (bytes .exit)) (now (names .exit)) (now (symbols .exit)) (now (sections .exit)) ≡ newTold (now (header .entry)) (New.newOf key gabi (now (bytes .entry)) (now (names .entry)) (now (symbols .entry)) (now (sections .entry))) ⌝ }
 {
-    if header.len() < 16 {
-        return 1;
-    }
-    let o = Symbols::new(key, bytes, names, symbols, sections);
+    let o = Symbols::new(key, gabi, bytes, names, symbols, sections);
     let table = o.table;
     let l = table.link;
     let a = o.answer;
     ffi_header::tell(header, l, added(a))
+}
+
+// The value is the null symbol's id. What the lent cells held before doesn't matter. Any number is a key of the names' hash; a profile is 0, the old one,
+// or 1, the gABI's: another number gives 1 at place 0.
+pub fn new(
+    header: &mut [u64],
+    key: usize,
+    profile: u64,
+    bytes: &mut [u8],
+    names: &mut [u64],
+    symbols: &mut [u64],
+    sections: &mut [u64],
+) -> u64
+    ensures { λ r. ⌜ NewMeets (before header) key profile (before bytes) (before names) (before symbols) (before sections) (newExit r header bytes names symbols sections) ⌝ }
+{
+    if header.len() < ffi_header::HEADER_CELLS {
+        return 1;
+    }
+    if profile == OLD {
+        return new_in(header, key, false, bytes, names, symbols, sections);
+    }
+    if profile == GABI {
+        return new_in(header, key, true, bytes, names, symbols, sections);
+    }
+    ffi_header::answer(header, ffi_header::refusal(1, 0))
 }
 
 fn add_known(
@@ -72,7 +100,7 @@ pub fn add(
 ) -> u64
     ensures { λ r. ⌜ AddMeets (before header) (before names) (before symbols) (before sections) (before conversion) (before item) (addExit r header names symbols sections) ⌝ }
 {
-    if header.len() < 16 {
+    if header.len() < ffi_header::HEADER_CELLS {
         return 1;
     }
     if ffi_cells::is_item(item) {
@@ -86,7 +114,7 @@ pub fn add(
 pub fn remove(header: &mut [u64], symbols: &mut [u64], sections: &mut [u64], id: usize) -> u64
     ensures { λ r. ⌜ RemoveMeets (before header) (before symbols) (before sections) id (removeExit r header symbols sections) ⌝ }
 {
-    if header.len() < 16 {
+    if header.len() < ffi_header::HEADER_CELLS {
         return 1;
     }
     let l = ffi_header::link_in(header);

@@ -25,7 +25,7 @@ use Rattle.gc_sections.specs.Run.{Left, Lists, listsOf, judgeCells, judgeOf, pu
 
 -- counts: one name of no bytes; so many symbols, sections and list cells
 abbrev counts : ℕ → ℕ → ℕ → Link
-counts symbols sections lists = record { names = 1; bytes = 0; symbols = symbols; sections = sections; inputs = 0; lists = lists; chains = 1; slots = sections; key = 0; broken = false }
+counts symbols sections lists = record { names = 1; bytes = 0; symbols = symbols; sections = sections; inputs = 0; lists = lists; chains = 1; slots = sections; key = 0; gabi = false; broken = false }
 
 -- the null symbol, and one that lies in section s: local, `Section`
 abbrev null : List ℕ

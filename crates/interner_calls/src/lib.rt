@@ -85,6 +85,7 @@ fn no_names(key: usize, chains: usize) -> Link
         chains: chains,
         slots: 0,
         key: key,
+        gabi: false,
         broken: false,
     }
 }

@@ -75,6 +75,7 @@ pub fn keep_at(
             chains: l.chains,
             slots: l.slots,
             key: l.key,
+            gabi: l.gabi,
             broken: l.broken,
         };
     }

@@ -88,6 +88,7 @@ rest l =
       chains = l .chains;
       slots = l .slots;
       key = l .key;
+      gabi = l .gabi;
       broken = l .broken;
     }
 

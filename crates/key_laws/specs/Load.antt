@@ -148,8 +148,8 @@ module _ (k : ℕ) (v : View) (n : List ℕ) (e : Rekeyed k (viewStore v) n) (x 
   plan-same =
       rw (
         find-same k (viewStore v) n e x,
-        fits-same k (viewStore v) n e (externalRowOf (idOf (viewStore v) x) binding visibility .name) (length x),
-        decision-same k v n e (externalRowOf (idOf (viewStore v) x) binding visibility),
+        fits-same k (viewStore v) n e (externalRowOf (v .link .gabi) (idOf (viewStore v) x) binding visibility .name) (length x),
+        decision-same k v n e (externalRowOf (v .link .gabi) (idOf (viewStore v) x) binding visibility),
       )
 
   plan-id : planOf v x binding visibility .id ≡ idOf (viewStore v) x

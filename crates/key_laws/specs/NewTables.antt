@@ -3,7 +3,7 @@
 use Prim.Native.Nat.{ℕ, _<_}
 use native.Mathlib.Omega.{arith}
 use mathlib.Core.Path.{_≡_, refl, ap, _∙_}
-use mathlib.Core.Bool.{true, false}
+use mathlib.Core.Bool.{Bool, true, false}
 use mathlib.Core.List.{List, []}
 use mathlib.Core.Logic.{_≢_}
 use lib.Dec.{eqb}
@@ -75,8 +75,8 @@ newUnder k n o = newLeft (o .bytes) (tableUnder k n (o .table)) (o .said)
 abbrev pub newStore : NewLeft → Store
 newStore o = storeOf (o .bytes) (o .table .names) (o .table .link)
 
-module _ (key other : ℕ) (bytes names symbols sections : List ℕ) where
-  pub new-said : newOf other bytes names symbols sections .said ≡ newOf key bytes names symbols sections .said
+module _ (key other : ℕ) (gabi : Bool) (bytes names symbols sections : List ℕ) where
+  pub new-said : newOf other gabi bytes names symbols sections .said ≡ newOf key gabi bytes names symbols sections .said
   unfolding newOf nullOf
   new-said =
       rw (names-count key other bytes names)
@@ -92,10 +92,10 @@ module _ (key other : ℕ) (bytes names symbols sections : List ℕ) where
   abbrev nulled : Store → NewLeft
   nulled s =
       newLeft (s .bytes)
-      (tableOf (s .names) (setRow symbols (record { 0 = 0 }) nullRow) (clearSymbols sections) (oneSymbol (s .link) (sectionSlots (length sections)))) (accepted 0)
+      (tableOf (s .names) (setRow symbols (record { 0 = 0 }) nullRow) (clearSymbols sections) (oneSymbol gabi (s .link) (sectionSlots (length sections)))) (accepted 0)
 
-  pub new-moved : numberIn (newOf key bytes names symbols sections .said) ≡ 0
-      → Moved newStore (newUnder other) other (newOf key bytes names symbols sections) (newOf other bytes names symbols sections)
+  pub new-moved : numberIn (newOf key gabi bytes names symbols sections .said) ≡ 0
+      → Moved newStore (newUnder other) other (newOf key gabi bytes names symbols sections) (newOf other gabi bytes names symbols sections)
   unfolding newOf nullOf
   new-moved ok =
       by-test (eqb (symbolRows (length symbols)) 0) (λ a. let z : _≡_ {A = ℕ} 2 0 = rw a at ok in absurd (omega arith))
@@ -119,12 +119,12 @@ module _ (key other : ℕ) (bytes names symbols sections : List ℕ) where
       by-test (eqb (nameRows (length names)) 0) (λ a. rw a)
       (λ a. rw a (ap (λ (l : Link). l .sections) (keep-shape (storeOf bytes (clearHeads names) (noNames key (nameRows (length names)))) (record { 0 = 0 }) [])))
 
-  no-sections : newOf key bytes names symbols sections .table .link .sections ≡ 0
+  no-sections : newOf key gabi bytes names symbols sections .table .link .sections ≡ 0
   unfolding newOf nullOf
   no-sections =
       by-test (eqb (symbolRows (length symbols)) 0) (λ a. rw a)
       (λ a.
       by-test (eqb (Names.newOf key bytes names .store .link .names) 0) (λ b. rw (a, b) names-none) (λ b. rw (a, b) names-none))
 
-  pub new-named : Named (newOf key bytes names symbols sections .table .link) (newOf key bytes names symbols sections .table .sections)
+  pub new-named : Named (newOf key gabi bytes names symbols sections .table .link) (newOf key gabi bytes names symbols sections .table .sections)
   new-named i a = absurd (omega (arith, no-sections))

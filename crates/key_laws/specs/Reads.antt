@@ -24,7 +24,8 @@ use Rattle.sections.specs.Rows.{stateAt, nameIdAt, isBuilt}
 use Rattle.archive_index.specs.Rows.{storedName}
 use Rattle.archive_walk.specs.declared.Walk.{Walk}
 use Rattle.archive_walk.specs.Look as Look
-use Rattle.archive_walk.specs.Look.{judgeTable, nameHolder, wasRemoved, isUndefined, removedName, undefinedName}
+use Rattle.object_requirement.specs.Matches.{matchesOf}
+use Rattle.archive_walk.specs.Look.{judgeTable, nameHolder, wasRemoved, ties, removedName, tiedName}
 use Rattle.archive_walk.specs.Walk.{Queue, queueOf, tieOf, tieAll, removedOf, makeOf, searchOf, passOf, goOf, nextOf}
 use Rattle.gc_sections.specs.declared.EntryPoint.{EntryPoint}
 use Rattle.gc_sections.specs.declared.EntryPoint.the-variants as Entry
@@ -64,14 +65,14 @@ module _ (k : ℕ) (t : Look.Table) (n : List ℕ) (e : Rekeyed k (record { byte
   unfolding removedName
   removed-same x = ap wasRemoved (holds-same x)
 
-  undefined-same : (x : List ℕ) → undefinedName u x ≡ undefinedName t x
-  unfolding undefinedName
-  undefined-same x = ap (isUndefined (t .symbols)) (holds-same x)
+  tied-same : (x : List ℕ) → tiedName u x ≡ tiedName t x
+  unfolding tiedName
+  tied-same x = ap (ties (t .link .gabi) (t .symbols)) (holds-same x)
 
   tie-same : (key c : ℕ) (s : List ℕ) (p n i : ℕ) (q : Queue) → tieAll key c s u p n i q ≡ tieAll key c s t p n i q
   unfolding tieAll tieOf
   tie-same key c s p zero i q = refl
-  tie-same key c s p (suc n) i q = rw (undefined-same (storedName s (q .cells) i)) (tie-same key c s p n (i + 1) _)
+  tie-same key c s p (suc n) i q = rw (tied-same (storedName s (q .cells) i)) (tie-same key c s p n (i + 1) _)
 
   gone-same : (s l : List ℕ) (n i : ℕ) → removedOf s l u n i ≡ removedOf s l t n i
   unfolding removedOf
@@ -81,6 +82,12 @@ module _ (k : ℕ) (t : Look.Table) (n : List ℕ) (e : Rekeyed k (record { byte
   pub next-same : (s l : List ℕ) (w : Walk) → nextOf s l w u ≡ nextOf s l w t
   unfolding nextOf goOf passOf searchOf makeOf
   next-same s l w = rw (judge-same, gone-same s l (w .entries) 0, tie-same (w .key) (w .entries) s (w .passes + 1) (w .entries) 0 (queueOf l (w .queued)))
+
+-- admission looks at the link's profile alone
+pub matches-same : (k : ℕ) (l : Link) (headers entries contents file s rows : List ℕ) (w : Walk) (e : ℕ)
+    → matchesOf (keyed k l) headers entries contents file s rows w e ≡ matchesOf l headers entries contents file s rows w e
+unfolding matchesOf
+matches-same k l headers entries contents file s rows w e = refl
 
 -- ---- a collection
 

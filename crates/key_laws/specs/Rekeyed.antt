@@ -37,6 +37,7 @@ keyed k l =
       chains = l .chains;
       slots = l .slots;
       key = k;
+      gabi = l .gabi;
       broken = l .broken;
     }
 

@@ -89,7 +89,7 @@ pub add-named : (t : Table) (conversion : List ℕ) (u : UpcomingSymbol) → Nam
 unfolding addOf
 add-named t conversion u h =
     by-test (eqb (judgeAddOf (t .link) (lent t) u .number) 0)
-    (λ a. rw a (row-named t (rowOf conversion u (emptyAt (t .names) (Upcoming.nameOf u))) (fileOf u) h)) (λ a. rw a h)
+    (λ a. rw a (row-named t (rowOf (t .link .gabi) conversion u (emptyAt (t .names) (Upcoming.nameOf u))) (fileOf u) h)) (λ a. rw a h)
 
 pub remove-named : (l : Link) (x : Rows) (id : SymbolId) → Named l (x .sections) → Named l (removeOf l x id .rows .sections)
 unfolding removeOf

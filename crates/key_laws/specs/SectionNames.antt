@@ -23,7 +23,7 @@ use Rattle.interner_laws.specs.Find.{find-low}
 use Rattle.interner_laws.specs.Interns.{idOf, keeps}
 use Rattle.symbol.specs.declared.Row.{Row}
 use Rattle.symbol_rows.specs.declared.Decision.{Decision}
-use Rattle.symbol_rows.specs.declared.Decision.the-variants.{Refuse, Nothing, Keep, Append, Replace}
+use Rattle.symbol_rows.specs.declared.Decision.the-variants.{Refuse, Nothing, Keep, Append, Replace, Amend}
 use Rattle.symbol_rows.specs.Decide.{sectionCell, refusalOf}
 use Rattle.symbol_rows.specs.Apply.{Table, tableOf, setSectionSymbol, noteSection, appendOf, applyOf}
 use Rattle.sections.specs.Rows as Sections
@@ -64,6 +64,7 @@ shape l =
       chains = l .chains;
       slots = l .slots;
       key = 0;
+      gabi = false;
       broken = false;
     }
 
@@ -174,6 +175,7 @@ applied-named t r Append h =
     named-rows (t .link) (noteSection (t .link) (t .sections) r (t .link .symbols)) (t .sections) (noted-long (t .link) (t .sections) r (t .link .symbols))
     (section-behind (t .link) (t .sections) r (t .link .symbols)) h
 applied-named t r (Replace id) h = h
+applied-named t r (Amend id) h = h
 
 applied-low : (t : Table) (r : Row) (d : Decision) → t .link .names ≤ t .link .chains → applyOf t r d .link .names ≤ applyOf t r d .link .chains
 unfolding applyOf appendOf
@@ -182,6 +184,7 @@ applied-low t r Nothing h = h
 applied-low t r (Keep id) h = h
 applied-low t r Append h = h
 applied-low t r (Replace id) h = h
+applied-low t r (Amend id) h = h
 
 -- ---- sections reserved
 

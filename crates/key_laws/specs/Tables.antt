@@ -31,7 +31,7 @@ use Rattle.upcoming_symbol.specs.Upcoming.{nameOf, rowOf, elfRowOf, externalRow
 use Rattle.symbol_rows.specs.declared.Holder.{Holder}
 use Rattle.symbol_rows.specs.declared.Holder.the-variants.{Unissued, Nobody, Removed, Known}
 use Rattle.symbol_rows.specs.declared.Decision.{Decision}
-use Rattle.symbol_rows.specs.declared.Decision.the-variants.{Refuse, Nothing, Keep, Append, Replace}
+use Rattle.symbol_rows.specs.declared.Decision.the-variants.{Refuse, Nothing, Keep, Append, Replace, Amend}
 use Rattle.symbol_rows.specs.Holder.{holderOf}
 use Rattle.symbol_rows.specs.Decide as Rows
 use Rattle.symbol_rows.specs.Decide.{sectionCell, sectionRoom, newOf, decideOf, refusalOf}
@@ -134,6 +134,7 @@ module _ (k : ℕ) (b : List ℕ) (t : Table) (n : List ℕ) (e : Rekeyed k (tab
   apply-moved r (Keep id) h = moved (tableStore b) (tableUnder k) k t n e
   apply-moved r Append h = append-moved r h
   apply-moved r (Replace id) h = record { names = n; is = refl; alike = e }
+  apply-moved r (Amend id) h = record { names = n; is = refl; alike = e }
 
   abbrev Fine : Symbols.Left → Symbols.Left → Type 0
   Fine = Moved (addStore b) (addUnder k) k
@@ -205,7 +206,7 @@ module _ (k : ℕ) (b : List ℕ) (t : Table) (n : List ℕ) (e : Rekeyed k (tab
       rw (unissued-is t r file h, q) (refused-moved (r .visibility) (placeOf (t .link) (r .name) file)))
       (λ h. let i : r .name .0 < t .link .names = leb-false _ _ h in rw (same i) (row-moved r file i))
 
-  row-name : (conversion : List ℕ) (u : UpcomingSymbol) (empty : Bool) → rowOf conversion u empty .name ≡ nameOf u
+  row-name : (conversion : List ℕ) (u : UpcomingSymbol) (empty : Bool) → rowOf (t .link .gabi) conversion u empty .name ≡ nameOf u
   unfolding elfRowOf externalRowOf
   row-name conversion Null empty = refl
   row-name conversion (GlobalUnknown name) empty = refl
@@ -214,7 +215,7 @@ module _ (k : ℕ) (b : List ℕ) (t : Table) (n : List ℕ) (e : Rekeyed k (tab
   row-name conversion (ExternallyDefined name visibility binding) empty = refl
   row-name conversion (Elf elf name file) empty = refl
 
-  row-visibility : (conversion : List ℕ) (u : UpcomingSymbol) (empty empty′ : Bool) → rowOf conversion u empty′ .visibility ≡ rowOf conversion u empty .visibility
+  row-visibility : (conversion : List ℕ) (u : UpcomingSymbol) (empty empty′ : Bool) → rowOf (t .link .gabi) conversion u empty′ .visibility ≡ rowOf (t .link .gabi) conversion u empty .visibility
   unfolding elfRowOf externalRowOf
   row-visibility conversion Null empty empty′ = refl
   row-visibility conversion (GlobalUnknown name) empty empty′ = refl
@@ -232,13 +233,13 @@ module _ (k : ℕ) (b : List ℕ) (t : Table) (n : List ℕ) (e : Rekeyed k (tab
   add-moved conversion u =
       let empty : Bool = emptyAt (t .names) (nameOf u) in
       let empty′ : Bool = emptyAt n (nameOf u) in
-      let r : Row = rowOf conversion u empty in
-      let same : r .name .0 < t .link .names → rowOf conversion u empty′ ≡ r = λ h.
+      let r : Row = rowOf (t .link .gabi) conversion u empty in
+      let same : r .name .0 < t .link .names → rowOf (t .link .gabi) conversion u empty′ ≡ r = λ h.
       let i : nameOf u .0 < t .link .names = rw (row-name conversion u empty) at h in
-      ap (λ (c : ℕ). rowOf conversion u (eqb c 0)) (cell-same k (tableStore b t) n e (nameOf u .0) 1 i (omega arith) (λ z. omega arith)) in
+      ap (λ (c : ℕ). rowOf (t .link .gabi) conversion u (eqb c 0)) (cell-same k (tableStore b t) n e (nameOf u .0) 1 i (omega arith) (λ z. omega arith)) in
       rw (e .long, judge-add-keyed (lent t) u)
       (moved-cond (addStore b) (addUnder k) k (eqb (judgeAddOf (t .link) (lent t) u .number) 0) _ _ _ _
-      (λ a. rows-moved r (rowOf conversion u empty′) (fileOf u) (row-name conversion u empty′ ∙ sym (row-name conversion u empty)) (row-visibility conversion u empty empty′) same)
+      (λ a. rows-moved r (rowOf (t .link .gabi) conversion u empty′) (fileOf u) (row-name conversion u empty′ ∙ sym (row-name conversion u empty)) (row-visibility conversion u empty empty′) same)
       (λ a. moved (addStore b) (addUnder k) k (Symbols.left t _) n e))
 
 -- ---- a removal, and lookups: they read no names but who holds one

@@ -35,6 +35,7 @@ listsAt l n =
       chains = l .chains;
       slots = l .slots;
       key = l .key;
+      gabi = l .gabi;
       broken = l .broken;
     }
 

@@ -19,6 +19,7 @@ fn lists_at(l: Link, n: usize) -> Link
         chains: l.chains,
         slots: l.slots,
         key: l.key,
+        gabi: l.gabi,
         broken: l.broken,
     }
 }

@@ -9,12 +9,11 @@ use lib.ListN.{getD, set}
 use Rattle.byte_slices.specs.Bytes.{part}
 use Rattle.strings.specs.Lookup.{Looked, lookUp}
 use Rattle.link.specs.declared.Link.{Link}
-use Rattle.link.specs.declared.SymbolId.{SymbolId}
 use Rattle.interner.specs.Names.{findOf}
-use Rattle.symbol.specs.Row as Symbol
 use Rattle.symbol_rows.specs.declared.Holder.{Holder}
 use Rattle.symbol_rows.specs.declared.Holder.the-variants.{Unissued, Nobody, Removed, Known}
 use Rattle.symbol_rows.specs.Holder.{holderOf}
+use Rattle.symbol_rows.specs.Undefined.{strongUndefined}
 use Rattle.elf_object.specs.Rows.{rowsIn, field}
 use Rattle.library_need.specs.Lists.{hasId, anyFrom}
 
@@ -81,12 +80,6 @@ clearFrom bytes names l entries file (suc n) i marks =
 
 unfoldable pub clearAll : List ℕ → List ℕ → Link → List ℕ → List ℕ → List ℕ → List ℕ
 clearAll bytes names l entries file marks = clearFrom bytes names l entries file (rowsIn entries) 0 marks
-
--- "undefined and strong in the table": global, hidden or not, by the row's own weak flag
-unfoldable pub strongUndefined : List ℕ → SymbolId → Bool
-strongUndefined symbols id =
-    cond (eqb (Symbol.field symbols (id .0) 5) 7)
-    (cond (eqb (Symbol.visibilityCodeAt symbols (id .0)) 1) true (cond (eqb (Symbol.visibilityCodeAt symbols (id .0)) 2) true false)) false
 
 abbrev pub lackedBy : List ℕ → Holder → Bool
 lackedBy symbols Unissued = false

@@ -14,15 +14,13 @@ use Rattle.byte_slices.specs.Bytes.{part}
 use Rattle.gabi.specs.StringTable.{hasName}
 use Rattle.strings.specs.Lookup.{Looked, lookUp}
 use Rattle.link.specs.declared.Link.{Link}
-use Rattle.link.specs.declared.SymbolId.{SymbolId}
 use Rattle.interner.specs.Names.{findOf}
-use Rattle.symbol.specs.Row as Symbol
 use Rattle.symbol_rows.specs.declared.Holder.{Holder}
 use Rattle.symbol_rows.specs.Holder.{holderOf}
 use Rattle.elf_object.specs.Rows.{rowsIn, field}
 use Rattle.elf_object.specs.Ways.{one-less}
 use Rattle.library_need.specs.Lists.{hasId, anyFrom}
-use Rattle.library_need.specs.Need.{libraryName, inputKindAt, dependenciesAt, undefinedAt, dependsOn, markNames, markLibrary, markFrom, markAll, provides, clearNamed, clearMark, clearFrom, clearAll, strongUndefined, lackedBy, wantedIn, View, viewOf, nameWanted, symbolWanted, someWanted, Judged, judgedAs, markedOf, needOf}
+use Rattle.library_need.specs.Need.{libraryName, inputKindAt, dependenciesAt, undefinedAt, dependsOn, markNames, markLibrary, markFrom, markAll, provides, clearNamed, clearMark, clearFrom, clearAll, lackedBy, wantedIn, View, viewOf, nameWanted, symbolWanted, someWanted, Judged, judgedAs, markedOf, needOf}
 
 module _ (file path : List ℕ) (sonamed : Bool) (soname : ℕ) (t : List ℕ) where
   pub name-soname : (x : Looked) → sonamed ≡ true → x ≡ lookUp file soname → t ≡ x .name → t ≡ libraryName file path sonamed soname
@@ -136,27 +134,6 @@ module _ (entries : List ℕ) (i : ℕ) (t : Bool) (section : ℕ) where
         → t ≡ provides entries i
     unfolding provides
     provides-other e f g h a q = simp (q, ← e, ne-eqb _ _ f, ← g, ne-eqb _ _ h, ne-eqb _ _ a)
-
-module _ (symbols : List ℕ) (id : SymbolId) (t : Bool) (value : ℕ) where
-  pub strong-defined : value ≡ Symbol.field symbols (id .0) 5 → (value ≡ 7 → ⊥) → t ≡ false → t ≡ strongUndefined symbols id
-  unfolding strongUndefined
-  strong-defined e f q = simp (q, ← e, ne-eqb _ _ f)
-
-  module _ (v : ℕ) where
-    pub strong-global : value ≡ Symbol.field symbols (id .0) 5 → value ≡ 7 → v ≡ Symbol.visibilityCodeAt symbols (id .0) → v ≡ 1 → t ≡ true
-        → t ≡ strongUndefined symbols id
-    unfolding strongUndefined
-    strong-global e f g h q = simp (q, ← e, eq-eqb _ _ f, ← g, eq-eqb _ _ h)
-
-    pub strong-hidden : value ≡ Symbol.field symbols (id .0) 5 → value ≡ 7 → v ≡ Symbol.visibilityCodeAt symbols (id .0) → (v ≡ 1 → ⊥) → v ≡ 2 → t ≡ true
-        → t ≡ strongUndefined symbols id
-    unfolding strongUndefined
-    strong-hidden e f g h a q = simp (q, ← e, eq-eqb _ _ f, ← g, ne-eqb _ _ h, eq-eqb _ _ a)
-
-    pub strong-weak : value ≡ Symbol.field symbols (id .0) 5 → value ≡ 7 → v ≡ Symbol.visibilityCodeAt symbols (id .0) → (v ≡ 1 → ⊥) → (v ≡ 2 → ⊥) → t ≡ false
-        → t ≡ strongUndefined symbols id
-    unfolding strongUndefined
-    strong-weak e f g h a q = simp (q, ← e, eq-eqb _ _ f, ← g, ne-eqb _ _ h, ne-eqb _ _ a)
 
 pub lacked-held : (symbols : List ℕ) (h k : Holder) (t : Bool) → h ≡ k → t ≡ lackedBy symbols k → t ≡ lackedBy symbols h
 lacked-held symbols h k t e q = simp (q, e)

@@ -1,11 +1,10 @@
 // Whether a shared object is needed. The link is only read; lent cells, one for each name, take a mark for every name that an earlier library
 // without this one among its dependencies has recorded, so that each symbol is judged by one lookup.
 ghost use mathlib.Core.Path.{_≡_};
-ghost use Rattle.library_need.specs.Need.{libraryName, dependsOn, markNames, markLibrary, markAll, provides, clearMark, clearAll, strongUndefined, lackedBy, wantedIn, symbolWanted, viewOf, someWanted, needOf, judgedAs};
+ghost use Rattle.library_need.specs.Need.{libraryName, dependsOn, markNames, markLibrary, markAll, provides, clearMark, clearAll, lackedBy, wantedIn, symbolWanted, viewOf, someWanted, needOf, judgedAs};
 ghost use Rattle.library_need.specs.Lists.{hasId};
 use link::Interned;
 use link::Link;
-use link::SymbolId;
 use symbol_rows::Holder;
 
 // The soname, else the library name.
@@ -108,23 +107,6 @@ fn is_provided(entries: &[u64], i: usize) -> bool
     false
 }
 
-// Is the row undefined, global and not weak?
-fn is_strong_undefined(symbols: &[u64], id: SymbolId) -> bool
-    ensures { λ r. ⌜ r ≡ strongUndefined (now (symbols .entry)) id ⌝ }
-{
-    if cells::row_get(symbols, id.0, 5) != 7 {
-        return false;
-    }
-    let visibility = cells::row_get(symbols, id.0, 4);
-    if visibility == 1 {
-        return true;
-    }
-    if visibility == 2 {
-        return true;
-    }
-    false
-}
-
 fn is_lacked(symbols: &[u64], holder: Holder) -> bool
     ensures { λ r. ⌜ r ≡ lackedBy (now (symbols .entry)) holder ⌝ }
 {
@@ -132,7 +114,7 @@ fn is_lacked(symbols: &[u64], holder: Holder) -> bool
         Holder::Unissued => false,
         Holder::Nobody => false,
         Holder::Removed => false,
-        Holder::Known { id } => is_strong_undefined(symbols, id),
+        Holder::Known { id } => symbol_rows::is_strong_undefined(symbols, id),
     }
 }
 

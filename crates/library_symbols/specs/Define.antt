@@ -32,7 +32,7 @@ unfoldable pub rowedOf : View → List ℕ → Interned → Row → Definition
 rowedOf v x id r = definition id r (judgedOf v (length x) r)
 
 unfoldable pub externalOf : View → List ℕ → ℕ → ℕ → Interned → Definition
-externalOf v x binding visibility id = rowedOf v x id (externalRowOf id binding visibility)
+externalOf v x binding visibility id = rowedOf v x id (externalRowOf (v .link .gabi) id binding visibility)
 
 -- the name's id, known or to come; the row that the symbol would become; the decision
 unfoldable pub planOf : View → List ℕ → ℕ → ℕ → Definition

@@ -32,7 +32,7 @@ module _ (v : View) (n : ℕ) (r : Row) (t : Decision) (fits : Bool) where
   judged-fits h f g e q = simp (q, ← f, g, e)
 
 pub planned-done : (v : View) (x : List ℕ) (binding visibility id : ℕ) (r : Row) (d : Decision) (t : Definition)
-    → id ≡ findOf (v .bytes) (v .names) (v .link) x → r ≡ externalRowOf (record { 0 = id }) binding visibility → d ≡ judgedOf v (length x) r
+    → id ≡ findOf (v .bytes) (v .names) (v .link) x → r ≡ externalRowOf (v .link .gabi) (record { 0 = id }) binding visibility → d ≡ judgedOf v (length x) r
     → t ≡ definition (record { 0 = id }) r d → t ≡ planOf v x binding visibility
 unfolding planOf externalOf rowedOf
 planned-done v x binding visibility id r d t a b c q = simp (q, c, b, ← a)

@@ -55,7 +55,7 @@ fn plan_definition(
     ensures { λ r. ⌜ r ≡ planOf (viewOf (now (bytes .entry)) (now (names .entry)) (now (symbols .entry)) (now (sections .entry)) l) (now (x .entry)) binding visibility ⌝ }
 {
     let id = interner::find(l, bytes, names, x);
-    let row = upcoming_row::external_row(id, binding, visibility);
+    let row = upcoming_row::external_row(l.gabi, id, binding, visibility);
     let decision = judged(l, bytes, names, symbols, sections, x.len(), row);
     Definition {
         id: id,

@@ -28,7 +28,7 @@ use Rattle.upcoming_symbol.specs.declared.UpcomingSymbol.the-variants.{Null, Gl
 use Rattle.upcoming_symbol.specs.Judge as Upcoming
 use Rattle.upcoming_symbol.specs.Judge.{shownOf, hiddenOf, sectionInRange, elfInRange, externalInRange, inRange}
 use Rattle.upcoming_symbol.specs.Upcoming as Row
-use Rattle.upcoming_symbol.specs.Upcoming.{inSection, conversionFrom, convertedOf, undefinedOf, valueOf, elfRowOf, externalRowOf, nameOf}
+use Rattle.upcoming_symbol.specs.Upcoming.{inSection, conversionFrom, convertedOf, undefinedOf, valueOf, elfRowOf, libraryCode, externalRowOf, nameOf}
 use Rattle.symbol_rows.specs.declared.Holder.{Holder}
 use Rattle.symbol_rows.specs.declared.Holder.the-variants.{Unissued, Nobody, Removed, Known}
 use Rattle.symbol_rows.specs.declared.Decision.{Decision}
@@ -36,6 +36,8 @@ use Rattle.symbol_rows.specs.declared.Decision.the-variants.{Refuse, Keep, Appe
 use Rattle.symbol_rows.specs.Holder.{holderOf}
 use Rattle.symbol_rows.specs.Decide.{weakOf, rankOf, typeRefusal, sectionCell, sectionRoom, roomOf, newOf, replaceOf, rankedOf, knownOf, namedOf, localOf, decideOf, refusalOf}
 use Rattle.symbols.specs.Add.{judgeAddOf, fileOf, fileIssued, issuedOf, directHolderOf, unissuedFile, placeOf, decidedOf, committedOf, emptyAt, addRowOf, lent, addOf}
+use Rattle.symbol_laws.specs.Standing.{library-number, library-refused, library-local, library-weak}
+use Rattle.symbol_laws.specs.Duplicate.{kept-number}
 use Rattle.symbol_laws.specs.History.{State, table}
 use Rattle.merge_laws.specs.Calls.{Linked}
 use Rattle.link_laws.specs.Calls.{add, refusalBy, callRefusal}
@@ -174,9 +176,23 @@ valued t defined w e = record { refused-value = e .0; thirteen = λ q. absurd (f
 
 -- ---- the decision on a row that stands for what is asked
 
+-- a row's code beside the one that its binding and visibility give, hidden apart: the same refusal, local and weak alike
+pub record Shown (c k : ℕ) : Type 0 where
+  pub number : leb 5 k ≡ true → c ≡ k
+  pub refuses : leb 5 c ≡ leb 5 k
+  pub local : eqb c 0 ≡ eqb k 0
+  pub weak : weakOf c ≡ weakOf k
+
+pub shown-same : (k : ℕ) → Shown k k
+shown-same k = record { number = λ e. refl; refuses = refl; local = refl; weak = refl }
+
+pub shown-library : (gabi : Bool) (k : ℕ) → Shown (libraryCode gabi k) k
+shown-library gabi k =
+    record { number = library-number gabi k; refuses = library-refused gabi k; local = library-local gabi k; weak = library-weak gabi k }
+
 pub record Stands (r : Row) (a : Asked) : Type 0 where
   pub kinds : r .kind ≡ a .kind
-  pub shows : r .visibility ≡ Upcoming.judgeOf (a .binding) (a .visibility)
+  pub shows : Shown (r .visibility) (Upcoming.judgeOf (a .binding) (a .visibility))
   pub values : Reads (a .value) (r .value)
 
 -- number and place: 21 has its own
@@ -246,10 +262,11 @@ new-tree true true n = refl
 new-tree true false n = refl
 new-tree false x n = refl
 
-known-tree : (id : SymbolId) (b c : Bool) (n : ℕ) → refusalOf (cond b (cond (eqb n 0) (Replace id) (Refuse n)) (cond c (Refuse 17) (Keep id))) ≡ cond b n (cond c 17 0)
-known-tree id true c n = by-test (eqb n 0) (λ e. rw e (sym (eqb-true n 0 e))) (λ e. rw e)
-known-tree id false true n = refl
-known-tree id false false n = refl
+known-tree : (id : SymbolId) (b c : Bool) (n : ℕ) (stays : Decision) → refusalOf stays ≡ 0
+    → refusalOf (cond b (cond (eqb n 0) (Replace id) (Refuse n)) (cond c (Refuse 17) stays)) ≡ cond b n (cond c 17 0)
+known-tree id true c n stays z = by-test (eqb n 0) (λ e. rw e (sym (eqb-true n 0 e))) (λ e. rw e)
+known-tree id false true n stays z = refl
+known-tree id false false n stays z = z
 
 module _ (k id place : ℕ) where
   fresh-tree : (x : Bool) → answered (cond (eqb (typeRefusal k) 0) (cond x 2 0) (typeRefusal k)) id place
@@ -283,7 +300,7 @@ module _ (t : State) (r : Row) (id : SymbolId) where
   either-new false true rm e = absurd (false≢true e)
   either-new false false rm e = refl
 
-  either-known : (lo known rm : Bool) → not lo && known && rm ≡ false → lo || not known ≡ false → either lo known rm ≡ knownOf (t .symbols) r id
+  either-known : (lo known rm : Bool) → not lo && known && rm ≡ false → lo || not known ≡ false → either lo known rm ≡ knownOf (t .link .gabi) (t .symbols) r id
   either-known true known rm k e = absurd (false≢true (sym e))
   either-known false true true k e = absurd (false≢true (sym k))
   either-known false true false k e = refl
@@ -298,14 +315,17 @@ module _ (t : State) (r : Row) (a : Asked) (st : Stands r a) where
     unfolding decideOf
     refused-shown n e l = rw (e, l)
 
+    numbered : (n : ℕ) → Upcoming.judgeOf (a .binding) (a .visibility) ≡ n → leb 5 n ≡ true → r .visibility ≡ n
+    numbered n e l = st .shows .number (ap (leb 5) e ∙ l) ∙ e
+
     pub shown-first : (rest : List Rule) → (Passes (a .binding) (a .visibility) → answered (refusalOf (decided h)) id place ≡ firstOf rest)
         → answered (refusalOf (decided h)) id place ≡ firstOf (shownRules t a place ++ rest)
     shown-first rest f =
-        first-is (not (eqb (a .visibility) 0 || eqb (a .visibility) 2)) _ _ (λ e. rw (refused-shown 10 (st .shows ∙ code-ten _ _ e) refl))
+        first-is (not (eqb (a .visibility) 0 || eqb (a .visibility) 2)) _ _ (λ e. rw (refused-shown 10 (numbered 10 (code-ten _ _ e) refl) refl))
         (λ e.
-        first-is (isLocal t a && eqb (a .visibility) 2) _ _ (λ g. rw (refused-shown 11 (st .shows ∙ code-eleven _ _ g) refl))
+        first-is (isLocal t a && eqb (a .visibility) 2) _ _ (λ g. rw (refused-shown 11 (numbered 11 (code-eleven _ _ g) refl) refl))
         (λ g.
-        first-is (ltb 2 (a .binding)) _ _ (λ i. rw (refused-shown 12 (st .shows ∙ code-twelve _ _ e g i) refl))
+        first-is (ltb 2 (a .binding)) _ _ (λ i. rw (refused-shown 12 (numbered 12 (code-twelve _ _ e g i) refl) refl))
         (λ i. f (code-passes _ _ e g i))))
 
   -- ---- past the visibility
@@ -318,13 +338,13 @@ module _ (t : State) (r : Row) (a : Asked) (st : Stands r a) where
 
   module _ (p : Passes (a .binding) (a .visibility)) where
     low : leb 5 (r .visibility) ≡ false
-    low = ap (leb 5) (st .shows) ∙ p .low
+    low = st .shows .refuses ∙ p .low
 
     local : eqb (r .visibility) 0 ≡ isLocal t a
-    local = ap (λ (n : ℕ). eqb n 0) (st .shows) ∙ p .local
+    local = st .shows .local ∙ p .local
 
     weak : weakOf (r .visibility) ≡ eqb (a .binding) 2
-    weak = ap weakOf (st .shows) ∙ p .weak
+    weak = st .shows .weak ∙ p .weak
 
     -- a global or weak name whose row was removed
     decided-removed : not (isLocal t a) && isKnown t (a .name) && isRemoved t row ≡ true → refusalOf (decided held) ≡ 21
@@ -343,7 +363,7 @@ module _ (t : State) (r : Row) (a : Asked) (st : Stands r a) where
       decided-new e =
           rw (low, local, holder-is t (a .name)) (either-new t r (record { 0 = row }) (isLocal t a) (isKnown t (a .name)) (isRemoved t row) e)
 
-      decided-known : isFresh t a ≡ false → decided held ≡ knownOf (t .symbols) r (record { 0 = row })
+      decided-known : isFresh t a ≡ false → decided held ≡ knownOf (t .link .gabi) (t .symbols) r (record { 0 = row })
       unfolding decideOf
       decided-known e =
           rw (low, local, holder-is t (a .name)) (either-known t r (record { 0 = row }) (isLocal t a) (isKnown t (a .name)) (isRemoved t row) k e)
@@ -387,7 +407,8 @@ module _ (t : State) (r : Row) (a : Asked) (st : Stands r a) where
               ranks (isUndefinedRow t row) (isWeakRow t row) (isUndefined (a .value)) (eqb (a .binding) 2),
               strongest (isUndefined (a .value)) (eqb (a .binding) 2),
             )
-            (known-tree (record { 0 = row }) (replaces t a) (not (isUndefined (a .value)) && not (eqb (a .binding) 2)) (typeRefusal (a .kind)))
+            (known-tree (record { 0 = row }) (replaces t a) (not (isUndefined (a .value)) && not (eqb (a .binding) 2)) (typeRefusal (a .kind)) _
+            (kept-number (t .link .gabi) (getD (t .symbols) (row * 8 + 4) 0) (r .visibility) (record { 0 = row })))
 
     -- a removed row, the value, then a new or a known name
     pub held-first : (place : ℕ) → answered (refusalOf (decided held)) (a .name) place ≡ firstOf (heldRules t a place)
@@ -437,22 +458,22 @@ range-is (Elf e name file) =
     (section-tree (ltb (e .section) 0xff00) (eqb (e .section) 0xfff1) (eqb (e .section) 0xfff2))
 
 module _ (t : State) (conversion : List ℕ) where
-  stands : (u : UpcomingSymbol) → Stands (Row.rowOf conversion u (emptyAt (t .names) (nameOf u))) (asked t conversion u)
+  stands : (u : UpcomingSymbol) → Stands (Row.rowOf (t .link .gabi) conversion u (emptyAt (t .names) (nameOf u))) (asked t conversion u)
   unfolding elfRowOf externalRowOf Upcoming.judgeOf shownOf hiddenOf
-  stands Null = record { kinds = refl; shows = refl; values = (refl, refl, refl) }
-  stands (GlobalUnknown name) = record { kinds = refl; shows = refl; values = refl }
-  stands (GlobalHidden name value) = record { kinds = refl; shows = refl; values = given-reads value }
-  stands (Section s) = record { kinds = refl; shows = refl; values = (refl, refl) }
+  stands Null = record { kinds = refl; shows = shown-same _; values = (refl, refl, refl) }
+  stands (GlobalUnknown name) = record { kinds = refl; shows = shown-same _; values = refl }
+  stands (GlobalHidden name value) = record { kinds = refl; shows = shown-same _; values = given-reads value }
+  stands (Section s) = record { kinds = refl; shows = shown-same _; values = (refl, refl) }
   stands (ExternallyDefined name visibility binding) =
-      record { kinds = refl; shows = refl; values = (refl, refl, refl) }
+      record { kinds = refl; shows = shown-library (t .link .gabi) (Upcoming.judgeOf binding visibility); values = (refl, refl, refl) }
   stands (Elf e name file) =
       record {
         kinds = refl;
-        shows = refl;
+        shows = shown-same _;
         values = elf-reads (getD conversion (e .section) 0) e (isEmpty t (name .0));
       }
 
-  same-name : (u : UpcomingSymbol) → Row.rowOf conversion u (emptyAt (t .names) (nameOf u)) .name ≡ record { 0 = asked t conversion u .name }
+  same-name : (u : UpcomingSymbol) → Row.rowOf (t .link .gabi) conversion u (emptyAt (t .names) (nameOf u)) .name ≡ record { 0 = asked t conversion u .name }
   unfolding elfRowOf externalRowOf
   same-name Null = refl
   same-name (GlobalUnknown name) = refl
@@ -524,7 +545,7 @@ module _ (t : State) where
   add-is : (conversion : List ℕ) (u : UpcomingSymbol)
       → refusalBy (addOf (table t) conversion u .said)
       ≡ cond (eqb (changeOf (t .link) (lent (table t)) .number) 0)
-      (cond (isOutside u) (refused 1 0) (refusalBy (addRowOf (table t) (Row.rowOf conversion u (emptyAt (t .names) (nameOf u))) (fileOf u) .said)))
+      (cond (isOutside u) (refused 1 0) (refusalBy (addRowOf (table t) (Row.rowOf (t .link .gabi) conversion u (emptyAt (t .names) (nameOf u))) (fileOf u) .said)))
       (refused (changeOf (t .link) (lent (table t)) .number) 0)
   unfolding addOf judgeAddOf
   add-is conversion u =

@@ -1,7 +1,7 @@
 -- Which refusals an add can give, by the row that is added.
 -- Assumes nothing.
 use Prim.Native.Nat.{ℕ}
-use mathlib.Core.Path.{_≡_}
+use mathlib.Core.Path.{_≡_, sym, subst}
 use mathlib.Core.Bool.{Bool, true, false, false≢true}
 use mathlib.Core.List.{List}
 use lib.Dec.{eqb, ltb, leb}
@@ -27,6 +27,8 @@ use Rattle.symbol_rows.specs.declared.Holder.{Holder}
 use Rattle.symbol_rows.specs.declared.Holder.the-variants.{Unissued, Nobody, Removed, Known}
 use Rattle.symbol_rows.specs.declared.Decision.{Decision}
 use Rattle.symbol_rows.specs.Decide.{rankOf, typeRefusal, roomOf, newOf, replaceOf, rankedOf, knownOf, decideOf, refusalOf}
+use Rattle.symbol_laws.specs.Standing.{library-holds}
+use Rattle.symbol_laws.specs.Duplicate.{kept-number}
 
 apart : {P : Type 0} → false ≡ true → P
 apart e = absurd (false≢true e)
@@ -50,7 +52,7 @@ module _ (In : ℕ → Type 0) (in0 : In 0) (in2 : In 2) (in17 : In 17) (in21 : 
         (λ t.
         pick Decided (eqb (typeRefusal (r .kind)) 0) _ _ (λ t. pick Decided (roomOf l symbols sections r) _ _ (λ t. in0) (λ t. in2)) (λ t. f .typed))
 
-    known-numbers : (id : SymbolId) → Decided (knownOf symbols r id)
+    known-numbers : (id : SymbolId) → Decided (knownOf (l .gabi) symbols r id)
     unfolding knownOf rankedOf replaceOf
     known-numbers id =
         let old : ℕ = rankOf (visibilityCodeAt symbols (id .0)) (field symbols (id .0) 5) in
@@ -58,7 +60,7 @@ module _ (In : ℕ → Type 0) (in0 : In 0) (in2 : In 2) (in17 : In 17) (in21 : 
         pick Decided (leb 13 (r .value .kind)) _ _ (λ t. f .valued t)
         (λ t.
         pick Decided (ltb old new) _ _ (λ t. pick Decided (eqb (typeRefusal (r .kind)) 0) _ _ (λ t. in0) (λ t. f .typed))
-        (λ t. pick Decided (eqb new 4) _ _ (λ t. in17) (λ t. in0)))
+        (λ t. pick Decided (eqb new 4) _ _ (λ t. in17) (λ t. subst In (sym (kept-number (l .gabi) _ _ id)) in0)))
 
     pub decide-numbers : (h : Holder) → Decided (decideOf l symbols sections r h)
     unfolding decideOf
@@ -88,9 +90,10 @@ module _ (In : ℕ → Type 0) (in0 : In 0) (in2 : In 2) (in17 : In 17) (in21 : 
         P k = leb 5 k ≡ true → In k
 
     -- a symbol of a shared object
-    pub external-fields : (name : Interned) (binding visibility : ℕ) → Fields (externalRowOf name binding visibility)
+    pub external-fields : (gabi : Bool) (name : Interned) (binding visibility : ℕ) → Fields (externalRowOf gabi name binding visibility)
     unfolding externalRowOf typeRefusal
-    external-fields name binding visibility = record { shown = judged-shown binding visibility; valued = λ e. apart e; typed = in0 }
+    external-fields gabi name binding visibility =
+        record { shown = library-holds In gabi (judgeOf binding visibility) (judged-shown binding visibility); valued = λ e. apart e; typed = in0 }
 
     -- ---- values and types: 13, 14, 15, 16
 
@@ -128,14 +131,14 @@ module _ (In : ℕ → Type 0) (in0 : In 0) (in2 : In 2) (in17 : In 17) (in21 : 
       words-valued (Val.Undefined zero) e = apart e
 
       -- a symbol that is added directly
-      pub upcoming-fields : (conversion : List ℕ) (u : UpcomingSymbol) (empty : Bool) → Fields (rowOf conversion u empty)
+      pub upcoming-fields : (gabi : Bool) (conversion : List ℕ) (u : UpcomingSymbol) (empty : Bool) → Fields (rowOf gabi conversion u empty)
       unfolding elfRowOf
-      upcoming-fields conversion Null empty = record { shown = λ e. apart e; valued = λ e. apart e; typed = typed-numbers 0 }
-      upcoming-fields conversion (GlobalUnknown name) empty = record { shown = λ e. apart e; valued = λ e. apart e; typed = typed-numbers 0 }
-      upcoming-fields conversion (GlobalHidden name value) empty = record { shown = λ e. apart e; valued = words-valued value; typed = typed-numbers 0 }
-      upcoming-fields conversion (Section section) empty = record { shown = λ e. apart e; valued = λ e. apart e; typed = typed-numbers 3 }
-      upcoming-fields conversion (ExternallyDefined name visibility binding) empty = external-fields name binding visibility
-      upcoming-fields conversion (Elf elf name file) empty =
+      upcoming-fields gabi conversion Null empty = record { shown = λ e. apart e; valued = λ e. apart e; typed = typed-numbers 0 }
+      upcoming-fields gabi conversion (GlobalUnknown name) empty = record { shown = λ e. apart e; valued = λ e. apart e; typed = typed-numbers 0 }
+      upcoming-fields gabi conversion (GlobalHidden name value) empty = record { shown = λ e. apart e; valued = words-valued value; typed = typed-numbers 0 }
+      upcoming-fields gabi conversion (Section section) empty = record { shown = λ e. apart e; valued = λ e. apart e; typed = typed-numbers 3 }
+      upcoming-fields gabi conversion (ExternallyDefined name visibility binding) empty = external-fields gabi name binding visibility
+      upcoming-fields gabi conversion (Elf elf name file) empty =
           record {
             shown = judged-shown (elf .binding) (elf .visibility);
             valued = judged-valued (conversionFrom (getD conversion (elf .section) 0)) elf empty;

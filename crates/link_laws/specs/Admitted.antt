@@ -3,12 +3,12 @@
 use Prim.Native.Nat.{ℕ, _+_, _<_}
 use mathlib.Core.Path.{_≡_, sym, ap, _∙_, subst}
 use mathlib.Core.Bool.{Bool, true, false, _||_}
-use mathlib.Core.List.{List}
+use mathlib.Core.List.{List, _∷_}
 use lib.ListN.{length}
 use Rattle.gabi.specs.StringTable as Strings
-use Rattle.gabi.specs.Archive.{Named}
+use Rattle.gabi.specs.Archive.{Named, extracts}
 use Rattle.archive_index.specs.Index.{countOf}
-use Rattle.archive_walk.specs.Look.{Table, undefinedName}
+use Rattle.archive_walk.specs.Look.{Table}
 use Rattle.archive_walk.specs.Walk.{begunNumber, startOf}
 use Rattle.archive_laws.specs.Rounds.{among}
 use Rattle.archive_laws.specs.Runs.{Run, stepRun, history, startRun}
@@ -16,19 +16,20 @@ use Rattle.archive_laws.specs.Walked.{inIndex, queueIn}
 use Rattle.elf_object.specs.Judge.{judgeOf}
 use Rattle.object_requirement.specs.declared.Admission.{Admission}
 use Rattle.object_requirement.specs.declared.Admission.the-variants.{Yes}
-use Rattle.symbol_laws.specs.History.{Entry}
+use Rattle.symbol_laws.specs.History.{Entry, only}
 use Rattle.symbol_laws.specs.Held.{Inv}
 use Rattle.merge_laws.specs.Calls.{Linked}
-use Rattle.extraction_laws.specs.Taken.{lists, taken, wantedNames, wanted-names}
+use Rattle.extraction_laws.specs.Taken.{lists, takenIn, wantedNames, wanted-names}
 use Rattle.extraction_laws.specs.MemberWords.{symbolsOf}
 use Rattle.extraction_laws.specs.Answer as Answer
 use Rattle.extraction_laws.specs.Answer.{says, admitted}
 use Rattle.link_laws.specs.Calls.{matches, viewIn, callLeft}
 use Rattle.link_laws.specs.Walks.{nextIn, next-is}
 use Rattle.link_laws.specs.Undefined.{undefined-is}
-use Rattle.link_laws.specs.Extraction.{wantedIn, weaklyIn}
+use Rattle.link_laws.specs.Ties.{OfName}
+use Rattle.link_laws.specs.Extraction.{wantedIn, weaklyIn, lateIn, strictIn, strictly, wanted-split}
 
--- what `matches` answers about entry e of a run, for an object; it is lent nothing of the link
+-- what `matches` answers about entry e of a run, for an object; of the link its profile counts
 abbrev pub answerIn : List ℕ → List ℕ → List ℕ → List ℕ → List ℕ → Run → ℕ → Linked → Admission
 answerIn headers entries contents file index r e s = callLeft (matches headers entries contents file index (r .cells) (r .walk) e) s
 
@@ -47,34 +48,72 @@ module _ (s : Linked) (past : List Entry) (inv : Inv (s .table) past) (key : ℕ
     abbrev pub member : List Named
     member = symbolsOf headers entries file
 
-    passed : stepRun index (viewIn (s .table)) before .walk .passes ≡ before .walk .passes + 1
+    pub passed : stepRun index (viewIn (s .table)) before .walk .passes ≡ before .walk .passes + 1
     passed = subst (λ (r : Run). r .walk .passes ≡ before .walk .passes + 1) (next-is index before s) made
 
     pub let-in-queued : (on : Linked) → answerIn headers entries contents file index after e on ≡ Yes → among index e (queueIn after) ≡ true
     let-in-queued on y =
         subst (λ (r : Run). among index e (queueIn r) ≡ true) (sym (next-is index before s))
-        (Answer.let-in-queued key index cells begun ts (viewIn (s .table)) passed e low new headers entries contents file ranged listed
+        (Answer.let-in-queued key index cells begun ts (viewIn (s .table)) passed e low new headers entries contents file ranged listed (on .table .link)
         (subst (λ (r : Run). answerIn headers entries contents file index r e on ≡ Yes) (next-is index before s) y))
 
-    module _ (wanted : List (List ℕ)) (same : (x : List ℕ) → lists member x ≡ true → Strings.among x wanted ≡ wantedIn s past inv x) where
-      by-gabi : taken (undefinedName (viewIn (s .table))) member ≡ admitted wanted (weaklyIn s past inv) member
-      by-gabi =
-          Answer.by-gabi key index cells begun ts (viewIn (s .table)) passed e low new headers entries contents file ranged listed wanted (weaklyIn s past inv)
-          (λ x l. undefined-is (s .table) past inv x ∙ ap (λ (b : Bool). b || weaklyIn s past inv x) (sym (same x l)))
+    -- asked by any link
+    module _ (on : Linked) where
+      abbrev answer : Bool
+      answer = Answer.answer key index cells begun ts (viewIn (s .table)) passed e low new headers entries contents file ranged listed (on .table .link)
 
-      pub matches-is : (on : Linked) → answerIn headers entries contents file index after e on ≡ says (admitted wanted (weaklyIn s past inv) member)
-      matches-is on =
+      answer-now : answerIn headers entries contents file index after e on ≡ says answer
+      answer-now =
           ap (λ (r : Run). answerIn headers entries contents file index r e on) (next-is index before s)
-          ∙ Answer.answer-is key index cells begun ts (viewIn (s .table)) passed e low new headers entries contents file ranged listed ∙ ap says by-gabi
+          ∙ Answer.answer-is key index cells begun ts (viewIn (s .table)) passed e low new headers entries contents file ranged listed (on .table .link)
 
-      pub matches-later : among index e (queueIn after) ≡ true → (us : List Table) (on : Linked)
-          → answerIn headers entries contents file index (history index us after) e on ≡ says (admitted wanted (weaklyIn s past inv) member)
-      matches-later q us on =
+      answer-later : among index e (queueIn after) ≡ true → (us : List Table) → answerIn headers entries contents file index (history index us after) e on ≡ says answer
+      answer-later q us =
           ap (λ (r : Run). answerIn headers entries contents file index (history index us r) e on) (next-is index before s)
-          ∙ Answer.answer-later key index cells begun ts (viewIn (s .table)) passed e low new headers entries contents file ranged listed
+          ∙ Answer.answer-later key index cells begun ts (viewIn (s .table)) passed e low new headers entries contents file ranged listed (on .table .link)
           (subst (λ (r : Run). among index e (queueIn r) ≡ true) (next-is index before s) q) us
-          ∙ ap says by-gabi
+
+    module _ (wanted : List (List ℕ)) (same : (x : List ℕ) → lists member x ≡ true → Strings.among x wanted ≡ wantedIn s past inv x) where
+      -- the old profile
+      module _ (old : s .table .link .gabi ≡ false) (on : Linked) (asks : on .table .link .gabi ≡ false) where
+        by-gabi : answer on ≡ admitted wanted (weaklyIn s past inv) member
+        by-gabi =
+            Answer.by-gabi key index cells begun ts (viewIn (s .table)) passed e low new headers entries contents file ranged listed (on .table .link) old asks wanted
+            (weaklyIn s past inv) (λ x l. undefined-is (s .table) past inv x ∙ ap (λ (b : Bool). b || weaklyIn s past inv x) (sym (same x l)))
+
+        pub matches-is : answerIn headers entries contents file index after e on ≡ says (admitted wanted (weaklyIn s past inv) member)
+        matches-is = answer-now on ∙ ap says by-gabi
+
+        pub matches-later : among index e (queueIn after) ≡ true → (us : List Table)
+            → answerIn headers entries contents file index (history index us after) e on ≡ says (admitted wanted (weaklyIn s past inv) member)
+        matches-later q us = answer-later on q us ∙ ap says by-gabi
+
+      -- the gABI's profile
+      module _ (gabi : s .table .link .gabi ≡ true) (named : (n : ℕ) (x : Entry) (xs : List Entry) → only n past ≡ x ∷ xs → OfName (x .row)) (on : Linked)
+          (asks : on .table .link .gabi ≡ true) where
+        pub answered-gabi : answer on || takenIn true (lateIn s past inv) member ≡ extracts member wanted
+        answered-gabi =
+            Answer.late-references key index cells begun ts (viewIn (s .table)) passed e low new headers entries contents file ranged listed (on .table .link) gabi asks wanted
+            (lateIn s past inv) (λ x l. same x l ∙ wanted-split s past inv gabi named x)
+
+    -- the gABI's profile, exactly: what the gABI extracts for those of its wanted names that tie
+    module _ (names : List (List ℕ)) (same : (x : List ℕ) → lists member x ≡ true → Strings.among x names ≡ strictIn s past inv x) (gabi : s .table .link .gabi ≡ true)
+        (named : (n : ℕ) (x : Entry) (xs : List Entry) → only n past ≡ x ∷ xs → OfName (x .row)) (on : Linked) (asks : on .table .link .gabi ≡ true) where
+      exactly : answer on ≡ extracts member names
+      exactly =
+          Answer.exactly-gabi key index cells begun ts (viewIn (s .table)) passed e low new headers entries contents file ranged listed (on .table .link) gabi asks names
+          (λ x l. strictly s past inv gabi named x ∙ sym (same x l))
+
+      pub matches-gabi : answerIn headers entries contents file index after e on ≡ says (extracts member names)
+      matches-gabi = answer-now on ∙ ap says exactly
+
+      pub matches-gabi-later : among index e (queueIn after) ≡ true → (us : List Table)
+          → answerIn headers entries contents file index (history index us after) e on ≡ says (extracts member names)
+      matches-gabi-later q us = answer-later on q us ∙ ap says exactly
 
     -- the wanted names that the member bears are such a list
     pub own-names : (x : List ℕ) → lists member x ≡ true → Strings.among x (wantedNames (wantedIn s past inv) member) ≡ wantedIn s past inv x
     own-names = wanted-names (wantedIn s past inv) member
+
+    pub strict-names : (x : List ℕ) → lists member x ≡ true → Strings.among x (wantedNames (strictIn s past inv) member) ≡ strictIn s past inv x
+    strict-names = wanted-names (strictIn s past inv) member

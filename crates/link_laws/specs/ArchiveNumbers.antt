@@ -7,6 +7,7 @@ use mathlib.Core.List.{List, [], _∷_}
 use lib.Dec.{eqb, ltb}
 use lib.ListN.{length}
 use Rattle.byte_slices.specs.Ways.{pick}
+use Rattle.link.specs.declared.Link.{Link}
 use Rattle.link.specs.declared.Refusal.{Refusal}
 use Rattle.link.specs.Passed.{judge-gives}
 use Rattle.elf_object.specs.Judge as Elf
@@ -82,11 +83,11 @@ next-numbers s l w t =
     judges : Among (1 ∷ 21 ∷ []) (judgeTable t .number)
     judges = judged-table t
 
-pub matches-numbers : (headers entries contents file s l : List ℕ) (w : Walk) (e : ℕ) → Among (1 ∷ []) (Matches.numberOf (matchesOf headers entries contents file s l w e))
+pub matches-numbers : (link : Link) (headers entries contents file s l : List ℕ) (w : Walk) (e : ℕ) → Among (1 ∷ []) (Matches.numberOf (matchesOf link headers entries contents file s l w e))
 unfolding matchesOf
-matches-numbers headers entries contents file s l w e =
+matches-numbers link headers entries contents file s l w e =
     pick P (eqb (Elf.judgeOf headers entries (length contents) (length file) .number) 0) _ _
-    (λ a. pick P (offeredIn s l w e) _ _ (λ b. either (hasGlobalSymbol headers entries file (requiredOf s l w e))) (λ b. refl))
+    (λ a. pick P (offeredIn s l w e) _ _ (λ b. either (hasGlobalSymbol (link .gabi) headers entries file (requiredOf s l w e))) (λ b. refl))
     (λ a. elf-gives (λ (r : Refusal). Among (1 ∷ []) (r .number)) (λ k. refl) refl headers entries (length contents) (length file))
   where
     P : Admission → Type 0

@@ -187,25 +187,25 @@ commit-21 t r file d =
     P : Symbols.Left → Type 0
     P x = numberIn (x .said) ≡ 21 → placeIn (x .said) ≡ Add.placeOf (t .link) (r .name) file
 
-row-name : (conversion : List ℕ) (u : UpcomingSymbol) (empty : Bool) → rowOf conversion u empty .name ≡ nameOf u
+row-name : (gabi : Bool) (conversion : List ℕ) (u : UpcomingSymbol) (empty : Bool) → rowOf gabi conversion u empty .name ≡ nameOf u
 unfolding externalRowOf elfRowOf
-row-name conversion Upcoming.Null empty = refl
-row-name conversion (Upcoming.GlobalUnknown name) empty = refl
-row-name conversion (Upcoming.GlobalHidden name value) empty = refl
-row-name conversion (Upcoming.Section section) empty = refl
-row-name conversion (Upcoming.ExternallyDefined name visibility binding) empty = refl
-row-name conversion (Upcoming.Elf elf name file) empty = refl
+row-name gabi conversion Upcoming.Null empty = refl
+row-name gabi conversion (Upcoming.GlobalUnknown name) empty = refl
+row-name gabi conversion (Upcoming.GlobalHidden name value) empty = refl
+row-name gabi conversion (Upcoming.Section section) empty = refl
+row-name gabi conversion (Upcoming.ExternallyDefined name visibility binding) empty = refl
+row-name gabi conversion (Upcoming.Elf elf name file) empty = refl
 
 add-at : (t : SymbolRows.Table) (conversion : List ℕ) (u : UpcomingSymbol) → numberIn (addOf t conversion u .said) ≡ 21
     → placeIn (addOf t conversion u .said) ≡ Add.placeOf (t .link) (nameOf u) (fileOf u)
 unfolding addOf addRowOf
 add-at t conversion u =
-    let r : Row = rowOf conversion u (emptyAt (t .names) (nameOf u)) in
+    let r : Row = rowOf (t .link .gabi) conversion u (emptyAt (t .names) (nameOf u)) in
     pick (λ (x : Symbols.Left). numberIn (x .said) ≡ 21 → placeIn (x .said) ≡ Add.placeOf (t .link) (nameOf u) (fileOf u))
     (eqb (judgeAddOf (t .link) (Add.lent t) u .number) 0) _ _
     (λ a e.
     commit-21 t r (fileOf u) (decidedOf t r (fileOf u)) e
-    ∙ ap (λ (n : Interned). Add.placeOf (t .link) n (fileOf u)) (row-name conversion u (emptyAt (t .names) (nameOf u))))
+    ∙ ap (λ (n : Interned). Add.placeOf (t .link) n (fileOf u)) (row-name (t .link .gabi) conversion u (emptyAt (t .names) (nameOf u))))
     (λ a e. absurd (judge-add-21 (t .link) (Add.lent t) u e))
 
 -- the name's, and its file's where only that isn't issued

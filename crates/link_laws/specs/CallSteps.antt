@@ -37,6 +37,7 @@ use Rattle.symbol_laws.specs.Calls.{historyParts, history-run, history-log}
 use Rattle.merge_laws.specs.Steps.{Step, part, runSteps, logSteps, AllGo, Makes, makes-none}
 use Rattle.merge_laws.specs.MergeSteps.{mergeSteps, signedSteps, groupSectionSteps}
 use Rattle.merge_laws.specs.GroupStage.{section-makes}
+use Rattle.merge_laws.specs.Origin.{AllShown}
 use Rattle.merge_laws.specs.Whole.{merge-makes}
 use Rattle.merge_laws.specs.Calls.{Linked, allIn}
 use Rattle.load_laws.specs.LoadSteps.{loadSteps}
@@ -53,6 +54,13 @@ partSteps (p ∷ ps) = part p ∷ partSteps ps
 
 abbrev directSteps : History.Call → State → List Step
 directSteps k s = partSteps (historyParts (k ∷ []) s)
+
+-- none is a library's
+pub direct-shown : (k : History.Call) (s : State) → AllShown (directSteps k s)
+direct-shown (History.add conversion u) s =
+    by-test (eqb (History.callNumber (History.add conversion u) s) 0) (λ a. rw a (tt, tt)) (λ a. rw a tt)
+direct-shown (History.intern x) s = by-test (eqb (History.callNumber (History.intern x) s) 0) (λ a. rw a (tt, tt)) (λ a. rw a tt)
+direct-shown (History.remove id) s = tt
 
 parts-run : (ps : List Part) (s : State) → runSteps (partSteps ps) s ≡ runParts ps s
 parts-run [] s = refl
@@ -93,6 +101,9 @@ direct-log k s q =
 module _ (o : Group.Object) (t : State) (work : List ℕ) (n : ℕ) where
   abbrev at : Group.State
   at = groupIn t work
+
+  abbrev pub headNumber : ℕ
+  headNumber = headIn o at n .number
 
   -- a group that passes the head: its signature's name is issued and marked
   abbrev pub groupSteps : List Step

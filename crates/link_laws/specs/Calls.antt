@@ -123,7 +123,7 @@ callLeft (merge o work ids) s = mergeOf o (allIn s work ids)
 callLeft (load o marks) s = loadOf o (libraryIn s marks)
 callLeft (archiveStart key index cells) s = startOf key index cells
 callLeft (archiveNext index cells w) s = nextOf index cells w (viewIn (s .table))
-callLeft (matches headers entries contents file index cells w e) s = matchesOf headers entries contents file index cells w e
+callLeft (matches headers entries contents file index cells w e) s = matchesOf (s .table .link) headers entries contents file index cells w e
 callLeft (collect marks entry work) s = runOf (s .table .link) (listsIn s marks) (s .table .symbols) (s .table .sections) entry work
 
 -- ---- number and place, as each call's own definition has them

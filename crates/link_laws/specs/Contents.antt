@@ -14,7 +14,7 @@ use Rattle.upcoming_symbol.specs.Upcoming.{nameOf}
 use Rattle.symbols.specs.Calls as Symbols
 use Rattle.symbols.specs.Add.{addRowOf, emptyAt}
 use Rattle.symbol_laws.specs.Rank as Rank
-use Rattle.symbol_laws.specs.Rows.{rowAt}
+use Rattle.symbol_laws.specs.Rank.{firstOf}
 use Rattle.symbol_laws.specs.History.{Entry, table, only, rows, noted, upcoming}
 use Rattle.symbol_laws.specs.History as History
 use Rattle.symbol_laws.specs.Held.{Inv}
@@ -39,7 +39,7 @@ use Rattle.link_laws.specs.Kept.{signatures, calls-marked}
 abbrev pub FromCall : Call → Linked → List (List ℕ) → Row → Type 0
 FromCall (intern x) s met r = ⊥
 FromCall (resolve id) s met r = ⊥
-FromCall (add conversion u) s met r = FromAdd conversion (emptyAt (s .table .names) (nameOf u)) r u
+FromCall (add conversion u) s met r = FromAdd (s .table .link .gabi) conversion (emptyAt (s .table .names) (nameOf u)) r u
 FromCall (remove id) s met r = ⊥
 FromCall (get id) s met r = ⊥
 FromCall (getGlobal name) s met r = ⊥
@@ -78,7 +78,7 @@ all-at P (x ∷ a) r b p = all-at P a r b (p .1)
 -- ---- one call
 
 add-logged : (conversion : List ℕ) (u : UpcomingSymbol) (s : Linked) (x : Symbols.Left) → callLeft (add conversion u) s ≡ x
-    → Rank.All (λ r. FromAdd conversion (emptyAt (s .table .names) (nameOf u)) r u) (rows (noted (upcoming (s .table) conversion u) History.direct (x .said)))
+    → Rank.All (λ r. FromAdd (s .table .link .gabi) conversion (emptyAt (s .table .names) (nameOf u)) r u) (rows (noted (upcoming (s .table) conversion u) History.direct (x .said)))
 unfolding noted
 add-logged conversion u s x e =
     let r : Row = upcoming (s .table) conversion u in
@@ -88,7 +88,7 @@ add-logged conversion u s x e =
     (λ b.
     let z : numberIn (callLeft (add conversion u) s .said) ≡ 0 = ap (λ (y : Symbols.Left). numberIn (y .said)) e ∙ eqb-true _ _ b in
     let w : numberIn (addRowOf (table (s .table)) r File.None .said) ≡ 0 = ap (λ (y : Symbols.Left). numberIn (y .said)) (sym (add-accepted (table (s .table)) conversion u z)) ∙ z in
-    rw (a, b) (from-add (table (s .table)) conversion (emptyAt (s .table .names) (nameOf u)) u w (eqb-false _ _ a), tt))
+    rw (a, b) (from-add (table (s .table)) (s .table .link .gabi) conversion (emptyAt (s .table .names) (nameOf u)) u w (eqb-false _ _ a), tt))
     (λ b. rw (a, b) tt))
 
 call-logged : (k : Call) (s : Linked) (met : List (List ℕ)) → Marked (s .table) met → Rank.All (FromCall k s met) (rows (callNotes k s))
@@ -122,9 +122,9 @@ calls-logged (k ∷ ks) s met m =
     (all-map (λ r. FromCalls r ks (callNext k s) (met ++ signatures (k ∷ []) s)) (λ r. FromCalls r (k ∷ ks) s met) (λ r p. later p) (rows (logCalls ks (callNext k s)))
     (calls-logged ks (callNext k s) (met ++ signatures (k ∷ []) s) (calls-marked (k ∷ []) s met m))))
 
--- the row that a name has is that of one of its accepted adds
+-- the content of a name is that of one of its accepted adds
 pub held-from : (ks : List Call) (s : Linked) (met : List (List ℕ)) → Marked (s .table) met → Inv (runCalls ks s .table) (logCalls ks s)
-    → (n : ℕ) (x : Entry) (xs : List Entry) → only n (logCalls ks s) ≡ x ∷ xs → FromCalls (rowAt (runCalls ks s .table .symbols) (x .id)) ks s met
+    → (n : ℕ) (x : Entry) (xs : List Entry) → only n (logCalls ks s) ≡ x ∷ xs → FromCalls (firstOf (x .row) (rows xs)) ks s met
 held-from ks s met m inv n x xs e =
     let h = resolved (runCalls ks s .table) (logCalls ks s) inv n x xs e .content in
     let all : Rank.All (λ r. FromCalls r ks s met) (rows (x ∷ xs)) = subst (λ (l : List Entry). Rank.All (λ r. FromCalls r ks s met) (rows l)) e (all-only (λ r. FromCalls r ks s met) n (logCalls ks s) (calls-logged ks s met m)) in

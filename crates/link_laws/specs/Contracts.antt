@@ -104,7 +104,7 @@ Meets (merge o work ids) s e = MergeMeets o (mergeCells s work ids (e .cells)) (
 Meets (load o marks) s e = LoadMeets o (loadCells s marks (e .cells)) (s .table .link) (e .result)
 Meets (archiveStart key index cells) s e = StartMeets key index cells e
 Meets (archiveNext index cells w) s e = NextMeets index cells w (viewIn (s .table)) e
-Meets (matches headers entries contents file index cells w i) s e = MatchesMeets headers entries contents file index cells w i e
+Meets (matches headers entries contents file index cells w i) s e = MatchesMeets (s .table .link) headers entries contents file index cells w i e
 Meets (collect marks entry work) s e = RunMeets (s .table .link) (listsIn s marks) (s .table .symbols) (s .table .sections) entry work e
 
 -- the left side of the contract: what the exit is in the terms of the call's definition
@@ -303,8 +303,8 @@ pub one-outcome : (k : Call) (s : Linked) (x y : Exit k) → Meets k s x → Mee
 one-outcome k s x y e f = seen-one k x y (meets-left k s x e ∙ sym (meets-left k s y f))
 
 -- of a new table
-pub new-one-outcome : (key : ℕ) (bytes names symbols sections : List ℕ) (x y : NewExit) → NewMeets key bytes names symbols sections x → NewMeets key bytes names symbols sections y → x ≡ y
-new-one-outcome key bytes names symbols sections x y e f = new-one x y (e ∙ sym f)
+pub new-one-outcome : (key : ℕ) (gabi : Bool) (bytes names symbols sections : List ℕ) (x y : NewExit) → NewMeets key gabi bytes names symbols sections x → NewMeets key gabi bytes names symbols sections y → x ≡ y
+new-one-outcome key gabi bytes names symbols sections x y e f = new-one x y (e ∙ sym f)
 
 -- of the names of a new table, which are part of it
 pub new-names-one-outcome : (key : ℕ) (bytes names : List ℕ) (x y : Interning.Exit) → NewNamesMeets key bytes names x → NewNamesMeets key bytes names y → x ≡ y

@@ -56,11 +56,11 @@ Bears b n r (k ∷ ks) s met (later p) = Bears b n r ks (callNext k s) (met ++ s
 
 -- ---- an entry's name
 
-add-id : (conversion : List ℕ) (empty : _) (r : Row) (u : _) → FromAdd conversion empty r u → r .name ≡ nameOf u
-add-id conversion empty r u (Direct.unknown name a b c d) = a
-add-id conversion empty r u (Direct.hidden name value a b c d e) = a
-add-id conversion empty r u (Direct.external name visibility binding p a b c d) = a
-add-id conversion empty r u (Direct.elf e name file p a b c d) = a
+add-id : (gabi : _) (conversion : List ℕ) (empty : _) (r : Row) (u : _) → FromAdd gabi conversion empty r u → r .name ≡ nameOf u
+add-id gabi conversion empty r u (Direct.unknown name a b c d) = a
+add-id gabi conversion empty r u (Direct.hidden name value a b c d e) = a
+add-id gabi conversion empty r u (Direct.external name visibility binding p a b c d) = a
+add-id gabi conversion empty r u (Direct.elf e name file p a b c d) = a
 
 module _ (b : List ℕ) (n : ℕ) (r : Row) (e : r .name .0 ≡ n) where
   -- in a later link t, where the id n stands for the bytes b
@@ -68,7 +68,7 @@ module _ (b : List ℕ) (n : ℕ) (r : Row) (e : r .name .0 ≡ n) where
       → CallBears b n k s met r p
   call-bears (intern x) s t met p f = p
   call-bears (resolve id) s t met p f = p
-  call-bears (add conversion u) s t met p f = ap (λ (i : _). i .0) (sym (add-id conversion _ r u p)) ∙ e
+  call-bears (add conversion u) s t met p f = ap (λ (i : _). i .0) (sym (add-id _ conversion _ r u p)) ∙ e
   call-bears (remove id) s t met p f = p
   call-bears (get id) s t met p f = p
   call-bears (getGlobal name) s t met p f = p

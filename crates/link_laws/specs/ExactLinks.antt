@@ -3,7 +3,7 @@
 -- Assumes nothing.
 use Prim.Native.Nat.{ℕ}
 use mathlib.Core.Path.{_≡_, ap, _∙_}
-use mathlib.Core.Bool.{not}
+use mathlib.Core.Bool.{Bool, not}
 use mathlib.Core.List.{List, [], _∷_, _++_}
 use lib.Dec.{eqb}
 use Rattle.link.specs.declared.Refusal.{Refusal}
@@ -38,14 +38,14 @@ turns-met (t ∷ ts) s m =
       marked = calls-marked (t .call ∷ []) (grow (t .growth) s) (m .met) (marked-grown (s .table) (t .growth) (m .met) (m .marked));
     })
 
-module _ (key : ℕ) (bytes names symbols sections inputs lists : List ℕ) (new : numberIn (newOf key bytes names symbols sections .said) ≡ 0) (ts : List Turn)
+module _ (key : ℕ) (gabi : Bool) (bytes names symbols sections inputs lists : List ℕ) (new : numberIn (newOf key gabi bytes names symbols sections .said) ≡ 0) (ts : List Turn)
     (symbols′ sections′ inputs′ lists′ : List ℕ) where
   -- after any calls, those that remove too, each with what is lent more from it on; then lent these cells
   abbrev pub on : Linked
-  on = lentAs (runTurns ts (linked (opened (newOf key bytes names symbols sections)) inputs lists)) symbols′ sections′ inputs′ lists′
+  on = lentAs (runTurns ts (linked (opened (newOf key gabi bytes names symbols sections)) inputs lists)) symbols′ sections′ inputs′ lists′
 
-  last : Met (runTurns ts (linked (opened (newOf key bytes names symbols sections)) inputs lists))
-  last = turns-met ts (linked (opened (newOf key bytes names symbols sections)) inputs lists) (record { met = []; marked = new-marked key bytes names symbols sections new })
+  last : Met (runTurns ts (linked (opened (newOf key gabi bytes names symbols sections)) inputs lists))
+  last = turns-met ts (linked (opened (newOf key gabi bytes names symbols sections)) inputs lists) (record { met = []; marked = new-marked key gabi bytes names symbols sections new })
 
   pub exactly-any : (k : Call) → callRefusal k on ≡ firstOf (rules k on)
   exactly-any k = call-exactly k on (last .met) (record { good = last .marked .good; marks = last .marked .marks; known = last .marked .known })

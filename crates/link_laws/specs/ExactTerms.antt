@@ -3,7 +3,7 @@
 -- Assumes nothing.
 use Prim.Native.Nat.{ℕ, _/_}
 use mathlib.Core.Path.{_≡_, refl, ap, _∙_}
-use mathlib.Core.Bool.{true, not}
+use mathlib.Core.Bool.{Bool, true, not}
 use mathlib.Core.List.{List, []}
 use lib.Dec.{eqb}
 use lib.ListN.{length}
@@ -68,16 +68,16 @@ rules-numbered (archiveNext index cells w) s = next-numbered index cells w (s .t
 rules-numbered (matches headers entries contents file index cells w e) s = matches-numbered headers entries contents file index cells w e
 rules-numbered (collect marks entry work) s = refl
 
-module _ (key : ℕ) (bytes names symbols sections inputs lists : List ℕ) (new : numberIn (newOf key bytes names symbols sections .said) ≡ 0) (ks : List Call) where
+module _ (key : ℕ) (gabi : Bool) (bytes names symbols sections inputs lists : List ℕ) (new : numberIn (newOf key gabi bytes names symbols sections .said) ≡ 0) (ks : List Call) where
   abbrev pub start : Linked
-  start = linked (opened (newOf key bytes names symbols sections)) inputs lists
+  start = linked (opened (newOf key gabi bytes names symbols sections)) inputs lists
 
   -- the link after any calls, those that remove too
   abbrev pub on : Linked
   on = runCalls ks start
 
   marked : Marked (on .table) (signatures ks start)
-  marked = calls-marked ks start [] (new-marked key bytes names symbols sections new)
+  marked = calls-marked ks start [] (new-marked key gabi bytes names symbols sections new)
 
   -- number and place are those of the first rule that holds
   pub exactly : (k : Call) → callRefusal k on ≡ firstOf (rules k on)

@@ -42,7 +42,7 @@ use Rattle.merge_plan.specs.Plan.{inputOf}
 use Rattle.merge_symbols.specs.Stage as Symbols
 use Rattle.merge_stages.specs.Stages as Stages
 use Rattle.symbol_laws.specs.ObjectWords.{sectionsIn, entriesIn, entry}
-use Rattle.symbol_laws.specs.View.{Free, View, refused, kept, replaced, appended, local, view, decided, held}
+use Rattle.symbol_laws.specs.View.{Free, View, refused, kept, amended, replaced, appended, local, view, decided, held}
 use Rattle.symbol_laws.specs.Rows.{rowAt, stored-row}
 use Rattle.symbol_laws.specs.Within as Within
 use Rattle.symbol_laws.specs.History.{State, table, store, issue, put, putOf, idOf, partNext, object}
@@ -135,7 +135,8 @@ module _ (s : State) (few : 1 ≤ s .link .symbols) (r : Row) where
   given : View (table s) r → refusalOf (decided (table s) r) ≡ 0 → Both (putOf s r)
   unfolding committedOf applyOf appendOf noteName
   given (refused n e z) ok = absurd (z (sym (ap (λ (d : Decision). refusalOf d) e) ∙ ok))
-  given (kept e k z o q) ok = decides _ e (λ v. absurd (k .global v), λ v l. (refl, z))
+  given (kept e k z o q p) ok = decides _ e (λ v. absurd (k .global v), λ v l. (refl, z))
+  given (amended e k z o q) ok = decides _ e (λ v. absurd (k .global v), λ v l. (refl, z))
   given (replaced e k z o) ok = decides _ e (λ v. absurd (k .global v), λ v l. (refl, z))
   given (appended e f k z) ok =
       decides _ e
@@ -355,7 +356,7 @@ module _ (s : Linked) (met : List (List ℕ)) (g : Lasting s met) (ready : Ready
 
       name-own : x ≡ nameBytes o s met last k
       name-own =
-          ap (λ (x : Looked). x .name) (names-are o a head-goes (sections-going o a whole) k (field (Stops.object o a .entries) k 0) low)
+          names-are o a head-goes (sections-going o a whole) k (field (Stops.object o a .entries) k 0) low
           ∙ ap (λ (l : List ℕ). nameAt (Words.symbolNames (o .headers) (o .file) (sectionsIn (o .headers))) (field l k 0)) (symbols-are o a head-goes (sections-going o a whole))
 
       -- the symbol's entry

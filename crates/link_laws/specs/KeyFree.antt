@@ -3,6 +3,7 @@
 -- Assumes nothing.
 use Prim.Native.Nat.{ℕ}
 use mathlib.Core.Path.{_≡_, refl, ap, sym, subst}
+use mathlib.Core.Bool.{Bool}
 use mathlib.Core.List.{List, [], _∷_}
 use Rattle.link.specs.declared.Link.{Link}
 use Rattle.link.specs.declared.Refusal.{Refusal}
@@ -27,7 +28,7 @@ use Rattle.load_laws.specs.Whole as Loads
 use Rattle.key_laws.specs.Rekeyed.{keyed, Rekeyed}
 use Rattle.key_laws.specs.Tables.{intern-moved, resolve-same, add-moved, remove-keyed, remove-link, get-keyed, global-same, section-symbol-keyed}
 use Rattle.key_laws.specs.SectionNames.{Named}
-use Rattle.key_laws.specs.Reads.{next-same, collect-same, collect-link}
+use Rattle.key_laws.specs.Reads.{next-same, matches-same, collect-same, collect-link}
 use Rattle.key_laws.specs.Groups.{add-group-moved}
 use Rattle.key_laws.specs.Merge.{merge-moved}
 use Rattle.key_laws.specs.Load.{load-moved}
@@ -198,7 +199,9 @@ module _ (key : ℕ) (s : Linked) (n : List ℕ) (e : Rekeyed key (store (s .tab
   under-same (archiveNext index cells w) =
       let q = next-same key (viewIn (s .table)) n e index cells w in
       record { answer = q; refusal = ap (refusalIn (archiveNext index cells w)) q; next = stays }
-  under-same (matches headers entries contents file index cells w i) = record { answer = refl; refusal = refl; next = stays }
+  under-same (matches headers entries contents file index cells w i) =
+      let q = matches-same key (s .table .link) headers entries contents file index cells w i in
+      record { answer = q; refusal = ap (refusalIn (matches headers entries contents file index cells w i)) q; next = stays }
   under-same (collect marks entry work) =
       let l : Link = s .table .link in
       let q = collect-same key (store (s .table)) n e (s .table .symbols) (s .table .sections) (s .lists) marks h entry work in
@@ -227,24 +230,24 @@ calls-same key (k ∷ ks) s t a =
     let more = calls-same key ks (callNext k s) (callNext k t) (one .next) in
     ((one .answer, one .refusal, more .0), more .1)
 
-module _ (key other : ℕ) (bytes names symbols sections inputs lists : List ℕ) where
+module _ (key other : ℕ) (gabi : Bool) (bytes names symbols sections inputs lists : List ℕ) where
   -- a new table is answered alike
-  pub new-alike : newOf other bytes names symbols sections .said ≡ newOf key bytes names symbols sections .said
-  new-alike = new-said key other bytes names symbols sections
+  pub new-alike : newOf other gabi bytes names symbols sections .said ≡ newOf key gabi bytes names symbols sections .said
+  new-alike = new-said key other gabi bytes names symbols sections
 
   -- of the same lent lists
   abbrev pub startUnder : ℕ → Linked
-  startUnder k = linked (opened (newOf k bytes names symbols sections)) inputs lists
+  startUnder k = linked (opened (newOf k gabi bytes names symbols sections)) inputs lists
 
-  module _ (new : numberIn (newOf key bytes names symbols sections .said) ≡ 0) where
+  module _ (new : numberIn (newOf key gabi bytes names symbols sections .said) ≡ 0) where
     start-alike : Alike other (startUnder key) (startUnder other)
     start-alike =
-        let m = new-moved key other bytes names symbols sections new in
+        let m = new-moved key other gabi bytes names symbols sections new in
         record {
           names = m .names;
           is = ap (λ (o : NewLeft). linked (opened o) inputs lists) (m .is);
           rows = m .alike;
-          named = new-named key other bytes names symbols sections;
+          named = new-named key other gabi bytes names symbols sections;
         }
 
     pub keys-alike : (ks : List Call) → SameAnswers ks (startUnder key) (startUnder other) × Alike other (runCalls ks (startUnder key)) (runCalls ks (startUnder other))

@@ -33,6 +33,7 @@ pub mod CallRules
 pub mod ExactTerms
 pub mod Terms
 pub mod Calls
+pub mod Profile
 pub mod Idle
 pub mod CallSteps
 pub mod Lists
@@ -63,6 +64,7 @@ pub mod WalkIn
 pub mod OneOutcome
 pub mod Contracts
 pub mod Undefined
+pub mod Ties
 pub mod Extraction
 pub mod AddCall
 pub mod CallDuplicates

@@ -143,16 +143,16 @@ from-loads (c ∷ cs) s n k h g e =
 
 -- ---- a new table counts none
 
-null-inputs : (symbols sections : List ℕ) (s : Store) → nullOf symbols sections s .table .link .inputs ≡ s .link .inputs
+null-inputs : (gabi : Bool) (symbols sections : List ℕ) (s : Store) → nullOf gabi symbols sections s .table .link .inputs ≡ s .link .inputs
 unfolding nullOf
-null-inputs symbols sections s = by-test (eqb (s .link .names) 0) (λ a. rw a) (λ a. rw a)
+null-inputs gabi symbols sections s = by-test (eqb (s .link .names) 0) (λ a. rw a) (λ a. rw a)
 
 names-inputs : (key : ℕ) (bytes names : List ℕ) → Names.newOf key bytes names .store .link .inputs ≡ 0
 unfolding Names.newOf
 names-inputs key bytes names = by-test (eqb (nameRows (length names)) 0) (λ a. rw a) (λ a. rw a (keep-inputs _ (record { 0 = 0 }) []))
 
-pub new-inputs : (key : ℕ) (bytes names symbols sections : List ℕ) (k : ℕ) → newOf key bytes names symbols sections .table .link .inputs ≤ k
+pub new-inputs : (key : ℕ) (gabi : Bool) (bytes names symbols sections : List ℕ) (k : ℕ) → newOf key gabi bytes names symbols sections .table .link .inputs ≤ k
 unfolding newOf
-new-inputs key bytes names symbols sections k =
+new-inputs key gabi bytes names symbols sections k =
     by-test (eqb (symbolRows (length symbols)) 0) (λ a. rw a (omega arith))
-    (λ a. rw a (omega (arith, null-inputs symbols sections (Names.newOf key bytes names .store), names-inputs key bytes names)))
+    (λ a. rw a (omega (arith, null-inputs gabi symbols sections (Names.newOf key bytes names .store), names-inputs key bytes names)))

@@ -39,7 +39,7 @@ use Rattle.symbol_laws.specs.History.{State, store}
 use Rattle.link_laws.specs.Rules.{Rule, _gives_at_, inTurn, headRules, firstOf, numbered, numbered-both, each-numbered, follows, headed, first-is, head-rules}
 use Rattle.link_laws.specs.TableRules.{idIn, isUnroomed, namesOf, Asked, askedOf, defined, shownRules, heldRules}
 use Rattle.link_laws.specs.InternExactly.{fits-is}
-use Rattle.link_laws.specs.AddExactly.{Stands, answered, shown-first, held-first}
+use Rattle.link_laws.specs.AddExactly.{Stands, shown-library, answered, shown-first, held-first}
 use Rattle.link_laws.specs.ObjectRules.{cellAt, entryRules}
 use Rattle.link_laws.specs.ObjectExactly.{from-zero, entries-exactly, entries-numbered}
 use Rattle.link_laws.specs.MergeExactly.{stage-exactly}
@@ -186,14 +186,14 @@ module _ (o : Input) (s : Symbols.State) (i : ℕ) (c : Chained (stateStore s)) 
   -- under the id that its name has or gets
   module _ (id : ℕ) where
     abbrev row : Row
-    row = externalRowOf (record { 0 = id }) binding visibility
+    row = externalRowOf (now .link .gabi) (record { 0 = id }) binding visibility
 
     abbrev want : Asked
     want = askedOf binding visibility 0 id File.None defined
 
     row-stands : Stands row want
     unfolding externalRowOf
-    row-stands = record { kinds = refl; shows = refl; values = (refl, refl, refl) }
+    row-stands = record { kinds = refl; shows = shown-library (now .link .gabi) _; values = (refl, refl, refl) }
 
     added-exactly : answered (Decide.refusalOf (decideOf (now .link) (now .symbols) (now .sections) row (holderOf (now .link) (now .names) (now .symbols) (record { 0 = id })))) id i
         ≡ firstOf (shownRules now want i ++ heldRules now want i)

@@ -14,7 +14,8 @@ use Rattle.interner_laws.specs.Good.{Chained}
 use Rattle.symbol_rows.specs.declared.Holder.the-variants.{Known}
 use Rattle.symbol_rows.specs.Holder.{holderOf}
 use Rattle.library_need.specs.Lists.{hasId}
-use Rattle.library_need.specs.Need.{provides, strongUndefined, lackedBy, needOf}
+use Rattle.symbol_rows.specs.Undefined.{strongUndefined}
+use Rattle.library_need.specs.Need.{provides, lackedBy, needOf}
 use Rattle.shared_objects.specs.Load.{Input}
 use Rattle.shared_laws.specs.Own.{provides-own, own-provides, lacking-own, own-lacking}
 use Rattle.shared_laws.specs.Needed.{Records, Lacked, undefined, recorded, Needed}

@@ -83,11 +83,11 @@ plan-numbers : (v : View) (x : List ℕ) (binding visibility : ℕ) → In (refu
 unfolding planOf externalOf rowedOf judgedOf
 plan-numbers v x binding visibility =
     let id : Interned = record { 0 = findOf (v .bytes) (v .names) (v .link) x } in
-    let r = externalRowOf id binding visibility in
+    let r = externalRowOf (v .link .gabi) id binding visibility in
     pick (λ (d : Decision). In (refusalOf d)) (fitsOf (storeOf (v .bytes) (v .names) (v .link)) (r .name) (length x)) _ _
     (λ a.
     AddNumbers.decide-numbers In refl refl refl refl (v .link) (v .symbols) (v .sections) r
-    (AddNumbers.external-fields In refl refl refl refl refl refl refl id binding visibility) (holderOf (v .link) (v .names) (v .symbols) (r .name)))
+    (AddNumbers.external-fields In refl refl refl refl refl refl refl (v .link .gabi) id binding visibility) (holderOf (v .link) (v .names) (v .symbols) (r .name)))
     (λ a. refl)
 
 commit-numbers : (s : Added) (x : List ℕ) (p : Definition) (i : ℕ) → In (refusalOf (p .decision)) → In (commitOf s x p i .stage .number)

@@ -23,14 +23,16 @@ use Rattle.symbol.specs.declared.Row.{Row}
 use Rattle.symbol.specs.declared.SttFile.the-variants as File
 use Rattle.symbol.specs.Codes.{successor}
 use Rattle.symbol.specs.Row.{field, stateAt, visibilityCodeAt, setRow}
+use Rattle.symbol.specs.Hidden.{hiddenCode, hideCode, passes, hideIf, passHidden}
+use Rattle.symbol_laws.specs.Standing.{pass-none}
 use Rattle.symbol_rows.specs.declared.Holder.{Holder}
 use Rattle.symbol_rows.specs.declared.Holder.the-variants.{Unissued, Nobody, Removed, Known}
 use Rattle.symbol_rows.specs.declared.Decision.{Decision}
-use Rattle.symbol_rows.specs.declared.Decision.the-variants.{Refuse, Keep, Append, Replace}
+use Rattle.symbol_rows.specs.declared.Decision.the-variants.{Refuse, Keep, Append, Replace, Amend}
 use Rattle.symbol_rows.specs.Holder.{globalAt}
 use Rattle.symbol_rows.specs.Decide as Decide
-use Rattle.symbol_rows.specs.Decide.{refusalOf, typeRefusal, sectionCell, sectionRoom, newOf, replaceOf, rankedOf, knownOf, namedOf, localOf, decideOf}
-use Rattle.symbol_rows.specs.Apply.{Table, noteName, setSectionSymbol, noteSection, appendOf, applyOf}
+use Rattle.symbol_rows.specs.Decide.{refusalOf, typeRefusal, sectionCell, sectionRoom, newOf, replaceOf, keptOf, rankedOf, knownOf, namedOf, localOf, decideOf}
+use Rattle.symbol_rows.specs.Apply.{Table, tableOf, noteName, setSectionSymbol, noteSection, appendOf, replacedIn, amendedIn, applyOf}
 use Rattle.symbols.specs.Calls.{Left, lentOf}
 use Rattle.symbols.specs.Add.{directHolderOf, decidedOf, committedOf, addRowOf}
 use Rattle.symbols.specs.Lookup.{sectionSymbolAt}
@@ -39,7 +41,7 @@ use Rattle.gc_sections.specs.declared.EntryPoint.{EntryPoint}
 use Rattle.gc_sections.specs.declared.Answer.{Answer}
 use Rattle.gc_sections.specs.declared.Answer.the-variants.{Dropped, Refused}
 use Rattle.gc_laws.specs.Demand as Collection
-use Rattle.symbol_laws.specs.View.{Named, Free, View, refused, kept, replaced, appended, local, view, decided, held}
+use Rattle.symbol_laws.specs.View.{Named, Free, View, refused, kept, amended, replaced, appended, local, view, decided, held}
 use Rattle.symbol_laws.specs.ContentWords.{decided-passes}
 use Rattle.symbol_laws.specs.Refused.{commit-refused, remove-link}
 use Rattle.symbol_laws.specs.Rows.{rowAt, stored-there, stored-row, there-kept, row-kept}
@@ -176,20 +178,28 @@ module _ (l : Link) (symbols sections : List ℕ) (r : Row) where
       (λ c. by-test (sectionRoom l sections r) (λ d. d) (λ d. unlike 2 (rw (a, b, c, d) at e))))
       (λ b. unlike _ (rw (a, b) at e)))
 
-  known-roomy : (id : ℕ) → Roomy (knownOf symbols r (record { 0 = id }))
-  unfolding knownOf rankedOf replaceOf
+  known-roomy : (id : ℕ) → Roomy (knownOf (l .gabi) symbols r (record { 0 = id }))
+  unfolding knownOf rankedOf replaceOf keptOf
   known-roomy id e =
       by-test (leb 13 (r .value .kind)) (λ a. unlike _ (rw a at e))
       (λ a.
       by-test (ltb (Decide.rankOf (visibilityCodeAt symbols id) (field symbols id 5)) (Decide.rankOf (r .visibility) (r .value .kind)))
       (λ b. by-test (eqb (typeRefusal (r .kind)) 0) (λ c. absurd (replaced-not (rw (a, b, c) at e))) (λ c. unlike _ (rw (a, b, c) at e)))
-      (λ b. by-test (eqb (Decide.rankOf (r .visibility) (r .value .kind)) 4) (λ c. unlike 17 (rw (a, b, c) at e)) (λ c. absurd (kept-not (rw (a, b, c) at e)))))
+      (λ b. by-test (eqb (Decide.rankOf (r .visibility) (r .value .kind)) 4) (λ c. unlike 17 (rw (a, b, c) at e))
+      (λ c.
+      by-test (passes (l .gabi) (r .visibility))
+      (λ p.
+      by-test (hiddenCode (visibilityCodeAt symbols id)) (λ h. absurd (kept-not (rw (a, b, c, p, h) at e))) (λ h. absurd (amended-not (rw (a, b, c, p, h) at e))))
+      (λ p. absurd (kept-not (rw (a, b, c, p) at e))))))
     where
       replaced-not : Replace (record { 0 = id }) ≡ Append → ⊥
       replaced-not q = let z : _≡_ {A = ℕ} 0 1 = cc in omega arith
 
       kept-not : Keep (record { 0 = id }) ≡ Append → ⊥
       kept-not q = let z : _≡_ {A = ℕ} 0 1 = cc in omega arith
+
+      amended-not : Amend (record { 0 = id }) ≡ Append → ⊥
+      amended-not q = let z : _≡_ {A = ℕ} 0 1 = cc in omega arith
 
   decide-roomy : (h : Holder) → Roomy (decideOf l symbols sections r h)
   unfolding decideOf
@@ -269,6 +279,21 @@ own-parts r y e =
     (λ k. absurd (false≢true (rw (v, k) at e))))
     (λ v. absurd (false≢true (rw v at e)))
 
+-- ---- a row that hidden is passed to
+
+hide-coded : (v : ℕ) → (hideCode v ≢ 0) × (hideCode v < 5)
+unfolding hideCode
+hide-coded v =
+    by-test (eqb v 3) (λ a. rw a (λ e. omega arith, omega arith)) (λ a. by-test (eqb v 4) (λ b. rw (a, b) (λ e. omega arith, omega arith)) (λ b. rw (a, b) (λ e. omega arith, omega arith)))
+
+pass-code : (gabi : Bool) (v : ℕ) (q : Row) → passes gabi v ≡ true → passHidden gabi v q .visibility ≡ hideCode (q .visibility)
+unfolding passHidden hideIf
+pass-code gabi v q a = rw a
+
+pass-coded : (gabi : Bool) (v : ℕ) (q : Row) → q .visibility ≢ 0 → q .visibility < 5 → (passHidden gabi v q .visibility ≢ 0) × (passHidden gabi v q .visibility < 5)
+unfolding passHidden hideIf
+pass-coded gabi v q n c = by-test (passes gabi v) (λ a. rw a (hide-coded (q .visibility))) (λ a. rw a (n, c))
+
 -- ---- a row added
 
 module _ (s : State) (g : Ready s) (w : Shown s) (r : Row) where
@@ -286,10 +311,10 @@ module _ (s : State) (g : Ready s) (w : Shown s) (r : Row) where
   unfolding successor
   one-more f = rw (lt-ltb (s .link .symbols) 0xffffffffffffffff (omega (arith, f .few)))
 
-  -- a name's row replaced
-  module _ (k : Named (table s) r) (z : id ≢ 0) (c : r .visibility < 5) where
+  -- a name's row written: x in its place
+  module _ (k : Named (table s) r) (z : id ≢ 0) (x : Row) (n : x .visibility ≢ 0) where
     abbrev over : State
-    over = withTable s (applyOf (table s) r (Replace (record { 0 = id })))
+    over = withTable s (tableOf (s .names) (setRow (s .symbols) (record { 0 = id }) x) (s .sections) (s .link))
 
     low : id < s .link .symbols
     low = g .below .held (r .name .0) (k .issued) z
@@ -297,41 +322,61 @@ module _ (s : State) (g : Ready s) (w : Shown s) (r : Row) where
     fits : id * 8 + 8 ≤ length (s .symbols)
     fits = omega (arith, g .room, low)
 
-    own-row : rowAt (over .symbols) id ≡ r
-    unfolding applyOf
-    own-row = stored-row (s .symbols) (record { 0 = id }) r fits
+    own-row : rowAt (over .symbols) id ≡ x
+    own-row = stored-row (s .symbols) (record { 0 = id }) x fits
 
     other-row : (i : ℕ) → i ≢ id → rowAt (over .symbols) i ≡ rowAt (s .symbols) i
-    unfolding applyOf
-    other-row i u = row-kept (s .symbols) (record { 0 = id }) r i u
+    other-row i u = row-kept (s .symbols) (record { 0 = id }) x i u
 
-    own-code : visibilityCodeAt (over .symbols) id ≡ r .visibility
+    own-code : visibilityCodeAt (over .symbols) id ≡ x .visibility
     own-code = ap (λ (r : Row). r .visibility) own-row
+
+    -- it was a name's row, and still is one
+    still : x .visibility < 5 → Stands s over id
+    still c = other (w (r .name .0) (k .issued) z) (λ e. n (sym own-code ∙ e)) (rw own-code c)
 
     at-own : (P : ℕ → Type 0) (i : ℕ) → P id → (i ≢ id → P i) → P i
     at-own P i p q = by-test (eqb i id) (λ e. subst P (sym (eqb-true _ _ e)) p) (λ e. q (eqb-false _ _ e))
 
-    replaced-state : (i : ℕ) → stateAt (s .symbols) i ≢ 2 → stateAt (over .symbols) i ≢ 2
-    unfolding applyOf
-    replaced-state i u =
+    written-state : (i : ℕ) → stateAt (s .symbols) i ≢ 2 → stateAt (over .symbols) i ≢ 2
+    written-state i u =
         at-own (λ (j : ℕ). stateAt (s .symbols) j ≢ 2 → stateAt (over .symbols) j ≢ 2) i
-        (λ v e. omega (arith, e, stored-there (s .symbols) (record { 0 = id }) r fits))
-        (λ n v e. v (sym (there-kept (s .symbols) (record { 0 = id }) r i n) ∙ e)) u
+        (λ v e. omega (arith, e, stored-there (s .symbols) (record { 0 = id }) x fits))
+        (λ n v e. v (sym (there-kept (s .symbols) (record { 0 = id }) x i n) ∙ e)) u
 
-    replaced-onto : Onto s over
-    unfolding applyOf
-    replaced-onto =
+    written-onto : Stands s over id → Onto s over
+    written-onto own =
         record {
-          shown = λ n h u.
-              at-own (λ (i : ℕ). visibilityCodeAt (s .symbols) i ≢ 0 → visibilityCodeAt (over .symbols) i ≢ 0) (globalAt (s .names) n)
-              (λ v e. k .global (sym own-code ∙ e)) (λ n v e. v (sym (ap (λ (r : Row). r .visibility) (other-row _ n)) ∙ e)) (w n h u);
+          shown = λ m h u.
+              at-own (λ (i : ℕ). visibilityCodeAt (s .symbols) i ≢ 0 → visibilityCodeAt (over .symbols) i ≢ 0) (globalAt (s .names) m)
+              (λ v e. n (sym own-code ∙ e)) (λ d v e. v (sym (ap (λ (r : Row). r .visibility) (other-row _ d)) ∙ e)) (w m h u);
           more = le-refl _;
-          stands = λ i h.
-              at-own (Stands s over) i (other (w (r .name .0) (k .issued) z) (λ e. k .global (sym own-code ∙ e)) (rw own-code c)) (λ n. same (other-row i n));
+          stands = λ i h. at-own (Stands s over) i own (λ d. same (other-row i d));
           coded = λ i h l. absurd (omega arith);
-          present = λ i h f. replaced-state i (f h);
+          present = λ i h f. written-state i (f h);
           since = λ y. none refl (λ i h l. absurd (omega arith));
         }
+
+  replaced-onto : Named (table s) r → id ≢ 0 → r .visibility < 5 → Onto s (withTable s (applyOf (table s) r (Replace (record { 0 = id }))))
+  unfolding applyOf replacedIn
+  replaced-onto k z c =
+      let p = pass-coded (s .link .gabi) (visibilityCodeAt (s .symbols) id) r (k .global) c in
+      written-onto k z (passHidden (s .link .gabi) (visibilityCodeAt (s .symbols) id) r) (p .0)
+      (still k z (passHidden (s .link .gabi) (visibilityCodeAt (s .symbols) id) r) (p .0) (p .1))
+
+  amended-onto : Named (table s) r → id ≢ 0 → Onto s (withTable s (applyOf (table s) r (Amend (record { 0 = id }))))
+  unfolding applyOf amendedIn
+  amended-onto k z =
+      let x : Row = passHidden (s .link .gabi) (r .visibility) (rowAt (s .symbols) id) in
+      by-test (passes (s .link .gabi) (r .visibility))
+      (λ a.
+      let e : x .visibility ≡ hideCode (visibilityCodeAt (s .symbols) id) = pass-code (s .link .gabi) (r .visibility) (rowAt (s .symbols) id) a in
+      let n : x .visibility ≢ 0 = λ q. hide-coded (visibilityCodeAt (s .symbols) id) .0 (sym e ∙ q) in
+      written-onto k z x n (still k z x n (rw e (hide-coded (visibilityCodeAt (s .symbols) id) .1))))
+      (λ a.
+      let e : x ≡ rowAt (s .symbols) id = pass-none (s .link .gabi) (r .visibility) (rowAt (s .symbols) id) a in
+      let n : x .visibility ≢ 0 = λ q. w (r .name .0) (k .issued) z (sym (ap (λ (y : Row). y .visibility) e) ∙ q) in
+      written-onto k z x n (same (own-row k z x n ∙ e)))
 
   -- a row appended
   module _ (e : decided (table s) r ≡ Append) (f : Free (table s) r) where
@@ -459,7 +504,8 @@ module _ (s : State) (g : Ready s) (w : Shown s) (r : Row) where
   unfolding committedOf applyOf
   viewed (refused n e z) =
       decides (Refuse n) e (subst (λ (t : Table). Onto s (withTable s t)) (sym (commit-refused (table s) r File.None n z .0)) (onto-none s w))
-  viewed (kept e k z o q) = decides _ e (onto-none s w)
+  viewed (kept e k z o q p) = decides _ e (onto-none s w)
+  viewed (amended e k z o q) = decides _ e (amended-onto k z)
   viewed (replaced e k z o) = decides _ e (replaced-onto k z (coded-by s r _ e refl))
   viewed (appended e f k z) = decides _ e (appended-onto e f)
   viewed (local e f v) = decides _ e (appended-onto e f)

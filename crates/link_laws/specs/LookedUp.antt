@@ -4,7 +4,7 @@ use Prim.Native.Nat.{ℕ, _+_, _*_, _/_, _≤_, _<_}
 use native.Mathlib.Omega.{arith}
 use native.Mathlib.Nat.{le-refl, le-trans}
 use mathlib.Core.Path.{_≡_, refl, sym, ap, subst, _∙_}
-use mathlib.Core.Bool.{true, false}
+use mathlib.Core.Bool.{Bool, true, false}
 use mathlib.Core.List.{List, [], _∷_, _++_, append-nil}
 use mathlib.Core.Logic.{_≢_}
 use lib.Dec.{eqb, leb}
@@ -37,6 +37,7 @@ use Rattle.gc_laws.specs.Demand as Collection
 use Rattle.symbol_laws.specs.History as History
 use Rattle.symbol_laws.specs.History.{State, Entry, only, rows, opened}
 use Rattle.symbol_laws.specs.Rank.{firstOf}
+use Rattle.symbol_laws.specs.Standing.{hiddenBy}
 use Rattle.symbol_laws.specs.Rows.{stored-there}
 use Rattle.symbol_laws.specs.View.{lesser-second}
 use Rattle.symbol_laws.specs.Held.{Holds, Held, Inv}
@@ -278,7 +279,8 @@ module _ (s : Linked) (past : List Entry) (met : List (List ℕ)) (g : Reached s
   interned = reached-on (intern b ∷ []) s past met ((λ (e : ⊥). e), tt) g
 
   pub interned-row : (x : Entry) (xs : List Entry) → only idNow past ≡ x ∷ xs
-      → callLeft (getGlobal (record { 0 = idNow })) (callNext (intern b) s) ≡ Fd.Row (symbolOf (record { 0 = x .id }) (firstOf (x .row) (rows xs)))
+      → callLeft (getGlobal (record { 0 = idNow })) (callNext (intern b) s)
+      ≡ Fd.Row (symbolOf (record { 0 = x .id }) (hiddenBy (callNext (intern b) s .table .link .gabi) (rows (x ∷ xs)) (firstOf (x .row) (rows xs))))
   interned-row x xs e =
       Within.lookup-row (callNext (intern b) s .table) (past ++ []) (interned .held) (reached-within (callNext (intern b) s) _ _ interned) idNow x xs
       (ap (only idNow) (append-nil past) ∙ e)
@@ -290,10 +292,10 @@ module _ (s : Linked) (past : List Entry) (met : List (List ℕ)) (g : Reached s
 
 -- ---- a new table has its null row alone, present
 
-null-whole : (symbols sections : List ℕ) (s : Store) → symbolRows (length symbols) ≢ 0 → numberIn (nullOf symbols sections s .said) ≡ 0
-    → (i : ℕ) → i < opened (nullOf symbols sections s) .link .symbols → stateAt (opened (nullOf symbols sections s) .symbols) i ≢ 2
+null-whole : (gabi : Bool) (symbols sections : List ℕ) (s : Store) → symbolRows (length symbols) ≢ 0 → numberIn (nullOf gabi symbols sections s .said) ≡ 0
+    → (i : ℕ) → i < opened (nullOf gabi symbols sections s) .link .symbols → stateAt (opened (nullOf gabi symbols sections s) .symbols) i ≢ 2
 unfolding nullOf
-null-whole symbols sections s some e =
+null-whole gabi symbols sections s some e =
     by-test (eqb (s .link .names) 0) (λ a. let q : _≡_ {A = ℕ} 2 0 = rw a at e in absurd (omega arith))
     (λ a.
     rw a
@@ -303,9 +305,9 @@ null-whole symbols sections s some e =
     let q : stateAt (setRow symbols (record { 0 = 0 }) nullRow) i ≡ 1 = rw k (stored-there symbols (record { 0 = 0 }) nullRow (omega (arith, some, m))) in
     omega (arith, q, d)))
 
-pub new-whole : (key : ℕ) (bytes names symbols sections : List ℕ) → numberIn (newOf key bytes names symbols sections .said) ≡ 0
-    → (i : ℕ) → i < opened (newOf key bytes names symbols sections) .link .symbols → stateAt (opened (newOf key bytes names symbols sections) .symbols) i ≢ 2
+pub new-whole : (key : ℕ) (gabi : Bool) (bytes names symbols sections : List ℕ) → numberIn (newOf key gabi bytes names symbols sections .said) ≡ 0
+    → (i : ℕ) → i < opened (newOf key gabi bytes names symbols sections) .link .symbols → stateAt (opened (newOf key gabi bytes names symbols sections) .symbols) i ≢ 2
 unfolding newOf
-new-whole key bytes names symbols sections e =
+new-whole key gabi bytes names symbols sections e =
     by-test (eqb (symbolRows (length symbols)) 0) (λ a. let q : _≡_ {A = ℕ} 2 0 = rw a at e in absurd (omega arith))
-    (λ a. rw a (null-whole symbols sections (Names.newOf key bytes names .store) (eqb-false _ _ a) (rw a at e)))
+    (λ a. rw a (null-whole gabi symbols sections (Names.newOf key bytes names .store) (eqb-false _ _ a) (rw a at e)))

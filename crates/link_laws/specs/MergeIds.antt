@@ -16,6 +16,7 @@ use Rattle.link.specs.declared.SymbolId.{SymbolId}
 use Rattle.interner.specs.Names.{storeOf, findOf, fitsOf, keepOf}
 use Rattle.symbol.specs.declared.Row.{Row}
 use Rattle.symbol.specs.Row.{field, visibilityCodeAt}
+use Rattle.symbol.specs.Hidden.{hiddenCode, passes}
 use Rattle.upcoming_symbol.specs.declared.ElfSymbol.{ElfSymbol}
 use Rattle.upcoming_symbol.specs.Upcoming.{conversionFrom, elfRowOf}
 use Rattle.symbol_rows.specs.declared.Decision.{Decision}
@@ -57,18 +58,23 @@ module _ (c : ℕ) where
       pick Ided (eqb (typeRefusal (r .kind)) 0) _ _ (λ b. pick Ided (roomOf l symbols sections r) _ _ (λ d e. next-some c) (λ d. refused 2 (λ z. omega arith)))
       (λ b. refused (typeRefusal (r .kind)) (eqb-false _ _ b)))
 
-  ranked-ided : (old new : ℕ) (r : Row) (id : SymbolId) → Ided (rankedOf old new r id)
+  kept-ided : (gabi : Bool) (old new : ℕ) (id : SymbolId) → Ided (Decide.keptOf gabi old new id)
+  unfolding Decide.keptOf
+  kept-ided gabi old new id =
+      pick Ided (passes gabi new) _ _ (λ a. pick Ided (hiddenCode old) _ _ (λ b e. next-some (id .0)) (λ b e. next-some (id .0))) (λ a e. next-some (id .0))
+
+  ranked-ided : (gabi : Bool) (v old new : ℕ) (r : Row) (id : SymbolId) → Ided (rankedOf gabi v old new r id)
   unfolding rankedOf replaceOf
-  ranked-ided old new r id =
+  ranked-ided gabi v old new r id =
       pick Ided (ltb old new) _ _
       (λ b. pick Ided (eqb (typeRefusal (r .kind)) 0) _ _ (λ d e. next-some (id .0)) (λ d. refused (typeRefusal (r .kind)) (eqb-false _ _ d)))
-      (λ b. pick Ided (eqb new 4) _ _ (λ d. refused 17 (λ z. omega arith)) (λ d e. next-some (id .0)))
+      (λ b. pick Ided (eqb new 4) _ _ (λ d. refused 17 (λ z. omega arith)) (λ d. kept-ided gabi v (r .visibility) id))
 
-  known-ided : (symbols : List ℕ) (r : Row) (id : SymbolId) → Ided (knownOf symbols r id)
+  known-ided : (gabi : Bool) (symbols : List ℕ) (r : Row) (id : SymbolId) → Ided (knownOf gabi symbols r id)
   unfolding knownOf
-  known-ided symbols r id =
+  known-ided gabi symbols r id =
       pick Ided (leb 13 (r .value .kind)) _ _ (λ a. refused (r .value .kind) (λ z. let h = leb-true 13 (r .value .kind) a in omega arith))
-      (λ a. ranked-ided (Decide.rankOf (visibilityCodeAt symbols (id .0)) (field symbols (id .0) 5)) (Decide.rankOf (r .visibility) (r .value .kind)) r id)
+      (λ a. ranked-ided gabi (visibilityCodeAt symbols (id .0)) (Decide.rankOf (visibilityCodeAt symbols (id .0)) (field symbols (id .0) 5)) (Decide.rankOf (r .visibility) (r .value .kind)) r id)
 
   decide-ided : (l : Link) (symbols sections : List ℕ) (r : Row) (h : Holder) → Ided (decideOf l symbols sections r h)
   unfolding decideOf
@@ -86,7 +92,7 @@ module _ (c : ℕ) where
       name Unissued = refused 21 (λ z. omega arith)
       name Nobody = new-ided l symbols sections r
       name Removed = refused 21 (λ z. omega arith)
-      name (Known id) = known-ided symbols r id
+      name (Known id) = known-ided (l .gabi) symbols r id
 
 -- ---- one symbol
 

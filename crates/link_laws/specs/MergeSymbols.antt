@@ -40,7 +40,7 @@ use Rattle.merge_laws.specs.SymbolStage.{symbol-makes, symbols-loop}
 use Rattle.link_laws.specs.Rules.{inTurn, Rule, _gives_at_, firstOf, numbered, first-is, not-below}
 use Rattle.link_laws.specs.TableRules.{bytesOf, Asked, conversionIn, elfAsked, shownRules, heldRules, isUnroomed, idAmong, idIn}
 use Rattle.link_laws.specs.InternExactly.{fits-is}
-use Rattle.link_laws.specs.AddExactly.{Stands, answered, elf-reads, shown-first, held-first}
+use Rattle.link_laws.specs.AddExactly.{Stands, shown-same, answered, elf-reads, shown-first, held-first}
 use Rattle.link_laws.specs.ObjectRules.{cellAt, isExcluded, isNamed, nameIn}
 use Rattle.link_laws.specs.MergeRules.{Reading, isRemovedIn, tableAt, entry, named, bytes, isFirst, isIdless, symbolRules}
 use Rattle.link_laws.specs.MergeExactly.{stage-exactly, atWork, excluded-is}
@@ -174,7 +174,7 @@ module _ (d : Tabled) (work : List ℕ) (s : Symbols.State) (i : ℕ) (c : Chain
 
     row-stands : Stands row want
     unfolding elfRowOf
-    row-stands = record { kinds = refl; shows = refl; values = elf-reads cell e empty }
+    row-stands = record { kinds = refl; shows = shown-same _; values = elf-reads cell e empty }
 
     added-exactly : answered (Decide.refusalOf (decideOf (t .link) (t .symbols) (t .sections) row (holderOf (t .link) (t .names) (t .symbols) (record { 0 = id })))) id i
         ≡ firstOf (shownRules t want i ++ heldRules t want i)

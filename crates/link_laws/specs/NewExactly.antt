@@ -3,7 +3,7 @@
 use Prim.Native.Nat.{ℕ, _/_}
 use native.Mathlib.Omega.{arith}
 use mathlib.Core.Path.{_≡_, refl, sym, ap, _∙_}
-use mathlib.Core.Bool.{false, not}
+use mathlib.Core.Bool.{Bool, false, not}
 use mathlib.Core.List.{List, [], _∷_}
 use lib.Dec.{eqb, ltb}
 use lib.ListN.{length}
@@ -34,7 +34,7 @@ rows-none : (n : ℕ) → eqb (symbolRows n) 0 ≡ eqb (n / 8) 0
 unfolding lesser
 rows-none n = by-test (ltb 65535 (n / 8)) (λ a. rw a (sym (ne-eqb (n / 8) 0 (λ e. omega (arith, ltb-true 65535 (n / 8) a, e))))) (λ a. rw a)
 
-module _ (key : ℕ) (bytes names symbols sections : List ℕ) where
+module _ (key : ℕ) (gabi : Bool) (bytes names symbols sections : List ℕ) where
   -- a name's row is lent just if the empty name gets one
   named-none : eqb (Names.newOf key bytes names .store .link .names) 0 ≡ eqb (nameRows (length names)) 0
   unfolding Names.newOf
@@ -47,7 +47,7 @@ module _ (key : ℕ) (bytes names symbols sections : List ℕ) where
       number : eqb (nameRows (length names)) 0 ≡ false → Interns.Accepted (Names.newOf key bytes names)
       number a = rw a
 
-  pub new-exactly : refusalBy (newOf key bytes names symbols sections .said) ≡ firstOf (newRules names symbols)
+  pub new-exactly : refusalBy (newOf key gabi bytes names symbols sections .said) ≡ firstOf (newRules names symbols)
   unfolding newOf nullOf
   new-exactly =
       rw (below-one (length symbols / 8), below-one (length names / 9))
@@ -56,5 +56,5 @@ module _ (key : ℕ) (bytes names symbols sections : List ℕ) where
       by-test (eqb (length names / 9) 0) (λ b. rw (rows-none (length symbols), a, named-none, b)) (λ b. rw (rows-none (length symbols), a, named-none, b))))
 
   -- a table just where none holds
-  pub new-accepted : eqb (numberIn (newOf key bytes names symbols sections .said)) 0 ≡ not (someHolds (newRules names symbols))
+  pub new-accepted : eqb (numberIn (newOf key gabi bytes names symbols sections .said)) 0 ≡ not (someHolds (newRules names symbols))
   new-accepted = ap (λ (r : Refusal). eqb (r .number) 0) new-exactly ∙ none-holds (newRules names symbols) refl

@@ -3,6 +3,7 @@
 use Prim.Native.Nat.{ℕ}
 use native.Mathlib.Omega.{arith}
 use mathlib.Core.Path.{_≡_, refl, ap}
+use mathlib.Core.Bool.{Bool}
 use mathlib.Core.List.{List}
 use mathlib.Core.Logic.{_≢_}
 use lib.Dec.{eqb}
@@ -20,7 +21,7 @@ use Rattle.symbol_rows.specs.Apply.{tableOf}
 use Rattle.symbols.specs.Calls.{noRows}
 use Rattle.symbols.specs.New.{NewLeft, newLeft, nullOf, newOf}
 
-module _ (key : ℕ) (bytes names symbols sections : List ℕ) where
+module _ (key : ℕ) (gabi : Bool) (bytes names symbols sections : List ℕ) where
   abbrev pub unopened : NewLeft
   unopened = newLeft bytes (tableOf names symbols sections noRows) (refusing (refused 2 0))
 
@@ -31,7 +32,7 @@ module _ (key : ℕ) (bytes names symbols sections : List ℕ) where
       (λ a. let g = Interns.new-good key bytes names (eqb-true _ _ a) .some in absurd (omega (arith, g, e)))
       (λ a. Interns.new-refused key bytes names (eqb-false _ _ a))
 
-  null-leaves : numberIn (nullOf symbols sections (Names.newOf key bytes names .store) .said) ≢ 0 → nullOf symbols sections (Names.newOf key bytes names .store) ≡ unopened
+  null-leaves : numberIn (nullOf gabi symbols sections (Names.newOf key bytes names .store) .said) ≢ 0 → nullOf gabi symbols sections (Names.newOf key bytes names .store) ≡ unopened
   unfolding nullOf
   null-leaves z =
       by-test (eqb (Names.newOf key bytes names .store .link .names) 0)
@@ -40,7 +41,7 @@ module _ (key : ℕ) (bytes names symbols sections : List ℕ) where
       rw a (ap (λ (s : Store). newLeft (s .bytes) (tableOf (s .names) symbols sections (s .link)) (refusing (refused 2 0))) e))
       (λ a. absurd (z (rw a)))
 
-  pub new-leaves : numberIn (newOf key bytes names symbols sections .said) ≢ 0 → newOf key bytes names symbols sections ≡ unopened
+  pub new-leaves : numberIn (newOf key gabi bytes names symbols sections .said) ≢ 0 → newOf key gabi bytes names symbols sections ≡ unopened
   unfolding newOf
   new-leaves =
       pick (λ (x : NewLeft). numberIn (x .said) ≢ 0 → x ≡ unopened) (eqb (symbolRows (length symbols)) 0) _ _ (λ a z. refl) (λ a. null-leaves)

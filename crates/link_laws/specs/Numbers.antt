@@ -112,13 +112,13 @@ commit-numbers t r file d e =
 add-numbers : (t : Table) (conversion : List ℕ) (u : UpcomingSymbol) → Among addNumbers (numberIn (addOf t conversion u .said))
 unfolding addOf addRowOf decidedOf
 add-numbers t conversion u =
-    let r : Row = rowOf conversion u (emptyAt (t .names) (nameOf u)) in
+    let r : Row = rowOf (t .link .gabi) conversion u (emptyAt (t .names) (nameOf u)) in
     let h : Holder = directHolderOf (t .link) (t .names) (t .symbols) (r .name) (fileOf u) in
     pick (λ (o : Symbols.Left). Among addNumbers (numberIn (o .said))) (eqb (judgeAddOf (t .link) (Add.lent t) u .number) 0) _ _
     (λ a.
     commit-numbers t r (fileOf u) (decidedOf t r (fileOf u))
     (AddNumbers.decide-numbers (Among addNumbers) refl refl refl refl (t .link) (t .symbols) (t .sections) r
-    (AddNumbers.upcoming-fields (Among addNumbers) refl refl refl refl refl refl refl refl refl refl refl conversion u (emptyAt (t .names) (nameOf u))) h))
+    (AddNumbers.upcoming-fields (Among addNumbers) refl refl refl refl refl refl refl refl refl refl refl (t .link .gabi) conversion u (emptyAt (t .names) (nameOf u))) h))
     (λ a. judge-add-numbers (t .link) (Add.lent t) u)
 
 -- ---- the table's other calls
@@ -204,7 +204,7 @@ numbers (merge o work ids) s = merge-numbers o (allIn s work ids)
 numbers (load o marks) s = load-numbers o (libraryIn s marks)
 numbers (archiveStart key index cells) s = start-numbers key index cells
 numbers (archiveNext index cells w) s = next-numbers index cells w (viewIn (s .table))
-numbers (matches headers entries contents file index cells w e) s = matches-numbers headers entries contents file index cells w e
+numbers (matches headers entries contents file index cells w e) s = matches-numbers (s .table .link) headers entries contents file index cells w e
 numbers (collect marks entry work) s = collect-numbers (s .table .link) (listsIn s marks) (s .table .symbols) (s .table .sections) entry work
 
 -- all of the refusal table
@@ -231,12 +231,12 @@ refusals-only k s u =
 
 -- ---- a new table
 
-null-numbers : (symbols sections : List ℕ) (s : Store) → Among (2 ∷ []) (numberIn (nullOf symbols sections s .said))
+null-numbers : (gabi : Bool) (symbols sections : List ℕ) (s : Store) → Among (2 ∷ []) (numberIn (nullOf gabi symbols sections s .said))
 unfolding nullOf
-null-numbers symbols sections s = pick (λ (x : NewLeft). Among (2 ∷ []) (numberIn (x .said))) (eqb (s .link .names) 0) _ _ (λ a. refl) (λ a. refl)
+null-numbers gabi symbols sections s = pick (λ (x : NewLeft). Among (2 ∷ []) (numberIn (x .said))) (eqb (s .link .names) 0) _ _ (λ a. refl) (λ a. refl)
 
-pub new-numbers : (key : ℕ) (bytes names symbols sections : List ℕ) → Among (2 ∷ []) (numberIn (newOf key bytes names symbols sections .said))
+pub new-numbers : (key : ℕ) (gabi : Bool) (bytes names symbols sections : List ℕ) → Among (2 ∷ []) (numberIn (newOf key gabi bytes names symbols sections .said))
 unfolding newOf
-new-numbers key bytes names symbols sections =
+new-numbers key gabi bytes names symbols sections =
     pick (λ (x : NewLeft). Among (2 ∷ []) (numberIn (x .said))) (eqb (symbolRows (length symbols)) 0) _ _ (λ a. refl)
-    (λ a. null-numbers symbols sections (Names.newOf key bytes names .store))
+    (λ a. null-numbers gabi symbols sections (Names.newOf key bytes names .store))

@@ -24,6 +24,7 @@ use Rattle.symbol_laws.specs.Rank as Rank
 use Rattle.symbol_laws.specs.ObjectWords.{entry}
 use Rattle.symbol_laws.specs.Gabi.{Means, AllMean}
 use Rattle.symbol_laws.specs.Hidden.{hides, AllShow}
+use Rattle.symbol_laws.specs.ContentWords.{Admitted, shows, sharedEntry}
 use Rattle.symbol_laws.specs.DirectContents as Direct
 use Rattle.symbol_laws.specs.DirectContents.{FromAdd, ElfValue, isUndefined, symbolOf}
 use Rattle.merge_stages.specs.Stages as Stages
@@ -45,11 +46,11 @@ objectEntry o a met i =
     let table = Words.symbolsOf (o .headers) (o .entries) (o .contents) (o .file) in
     cond (ltb (entry table i .section) shnLoreserve && Objects.isDiscarded (o .headers) (o .entries) (o .contents) (o .file) (a .stage .link .sections) met table i) (undefine (entry table i)) (entry table i)
 
--- of a direct add: a definition other than an Elf symbol's counts as absolute
-abbrev pub addEntry : {conversion : List ℕ} {empty : Bool} {r : Row} {u : UpcomingSymbol} → FromAdd conversion empty r u → Sym
+-- of a direct add, ExternallyDefined as a shared object's: a definition other than an Elf symbol's counts as absolute
+abbrev pub addEntry : {gabi : Bool} {conversion : List ℕ} {empty : Bool} {r : Row} {u : UpcomingSymbol} → FromAdd gabi conversion empty r u → Sym
 addEntry (Direct.unknown name a b c d) = symbolOf stbGlobal 0 stvDefault shnUndef 0
 addEntry (Direct.hidden name value a b c d e) = symbolOf stbGlobal 0 stvHidden (cond (isUndefined value) shnUndef shnAbs) 0
-addEntry (Direct.external name visibility binding p a b c d) = symbolOf binding 0 visibility shnAbs 0
+addEntry {gabi} (Direct.external name visibility binding p a b c d) = sharedEntry gabi (symbolOf binding 0 visibility shnAbs 0)
 addEntry (Direct.elf e name file p a b c d) = symbolOf (e .binding) (e .kind) (e .visibility) (e .section) (e .value)
 
 -- ---- what a row means
@@ -155,9 +156,14 @@ module _ (o : Stages.Object) (a : Stages.All) (met : List (List ℕ)) (r : Row) 
 
 -- ---- of a library
 
-library-stands : (o : Shared.Input) (a : Shared.All) (r : Row) (p : FromLibrary o a r) → Stands r (entry (o .entries) (p .number))
+shared-stands : (gabi : Bool) (r : Row) (e : Sym) → Admitted e → visibilityAt (r .visibility) ≡ shows (sharedEntry gabi e) → isUndefined (valueAt (r .value)) ≡ eqb (e .section) shnUndef
+    → Stands r (sharedEntry gabi e)
+shared-stands false r e p v u = stands r e v (p .bound) (p .seen) u
+shared-stands true r e p v u = stands r (sharedEntry true e) v (p .bound) refl u
+
+library-stands : (o : Shared.Input) (a : Shared.All) (r : Row) (p : FromLibrary o a r) → Stands r (sharedEntry (a .link .gabi) (entry (o .entries) (p .number)))
 library-stands o a r p =
-    stands r (entry (o .entries) (p .number)) (p .shown) (p .passed .bound) (p .passed .seen) (ap isUndefined (p .value) ∙ sym (ne-eqb _ _ (p .defines)))
+    shared-stands (a .link .gabi) r (entry (o .entries) (p .number)) (p .passed) (p .shown) (ap isUndefined (p .value) ∙ sym (ne-eqb _ _ (p .defines)))
 
 -- ---- of a direct add
 
@@ -168,15 +174,15 @@ elf-undefined conversion empty e v (Direct.unloaded n q) = sym (ne-eqb _ _ n)
 elf-undefined conversion empty e v (Direct.whole i n q x) = sym (ne-eqb _ _ n)
 elf-undefined conversion empty e v (Direct.within i z n q x y) = sym (ne-eqb _ _ n)
 
-add-stands : (conversion : List ℕ) (empty : Bool) (r : Row) (u : UpcomingSymbol) (p : FromAdd conversion empty r u) → Stands r (addEntry p)
-add-stands conversion empty r u (Direct.unknown name a b c d) = stands r _ c refl refl (ap isUndefined d)
-add-stands conversion empty r u (Direct.hidden name value a b c d e) = stands r _ c refl refl (e ∙ back (isUndefined value))
+add-stands : (gabi : Bool) (conversion : List ℕ) (empty : Bool) (r : Row) (u : UpcomingSymbol) (p : FromAdd gabi conversion empty r u) → Stands r (addEntry p)
+add-stands gabi conversion empty r u (Direct.unknown name a b c d) = stands r _ c refl refl (ap isUndefined d)
+add-stands gabi conversion empty r u (Direct.hidden name value a b c d e) = stands r _ c refl refl (e ∙ back (isUndefined value))
   where
     back : (b : Bool) → b ≡ eqb (cond b shnUndef shnAbs) shnUndef
     back true = refl
     back false = refl
-add-stands conversion empty r u (Direct.external name visibility binding p a b c d) = stands r _ c (p .bound) (p .seen) (ap isUndefined d)
-add-stands conversion empty r u (Direct.elf e name file p a b c d) = stands r _ c (p .bound) (p .seen) (elf-undefined conversion empty e (valueAt (r .value)) d)
+add-stands gabi conversion empty r u (Direct.external name visibility binding p a b c d) = shared-stands gabi r _ p c (ap isUndefined d)
+add-stands gabi conversion empty r u (Direct.elf e name file p a b c d) = stands r _ c (p .bound) (p .seen) (elf-undefined conversion empty e (valueAt (r .value)) d)
 
 -- ---- of any call
 
@@ -190,7 +196,7 @@ callEntry (getGlobal name) s met r p = absurd p
 callEntry (sectionSymbol section) s met r p = absurd p
 callEntry (addGroup o work n) s met r p = absurd p
 callEntry (merge o work ids) s met r p = objectEntry o (allIn s work ids) met (p .number)
-callEntry (load o marks) s met r p = entry (o .entries) (p .number)
+callEntry (load o marks) s met r p = sharedEntry (s .table .link .gabi) (entry (o .entries) (p .number))
 callEntry (archiveStart key index cells) s met r p = absurd p
 callEntry (archiveNext index cells w) s met r p = absurd p
 callEntry (matches headers entries contents file index cells w e) s met r p = absurd p
@@ -199,7 +205,7 @@ callEntry (collect marks entry work) s met r p = absurd p
 call-stands : (k : Call) (s : Linked) (met : List (List ℕ)) (r : Row) (p : FromCall k s met r) → Stands r (callEntry k s met r p)
 call-stands (intern x) s met r p = absurd p
 call-stands (resolve id) s met r p = absurd p
-call-stands (add conversion u) s met r p = add-stands conversion (emptyAt (s .table .names) (nameOf u)) r u p
+call-stands (add conversion u) s met r p = add-stands (s .table .link .gabi) conversion (emptyAt (s .table .names) (nameOf u)) r u p
 call-stands (remove id) s met r p = absurd p
 call-stands (get id) s met r p = absurd p
 call-stands (getGlobal name) s met r p = absurd p

@@ -97,13 +97,13 @@ judge-only l n u =
     P r = r .number ≡ 22 → l .broken ≡ true
 
 -- the row's own numbers
-row-only : (t : Table) (conversion : List ℕ) (u : UpcomingSymbol) → numberIn (addRowOf t (rowOf conversion u (emptyAt (t .names) (nameOf u))) (fileOf u) .said) ≢ 22
+row-only : (t : Table) (conversion : List ℕ) (u : UpcomingSymbol) → numberIn (addRowOf t (rowOf (t .link .gabi) conversion u (emptyAt (t .names) (nameOf u))) (fileOf u) .said) ≢ 22
 unfolding addRowOf committedOf decidedOf
 row-only t conversion u =
     pick P (eqb (refusalOf d) 21) _ _ (λ a e. differ 21 22 refl e) (λ a. pick P (eqb (refusalOf d) 0) _ _ (λ b e. differ 0 22 refl e) (λ b. other))
   where
     r : Row
-    r = rowOf conversion u (emptyAt (t .names) (nameOf u))
+    r = rowOf (t .link .gabi) conversion u (emptyAt (t .names) (nameOf u))
 
     d : Decision
     d = decidedOf t r (fileOf u)
@@ -118,7 +118,7 @@ row-only t conversion u =
     other =
         AddNumbers.decide-numbers In (differ 0 22 refl) (differ 2 22 refl) (differ 17 22 refl) (differ 21 22 refl) (t .link) (t .symbols) (t .sections) r
         (AddNumbers.upcoming-fields In (differ 0 22 refl) (differ 2 22 refl) (differ 17 22 refl) (differ 21 22 refl) (differ 10 22 refl) (differ 11 22 refl)
-        (differ 12 22 refl) (differ 13 22 refl) (differ 14 22 refl) (differ 15 22 refl) (differ 16 22 refl) conversion u (emptyAt (t .names) (nameOf u)))
+        (differ 12 22 refl) (differ 13 22 refl) (differ 14 22 refl) (differ 15 22 refl) (differ 16 22 refl) (t .link .gabi) conversion u (emptyAt (t .names) (nameOf u)))
         (directHolderOf (t .link) (t .names) (t .symbols) (r .name) (fileOf u))
 
 add-only : (t : Table) (conversion : List ℕ) (u : UpcomingSymbol) → numberIn (addOf t conversion u .said) ≡ 22 → t .link .broken ≡ true

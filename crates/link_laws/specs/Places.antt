@@ -48,5 +48,5 @@ unfolding addOf addRowOf
 add-place conversion u s =
     let t : SymbolRows.Table = table (s .table) in
     pick (λ (x : Symbols.Left). numberIn (x .said) ≢ 21 → placeIn (x .said) ≡ 0) (eqb (judgeAddOf (t .link) (Add.lent t) u .number) 0) _ _
-    (λ a. commit-place t (rowOf conversion u (emptyAt (t .names) (nameOf u))) (fileOf u) (decidedOf t (rowOf conversion u (emptyAt (t .names) (nameOf u))) (fileOf u)))
+    (λ a. commit-place t (rowOf (t .link .gabi) conversion u (emptyAt (t .names) (nameOf u))) (fileOf u) (decidedOf t (rowOf (t .link .gabi) conversion u (emptyAt (t .names) (nameOf u))) (fileOf u)))
     (λ a z. judge-place (t .link) (Add.lent t) u (eqb-false _ _ a))

@@ -24,15 +24,15 @@ use Rattle.symbol.specs.Codes.{successor}
 use Rattle.symbol.specs.Row.{stateAt, setRow}
 use Rattle.symbol.specs.RowLaws.{length-setRow}
 use Rattle.symbol_rows.specs.declared.Decision.{Decision}
-use Rattle.symbol_rows.specs.declared.Decision.the-variants.{Refuse, Replace}
+use Rattle.symbol_rows.specs.declared.Decision.the-variants.{Refuse, Replace, Amend}
 use Rattle.symbol_rows.specs.Holder.{globalAt, heldBy, holderOf}
 use Rattle.symbol_rows.specs.Decide.{decideOf}
-use Rattle.symbol_rows.specs.Apply.{Table, noteName, appendOf, applyOf}
+use Rattle.symbol_rows.specs.Apply.{Table, tableOf, noteName, appendOf, replacedIn, amendedIn, applyOf}
 use Rattle.symbols.specs.Calls as Symbols
 use Rattle.symbols.specs.Calls.{Left}
 use Rattle.symbols.specs.Add.{issuedOf, directHolderOf, decidedOf, committedOf, addRowOf}
 use Rattle.symbols.specs.Remove.{Rows, rowsOf, removeRowOf, removeOf}
-use Rattle.symbol_laws.specs.View.{Named, Free, Refuses, View, refused, kept, replaced, appended, local, view, decided, held}
+use Rattle.symbol_laws.specs.View.{Named, Free, Refuses, View, refused, kept, amended, replaced, appended, local, view, decided, held}
 use Rattle.symbol_laws.specs.Refused.{commit-refused}
 use Rattle.symbol_laws.specs.Rows.{stored-there, there-kept}
 use Rattle.symbol_laws.specs.Below.{Below}
@@ -81,11 +81,14 @@ module _ (s : State) (g : Ready s) (r : Row) where
         real = λ q. omega arith;
       })
 
-  replaced-present : Named (table s) r → id ≢ 0 → decided (table s) r ≡ Replace (record { 0 = id }) → stateAt (s .symbols) id ≢ 2
-  replaced-present n z d e = differ (removed-refuses n z e .number) (sym d ∙ removed-refuses n z e .is)
-    where
-      differ : (k : ℕ) → Replace (record { 0 = id }) ≡ Refuse k → ⊥
-      differ k q = let z : _≡_ {A = ℕ} 0 1 = cc in omega arith
+  written-present : (d : Decision) → ((k : ℕ) → d ≡ Refuse k → ⊥) → Named (table s) r → id ≢ 0 → decided (table s) r ≡ d → stateAt (s .symbols) id ≢ 2
+  written-present d differ n z p e = differ (removed-refuses n z e .number) (sym p ∙ removed-refuses n z e .is)
+
+  replaced-differs : (k : ℕ) → Replace (record { 0 = id }) ≡ Refuse k → ⊥
+  replaced-differs k q = let z : _≡_ {A = ℕ} 0 1 = cc in omega arith
+
+  amended-differs : (k : ℕ) → Amend (record { 0 = id }) ≡ Refuse k → ⊥
+  amended-differs k q = let z : _≡_ {A = ℕ} 0 1 = cc in omega arith
 
   abbrev Fine : Left → Type 0
   Fine o = (i : ℕ) → Stood s (withTable s (o .table)) i
@@ -94,29 +97,33 @@ module _ (s : State) (g : Ready s) (r : Row) where
   unfolding addRowOf
   decides d e f = subst (λ (d : Decision). Fine (committedOf (table s) r File.None d)) (sym e) f
 
-  stored : (t : State) (at i : ℕ) → t .symbols ≡ setRow (s .symbols) (record { 0 = at }) r → at * 8 + 8 ≤ length (s .symbols)
+  stored : (t : State) (x : Row) (at i : ℕ) → t .symbols ≡ setRow (s .symbols) (record { 0 = at }) x → at * 8 + 8 ≤ length (s .symbols)
       → (at < s .link .symbols → stateAt (s .symbols) at ≢ 2) → Stood s t i
-  stored t at i q fits ne =
+  stored t x at i q fits ne =
       by-test (eqb i at)
       (λ e.
       let k : i ≡ at = eqb-true _ _ e in
-      written (rw (q, k) (stored-there (s .symbols) (record { 0 = at }) r fits)) (λ h. rw k (ne (rw (← k) h))))
-      (λ e. same (rw q (there-kept (s .symbols) (record { 0 = at }) r i (eqb-false _ _ e))))
+      written (rw (q, k) (stored-there (s .symbols) (record { 0 = at }) x fits)) (λ h. rw k (ne (rw (← k) h))))
+      (λ e. same (rw q (there-kept (s .symbols) (record { 0 = at }) x i (eqb-false _ _ e))))
 
   appended-stood : Free (table s) r → Fine (record { table = appendOf (table s) r; said = putOf s r .said })
   unfolding appendOf
-  appended-stood f i = stored (withTable s (appendOf (table s) r)) (s .link .symbols) i refl (f .fits) (λ h. absurd (omega arith))
+  appended-stood f i = stored (withTable s (appendOf (table s) r)) r (s .link .symbols) i refl (f .fits) (λ h. absurd (omega arith))
 
   viewed : View (table s) r → Fine (putOf s r)
-  unfolding committedOf applyOf
+  unfolding committedOf applyOf replacedIn amendedIn
   viewed (refused n e z) =
       decides (Refuse n) e
       (subst (λ (t : Table). (i : ℕ) → Stood s (withTable s t) i) (sym (commit-refused (table s) r File.None n z .0)) (λ i. same refl))
-  viewed (kept e k z o w) = decides _ e (λ i. same refl)
+  viewed (kept e k z o w p) = decides _ e (λ i. same refl)
+  viewed (amended e k z o w) =
+      let low : id < s .link .symbols = g .below .held (r .name .0) (k .issued) z in
+      decides _ e
+      (λ i. stored (withTable s (applyOf (table s) r (Amend (record { 0 = id })))) _ id i refl (omega (arith, g .room)) (λ h. written-present _ amended-differs k z e))
   viewed (replaced e k z o) =
       let low : id < s .link .symbols = g .below .held (r .name .0) (k .issued) z in
       decides _ e
-      (λ i. stored (withTable s (applyOf (table s) r (Replace (record { 0 = id })))) id i refl (omega (arith, g .room)) (λ h. replaced-present k z e))
+      (λ i. stored (withTable s (applyOf (table s) r (Replace (record { 0 = id })))) _ id i refl (omega (arith, g .room)) (λ h. written-present _ replaced-differs k z e))
   viewed (appended e f k z) = decides _ e (λ i. appended-stood f i)
   viewed (local e f v) = decides _ e (λ i. appended-stood f i)
 
@@ -169,21 +176,20 @@ module _ (s : State) (g : Ready s) (r : Row) where
       below : (m c : ℕ) → m ≢ c → m ≤ c → m < c
       below m c u h = by-test (ltb m c) (λ t. ltb-true _ _ t) (λ t. absurd (u (omega (arith, ltb-false m c t))))
 
-  replaced-keeps : id < s .link .symbols → Kept s (withTable s (applyOf (table s) r (Replace (record { 0 = id }))))
-  unfolding applyOf
-  replaced-keeps low =
+  written-keeps : (x : Row) → id < s .link .symbols → Kept s (withTable s (tableOf (s .names) (setRow (s .symbols) (record { 0 = id }) x) (s .sections) (s .link)))
+  written-keeps x low =
       record {
         more = omega arith;
         names-more = le-refl _;
-        room = omega (arith, g .room, length-setRow (s .symbols) (record { 0 = id }) r);
+        room = omega (arith, g .room, length-setRow (s .symbols) (record { 0 = id }) x);
         named = λ n h u. refl;
         whole = λ w i h.
             by-test (eqb i id)
             (λ e.
             let k : i ≡ id = eqb-true _ _ e in
-            let q : stateAt (setRow (s .symbols) (record { 0 = id }) r) i ≡ 1 = rw k (stored-there (s .symbols) (record { 0 = id }) r (omega (arith, g .room))) in
+            let q : stateAt (setRow (s .symbols) (record { 0 = id }) x) i ≡ 1 = rw k (stored-there (s .symbols) (record { 0 = id }) x (omega (arith, g .room))) in
             λ d. omega (arith, q, d))
-            (λ e. λ d. w i h (sym (there-kept (s .symbols) (record { 0 = id }) r i (eqb-false _ _ e)) ∙ d));
+            (λ e. λ d. w i h (sym (there-kept (s .symbols) (record { 0 = id }) x i (eqb-false _ _ e)) ∙ d));
       }
 
   -- a name whose row is counted isn't appended
@@ -193,11 +199,12 @@ module _ (s : State) (g : Ready s) (r : Row) where
       (λ e. let u = eqb-false id 0 e in absurd (omega (arith, z u, g .below .held (r .name .0) (k .issued) u)))
 
   viewed-keeps : View (table s) r → Keeps (putOf s r)
-  unfolding committedOf applyOf
+  unfolding committedOf applyOf replacedIn amendedIn
   viewed-keeps (refused n e z) =
       decides-keep (Refuse n) e (subst (λ (t : Table). Kept s (withTable s t)) (sym (commit-refused (table s) r File.None n z .0)) (kept-none s g))
-  viewed-keeps (kept e k z o w) = decides-keep _ e (kept-none s g)
-  viewed-keeps (replaced e k z o) = decides-keep _ e (replaced-keeps (g .below .held (r .name .0) (k .issued) z))
+  viewed-keeps (kept e k z o w p) = decides-keep _ e (kept-none s g)
+  viewed-keeps (amended e k z o w) = decides-keep _ e (written-keeps _ (g .below .held (r .name .0) (k .issued) z))
+  viewed-keeps (replaced e k z o) = decides-keep _ e (written-keeps _ (g .below .held (r .name .0) (k .issued) z))
   viewed-keeps (appended e f k z) = decides-keep _ e (appended-keeps f (λ u. nobody k z))
   viewed-keeps (local e f v) = decides-keep _ e (appended-keeps f (λ u. absurd (u v)))
 

@@ -3,6 +3,7 @@
 use Prim.Native.Nat.{ℕ, _-_, _*_, _≤_}
 use native.Mathlib.Omega.{arith}
 use mathlib.Core.Path.{_≡_, refl, _∙_}
+use mathlib.Core.Bool.{Bool}
 use mathlib.Core.List.{List, [], _∷_, _++_}
 use lib.Dec.{eqb}
 use lib.ListN.{length, take, replicate, length-append, length-replicate}
@@ -48,18 +49,18 @@ cleared-long sections =
     length-append (take n sections) (replicate (length sections - n) 0)
     ∙ omega (arith, length-take-le n sections (omega arith), length-replicate {A = ℕ} (length sections - n) 0)
 
-null-sectioned : (symbols sections : List ℕ) (s : Store) → numberIn (nullOf symbols sections s .said) ≡ 0 → Sectioned (opened (nullOf symbols sections s))
+null-sectioned : (gabi : Bool) (symbols sections : List ℕ) (s : Store) → numberIn (nullOf gabi symbols sections s .said) ≡ 0 → Sectioned (opened (nullOf gabi symbols sections s))
 unfolding nullOf
-null-sectioned symbols sections s e =
+null-sectioned gabi symbols sections s e =
     by-test (eqb (s .link .names) 0) (λ a. let q : _≡_ {A = ℕ} 2 0 = rw a at e in absurd (omega arith))
     (λ a. rw a (omega (arith, cleared-long sections)))
 
-pub new-sectioned : (key : ℕ) (bytes names symbols sections : List ℕ) → numberIn (newOf key bytes names symbols sections .said) ≡ 0
-    → Sectioned (opened (newOf key bytes names symbols sections))
+pub new-sectioned : (key : ℕ) (gabi : Bool) (bytes names symbols sections : List ℕ) → numberIn (newOf key gabi bytes names symbols sections .said) ≡ 0
+    → Sectioned (opened (newOf key gabi bytes names symbols sections))
 unfolding newOf
-new-sectioned key bytes names symbols sections e =
+new-sectioned key gabi bytes names symbols sections e =
     by-test (eqb (symbolRows (length symbols)) 0) (λ a. let q : _≡_ {A = ℕ} 2 0 = rw a at e in absurd (omega arith))
-    (λ a. rw a (null-sectioned symbols sections (Names.newOf key bytes names .store) (rw a at e)))
+    (λ a. rw a (null-sectioned gabi symbols sections (Names.newOf key bytes names .store) (rw a at e)))
 
 -- ---- so the head finds them
 

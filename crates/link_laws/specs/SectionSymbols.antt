@@ -298,10 +298,10 @@ pub record Fresh (s : State) : Type 0 where
   pub clear : (y : ℕ) → symbolIn s y ≡ 0
   pub null : rowAt (s .symbols) 0 ≡ nullRow
 
-null-fresh : (symbols sections : List ℕ) (s : Store) → symbolRows (length symbols) ≢ 0 → numberIn (nullOf symbols sections s .said) ≡ 0
-    → Fresh (opened (nullOf symbols sections s))
+null-fresh : (gabi : Bool) (symbols sections : List ℕ) (s : Store) → symbolRows (length symbols) ≢ 0 → numberIn (nullOf gabi symbols sections s .said) ≡ 0
+    → Fresh (opened (nullOf gabi symbols sections s))
 unfolding nullOf
-null-fresh symbols sections s some e =
+null-fresh gabi symbols sections s some e =
     by-test (eqb (s .link .names) 0) (λ a. let q : _≡_ {A = ℕ} 2 0 = rw a at e in absurd (omega arith))
     (λ a.
     let m : lesser 65535 (length symbols / 8) ≤ length symbols / 8 = lesser-second 65535 _ in
@@ -312,12 +312,12 @@ null-fresh symbols sections s some e =
       null = stored-row symbols (record { 0 = 0 }) nullRow (omega (arith, some, m));
     }))
 
-pub new-fresh : (key : ℕ) (bytes names symbols sections : List ℕ) → numberIn (newOf key bytes names symbols sections .said) ≡ 0
-    → Fresh (opened (newOf key bytes names symbols sections))
+pub new-fresh : (key : ℕ) (gabi : Bool) (bytes names symbols sections : List ℕ) → numberIn (newOf key gabi bytes names symbols sections .said) ≡ 0
+    → Fresh (opened (newOf key gabi bytes names symbols sections))
 unfolding newOf
-new-fresh key bytes names symbols sections e =
+new-fresh key gabi bytes names symbols sections e =
     by-test (eqb (symbolRows (length symbols)) 0) (λ a. let q : _≡_ {A = ℕ} 2 0 = rw a at e in absurd (omega arith))
-    (λ a. rw a (null-fresh symbols sections (Names.newOf key bytes names .store) (eqb-false _ _ a) (rw a at e)))
+    (λ a. rw a (null-fresh gabi symbols sections (Names.newOf key bytes names .store) (eqb-false _ _ a) (rw a at e)))
 
 -- ---- a history that removes nothing, from a new table on
 

@@ -213,7 +213,7 @@ commit-same t r file d =
 add-same : (t : Table) (conversion : List ℕ) (u : UpcomingSymbol) → addOf t conversion u .table .link .broken ≡ t .link .broken
 unfolding addOf addRowOf
 add-same t conversion u =
-    let r : Row = rowOf conversion u (emptyAt (t .names) (nameOf u)) in
+    let r : Row = rowOf (t .link .gabi) conversion u (emptyAt (t .names) (nameOf u)) in
     pick (λ (x : Symbols.Left). x .table .link .broken ≡ t .link .broken) (eqb (judgeAddOf (t .link) (Add.lent t) u .number) 0) _ _
     (λ a. commit-same t r (fileOf u) (decidedOf t r (fileOf u))) (λ a. refl)
 

@@ -1,10 +1,10 @@
 -- The terms of acceptance, over links of all calls. Calls.antt says what the calls are, and what each leaves and answers; Table.antt has document
 -- 01's numbers; the proofs stand in the other files.
 -- Assumes nothing.
-use Prim.Native.Nat.{ℕ, suc, _+_, _<_, _≤_}
+use Prim.Native.Nat.{ℕ, suc, _+_, _/_, _<_, _≤_}
 use native.Mathlib.Omega.{arith}
-use mathlib.Core.Path.{_≡_, sym, _∙_, subst}
-use mathlib.Core.Bool.{Bool, true, false, cond, not, _||_}
+use mathlib.Core.Path.{_≡_, sym, ap, _∙_, subst}
+use mathlib.Core.Bool.{Bool, true, false, cond, not, _&&_, _||_}
 use mathlib.Core.List.{List, [], _∷_, _++_, append-nil}
 use mathlib.Core.Logic.{_≢_, _↔_}
 use lib.Dec.{eqb, leb}
@@ -53,7 +53,9 @@ use Rattle.shared_laws.specs.Needed.{libraryKind, Needed}
 use Rattle.shared_laws.specs.Unneeded as Unneeded
 use Rattle.archive_index.specs.Index.{countOf}
 use Rattle.archive_walk.specs.declared.Walk.{Walk}
-use Rattle.archive_walk.specs.Look.{Table, undefinedName}
+use Rattle.archive_walk.specs.Look.{Table, undefinedName, tiedName}
+use Rattle.archive_walk.specs.Names.{requiredOf}
+use Rattle.archive_laws.specs.Profiles.{tied-old}
 use Rattle.archive_laws.specs.Rounds.{among, members}
 use Rattle.archive_laws.specs.Runs.{Run, history, startRun}
 use Rattle.archive_laws.specs.Walked.{inIndex, queueIn, Walked}
@@ -65,27 +67,31 @@ use Rattle.gc_sections.specs.declared.Answer.{Answer}
 use Rattle.gc_sections.specs.declared.Answer.the-variants.{Dropped, Refused}
 use Rattle.gc_laws.specs.Demand as Collection
 use Rattle.gc_laws.specs.Reached as Roots
-use Rattle.symbol_laws.specs.Rank.{firstOf}
+use Rattle.symbol_laws.specs.Rank.{FirstOfGreatestRank, firstOf}
 use Rattle.symbol_laws.specs.Rows.{rowAt}
 use Rattle.symbol_laws.specs.History.{opened, Entry, only, rows, store, upcoming}
 use Rattle.symbol_laws.specs.Start.{new-inv}
 use Rattle.symbol_laws.specs.Held.{Inv}
 use Rattle.symbol_laws.specs.Below.{inv-below}
+use Rattle.symbol_laws.specs.Standing.{SameButHidden, hiddenBy}
+use Rattle.symbol_laws.specs.Profile.{new-profile}
 use Rattle.symbol_laws.specs.Demand as Demand
 use Rattle.symbol_laws.specs.Within as Within
 use Rattle.symbol_laws.specs.Writes as Writes
 use Rattle.symbol_laws.specs.Gabi.{Means, AllMean, symOf, symOfRow, means-own, symsOf, all-mean-own}
 use Rattle.symbol_laws.specs.Duplicate as Duplicate
 use Rattle.symbol_laws.specs.Hidden as Hidden
-use Rattle.symbol_laws.specs.Hidden.{isHidden, notPassedOn}
+use Rattle.symbol_laws.specs.Hidden.{isHidden, someHidden, notPassedOn}
 use Rattle.symbol_laws.specs.ObjectWords.{sectionsIn, entriesIn, program, uninitialized, loadedAs}
 use Rattle.symbol_laws.specs.Agreement as Agreement
 use Rattle.extraction_laws.specs.Member.{memberOf}
 use Rattle.extraction_laws.specs.Taken as Taken
-use Rattle.extraction_laws.specs.Taken.{taken, weakOffers, wantedNames}
+use Rattle.extraction_laws.specs.Taken.{takenIn, taken, weakOffers, wantedNames}
 use Rattle.extraction_laws.specs.Wanted.{weakOnly}
 use Rattle.extraction_laws.specs.MemberWords.{symbolsOf}
 use Rattle.extraction_laws.specs.Answer.{says, admitted}
+use Rattle.extraction_laws.specs.Admission as Admission
+use Rattle.extraction_laws.specs.Admission.{bearsOne, definesOne}
 use Rattle.merge_laws.specs.Refusals.{oneOf}
 use Rattle.merge_laws.specs.Stops as Merging
 use Rattle.merge_laws.specs.Stops.{object, groupsTo}
@@ -168,8 +174,12 @@ use Rattle.link_laws.specs.NeededIn.{NeededIn}
 use Rattle.link_laws.specs.Walks as Walks
 use Rattle.link_laws.specs.Walks.{nextIn, withWalk, walkAfter, tablesAt, joined}
 use Rattle.link_laws.specs.WalkIn as WalkIn
+use Rattle.merge_laws.specs.Origin.{fromObjects, hidden-objects, only-shown}
+use Rattle.link_laws.specs.Profile.{call-profile, calls-profile, calls-shown, turns-profile, turns-shown}
 use Rattle.link_laws.specs.Undefined as Undefined
 use Rattle.link_laws.specs.Undefined.{isUndefinedRow, weakReferences}
+use Rattle.link_laws.specs.Ties as Ties
+use Rattle.link_laws.specs.Ties.{weakFirst, OfName}
 use Rattle.link_laws.specs.Extraction as Extraction
 use Rattle.link_laws.specs.BuiltSections.{SparesAll}
 use Rattle.link_laws.specs.ObjectSections as ObjectSections
@@ -192,7 +202,7 @@ answers = Numbers.numbers
 pub refusals-only : (k : Call) (s : Linked) → callNumber k s ≢ 0 → oneOf (callNumber k s) refusals ≡ true
 refusals-only = Numbers.refusals-only
 
-pub new-answers : (key : ℕ) (bytes names symbols sections : List ℕ) → oneOf (numberIn (newOf key bytes names symbols sections .said)) (0 ∷ 2 ∷ []) ≡ true
+pub new-answers : (key : ℕ) (gabi : Bool) (bytes names symbols sections : List ℕ) → oneOf (numberIn (newOf key gabi bytes names symbols sections .said)) (0 ∷ 2 ∷ []) ≡ true
 new-answers = Numbers.new-numbers
 
 -- "Each returns number and place (symbol, section or row; else 0, as for a direct add but 21)"
@@ -271,6 +281,19 @@ pub matches-row : (headers entries contents file index cells : List ℕ) (w : Wa
     → BadRow headers entries (length contents) (length file) (callRefusal (matches headers entries contents file index cells w e) s .place)
 matches-row = RowPlaces.matches-row
 
+-- what admission answers where it isn't refused, over any link, walk and entry, also where the index lies. The old profile: "some symbol of binding 1,
+-- defined or not, bears a required name". The gABI's: "a weak or global definition, and nothing else, admits one"
+module _ (s : Linked) (headers entries contents file index cells : List ℕ) (w : Walk) (e : ℕ)
+    (ranged : Elf.judgeOf headers entries (length contents) (length file) .number ≡ 0) (whole : w .length ≤ length index) (rowed : w .entries ≤ length cells / 8)
+    (below : e < w .entries) where
+  pub matches-references : s .table .link .gabi ≡ false
+      → callLeft (matches headers entries contents file index cells w e) s ≡ says (bearsOne (requiredOf index cells w e) (symbolsOf headers entries file))
+  matches-references = Admission.admits-references (s .table .link) headers entries contents file index cells w e ranged whole rowed below
+
+  pub matches-definitions : s .table .link .gabi ≡ true
+      → callLeft (matches headers entries contents file index cells w e) s ≡ says (definesOne (requiredOf index cells w e) (symbolsOf headers entries file))
+  matches-definitions = Admission.admits-definitions (s .table .link) headers entries contents file index cells w e ranged whole rowed below
+
 pub load-row : (o : Shared.Input) (marks : List ℕ) (s : Linked) → changeOf (s .table .link) (libraryLent s) .number ≡ 0 → callNumber (load o marks) s ≡ 1
     → RowPlaces.BadLibrary o (callRefusal (load o marks) s .place)
 load-row = RowPlaces.load-row
@@ -296,8 +319,8 @@ pub refused-leaves : (k : Call) (s : Linked) → byElements k ≡ false → call
 refused-leaves = Leaves.refused-leaves
 
 -- a new table leaves every lent cell, and a link without rows
-pub new-leaves : (key : ℕ) (bytes names symbols sections : List ℕ) → numberIn (newOf key bytes names symbols sections .said) ≢ 0
-    → newOf key bytes names symbols sections ≡ unopened key bytes names symbols sections
+pub new-leaves : (key : ℕ) (gabi : Bool) (bytes names symbols sections : List ℕ) → numberIn (newOf key gabi bytes names symbols sections .said) ≢ 0
+    → newOf key gabi bytes names symbols sections ≡ unopened key gabi bytes names symbols sections
 new-leaves = NewTable.new-leaves
 
 -- and the marks of an object, where it is a group; the cells of an archive, where it is a start; the walk, where it is a call for the next member
@@ -381,37 +404,37 @@ broken-stays = Starred.broken-stays
 
 -- which of them, exactly: CallRules.antt has each call's rules in document 01's order. Of a new table after any calls, those that remove too: number and
 -- place are those of the first rule that holds, and it is a result just where none does
-module _ (key : ℕ) (bytes names symbols sections inputs lists : List ℕ) (new : numberIn (newOf key bytes names symbols sections .said) ≡ 0) (ks : List Call) (k : Call) where
+module _ (key : ℕ) (gabi : Bool) (bytes names symbols sections inputs lists : List ℕ) (new : numberIn (newOf key gabi bytes names symbols sections .said) ≡ 0) (ks : List Call) (k : Call) where
   abbrev after-calls : Linked
-  after-calls = ExactTerms.on key bytes names symbols sections inputs lists new ks
+  after-calls = ExactTerms.on key gabi bytes names symbols sections inputs lists new ks
 
   pub exactly : callRefusal k after-calls ≡ Rules.firstOf (rules k after-calls)
-  exactly = ExactTerms.exactly key bytes names symbols sections inputs lists new ks k
+  exactly = ExactTerms.exactly key gabi bytes names symbols sections inputs lists new ks k
 
   pub accepted : eqb (callNumber k after-calls) 0 ≡ not (Rules.someHolds (rules k after-calls))
-  accepted = ExactTerms.accepted key bytes names symbols sections inputs lists new ks k
+  accepted = ExactTerms.accepted key gabi bytes names symbols sections inputs lists new ks k
 
 -- and of a walk that a start began, by the index' own names: ExactTerms.exactly-next
 
 -- the same where lists grew before calls, and where other cells are lent for symbols, sections, inputs and lists than the link's: there the rules of 1 for counts above
 -- what is lent arise
-module _ (key : ℕ) (bytes names symbols sections inputs lists : List ℕ) (new : numberIn (newOf key bytes names symbols sections .said) ≡ 0) (ts : List Turn)
+module _ (key : ℕ) (gabi : Bool) (bytes names symbols sections inputs lists : List ℕ) (new : numberIn (newOf key gabi bytes names symbols sections .said) ≡ 0) (ts : List Turn)
     (symbols′ sections′ inputs′ lists′ : List ℕ) (k : Call) where
   abbrev lent-any : Linked
-  lent-any = ExactLinks.on key bytes names symbols sections inputs lists new ts symbols′ sections′ inputs′ lists′
+  lent-any = ExactLinks.on key gabi bytes names symbols sections inputs lists new ts symbols′ sections′ inputs′ lists′
 
   pub exactly-any : callRefusal k lent-any ≡ Rules.firstOf (rules k lent-any)
-  exactly-any = ExactLinks.exactly-any key bytes names symbols sections inputs lists new ts symbols′ sections′ inputs′ lists′ k
+  exactly-any = ExactLinks.exactly-any key gabi bytes names symbols sections inputs lists new ts symbols′ sections′ inputs′ lists′ k
 
   pub accepted-any : eqb (callNumber k lent-any) 0 ≡ not (Rules.someHolds (rules k lent-any))
-  accepted-any = ExactLinks.accepted-any key bytes names symbols sections inputs lists new ts symbols′ sections′ inputs′ lists′ k
+  accepted-any = ExactLinks.accepted-any key gabi bytes names symbols sections inputs lists new ts symbols′ sections′ inputs′ lists′ k
 
 -- `Symbols::new`
-pub new-exactly : (key : ℕ) (bytes names symbols sections : List ℕ) → refusalBy (newOf key bytes names symbols sections .said) ≡ Rules.firstOf (newRules names symbols)
+pub new-exactly : (key : ℕ) (gabi : Bool) (bytes names symbols sections : List ℕ) → refusalBy (newOf key gabi bytes names symbols sections .said) ≡ Rules.firstOf (newRules names symbols)
 new-exactly = NewExactly.new-exactly
 
-pub new-accepted : (key : ℕ) (bytes names symbols sections : List ℕ)
-    → eqb (numberIn (newOf key bytes names symbols sections .said)) 0 ≡ not (Rules.someHolds (newRules names symbols))
+pub new-accepted : (key : ℕ) (gabi : Bool) (bytes names symbols sections : List ℕ)
+    → eqb (numberIn (newOf key gabi bytes names symbols sections .said)) 0 ≡ not (Rules.someHolds (newRules names symbols))
 new-accepted = NewExactly.new-accepted
 
 -- ---- a. "A public call's result and every lent cell after it, refusal or not, follow from its inputs alone"
@@ -421,7 +444,7 @@ new-accepted = NewExactly.new-accepted
 pub one-outcome : (k : Call) (s : Linked) (x y : Exit k) → Meets k s x → Meets k s y → x ≡ y
 one-outcome = Contracts.one-outcome
 
-pub new-one-outcome : (key : ℕ) (bytes names symbols sections : List ℕ) (x y : NewExit) → NewMeets key bytes names symbols sections x → NewMeets key bytes names symbols sections y
+pub new-one-outcome : (key : ℕ) (gabi : Bool) (bytes names symbols sections : List ℕ) (x y : NewExit) → NewMeets key gabi bytes names symbols sections x → NewMeets key gabi bytes names symbols sections y
     → x ≡ y
 new-one-outcome = Contracts.new-one-outcome
 
@@ -435,28 +458,28 @@ filter-one-outcome = Contracts.filter-one-outcome
 
 -- the same calls, those that remove too, on new tables of the same lent lists under two keys: the same answers, with every value and every cell lent
 -- beside the link's own; and links that differ at most in the key, the heads of the hash chains and the chains' links
-module _ (key other : ℕ) (bytes names symbols sections inputs lists : List ℕ) where
+module _ (key other : ℕ) (gabi : Bool) (bytes names symbols sections inputs lists : List ℕ) where
   abbrev pub startUnder : ℕ → Linked
-  startUnder k = linked (opened (newOf k bytes names symbols sections)) inputs lists
+  startUnder k = linked (opened (newOf k gabi bytes names symbols sections)) inputs lists
 
-  pub new-alike : newOf other bytes names symbols sections .said ≡ newOf key bytes names symbols sections .said
-  new-alike = KeyFree.new-alike key other bytes names symbols sections inputs lists
+  pub new-alike : newOf other gabi bytes names symbols sections .said ≡ newOf key gabi bytes names symbols sections .said
+  new-alike = KeyFree.new-alike key other gabi bytes names symbols sections inputs lists
 
-  pub keys-alike : numberIn (newOf key bytes names symbols sections .said) ≡ 0 → (ks : List Call)
+  pub keys-alike : numberIn (newOf key gabi bytes names symbols sections .said) ≡ 0 → (ks : List Call)
       → SameAnswers ks (startUnder key) (startUnder other) × Alike other (runCalls ks (startUnder key)) (runCalls ks (startUnder other))
-  keys-alike = KeyFree.keys-alike key other bytes names symbols sections inputs lists
+  keys-alike = KeyFree.keys-alike key other gabi bytes names symbols sections inputs lists
 
 -- ---- "Let a link be a new table"
 
-module _ (key : ℕ) (bytes names symbols sections inputs lists : List ℕ) (new : numberIn (newOf key bytes names symbols sections .said) ≡ 0) where
+module _ (key : ℕ) (gabi : Bool) (bytes names symbols sections inputs lists : List ℕ) (new : numberIn (newOf key gabi bytes names symbols sections .said) ≡ 0) where
   abbrev pub start : Linked
-  start = linked (opened (newOf key bytes names symbols sections)) inputs lists
+  start = linked (opened (newOf key gabi bytes names symbols sections)) inputs lists
 
   start-ready : Ready (start .table)
-  start-ready = inv-ready (start .table) [] (new-inv key bytes names symbols sections new)
+  start-ready = inv-ready (start .table) [] (new-inv key gabi bytes names symbols sections new)
 
   start-shown : Shown (start .table)
-  start-shown = inv-shown (start .table) (new-inv key bytes names symbols sections new)
+  start-shown = inv-shown (start .table) (new-inv key gabi bytes names symbols sections new)
 
   -- ---- any sequence of calls, those that remove too
 
@@ -464,12 +487,16 @@ module _ (key : ℕ) (bytes names symbols sections inputs lists : List ℕ) (new
     abbrev pub after : Linked
     after = runCalls ks start
 
+    -- "chosen when the table is made and fixed for its life": no call changes the profile
+    pub profile : after .table .link .gabi ≡ gabi
+    profile = calls-profile ks start ∙ new-profile key gabi bytes names symbols sections new
+
     marked : Marked (after .table) (signatures ks start)
-    marked = calls-marked ks start [] (new-marked key bytes names symbols sections new)
+    marked = calls-marked ks start [] (new-marked key gabi bytes names symbols sections new)
 
     -- "Rows past the count are never written": by one more call, whichever it is
     pub past-the-count : (k : Call) → Past.TablePast (after .table) (callNext k after .table)
-    past-the-count = CallPast.call-past after (calls-below ks start (inv-below (start .table) [] (new-inv key bytes names symbols sections new)))
+    past-the-count = CallPast.call-past after (calls-below ks start (inv-below (start .table) [] (new-inv key gabi bytes names symbols sections new)))
 
     -- "Interning equal bytes gives the same id", different bytes different ones: an accepted intern, any calls, another one
     pub names-agree : (x y : List ℕ) → Accepted (callLeft (intern x) after) → (ls : List Call)
@@ -552,11 +579,11 @@ module _ (key : ℕ) (bytes names symbols sections inputs lists : List ℕ) (new
       lasting =
           lasting-on ks start []
           (record {
-            marked = new-marked key bytes names symbols sections new;
-            counted = Lookups.counted (start .table .link) (start .table .names) (Within.new-within key bytes names symbols sections new);
-            below = inv-below (start .table) [] (new-inv key bytes names symbols sections new);
+            marked = new-marked key gabi bytes names symbols sections new;
+            counted = Lookups.counted (start .table .link) (start .table .names) (Within.new-within key gabi bytes names symbols sections new);
+            below = inv-below (start .table) [] (new-inv key gabi bytes names symbols sections new);
             lent = lent;
-            inside = new-lists key bytes names symbols sections lists;
+            inside = new-lists key gabi bytes names symbols sections lists;
           })
 
       -- an id gives its bytes back for ever
@@ -567,7 +594,7 @@ module _ (key : ℕ) (bytes names symbols sections inputs lists : List ℕ) (new
       -- ---- lookups by a symbol's id: 21 at it where there is no such row yet, and where it was removed, for ever
 
       ready : Ready (after .table)
-      ready = calls-later ks start (inv-ready (start .table) [] (new-inv key bytes names symbols sections new)) .ready
+      ready = calls-later ks start (inv-ready (start .table) [] (new-inv key gabi bytes names symbols sections new)) .ready
 
       pub get-absent : (i : SymbolId) → after .table .link .symbols ≤ i .0 → callLeft (get i) after ≡ notFound 21 (i .0)
       get-absent = LookedUp.got-absent after _ lasting ready
@@ -602,7 +629,7 @@ module _ (key : ℕ) (bytes names symbols sections inputs lists : List ℕ) (new
 
       -- "A local `Section` row becomes its section's symbol, the last one winning": one that was added since; else the answer is what it was
       some-symbol : 1 ≤ after .table .link .symbols
-      some-symbol = omega (arith, calls-stay ks start start-ready start-shown .more, SectionSymbols.new-fresh key bytes names symbols sections new .one)
+      some-symbol = omega (arith, calls-stay ks start start-ready start-shown .more, SectionSymbols.new-fresh key gabi bytes names symbols sections new .one)
 
       shown : Shown (after .table)
       shown = calls-stay ks start start-ready start-shown .shown
@@ -633,7 +660,7 @@ module _ (key : ℕ) (bytes names symbols sections inputs lists : List ℕ) (new
 
       -- and no other call takes a library's row: it comes from a load that was answered "loaded"
       pub library-loaded : (k : ℕ) → k < after .table .link .inputs → inputKindAt (after .inputs) k ≡ libraryKind → LoadedAt k ks start
-      library-loaded k = LibraryLoads.from-loads ks start lent k (new-inputs key bytes names symbols sections k)
+      library-loaded k = LibraryLoads.from-loads ks start lent k (new-inputs key gabi bytes names symbols sections k)
 
       -- so need, which goes by the link's rows (IsNeeded, below), can be told without a cell: by what a lookup answers for a name that the library defines, and
       -- by the libraries that were loaded, their undefined symbols of binding 1 and their dependencies
@@ -643,13 +670,13 @@ module _ (key : ℕ) (bytes names symbols sections inputs lists : List ℕ) (new
       needed-in =
           NeededIn.needed-in start []
           (record {
-            marked = new-marked key bytes names symbols sections new;
-            counted = Lookups.counted (start .table .link) (start .table .names) (Within.new-within key bytes names symbols sections new);
-            below = inv-below (start .table) [] (new-inv key bytes names symbols sections new);
+            marked = new-marked key gabi bytes names symbols sections new;
+            counted = Lookups.counted (start .table .link) (start .table .names) (Within.new-within key gabi bytes names symbols sections new);
+            below = inv-below (start .table) [] (new-inv key gabi bytes names symbols sections new);
             lent = lent;
-            inside = new-lists key bytes names symbols sections lists;
+            inside = new-lists key gabi bytes names symbols sections lists;
           })
-          (inv-ready (start .table) [] (new-inv key bytes names symbols sections new)) (omega (arith, new-inputs key bytes names symbols sections 0)) ks
+          (inv-ready (start .table) [] (new-inv key gabi bytes names symbols sections new)) (omega (arith, new-inputs key gabi bytes names symbols sections 0)) ks
 
       -- and these stand for the names
       pub library-named : (o : Shared.Input) (marks : List ℕ) → callLeft (load o marks) after .answer ≡ Loaded → (ls : List Call)
@@ -723,29 +750,45 @@ module _ (key : ℕ) (bytes names symbols sections inputs lists : List ℕ) (new
           met = [];
           reached =
               record {
-                held = new-inv key bytes names symbols sections new;
-                marked = new-marked key bytes names symbols sections new;
-                counted = Lookups.counted (start .table .link) (start .table .names) (Within.new-within key bytes names symbols sections new);
+                held = new-inv key gabi bytes names symbols sections new;
+                marked = new-marked key gabi bytes names symbols sections new;
+                counted = Lookups.counted (start .table .link) (start .table .names) (Within.new-within key gabi bytes names symbols sections new);
                 lent = lent;
-                inside = new-lists key bytes names symbols sections lists;
+                inside = new-lists key gabi bytes names symbols sections lists;
               };
         })
 
-    -- demand 3a, and what a lookup answers
-    pub grown-3a : (n : ℕ) (x : Entry) (xs : List Entry) → grownAdds n ≡ x ∷ xs → Demand.Resolved (grownEnd .table) n x xs
-    grown-3a n x xs e = Demand.resolved (grownEnd .table) _ (some .reached .held) n x xs e
+    -- neither a call nor more cells change the profile
+    pub grown-profile : grownEnd .table .link .gabi ≡ gabi
+    grown-profile = turns-profile ts start ∙ new-profile key gabi bytes names symbols sections new
+
+    -- demand 3a, hidden in the gABI profile, and what a lookup answers
+    pub grown-3a : (n : ℕ) (x : Entry) (xs : List Entry) → grownAdds n ≡ x ∷ xs → Demand.Resolved gabi (grownEnd .table) n x xs
+    grown-3a n x xs e =
+        subst (λ (g : Bool). Demand.Resolved g (grownEnd .table) n x xs) grown-profile (Demand.resolved (grownEnd .table) _ (some .reached .held) n x xs e)
+
+    pub grown-hidden : (n : ℕ) (x : Entry) (xs : List Entry) → grownAdds n ≡ x ∷ xs → gabi ≡ true
+        → isHidden (rowAt (grownEnd .table .symbols) (x .id)) ≡ someHidden (rows (fromObjects (grownAdds n)))
+    grown-hidden n x xs e g =
+        Demand.hidden-gabi (grownEnd .table) n x xs (subst (λ (g : Bool). Demand.Resolved g (grownEnd .table) n x xs) g (grown-3a n x xs e))
+        ∙ ap (λ (l : List Entry). someHidden (rows l)) (sym e)
+        ∙ hidden-objects (grownAdds n) (only-shown n (logTurns ts start) (turns-shown ts start calm (new-profile key gabi bytes names symbols sections new ∙ g)))
 
     pub grown-row : (n : ℕ) (x : Entry) (xs : List Entry) → grownAdds n ≡ x ∷ xs
-        → callLeft (getGlobal (record { 0 = n })) grownEnd ≡ Fd.Row (symbolOf (record { 0 = x .id }) (firstOf (x .row) (rows xs)))
-    grown-row = Within.lookup-row (grownEnd .table) _ (some .reached .held) (reached-within grownEnd _ _ (some .reached))
+        → callLeft (getGlobal (record { 0 = n })) grownEnd ≡ Fd.Row (symbolOf (record { 0 = x .id }) (hiddenBy gabi (rows (x ∷ xs)) (firstOf (x .row) (rows xs))))
+    grown-row n x xs e =
+        Within.lookup-row (grownEnd .table) _ (some .reached .held) (reached-within grownEnd _ _ (some .reached)) n x xs e
+        ∙ ap (λ (g : Bool). Fd.Row (symbolOf (record { 0 = x .id }) (hiddenBy g (rows (x ∷ xs)) (firstOf (x .row) (rows xs))))) grown-profile
 
     pub grown-none : (n : ℕ) → grownAdds n ≡ [] → callLeft (getGlobal (record { 0 = n })) grownEnd ≡ notFound 23 0
     grown-none = Within.lookup-none (grownEnd .table) _ (some .reached .held) (reached-within grownEnd _ _ (some .reached))
 
     -- the gABI's resolution
     pub grown-gabi : (n : ℕ) (x : Entry) (xs : List Entry) → grownAdds n ≡ x ∷ xs
-        → Agreement.Agrees (x .row) (rows xs) (symOfRow (x .row)) (rowAt (grownEnd .table .symbols) (x .id)) (Resolution.resolve (symsOf (rows (x ∷ xs))))
-    grown-gabi n x xs e = Agreement.accepted (grownEnd .table) _ (some .reached .held) n x xs e _ _ (all-mean-own (rows (x ∷ xs)))
+        → Agreement.Agrees gabi (x .row) (rows xs) (symOfRow (x .row)) (rowAt (grownEnd .table .symbols) (x .id)) (Resolution.resolve (symsOf (rows (x ∷ xs))))
+    grown-gabi n x xs e =
+        subst (λ (g : Bool). Agreement.Agrees g (x .row) (rows xs) (symOfRow (x .row)) (rowAt (grownEnd .table .symbols) (x .id)) (Resolution.resolve (symsOf (rows (x ∷ xs))))) grown-profile
+        (Agreement.accepted (grownEnd .table) _ (some .reached .held) n x xs e _ _ (all-mean-own (rows (x ∷ xs))))
 
     -- demand 3b: Walked is over every sequence of tables, those of such a history too; no call of a walk over it is refused
     pub grown-walk : (walkKey : ℕ) (index cells : List ℕ) → callNumber (archiveStart walkKey index cells) grownEnd ≡ 0 → (us : List Table)
@@ -765,10 +808,10 @@ module _ (key : ℕ) (bytes names symbols sections inputs lists : List ℕ) (new
     acceptedAdds n = only n (logCalls ks start)
 
     held : Inv (end .table) (logCalls ks start)
-    held = calls-keep ks start [] quiet (new-inv key bytes names symbols sections new)
+    held = calls-keep ks start [] quiet (new-inv key gabi bytes names symbols sections new)
 
     sectioned : Sectioned (end .table)
-    sectioned = calls-sectioned ks start [] quiet (new-inv key bytes names symbols sections new) (new-sectioned key bytes names symbols sections new)
+    sectioned = calls-sectioned ks start [] quiet (new-inv key gabi bytes names symbols sections new) (new-sectioned key gabi bytes names symbols sections new)
 
     -- a lent list has fewer than 2^64 cells
     module _ (lent : length lists ≤ notLent) where
@@ -776,11 +819,11 @@ module _ (key : ℕ) (bytes names symbols sections inputs lists : List ℕ) (new
       reached =
           reached-on ks start [] [] quiet
           (record {
-            held = new-inv key bytes names symbols sections new;
-            marked = new-marked key bytes names symbols sections new;
-            counted = Lookups.counted (start .table .link) (start .table .names) (Within.new-within key bytes names symbols sections new);
+            held = new-inv key gabi bytes names symbols sections new;
+            marked = new-marked key gabi bytes names symbols sections new;
+            counted = Lookups.counted (start .table .link) (start .table .names) (Within.new-within key gabi bytes names symbols sections new);
             lent = lent;
-            inside = new-lists key bytes names symbols sections lists;
+            inside = new-lists key gabi bytes names symbols sections lists;
           })
 
       within : Within.Within (end .table .link) (end .table .names)
@@ -788,8 +831,28 @@ module _ (key : ℕ) (bytes names symbols sections inputs lists : List ℕ) (new
 
     -- "each global name has the id of its first accepted add and the content of its first accepted strong definition, else weak
     -- definition, else add"
-    pub demand-3a : (n : ℕ) (x : Entry) (xs : List Entry) → acceptedAdds n ≡ x ∷ xs → Demand.Resolved (end .table) n x xs
-    demand-3a n x xs e = Demand.resolved (end .table) _ held n x xs e
+    pub demand-3a : (n : ℕ) (x : Entry) (xs : List Entry) → acceptedAdds n ≡ x ∷ xs → Demand.Resolved gabi (end .table) n x xs
+    demand-3a n x xs e = subst (λ (g : Bool). Demand.Resolved g (end .table) n x xs) (profile ks) (Demand.resolved (end .table) _ held n x xs e)
+
+    -- apart from hidden that is the row, in both profiles; in the old one it is the whole row
+    pub content-3a : (n : ℕ) (x : Entry) (xs : List Entry) → acceptedAdds n ≡ x ∷ xs → SameButHidden (rowAt (end .table .symbols) (x .id)) (firstOf (x .row) (rows xs))
+    content-3a n x xs e = Demand.content-apart (end .table) n x xs gabi (demand-3a n x xs e)
+
+    pub content-old : (n : ℕ) (x : Entry) (xs : List Entry) → acceptedAdds n ≡ x ∷ xs → gabi ≡ false → FirstOfGreatestRank (rows (x ∷ xs)) (rowAt (end .table .symbols) (x .id))
+    content-old n x xs e g = Demand.content-old (end .table) n x xs (subst (λ (g : Bool). Demand.Resolved g (end .table) n x xs) g (demand-3a n x xs e))
+
+    -- in the gABI profile the row is hidden just if one of the adds is
+    pub hidden-3a : (n : ℕ) (x : Entry) (xs : List Entry) → acceptedAdds n ≡ x ∷ xs → gabi ≡ true → isHidden (rowAt (end .table .symbols) (x .id)) ≡ someHidden (rows (x ∷ xs))
+    hidden-3a n x xs e g = Demand.hidden-gabi (end .table) n x xs (subst (λ (g : Bool). Demand.Resolved g (end .table) n x xs) g (demand-3a n x xs e))
+
+    -- in the gABI profile hidden "is taken from all accepted object adds": a library's is never hidden
+    pub hidden-objects-3a : (n : ℕ) (x : Entry) (xs : List Entry) → acceptedAdds n ≡ x ∷ xs → gabi ≡ true
+        → isHidden (rowAt (end .table .symbols) (x .id)) ≡ someHidden (rows (fromObjects (acceptedAdds n)))
+    hidden-objects-3a n x xs e g =
+        hidden-3a n x xs e g
+        ∙ ap (λ (l : List Entry). someHidden (rows l)) (sym e)
+        ∙ hidden-objects (acceptedAdds n)
+        (only-shown n (logCalls ks start) (calls-shown ks start quiet (new-profile key gabi bytes names symbols sections new ∙ g)))
 
     -- a name without accepted global add has no row
     pub no-row : (n : ℕ) → acceptedAdds n ≡ [] → n < end .table .link .names → globalAt (end .table .names) n ≡ 0
@@ -807,17 +870,19 @@ module _ (key : ℕ) (bytes names symbols sections inputs lists : List ℕ) (new
 
     -- ---- 2. the gABI
 
+    -- whichever symbols the rows mean
+    pub gabi-agrees-any : (n : ℕ) (x : Entry) (xs : List Entry) → acceptedAdds n ≡ x ∷ xs → (s : Sym) (ss : List Sym) → AllMean (rows (x ∷ xs)) (s ∷ ss)
+        → Agreement.Agrees gabi (x .row) (rows xs) s (rowAt (end .table .symbols) (x .id)) (Resolution.resolve (s ∷ ss))
+    gabi-agrees-any n x xs e s ss m =
+        subst (λ (g : Bool). Agreement.Agrees g (x .row) (rows xs) s (rowAt (end .table .symbols) (x .id)) (Resolution.resolve (s ∷ ss))) (profile ks)
+        (Agreement.accepted (end .table) _ held n x xs e s ss m)
+
     -- of the symbols that are accepted under a name the gABI resolves to the one that the row has; undefined where it has none. As in document 01, the
     -- symbols of shared objects are among them like any other: the gABI itself, in its chapters on dynamic linking, lets a library's definition stand
     -- beside an executable's, and sees no duplicate in the two (docs/DIFFERENCES.md)
     pub gabi-agrees : (n : ℕ) (x : Entry) (xs : List Entry) → acceptedAdds n ≡ x ∷ xs
-        → Agreement.Agrees (x .row) (rows xs) (symOfRow (x .row)) (rowAt (end .table .symbols) (x .id)) (Resolution.resolve (symsOf (rows (x ∷ xs))))
-    gabi-agrees n x xs e = Agreement.accepted (end .table) _ held n x xs e _ _ (all-mean-own (rows (x ∷ xs)))
-
-    -- whichever symbols the rows mean
-    pub gabi-agrees-any : (n : ℕ) (x : Entry) (xs : List Entry) → acceptedAdds n ≡ x ∷ xs → (s : Sym) (ss : List Sym) → AllMean (rows (x ∷ xs)) (s ∷ ss)
-        → Agreement.Agrees (x .row) (rows xs) s (rowAt (end .table .symbols) (x .id)) (Resolution.resolve (s ∷ ss))
-    gabi-agrees-any n x xs e s ss m = Agreement.accepted (end .table) _ held n x xs e s ss m
+        → Agreement.Agrees gabi (x .row) (rows xs) (symOfRow (x .row)) (rowAt (end .table .symbols) (x .id)) (Resolution.resolve (symsOf (rows (x ∷ xs))))
+    gabi-agrees n x xs e = gabi-agrees-any n x xs e _ _ (all-mean-own (rows (x ∷ xs)))
 
     -- which makes no difference to the gABI
     pub resolve-own : (rs : List Row) (ss : List Sym) → AllMean rs ss → Resolution.resolve ss ≡ Resolution.resolve (symsOf rs)
@@ -825,20 +890,20 @@ module _ (key : ℕ) (bytes names symbols sections inputs lists : List ℕ) (new
 
     -- ---- the inputs' own entries
 
-    -- the row that a name has is that of an entry of an object, of a library or of a direct add: its type, section, value, weak and hidden are what the entry
-    -- says, in document 01's words (FromSymbol, FromLibrary, FromAdd)
-    pub contents : (n : ℕ) (x : Entry) (xs : List Entry) → acceptedAdds n ≡ x ∷ xs → FromCalls (rowAt (end .table .symbols) (x .id)) ks start []
-    contents = Contents.held-from ks start [] (new-marked key bytes names symbols sections new) held
+    -- the content of a name (demand-3a) is that of an entry of an object, of a library or of a direct add: its type, section, value, weak and hidden are what
+    -- the entry says, in document 01's words (FromSymbol, FromLibrary, FromAdd); a library's is hidden in the old profile only
+    pub contents : (n : ℕ) (x : Entry) (xs : List Entry) → acceptedAdds n ≡ x ∷ xs → FromCalls (firstOf (x .row) (rows xs)) ks start []
+    contents = Contents.held-from ks start [] (new-marked key gabi bytes names symbols sections new) held
 
     -- and so is each of its accepted adds
     pub adds-from : (n : ℕ) (x : Entry) (xs : List Entry) → acceptedAdds n ≡ x ∷ xs → AllFrom ks start [] (rows (x ∷ xs))
-    adds-from n x xs e = subst (λ (l : List Entry). AllFrom ks start [] (rows l)) e (Contents.adds-from ks start [] (new-marked key bytes names symbols sections new) n)
+    adds-from n x xs e = subst (λ (l : List Entry). AllFrom ks start [] (rows l)) e (Contents.adds-from ks start [] (new-marked key gabi bytes names symbols sections new) n)
 
     -- these entries bear the name: by its bytes, an object's and a library's symbols; a direct add by the id that the caller gave it
     pub adds-bear : (b : List ℕ) (x : Entry) (xs : List Entry) → acceptedAdds (find (store (end .table)) b) ≡ x ∷ xs → (from : AllFrom ks start [] (rows (x ∷ xs)))
         → EntryNames.AllBear b (find (store (end .table)) b) ks start [] (x ∷ xs) from
     adds-bear b x xs e from =
-        EntryNames.adds-bear b (find (store (end .table)) b) ks start [] (new-marked key bytes names symbols sections new)
+        EntryNames.adds-bear b (find (store (end .table)) b) ks start [] (new-marked key gabi bytes names symbols sections new)
         (EntryNames.issued-by (end .table) (logCalls ks start) held (marked ks .good .chained) b x xs e) (x ∷ xs) e from
 
     module _ (n : ℕ) (x : Entry) (xs : List Entry) (e : acceptedAdds n ≡ x ∷ xs) (from : AllFrom ks start [] (rows (x ∷ xs))) where
@@ -846,13 +911,19 @@ module _ (key : ℕ) (bytes names symbols sections inputs lists : List ℕ) (new
       ownEntries = entriesOf ks start [] (rows (x ∷ xs)) from
 
       -- the gABI's resolution of these entries
-      pub gabi-agrees-own : Agreement.Agrees (x .row) (rows xs) (entryOf (x .row) ks start [] (from .0)) (rowAt (end .table .symbols) (x .id)) (Resolution.resolve ownEntries)
+      pub gabi-agrees-own : Agreement.Agrees gabi (x .row) (rows xs) (entryOf (x .row) ks start [] (from .0)) (rowAt (end .table .symbols) (x .id)) (Resolution.resolve ownEntries)
       gabi-agrees-own = gabi-agrees-any n x xs e _ _ (all-mean ks start [] (rows (x ∷ xs)) from)
 
-      -- the gABI's combined visibility of them is hidden just if the row is, or, "hidden isn't passed on to another holder", another entry of the name is
-      pub hidden-differs : combined ownEntries
-          ≡ cond (isHidden (rowAt (end .table .symbols) (x .id)) || notPassedOn (demand-3a n x xs e .content)) stvHidden stvDefault
-      hidden-differs = Hidden.hidden-differs (rows (x ∷ xs)) ownEntries (all-show ks start [] (rows (x ∷ xs)) from) _ (demand-3a n x xs e .content)
+      -- the gABI's combined visibility of them: in the gABI profile the row's own; in the old one it is hidden just if the row is, or, "hidden isn't passed
+      -- on to another holder", another entry of the name is
+      pub gabi-visible : gabi ≡ true → combined ownEntries ≡ cond (isHidden (rowAt (end .table .symbols) (x .id))) stvHidden stvDefault
+      gabi-visible g =
+          Hidden.combined-is (rows (x ∷ xs)) ownEntries (all-show ks start [] (rows (x ∷ xs)) from)
+          ∙ ap (λ (b : Bool). cond b stvHidden stvDefault) (sym (hidden-3a n x xs e g))
+
+      pub hidden-differs : (old : gabi ≡ false)
+          → combined ownEntries ≡ cond (isHidden (rowAt (end .table .symbols) (x .id)) || notPassedOn (content-old n x xs e old)) stvHidden stvDefault
+      hidden-differs old = Hidden.hidden-differs (rows (x ∷ xs)) ownEntries (all-show ks start [] (rows (x ∷ xs)) from) _ (content-old n x xs e old)
 
     -- a further add, global, of a symbol whose binding, visibility and value pass, is refused with 17 exactly where the gABI sees a duplicate, those of
     -- shared objects counted like any other (see gabi-agrees)
@@ -947,8 +1018,10 @@ module _ (key : ℕ) (bytes names symbols sections inputs lists : List ℕ) (new
     module _ (lent : length lists ≤ notLent) where
       -- what a lookup by the name then answers
       pub lookup-row : (n : ℕ) (x : Entry) (xs : List Entry) → acceptedAdds n ≡ x ∷ xs
-          → callLeft (getGlobal (record { 0 = n })) end ≡ Fd.Row (symbolOf (record { 0 = x .id }) (firstOf (x .row) (rows xs)))
-      lookup-row = Within.lookup-row (end .table) _ held (within lent)
+          → callLeft (getGlobal (record { 0 = n })) end ≡ Fd.Row (symbolOf (record { 0 = x .id }) (hiddenBy gabi (rows (x ∷ xs)) (firstOf (x .row) (rows xs))))
+      lookup-row n x xs e =
+          Within.lookup-row (end .table) _ held (within lent) n x xs e
+          ∙ ap (λ (g : Bool). Fd.Row (symbolOf (record { 0 = x .id }) (hiddenBy g (rows (x ∷ xs)) (firstOf (x .row) (rows xs))))) (profile ks)
 
       pub lookup-none : (n : ℕ) → acceptedAdds n ≡ [] → callLeft (getGlobal (record { 0 = n })) end ≡ notFound 23 0
       lookup-none = Within.lookup-none (end .table) _ held (within lent)
@@ -959,8 +1032,11 @@ module _ (key : ℕ) (bytes names symbols sections inputs lists : List ℕ) (new
         idNow = id (callLeft (intern b) end)
 
         pub lookup-interned : (x : Entry) (xs : List Entry) → acceptedAdds idNow ≡ x ∷ xs
-            → callLeft (getGlobal (record { 0 = idNow })) (callNext (intern b) end) ≡ Fd.Row (symbolOf (record { 0 = x .id }) (firstOf (x .row) (rows xs)))
-        lookup-interned = LookedUp.interned-row end _ _ (reached lent) b
+            → callLeft (getGlobal (record { 0 = idNow })) (callNext (intern b) end)
+            ≡ Fd.Row (symbolOf (record { 0 = x .id }) (hiddenBy gabi (rows (x ∷ xs)) (firstOf (x .row) (rows xs))))
+        lookup-interned x xs e =
+            LookedUp.interned-row end _ _ (reached lent) b x xs e
+            ∙ ap (λ (g : Bool). Fd.Row (symbolOf (record { 0 = x .id }) (hiddenBy g (rows (x ∷ xs)) (firstOf (x .row) (rows xs))))) (call-profile (intern b) end ∙ profile ks)
 
         pub lookup-interned-none : acceptedAdds idNow ≡ [] → callLeft (getGlobal (record { 0 = idNow })) (callNext (intern b) end) ≡ notFound 23 0
         lookup-interned-none = LookedUp.interned-none end _ _ (reached lent) b
@@ -976,16 +1052,16 @@ module _ (key : ℕ) (bytes names symbols sections inputs lists : List ℕ) (new
       pub get-present : (i : SymbolId) → i .0 < end .table .link .symbols → callLeft (get i) end ≡ Fd.Row (symbolAt (end .table .symbols) i)
       get-present i h =
           LookedUp.got-present end _ (lasting ks lent) (ready ks lent) i h
-          (calls-whole ks start quiet (inv-ready (start .table) [] (new-inv key bytes names symbols sections new)) (new-whole key bytes names symbols sections new) (i .0) h)
+          (calls-whole ks start quiet (inv-ready (start .table) [] (new-inv key gabi bytes names symbols sections new)) (new-whole key gabi bytes names symbols sections new) (i .0) h)
 
       -- "A local `Section` row becomes its section's symbol, the last one winning"; "A section without a symbol answers "none""
       pub section-last : (y : SectionId) (i : SymbolId) → (callLeft (sectionSymbol y) end ≡ Answers.Symbol i) ↔ LastOf end y i
       section-last =
-          SectionSymbols.last-of start (SectionSymbols.new-fresh key bytes names symbols sections new) start-ready start-shown ks quiet _ (lasting ks lent) (ready ks lent)
+          SectionSymbols.last-of start (SectionSymbols.new-fresh key gabi bytes names symbols sections new) start-ready start-shown ks quiet _ (lasting ks lent) (ready ks lent)
 
       pub section-none : (y : SectionId) → (callLeft (sectionSymbol y) end ≡ Answers.None) ↔ ((i : SymbolId) → LocalSection end y i → ⊥)
       section-none =
-          SectionSymbols.none-of start (SectionSymbols.new-fresh key bytes names symbols sections new) start-ready start-shown ks quiet _ (lasting ks lent) (ready ks lent)
+          SectionSymbols.none-of start (SectionSymbols.new-fresh key gabi bytes names symbols sections new) start-ready start-shown ks quiet _ (lasting ks lent) (ready ks lent)
 
     -- ---- "Under as-needed, an unneeded library answers "not needed" and changes nothing"
 
@@ -1028,15 +1104,33 @@ module _ (key : ℕ) (bytes names symbols sections inputs lists : List ℕ) (new
         → undefinedName (viewIn (end .table)) b ≡ wants (s ∷ ss) || weakOnly (s ∷ ss)
     undefined-wanted = Undefined.undefined-wanted (end .table) _ held
 
+    -- each accepted add is of a name: global or weak
+    of-name : (n : ℕ) (x : Entry) (xs : List Entry) → acceptedAdds n ≡ x ∷ xs → OfName (x .row)
+    of-name n x xs e = Ties.calls-of-name (x .row) ks start [] (adds-from n x xs e .0)
+
+    -- the names that tie members of an archive. In the old profile the undefined ones: "Weak references pull members"
+    pub ties-old : gabi ≡ false → (b : List ℕ) → tiedName (viewIn (end .table)) b ≡ wants (symbolsUnder b) || weakReferences (symbolsUnder b)
+    ties-old old b = tied-old (viewIn (end .table)) b (profile ks ∙ old) ∙ undefined-is b
+
+    -- in the gABI's those that the gABI wants, but for names whose first reference is weak: the one difference that stands until request 2026-07
+    pub ties-is : gabi ≡ true → (b : List ℕ) → tiedName (viewIn (end .table)) b ≡ wants (symbolsUnder b) && not (weakFirst (symbolsUnder b))
+    ties-is p b = Ties.ties-is (end .table) _ held (profile ks ∙ p) b (of-name _)
+
+    -- whichever symbols the rows mean
+    pub ties-wanted : gabi ≡ true → (b : List ℕ) (x : Entry) (xs : List Entry) → acceptedAdds (find (store (end .table)) b) ≡ x ∷ xs
+        → (s : Sym) (ss : List Sym) → AllMean (rows (x ∷ xs)) (s ∷ ss) → tiedName (viewIn (end .table)) b ≡ wants (s ∷ ss) && not (weakFirst (s ∷ ss))
+    ties-wanted p b x xs e = Ties.ties-wanted (end .table) _ held (profile ks ∙ p) b x xs e (of-name _ x xs e)
+
     module _ (walkKey : ℕ) (index cells : List ℕ) (begun : callNumber (archiveStart walkKey index cells) end ≡ 0) where
       -- its calls for the next member stand anywhere: the history goes on in parts, with such a call behind each (withWalk). "makes at most m + 1
       -- passes, each pass offers exactly the members not yet offered that the index ties to a name undefined at its start, and no name undefined
-      -- at the last pass is tied to an unoffered member" (bound, pass, last; the tables are the link's at those calls)
+      -- at the last pass is tied to an unoffered member" (bound, pass, last; the tables are the link's at those calls); in the gABI profile "undefined and strong"
+      -- (ties-old, ties-is)
       pub demand-3b : (kss : List (List Call)) → Walked index (countOf index) (tablesAt kss end) (walkAfter index kss (startRun walkKey index cells) end)
       demand-3b = WalkIn.walked-in index walkKey cells begun end
 
       -- the same as one equation of lists, by members' offsets: what one pass offered, behind what was offered before it, are the members that the index ties
-      -- to a name undefined in the link at its first call, in first-seen order, without those offered before. The call behind the parts kss and the
+      -- to a name that ties in the link at its first call, in first-seen order, without those offered before. The call behind the parts kss and the
       -- calls ks makes the pass, those behind the parts lss none, and then it is over: the walk is done, or the next call makes another pass
       pub exactly-3b : (kss : List (List Call)) (ks : List Call) (lss : List (List Call))
           → let before = WalkIn.runBefore index walkKey cells begun end kss ks lss in
@@ -1068,38 +1162,76 @@ module _ (key : ℕ) (bytes names symbols sections inputs lists : List ℕ) (new
 
           -- the pass queues it to be offered, and admission over its required names says yes
           abbrev pub chosen : Bool
-          chosen = Extraction.chosenIn index stepped e headers entries file
+          chosen = Extraction.chosenIn gabi index stepped e headers entries file
 
           -- the names that the gABI wants by the symbols accepted under them, as a list; wanted-names has one for every member
           module _ (wanted : List (List ℕ)) (same : (x : List ℕ) → Taken.lists member x ≡ true → Strings.among x wanted ≡ wants (symbolsUnder x)) where
-            -- the member is chosen where the gABI extracts it, but for the two known places: "a weak definition doesn't admit one", "Weak references
-            -- pull members"
-            pub extraction-differs : chosen || weakOffers wanted member ≡ extracts member wanted || taken (λ x. weakReferences (symbolsUnder x)) member
-            extraction-differs = Extraction.differences end _ held walkKey index cells begun ts made e low unoffered headers entries file listed wanted same
+            -- the old profile: the member is chosen where the gABI extracts it, but for the two known places: "a weak definition doesn't admit one", "Weak
+            -- references pull members"
+            pub extraction-differs : gabi ≡ false → chosen || weakOffers wanted member ≡ extracts member wanted || taken (λ x. weakReferences (symbolsUnder x)) member
+            extraction-differs old =
+                ap (λ (g : Bool). Extraction.chosenIn g index stepped e headers entries file || weakOffers wanted member) old
+                ∙ Extraction.differences end _ held walkKey index cells begun ts made e low unoffered headers entries file listed (profile ks ∙ old) wanted same
 
             -- so without these just where the gABI extracts it
-            pub extraction-agrees : weakOffers wanted member ≡ false → taken (λ x. weakReferences (symbolsUnder x)) member ≡ false
+            pub extraction-agrees : gabi ≡ false → weakOffers wanted member ≡ false → taken (λ x. weakReferences (symbolsUnder x)) member ≡ false
                 → chosen ≡ extracts member wanted
-            extraction-agrees = Extraction.agrees end _ held walkKey index cells begun ts made e low unoffered headers entries file listed wanted same
+            extraction-agrees old d r =
+                ap (λ (g : Bool). Extraction.chosenIn g index stepped e headers entries file) old
+                ∙ Extraction.agrees end _ held walkKey index cells begun ts made e low unoffered headers entries file listed (profile ks ∙ old) wanted same d r
+
+            -- the gABI's profile: both places end. A member that is extracted is chosen, or defines a wanted name whose first reference is weak; exactly by name: matches-gabi
+            -- and let-in-queued
+            pub extraction-gabi : gabi ≡ true → chosen || takenIn true (λ x. wants (symbolsUnder x) && weakFirst (symbolsUnder x)) member ≡ extracts member wanted
+            extraction-gabi p =
+                ap (λ (g : Bool). Extraction.chosenIn g index stepped e headers entries file || takenIn true (λ x. wants (symbolsUnder x) && weakFirst (symbolsUnder x)) member) p
+                ∙ Extraction.differences-gabi end _ held walkKey index cells begun ts made e low unoffered headers entries file listed (profile ks ∙ p) of-name wanted same
+
+            pub extraction-gabi-agrees : gabi ≡ true → takenIn true (λ x. wants (symbolsUnder x) && weakFirst (symbolsUnder x)) member ≡ false → chosen ≡ extracts member wanted
+            extraction-gabi-agrees p d =
+                ap (λ (g : Bool). Extraction.chosenIn g index stepped e headers entries file) p
+                ∙ Extraction.agrees-gabi end _ held walkKey index cells begun ts made e low unoffered headers entries file listed (profile ks ∙ p) of-name wanted same d
 
           pub wanted-names : (x : List ℕ) → Taken.lists member x ≡ true
               → Strings.among x (wantedNames (λ y. wants (symbolsUnder y)) member) ≡ wants (symbolsUnder x)
           wanted-names = Extraction.own-names end _ held walkKey index cells begun ts made e low unoffered headers entries file listed
 
-        -- what `matches` itself answers about it, after the pass, and if it is queued after any further calls: exactly what the gABI extracts, but for the
-        -- two known places, each a term: onlyWeaklyOffered, pulledWeakly. The object's fields are in range; its symbols in document 01's words
+        -- what `matches` itself answers about it, after the pass, and if it is queued after any further calls: exactly what the gABI extracts, but in the old
+        -- profile for the two known places, each a term: onlyWeaklyOffered, pulledWeakly. The object's fields are in range; its symbols in document 01's
+        -- words. It may be asked by any link of the profile
         module _ (made : stepped .walk .passes ≡ before .walk .passes + 1) (e : ℕ) (low : e < countOf index) (unoffered : among index e (before .offers) ≡ false)
             (headers entries contents file : List ℕ) (ranged : Elf.judgeOf headers entries (length contents) (length file) .number ≡ 0)
             (listed : (x : List ℕ) → inIndex index (countOf index) e x ≡ Taken.lists (symbolsOf headers entries file) x) where
           module _ (wanted : List (List ℕ)) (same : (x : List ℕ) → Taken.lists (symbolsOf headers entries file) x ≡ true → Strings.among x wanted ≡ wants (symbolsUnder x)) where
-            pub matches-exactly : (on : Linked) → answerIn headers entries contents file index stepped e on
+            pub matches-exactly : gabi ≡ false → (on : Linked) → on .table .link .gabi ≡ gabi → answerIn headers entries contents file index stepped e on
                 ≡ says (admitted wanted (λ x. weakReferences (symbolsUnder x)) (symbolsOf headers entries file))
-            matches-exactly = Admitted.matches-is end _ held walkKey index cells begun ts made e low unoffered headers entries contents file ranged listed wanted same
+            matches-exactly old on asks =
+                Admitted.matches-is end _ held walkKey index cells begun ts made e low unoffered headers entries contents file ranged listed wanted same (profile ks ∙ old) on (asks ∙ old)
 
-            pub matches-stays : among index e (queueIn stepped) ≡ true → (us : List Table) (on : Linked)
+            pub matches-stays : gabi ≡ false → among index e (queueIn stepped) ≡ true → (us : List Table) (on : Linked) → on .table .link .gabi ≡ gabi
                 → answerIn headers entries contents file index (history index us stepped) e on
                 ≡ says (admitted wanted (λ x. weakReferences (symbolsUnder x)) (symbolsOf headers entries file))
-            matches-stays = Admitted.matches-later end _ held walkKey index cells begun ts made e low unoffered headers entries contents file ranged listed wanted same
+            matches-stays old q us on asks =
+                Admitted.matches-later end _ held walkKey index cells begun ts made e low unoffered headers entries contents file ranged listed wanted same (profile ks ∙ old) on (asks ∙ old) q us
+
+          -- the gABI's profile: the names that it wants and whose first reference isn't weak, as a list; strict-own has one for every member
+          module _ (strict : List (List ℕ))
+              (same : (x : List ℕ) → Taken.lists (symbolsOf headers entries file) x ≡ true → Strings.among x strict ≡ wants (symbolsUnder x) && not (weakFirst (symbolsUnder x))) where
+            pub matches-gabi : gabi ≡ true → (on : Linked) → on .table .link .gabi ≡ gabi
+                → answerIn headers entries contents file index stepped e on ≡ says (extracts (symbolsOf headers entries file) strict)
+            matches-gabi p on asks =
+                Admitted.matches-gabi end _ held walkKey index cells begun ts made e low unoffered headers entries contents file ranged listed strict same (profile ks ∙ p) of-name on (asks ∙ p)
+
+            pub matches-gabi-stays : gabi ≡ true → among index e (queueIn stepped) ≡ true → (us : List Table) (on : Linked) → on .table .link .gabi ≡ gabi
+                → answerIn headers entries contents file index (history index us stepped) e on ≡ says (extracts (symbolsOf headers entries file) strict)
+            matches-gabi-stays p q us on asks =
+                Admitted.matches-gabi-later end _ held walkKey index cells begun ts made e low unoffered headers entries contents file ranged listed strict same (profile ks ∙ p) of-name on (asks ∙ p)
+                q us
+
+          pub strict-own : (x : List ℕ) → Taken.lists (symbolsOf headers entries file) x ≡ true
+              → Strings.among x (wantedNames (λ y. wants (symbolsUnder y) && not (weakFirst (symbolsUnder y))) (symbolsOf headers entries file))
+              ≡ wants (symbolsUnder x) && not (weakFirst (symbolsUnder x))
+          strict-own = Admitted.strict-names end _ held walkKey index cells begun ts made e low unoffered headers entries contents file ranged listed
 
           -- a member that is let in was queued by the pass, so it is offered
           pub let-in-queued : (on : Linked) → answerIn headers entries contents file index stepped e on ≡ Yes → among index e (queueIn stepped) ≡ true

@@ -10,13 +10,14 @@ use Rattle.gabi.specs.Resolution as Resolution
 use Rattle.gabi.specs.Resolution.{has}
 use Rattle.gabi.specs.Archive.{isUnresolved, wants}
 use Rattle.symbol.specs.declared.Row.{Row}
+use Rattle.symbol.specs.declared.Words.{Words}
 use Rattle.interner_laws.specs.Good.{find}
 use Rattle.archive_walk.specs.Look.{isUndefined, nameHolder, undefinedName}
 use Rattle.symbol_laws.specs.Rank.{firstOf}
 use Rattle.symbol_laws.specs.Rows.{rowAt}
 use Rattle.symbol_laws.specs.History.{State, store, Entry, only, rows}
 use Rattle.symbol_laws.specs.Held.{Inv}
-use Rattle.symbol_laws.specs.Demand.{resolved, holder-known, holder-none}
+use Rattle.symbol_laws.specs.Demand.{content-apart, resolved, holder-known, holder-none}
 use Rattle.symbol_laws.specs.Gabi.{AllMean, symsOf, all-mean-own}
 use Rattle.symbol_laws.specs.Agreement as Agreement
 use Rattle.extraction_laws.specs.Wanted.{weakOnly, row-undefined}
@@ -36,12 +37,17 @@ weakReferences [] = false
 weakReferences (g ∷ gs) = weakOnly (g ∷ gs)
 
 module _ (s : State) (past : List Entry) (inv : Inv s past) (b : List ℕ) where
+  -- whether a row is undefined is no matter of hidden
+  content : (x : Entry) (xs : List Entry) → only (find (store s) b) past ≡ x ∷ xs → isUndefinedRow (rowAt (s .symbols) (x .id)) ≡ isUndefinedRow (firstOf (x .row) (rows xs))
+  content x xs e =
+      ap (λ (w : Words). eqb (w .kind) 7) (content-apart s (find (store s) b) x xs (s .link .gabi) (resolved s past inv (find (store s) b) x xs e) .value)
+
   pub undefined-name : (x : Entry) (xs : List Entry) → only (find (store s) b) past ≡ x ∷ xs
       → undefinedName (viewIn s) b ≡ isUndefinedRow (firstOf (x .row) (rows xs))
   unfolding undefinedName nameHolder
   undefined-name x xs e =
       ap (isUndefined (s .symbols)) (holder-known s past inv (find (store s) b) x xs e)
-      ∙ ap isUndefinedRow (resolved s past inv (find (store s) b) x xs e .terms)
+      ∙ content x xs e
 
   pub undefined-none : only (find (store s) b) past ≡ [] → undefinedName (viewIn s) b ≡ false
   unfolding undefinedName nameHolder
@@ -54,7 +60,7 @@ module _ (s : State) (past : List Entry) (inv : Inv s past) (b : List ℕ) where
   unfolding undefinedName nameHolder wants weakOnly
   undefined-wanted x xs e g gs m =
       ap (isUndefined (s .symbols)) (holder-known s past inv (find (store s) b) x xs e)
-      ∙ row-undefined (x .row) (rows xs) g (rowAt (s .symbols) (x .id)) (Resolution.resolve (g ∷ gs))
+      ∙ row-undefined (s .link .gabi) (x .row) (rows xs) g (rowAt (s .symbols) (x .id)) (Resolution.resolve (g ∷ gs))
       (Agreement.accepted s past inv (find (store s) b) x xs e g gs m)
 
   nothing-wanted : wants [] || weakReferences [] ≡ false

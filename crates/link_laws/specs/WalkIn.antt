@@ -7,7 +7,7 @@ use mathlib.Core.Bool.{true, false}
 use mathlib.Core.List.{List, [], _∷_, _++_}
 use lib.ListN.{length}
 use Rattle.archive_index.specs.Index.{countOf, nameOf}
-use Rattle.archive_walk.specs.Look.{Table, undefinedName}
+use Rattle.archive_walk.specs.Look.{Table, tiedName}
 use Rattle.archive_walk.specs.Walk.{begunNumber, startOf}
 use Rattle.archive_laws.specs.Rounds.{among, members}
 use Rattle.archive_laws.specs.Runs.{Run, stepRun, history, startRun}
@@ -91,9 +91,9 @@ module _ (index : List ℕ) where
           (ap (λ (r : Run). r .walk .passes) (sym same-after) ∙ q ∙ ap (λ (r : Run). r .walk .passes) same-then)
           (subst (Over key index cells begun) same-after o)))
 
-      -- the call that ends the walk: no entry whose name is undefined there is of a member that wasn't offered
+      -- the call that ends the walk: no entry whose name ties there is of a member that wasn't offered
       pub last-in : runBefore .walk .done ≡ false → runThen .walk .done ≡ true → (k : ℕ) → k < countOf index
-          → undefinedName (viewIn (linkThen .table)) (nameOf index (countOf index) k) ≡ true → among index k (runThen .offers) ≡ true
+          → tiedName (viewIn (linkThen .table)) (nameOf index (countOf index) k) ≡ true → among index k (runThen .offers) ≡ true
       last-in d e k h u =
           let t : Table = viewIn (linkThen .table) in
           let b : runBefore ≡ history index (tablesAt kss s) (startRun key index cells) = walk-is index kss (startRun key index cells) s in

@@ -1,6 +1,7 @@
 pub mod Terms
 pub mod LoadSteps
 pub mod Whole
+pub mod Origin
 pub mod Refusals
 pub mod Stops
 pub mod SymbolDuplicates

@@ -4,7 +4,7 @@ use Prim.Native.Nat.{ℕ, zero, suc, _+_, _<_}
 use native.Mathlib.Omega.{arith}
 use native.Mathlib.Nat.{zero-add}
 use mathlib.Core.Path.{_≡_, refl, sym, ap, _∙_, subst}
-use mathlib.Core.Bool.{true, false}
+use mathlib.Core.Bool.{true, false, Bool}
 use mathlib.Core.List.{List, [], _∷_, _++_, append-assoc}
 use mathlib.Core.Logic.{_≢_}
 use lib.Dec.{eqb, leb}
@@ -12,7 +12,7 @@ use lib.ListN.{length}
 use borrow.Author.Tests.{eqb-true, eqb-false}
 use Rattle.cells.specs.Split.{by-test}
 use Rattle.gabi.specs.StringTable.{nameAt}
-use Rattle.gabi.specs.SymbolTable.{stbWeak, stvHidden, shnUndef}
+use Rattle.gabi.specs.SymbolTable.{Sym, shnUndef}
 use Rattle.merge_plan.specs.Plan.{View}
 use Rattle.strings.specs.Lookup.{Looked, lookUp}
 use Rattle.interner.specs.Names.{storeOf, fitsOf}
@@ -20,7 +20,6 @@ use Rattle.interner_laws.specs.Good.{Issued, find}
 use Rattle.symbol.specs.declared.Row.{Row}
 use Rattle.symbol.specs.declared.SymbolType.the-variants as Ty
 use Rattle.symbol.specs.declared.SymbolValue.the-variants as Val
-use Rattle.symbol.specs.declared.SymbolVisibility.the-variants.{Global}
 use Rattle.symbol.specs.Codes.{typeAt, visibilityAt, valueAt}
 use Rattle.symbol_rows.specs.Decide.{refusalOf}
 use Rattle.symbol_rows.specs.Holder.{holderOf}
@@ -35,11 +34,12 @@ use Rattle.symbol_laws.specs.Rank as Rank
 use Rattle.symbol_laws.specs.History as History
 use Rattle.symbol_laws.specs.History.{store, issue, put, library}
 use Rattle.symbol_laws.specs.ObjectWords.{entriesIn, entry, entryName}
-use Rattle.symbol_laws.specs.ContentWords.{Admitted, shows, shown-is, admitted-is, decided-passes}
+use Rattle.symbol_laws.specs.ContentWords.{Admitted, shows, sharedEntry, shared-is, decided-passes}
 use Rattle.merge_laws.specs.Steps.{Step, part, others}
 use Rattle.merge_laws.specs.Marked.{Marked}
 use Rattle.merge_laws.specs.NamesOn.{issued-in}
 use Rattle.merge_laws.specs.Loop.{loop, loopSteps, loop-next, steps-next}
+use Rattle.merge_laws.specs.Profile.{steps-profile}
 use Rattle.merge_laws.specs.MergeSteps.{rowSteps}
 use Rattle.merge_laws.specs.Kept.{addedRows}
 use Rattle.merge_laws.specs.Markless.{added-append}
@@ -51,8 +51,8 @@ use Rattle.load_laws.specs.Stops.{want}
 use Rattle.load_laws.specs.SymbolDuplicates.{symbolsTo, stepsTo, tableTo, steps-lead, symbol-number, Begins, steps-begin-to}
 use Rattle.load_laws.specs.Accepted.{record-none, lists-none}
 
--- the row of symbol i of the library: it is defined, whatever its section, type and value; weak and hidden are its entry's; in the link that the load leaves its
--- name has the bytes of the symbol's
+-- the row of symbol i of the library: it is defined, whatever its section, type and value; weak and, in the old profile, hidden are its entry's; in the link that
+-- the load leaves its name has the bytes of the symbol's
 module _ (o : Input) (a : All) where
   pub record FromLibrary (r : Row) : Type 0 where
     pub number : ℕ
@@ -60,7 +60,7 @@ module _ (o : Input) (a : All) where
     pub defines : entry (o .entries) number .section ≢ shnUndef
     pub passed : Admitted (entry (o .entries) number)
     pub type : typeAt (r .kind) ≡ Ty.NoType
-    pub shown : visibilityAt (r .visibility) ≡ shows (entry (o .entries) number)
+    pub shown : visibilityAt (r .visibility) ≡ shows (sharedEntry (a .link .gabi) (entry (o .entries) number))
     pub value : valueAt (r .value) ≡ Val.ExternallyDefined
     pub named : Issued (store (tableIn (loadOf o a .cells))) (r .name .0) (nameAt (o .file) (entryName (o .entries) number))
 
@@ -94,9 +94,9 @@ module _ (entries file : List ℕ) (s : State) (i : ℕ) (P : Row → Type 0) wh
 
 -- ---- the row that is planned
 
-module _ (v : View) (x : List ℕ) (b w : ℕ) where
+module _ (v : View) (x : List ℕ) (e : Sym) where
   abbrev planned : Definition
-  planned = planOf v x b w
+  planned = planOf v x (e .binding) (e .visibility)
 
   planned-passes : refusalOf (planned .decision) ≡ 0 → leb 5 (planned .row .visibility) ≡ false
   unfolding planOf externalOf rowedOf judgedOf
@@ -105,11 +105,13 @@ module _ (v : View) (x : List ℕ) (b w : ℕ) where
       (λ f. decided-passes (v .link) (v .symbols) (v .sections) (planned .row) (holderOf (v .link) (v .names) (v .symbols) (planned .row .name)) (rw f at z) .0)
       (λ f. let q : _≡_ {A = ℕ} 2 0 = rw f at z in absurd (omega arith))
 
-  row-shows : planned .row .visibility ≢ 0 → leb 5 (planned .row .visibility) ≡ false → visibilityAt (planned .row .visibility) ≡ Global (eqb b stbWeak) (eqb w stvHidden)
+  row-shows : planned .row .visibility ≢ 0 → leb 5 (planned .row .visibility) ≡ false
+      → Admitted e × (visibilityAt (planned .row .visibility) ≡ shows (sharedEntry (v .link .gabi) e))
   unfolding planOf externalOf rowedOf externalRowOf
-  row-shows = shown-is b w
+  row-shows = shared-is (v .link .gabi) e
 
-  planned-shows : planned .row .visibility ≢ 0 → refusalOf (planned .decision) ≡ 0 → visibilityAt (planned .row .visibility) ≡ Global (eqb b stbWeak) (eqb w stvHidden)
+  planned-shows : planned .row .visibility ≢ 0 → refusalOf (planned .decision) ≡ 0
+      → Admitted e × (visibilityAt (planned .row .visibility) ≡ shows (sharedEntry (v .link .gabi) e))
   planned-shows g z = row-shows g (planned-passes z)
 
 -- ---- the load
@@ -126,6 +128,10 @@ module _ (o : Input) (a : All) where
 
   abbrev From : Row → Type 0
   From = FromLibrary o a
+
+  -- no step before changed the profile
+  profile-to : (i : ℕ) → tableTo o a i .link .gabi ≡ a .link .gabi
+  profile-to i = ap (λ (t : History.State). t .link .gabi) (sym (steps-lead o a i)) ∙ steps-profile (stepsTo o a i) (tableIn a)
 
   module _ (met : List (List ℕ)) (known : Marked (tableIn a) met) (head : headIn o a .number ≡ 0) (needed : want o a .needed ≡ true)
       (fits : Stops.fits entries file (o .needs) (linksIn a) (nameOf o) ≡ true) (i : ℕ) (low : i < rowsIn entries) (going : symbolsTo o a i .stage .number ≡ 0)
@@ -181,13 +187,15 @@ module _ (o : Input) (a : All) where
         → From (p entries file (symbolsTo o a i) i From .row)
     unfolding planOf externalOf rowedOf externalRowOf typeAt valueAt
     from-library head needed fits i h going found d z g =
+        let s : State = staged (symbolsTo o a i) (goingOf (symbolsTo o a i .stage .link)) in
+        let (admitted, visible) = planned-shows (view (adding s)) (lookUp file (field entries i 0) .name) (entry entries i) g z in
         record {
           number = i;
           below = h;
           defines = eqb-false _ _ d;
-          passed = admitted-is (entry entries i) g (planned-passes (view (adding (staged (symbolsTo o a i) (goingOf (symbolsTo o a i .stage .link))))) (lookUp file (field entries i 0) .name) (field entries i 1) (field entries i 3) z);
+          passed = admitted;
           type = refl;
-          shown = planned-shows (view (adding (staged (symbolsTo o a i) (goingOf (symbolsTo o a i .stage .link))))) (lookUp file (field entries i 0) .name) (field entries i 1) (field entries i 3) g z;
+          shown = visible ∙ ap (λ (gabi : Bool). shows (sharedEntry gabi (entry entries i))) (profile-to i);
           value = refl;
           named = row-named met known head needed fits i h going found d z;
         }

@@ -2,7 +2,7 @@
 -- Assumes nothing.
 use Prim.Native.Nat.{ℕ}
 use mathlib.Core.Path.{_≡_, refl, sym, _∙_}
-use mathlib.Core.Bool.{true, false, false≢true}
+use mathlib.Core.Bool.{Bool, true, false, false≢true}
 use mathlib.Core.List.{List, [], _∷_, _++_}
 use mathlib.Core.Logic.{_≢_}
 use lib.Dec.{eqb, ltb, leb}
@@ -15,7 +15,9 @@ use Rattle.link.specs.declared.Interned.{Interned}
 use Rattle.link.specs.Judge.{goingOf, stoppedOf}
 use Rattle.interner.specs.Names.{Store, storeOf, findOf, fitsOf, keepOf}
 use Rattle.symbol.specs.declared.Row.{Row}
+use Rattle.upcoming_symbol.specs.Judge.{judgeOf}
 use Rattle.upcoming_symbol.specs.Upcoming.{externalRowOf}
+use Rattle.symbol_laws.specs.Standing.{library-holds}
 use Rattle.symbol_rows.specs.Holder.{holderOf}
 use Rattle.symbol_rows.specs.Decide.{typeRefusal, decideOf, refusalOf}
 use Rattle.elf_object.specs.Rows.{field}
@@ -24,7 +26,7 @@ use Rattle.library_lists.specs.Record.{Recorded, recordedOf, recordFits, keepNa
 use Rattle.library_symbols.specs.declared.Definition.{Definition}
 use Rattle.library_symbols.specs.Define.{judgedOf, rowedOf, externalOf, planOf, acceptOf, keptOf, commitOf, view, defineOf}
 use Rattle.library_symbols.specs.Load.{State, stateOf, withAdded, withRecorded, staged, namedOf, lookedOf, symbolOf}
-use Rattle.merge_laws.specs.Refusals.{oneOf, knownNumbers, one-back, one-behind, DecidedIn, Fields, nobody-decided, decide-decided, judged-shown, fields-more, place-other}
+use Rattle.merge_laws.specs.Refusals.{oneOf, knownNumbers, one-back, one-behind, DecidedIn, Fields, nobody-decided, decide-decided, JudgedIn, judged-shown, fields-more, place-other}
 use Rattle.load_laws.specs.LoadSteps.{recording, adding}
 
 -- ---- a symbol
@@ -57,11 +59,11 @@ pub data SymbolLeft (x : Looked) (s t : State) (i : ℕ) : Type 0 where
   but-its-name : x .found ≡ true → oneOf (t .stage .number) (10 ∷ 11 ∷ 12 ∷ []) ≡ true
       → t ≡ refuseNamed s (namedIn s (x .name)) (t .stage .number) i → SymbolLeft x s t i
 
-pub external-fields : (id : Interned) (binding visibility : ℕ) → Fields newNumbers (externalRowOf id binding visibility)
+pub external-fields : (gabi : Bool) (id : Interned) (binding visibility : ℕ) → Fields newNumbers (externalRowOf gabi id binding visibility)
 unfolding externalRowOf typeRefusal
-external-fields id binding visibility =
+external-fields gabi id binding visibility =
     record {
-      shown = judged-shown newNumbers refl refl refl binding visibility;
+      shown = library-holds (JudgedIn newNumbers) gabi (judgeOf binding visibility) (judged-shown newNumbers refl refl refl binding visibility);
       valued = λ e. absurd (false≢true e);
       typed = λ u. absurd (u refl);
     }
@@ -71,7 +73,7 @@ module _ (v : View) (x : List ℕ) (binding visibility : ℕ) where
   id = record { 0 = findOf (v .bytes) (v .names) (v .link) x }
 
   abbrev row : Row
-  row = externalRowOf id binding visibility
+  row = externalRowOf (v .link .gabi) id binding visibility
 
   -- whatever holds of a decision on the row under its name
   judged-decided : (numbers : List ℕ) → DecidedIn numbers (decideOf (v .link) (v .symbols) (v .sections) row (holderOf (v .link) (v .names) (v .symbols) id))
@@ -84,12 +86,12 @@ module _ (v : View) (x : List ℕ) (binding visibility : ℕ) where
   plan-decided =
       judged-decided (newNumbers ++ knownNumbers)
       (decide-decided (newNumbers ++ knownNumbers) refl refl (v .link) (v .symbols) (v .sections) row
-      (fields-more newNumbers knownNumbers row (external-fields id binding visibility)) (holderOf (v .link) (v .names) (v .symbols) id))
+      (fields-more newNumbers knownNumbers row (external-fields (v .link .gabi) id binding visibility)) (holderOf (v .link) (v .names) (v .symbols) id))
 
   -- the name isn't issued yet
   plan-new : leb (v .link .names) (id .0) ≡ true → DecidedIn newNumbers (planOf v x binding visibility .decision)
   unfolding holderOf
-  plan-new n = judged-decided newNumbers (rw n (nobody-decided newNumbers (v .link) (v .symbols) (v .sections) row (external-fields id binding visibility)))
+  plan-new n = judged-decided newNumbers (rw n (nobody-decided newNumbers (v .link) (v .symbols) (v .sections) row (external-fields (v .link .gabi) id binding visibility)))
 
 plan-id : (v : View) (x : List ℕ) (binding visibility : ℕ) → planOf v x binding visibility .id ≡ record { 0 = findOf (v .bytes) (v .names) (v .link) x }
 unfolding planOf externalOf rowedOf

@@ -2,6 +2,7 @@
 -- Assumes nothing.
 use Prim.Native.Nat.{ℕ}
 use mathlib.Core.Path.{_≡_, refl, _∙_}
+use mathlib.Core.Bool.{Bool}
 use mathlib.Core.List.{List}
 use lib.Dec.{eqb}
 use lib.ListN.{length}
@@ -11,9 +12,9 @@ use Rattle.link.specs.declared.Interned.{Interned}
 use Rattle.link.specs.Judge.{goingOf}
 use Rattle.interner.specs.Names.{Store, storeOf, findOf, fitsOf, keepOf}
 use Rattle.upcoming_symbol.specs.Judge.{judgeOf}
-use Rattle.upcoming_symbol.specs.Upcoming.{externalRowOf}
+use Rattle.upcoming_symbol.specs.Upcoming.{libraryCode, externalRowOf}
 use Rattle.symbol_rows.specs.declared.Decision.{Decision}
-use Rattle.symbol_rows.specs.declared.Decision.the-variants.{Refuse, Nothing, Keep, Append, Replace}
+use Rattle.symbol_rows.specs.declared.Decision.the-variants.{Refuse, Nothing, Keep, Append, Replace, Amend}
 use Rattle.symbol_rows.specs.Decide.{refusalOf}
 use Rattle.symbol_rows.specs.Apply.{Table, tableOf, noteSection, appendOf, applyOf}
 use Rattle.elf_object.specs.Rows.{rowsIn, field}
@@ -30,13 +31,14 @@ use Rattle.load_laws.specs.Whole.{symbols-loop}
 use Rattle.load_laws.specs.Stops.{want}
 
 -- "A local `Section` row becomes its section's symbol", and a library's rows are `ExternallyDefined`
-applied-sections : (t : Table) (id : Interned) (binding visibility : ℕ) (d : Decision) → applyOf t (externalRowOf id binding visibility) d .sections ≡ t .sections
+applied-sections : (t : Table) (gabi : Bool) (id : Interned) (binding visibility : ℕ) (d : Decision) → applyOf t (externalRowOf gabi id binding visibility) d .sections ≡ t .sections
 unfolding applyOf appendOf noteSection externalRowOf
-applied-sections t id binding visibility (Refuse n) = refl
-applied-sections t id binding visibility Nothing = refl
-applied-sections t id binding visibility (Keep k) = refl
-applied-sections t id binding visibility Append = by-test (eqb (judgeOf binding visibility) 0) (λ a. rw a) (λ a. rw a)
-applied-sections t id binding visibility (Replace k) = refl
+applied-sections t gabi id binding visibility (Refuse n) = refl
+applied-sections t gabi id binding visibility Nothing = refl
+applied-sections t gabi id binding visibility (Keep k) = refl
+applied-sections t gabi id binding visibility Append = by-test (eqb (libraryCode gabi (judgeOf binding visibility)) 0) (λ a. rw a) (λ a. rw a)
+applied-sections t gabi id binding visibility (Replace k) = refl
+applied-sections t gabi id binding visibility (Amend k) = refl
 
 define-sections : (s : Added) (x : List ℕ) (binding visibility i : ℕ) → defineOf s x binding visibility i .sections ≡ s .sections
 unfolding defineOf commitOf keptOf acceptOf planOf externalOf rowedOf
@@ -48,7 +50,7 @@ define-sections s x binding visibility i =
     by-test (eqb (refusalOf (p .decision)) 2) (λ a. rw a)
     (λ a.
     by-test (eqb (refusalOf (p .decision)) 0)
-    (λ b. rw (a, b) (applied-sections (tableOf (k .names) (s .symbols) (s .sections) (k .link)) id binding visibility (p .decision))) (λ b. rw (a, b)))
+    (λ b. rw (a, b) (applied-sections (tableOf (k .names) (s .symbols) (s .sections) (k .link)) (s .stage .link .gabi) id binding visibility (p .decision))) (λ b. rw (a, b)))
 
 module _ (entries file : List ℕ) where
   named-sections : (s : State) (x : List ℕ) (i : ℕ) → namedOf entries s x i .sections ≡ s .sections

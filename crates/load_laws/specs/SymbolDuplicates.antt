@@ -74,7 +74,7 @@ module _ (s : Added) (x : List ℕ) (binding visibility i : ℕ) where
 
   plan-fields : Fields newNumbers (plan .row)
   unfolding planOf externalOf rowedOf
-  plan-fields = external-fields (idOf (addTable s) x) binding visibility
+  plan-fields = external-fields (s .stage .link .gabi) (idOf (addTable s) x) binding visibility
 
   define-number : defineOf s x binding visibility i .stage .number ≡ refusalOf (plan .decision)
   unfolding defineOf commitOf keptOf acceptOf
@@ -158,7 +158,7 @@ module _ (o : Input) (a : All) where
   pub row-means : (i : ℕ) → Adds i → rowTo i .visibility ≢ 0 → leb 5 (rowTo i .visibility) ≡ false → Means (rowTo i) (symOf (elfAt (o .entries) i))
   unfolding planOf externalOf rowedOf
   row-means i is z p =
-      external-means To.Nothing (elfAt (o .entries) i) (idOf (tableTo i) (symbolName (o .entries) (o .file) i .name)) false 0 (is .defines) z p
+      external-means To.Nothing (elfAt (o .entries) i) (idOf (tableTo i) (symbolName (o .entries) (o .file) i .name)) false 0 _ (is .defines) z p
 
   module _ (past : List Entry) (inv : Inv (tableIn a) past) (i : ℕ) where
     kept-to : Inv (tableTo i) (pastTo past i)

@@ -146,7 +146,7 @@ abbrev pub numberOf : State → ℕ
 numberOf s = s .stage .number
 
 module _ (entries file : List ℕ) where
-  symbol-makes : (s : State) (i : ℕ) → Makes (symbolTable s) (symbolSteps entries file s i) (symbolTable (symbolOf entries file s i))
+  pub symbol-makes : (s : State) (i : ℕ) → Makes (symbolTable s) (symbolSteps entries file s i) (symbolTable (symbolOf entries file s i))
   unfolding symbolOf symbolSteps
   symbol-makes s i = looked-makes entries s i (lookUp file (field entries i 0))
 

@@ -97,6 +97,7 @@ moreLists l n =
       chains = l .chains;
       slots = l .slots;
       key = l .key;
+      gabi = l .gabi;
       broken = l .broken;
     }
 

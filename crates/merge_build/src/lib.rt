@@ -170,6 +170,7 @@ fn more_lists(l: Link, more: usize) -> Link
         chains: l.chains,
         slots: l.slots,
         key: l.key,
+        gabi: l.gabi,
         broken: l.broken,
     }
 }

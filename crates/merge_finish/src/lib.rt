@@ -22,6 +22,7 @@ fn input_row(l: Link, inputs: &mut [u64]) -> Stage
             chains: l.chains,
             slots: l.slots,
             key: l.key,
+            gabi: l.gabi,
             broken: l.broken,
         });
     }

@@ -31,7 +31,7 @@ use Rattle.merge_symbols.specs.Stage.{cellOf, acceptRow, keptOf, commitOf, view
 use Rattle.merge_build.specs.Relocations.{idIn}
 use Rattle.merge_stages.specs.Stages.{Object}
 use Rattle.symbol_laws.specs.View as Views
-use Rattle.symbol_laws.specs.View.{View, refused, kept, replaced, appended, local, decided}
+use Rattle.symbol_laws.specs.View.{View, refused, kept, amended, replaced, appended, local, decided}
 use Rattle.symbol_laws.specs.History.{State, table, issue, partNext, putOf}
 use Rattle.symbol_laws.specs.Below.{Below, part-below}
 use Rattle.merge_laws.specs.Loop.{loop, loop-holds, loop-going, loop-next}
@@ -129,7 +129,8 @@ module _ (s : State) (b : Below s) (r : Row) where
   unfolding Small committedOf
   small-by (refused n e u) =
       decides (Refuse n) e (by-test (eqb n 21) (λ a. rw a (omega arith)) (λ a. rw (a, ne-eqb n 0 u) (omega arith)))
-  small-by (kept e k z w q) = decides _ e (omega (arith, b .few, b .held (r .name .0) (k .issued) z))
+  small-by (kept e k z w q p) = decides _ e (omega (arith, b .few, b .held (r .name .0) (k .issued) z))
+  small-by (amended e k z w q) = decides _ e (omega (arith, b .few, b .held (r .name .0) (k .issued) z))
   small-by (replaced e k z w) = decides _ e (omega (arith, b .few, b .held (r .name .0) (k .issued) z))
   small-by (appended e f k z) = decides _ e (omega (arith, f .few))
   small-by (local e f v) = decides _ e (omega (arith, f .few))

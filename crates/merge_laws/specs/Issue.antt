@@ -22,6 +22,7 @@ use Rattle.symbol_rows.specs.Decide as Rows
 use Rattle.symbol_rows.specs.Decide.{newOf, decideOf, sectionRoom, sectionCell}
 use Rattle.symbol_rows.specs.Apply.{tableOf}
 use Rattle.symbols.specs.Add.{issuedOf, directHolderOf, decidedOf}
+use Rattle.symbol_laws.specs.Profile.{keep-profile}
 use Rattle.symbol_laws.specs.Issue.{linked-new, room-free}
 
 -- every way of issuing a name
@@ -67,7 +68,7 @@ module _ (s : Store) (id : Interned) (x : List ℕ) where
         keeps (λ (k : Store). holderOf (k .link) (k .names) symbols id ≡ holderOf (s .link) (s .names) symbols id) s id x refl
         (λ g r. holder-added (omega arith) r)
 
-module _ (l m : Link) (symbols sections : List ℕ) (r : Row) (e : l .symbols ≡ m .symbols) (f : l .slots ≡ m .slots) where
+module _ (l m : Link) (symbols sections : List ℕ) (r : Row) (e : l .symbols ≡ m .symbols) (f : l .slots ≡ m .slots) (g : l .gabi ≡ m .gabi) where
   new-link : newOf l symbols sections r ≡ newOf m symbols sections r
   unfolding newOf Rows.roomOf sectionRoom sectionCell
   new-link = simp (e, f)
@@ -77,7 +78,7 @@ module _ (l m : Link) (symbols sections : List ℕ) (r : Row) (e : l .symbols �
   decide-link Unissued = refl
   decide-link Nobody = simp new-link
   decide-link Removed = simp new-link
-  decide-link (Known id) = simp new-link
+  decide-link (Known id) = simp (new-link, g)
 
 -- under an issued name a direct add judges by the name's holder
 direct-holder : (l : Link) (names symbols : List ℕ) (name : Interned) → name .0 < l .names
@@ -95,4 +96,4 @@ module _ (s : Store) (x symbols sections : List ℕ) (r : Row) (fits : fitsOf s 
   decided-kept =
       ap (decideOf (k .link) symbols sections r)
       (direct-holder (k .link) (k .names) symbols (r .name) (keep-low s (r .name) x fits low) ∙ holder-kept s (r .name) x symbols low)
-      ∙ decide-link (k .link) (s .link) symbols sections r (keep-symbols s (r .name) x) (keep-slots s (r .name) x) (holderOf (s .link) (s .names) symbols (r .name))
+      ∙ decide-link (k .link) (s .link) symbols sections r (keep-symbols s (r .name) x) (keep-slots s (r .name) x) (keep-profile s (r .name) x) (holderOf (s .link) (s .names) symbols (r .name))

@@ -20,15 +20,15 @@ use Rattle.merge_laws.specs.Steps.{Step, part, mark, others, stepNext, s
 
 -- a state with the same names but for marks, the same symbols and the same counts of both
 inv-same : (s t : State) (past : List Entry) → Inv s past → t .symbols ≡ s .symbols → t .link .symbols ≡ s .link .symbols
-    → t .link .names ≡ s .link .names → length (t .names) ≡ length (s .names) → ((n : ℕ) → globalAt (t .names) n ≡ globalAt (s .names) n) → Inv t past
-inv-same s t past i a b c d e =
+    → t .link .names ≡ s .link .names → t .link .gabi ≡ s .link .gabi → length (t .names) ≡ length (s .names) → ((n : ℕ) → globalAt (t .names) n ≡ globalAt (s .names) n) → Inv t past
+inv-same s t past i a b c g d e =
     record {
       some = rw b (i .some);
       room = rw (a, b) (i .room);
       few = rw b (i .few);
       names-room = rw (c, d) (i .names-room);
       held-by = λ n h.
-          held-kept s t n (only n past) (e n) (omega arith) (λ id r p. (rw a, rw a)) (i .held-by n (omega arith));
+          held-kept s t n (only n past) (e n) (omega arith) g (λ id r p. (rw a, rw a)) (i .held-by n (omega arith));
       unissued = λ n h. i .unissued n (omega arith);
       once = i .once;
     }
@@ -38,10 +38,10 @@ step-keep (part p) s past i =
     subst (λ (l : List Entry). Inv (stepNext (part p) s) (past ++ l)) (append-nil (partNotes p s)) (parts-keep (p ∷ []) s past i)
 step-keep (mark n) s past i =
     subst (Inv (stepNext (mark n) s)) (sym (append-nil past))
-    (inv-same s (stepNext (mark n) s) past i refl refl refl (length-set (s .names) (n * 8 + 4) 1)
+    (inv-same s (stepNext (mark n) s) past i refl refl refl refl (length-set (s .names) (n * 8 + 4) 1)
     (λ m. getD-set-other (s .names) (n * 8 + 4) (m * 8 + 3) 1 0 (λ e. omega arith)))
 step-keep (others x l) s past i =
-    subst (Inv (stepNext (others x l) s)) (sym (append-nil past)) (inv-same s (stepNext (others x l) s) past i refl refl refl refl (λ m. refl))
+    subst (Inv (stepNext (others x l) s)) (sym (append-nil past)) (inv-same s (stepNext (others x l) s) past i refl refl refl refl refl (λ m. refl))
 
 pub steps-keep : (ks : List Step) (s : State) (past : List Entry) → Inv s past → Inv (runSteps ks s) (past ++ logSteps ks s)
 steps-keep = kept stepNext stepNotes Inv step-keep

@@ -4,6 +4,8 @@ pub mod Unsupported
 pub mod Steps
 pub mod MergeSteps
 pub mod Calls
+pub mod Profile
+pub mod Origin
 pub mod Loop
 pub mod Issue
 pub mod Beside

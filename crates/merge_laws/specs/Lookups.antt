@@ -3,7 +3,7 @@
 use Prim.Native.Nat.{ℕ, _+_, _-_, _*_, _≤_}
 use native.Mathlib.Omega.{arith}
 use mathlib.Core.Path.{_≡_, refl, sym, ap, _∙_, subst}
-use mathlib.Core.Bool.{true, false≢true}
+use mathlib.Core.Bool.{Bool, true, false≢true}
 use mathlib.Core.List.{List, [], _∷_}
 use lib.Dec.{eqb, ltb, leb}
 use lib.ListN.{length, length-set}
@@ -19,7 +19,7 @@ use Rattle.interner_laws.specs.Written.{linked-long}
 use Rattle.symbol.specs.declared.Row.{Row}
 use Rattle.symbol.specs.declared.SttFile.the-variants as File
 use Rattle.symbol_rows.specs.declared.Decision.{Decision}
-use Rattle.symbol_rows.specs.declared.Decision.the-variants.{Refuse, Nothing, Keep, Append, Replace}
+use Rattle.symbol_rows.specs.declared.Decision.the-variants.{Refuse, Nothing, Keep, Append, Replace, Amend}
 use Rattle.symbol_rows.specs.Decide.{refusalOf}
 use Rattle.symbol_rows.specs.Apply.{Table, noteName, appendOf, applyOf}
 use Rattle.symbols.specs.Add.{committedOf, addRowOf, decidedOf}
@@ -95,6 +95,7 @@ applied-counted t r Append c =
       chains-lent = rw (noted-long (t .names) r (t .link .symbols)) (c .chains-lent);
     }
 applied-counted t r (Replace id) c = c
+applied-counted t r (Amend id) c = c
 
 put-counted : (t : Table) (r : Row) → Counted (t .link) (t .names) → Counted (addRowOf t r File.None .table .link) (addRowOf t r File.None .table .names)
 unfolding addRowOf committedOf
@@ -198,9 +199,9 @@ calls-within ks s q w h n =
     within (runCalls ks s .table .link) (runCalls ks s .table .names) (calls-counted ks s q (counted (s .table .link) (s .table .names) w)) (omega (arith, a .long))
 
 -- a new table counts none
-null-lists : (symbols sections : List ℕ) (s : Store) → nullOf symbols sections s .table .link .lists ≡ s .link .lists
+null-lists : (gabi : Bool) (symbols sections : List ℕ) (s : Store) → nullOf gabi symbols sections s .table .link .lists ≡ s .link .lists
 unfolding nullOf
-null-lists symbols sections s = by-test (eqb (s .link .names) 0) (λ a. rw a) (λ a. rw a)
+null-lists gabi symbols sections s = by-test (eqb (s .link .names) 0) (λ a. rw a) (λ a. rw a)
 
 names-lists : (key : ℕ) (bytes names : List ℕ) → Names.newOf key bytes names .store .link .lists ≡ 0
 unfolding Names.newOf
@@ -208,8 +209,8 @@ names-lists key bytes names =
     by-test (eqb (nameRows (length names)) 0) (λ a. rw a)
     (λ a. rw a (keep-lists (storeOf bytes (Names.clearHeads names) (Names.noNames key (nameRows (length names)))) (record { 0 = 0 }) []))
 
-pub new-lists : (key : ℕ) (bytes names symbols sections lists : List ℕ) → newOf key bytes names symbols sections .table .link .lists ≤ length lists
+pub new-lists : (key : ℕ) (gabi : Bool) (bytes names symbols sections lists : List ℕ) → newOf key gabi bytes names symbols sections .table .link .lists ≤ length lists
 unfolding newOf
-new-lists key bytes names symbols sections lists =
+new-lists key gabi bytes names symbols sections lists =
     by-test (eqb (symbolRows (length symbols)) 0) (λ a. rw a (omega arith))
-    (λ a. rw a (omega (arith, null-lists symbols sections (Names.newOf key bytes names .store), names-lists key bytes names)))
+    (λ a. rw a (omega (arith, null-lists gabi symbols sections (Names.newOf key bytes names .store), names-lists key bytes names)))

@@ -31,7 +31,7 @@ use Rattle.symbol_rows.specs.Apply.{Table, noteName, appendOf, applyOf}
 use Rattle.symbols.specs.Calls.{Left}
 use Rattle.symbols.specs.Add.{committedOf, addRowOf}
 use Rattle.symbols.specs.New.{oneSymbol, nullOf, newOf}
-use Rattle.symbol_laws.specs.View.{View, refused, kept, replaced, appended, local, view, decided}
+use Rattle.symbol_laws.specs.View.{View, refused, kept, amended, replaced, appended, local, view, decided}
 use Rattle.symbol_laws.specs.Refused.{commit-refused}
 use Rattle.symbol_laws.specs.Issue.{FreeRow, room-free}
 use Rattle.symbol_laws.specs.History.{State, table, store, withTable, withStore, opened, Part, issue, put, putOf, idOf, partNext, runParts}
@@ -160,7 +160,8 @@ module _ (s : State) (met : List (List ℕ)) (m : Marked s met) (r : Row) where
   viewed (refused n e z) =
       decides (Refuse n) e
       (subst (λ (t : Table). Marked (withTable s t) met) (sym (commit-refused (table s) r File.None n z .0)) m)
-  viewed (kept e k z o w) = decides _ e m
+  viewed (kept e k z o w p) = decides _ e m
+  viewed (amended e k z o w) = decides _ e (same-names _ refl refl refl refl refl)
   viewed (replaced e k z o) = decides _ e (same-names _ refl refl refl refl refl)
   viewed (appended e f k z) = decides _ e (appended-names (k .global) (k .issued))
   viewed (local e f v) = decides _ e (local-names v)
@@ -303,14 +304,14 @@ names-good key bytes names z =
     by-test (eqb (Interns.number (Names.newOf key bytes names)) 0) (λ a. Interns.new-good key bytes names (eqb-true _ _ a))
     (λ a. absurd (z (ap (λ (s : Store). s .link .names) (Interns.new-refused key bytes names (eqb-false _ _ a)))))
 
-null-marked : (symbols sections : List ℕ) (s : Store) → (s .link .names ≢ 0 → Good s) → (s .link .names ≢ 0 → Unmarked s)
-    → numberIn (nullOf symbols sections s .said) ≡ 0 → Marked (opened (nullOf symbols sections s)) []
+null-marked : (gabi : Bool) (symbols sections : List ℕ) (s : Store) → (s .link .names ≢ 0 → Good s) → (s .link .names ≢ 0 → Unmarked s)
+    → numberIn (nullOf gabi symbols sections s .said) ≡ 0 → Marked (opened (nullOf gabi symbols sections s)) []
 unfolding nullOf among
-null-marked symbols sections s g u e =
+null-marked gabi symbols sections s g u e =
     by-test (eqb (s .link .names) 0) (λ a. let q : _≡_ {A = ℕ} 2 0 = rw a at e in absurd (omega arith))
     (λ a.
     let k : Unmarked s = u (eqb-false _ _ a) in
-    let t : Store = storeOf (s .bytes) (s .names) (oneSymbol (s .link) (sectionSlots (length sections))) in
+    let t : Store = storeOf (s .bytes) (s .names) (oneSymbol gabi (s .link) (sectionSlots (length sections))) in
     rw a
     (record {
       good = good-same s t (record { bytes = refl; long = refl; cells = λ i f h l. refl; heads = λ q h l. refl; chains = refl; key = refl; counted = refl; filled = refl }) (g (eqb-false _ _ a));
@@ -318,9 +319,9 @@ null-marked symbols sections s g u e =
       known = λ x f. absurd (false≢true f);
     }))
 
-pub new-marked : (key : ℕ) (bytes names symbols sections : List ℕ) → numberIn (newOf key bytes names symbols sections .said) ≡ 0
-    → Marked (opened (newOf key bytes names symbols sections)) []
+pub new-marked : (key : ℕ) (gabi : Bool) (bytes names symbols sections : List ℕ) → numberIn (newOf key gabi bytes names symbols sections .said) ≡ 0
+    → Marked (opened (newOf key gabi bytes names symbols sections)) []
 unfolding newOf
-new-marked key bytes names symbols sections e =
+new-marked key gabi bytes names symbols sections e =
     by-test (eqb (symbolRows (length symbols)) 0) (λ a. let q : _≡_ {A = ℕ} 2 0 = rw a at e in absurd (omega arith))
-    (λ a. rw a (null-marked symbols sections (Names.newOf key bytes names .store) (names-good key bytes names) (names-unmarked key bytes names) (rw a at e)))
+    (λ a. rw a (null-marked gabi symbols sections (Names.newOf key bytes names .store) (names-good key bytes names) (names-unmarked key bytes names) (rw a at e)))

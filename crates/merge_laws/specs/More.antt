@@ -12,7 +12,7 @@ use Rattle.symbol.specs.declared.Row.{Row}
 use Rattle.symbol.specs.declared.SttFile.the-variants as File
 use Rattle.symbol.specs.Codes.{successor}
 use Rattle.symbol_rows.specs.declared.Decision.{Decision}
-use Rattle.symbol_rows.specs.declared.Decision.the-variants.{Refuse, Nothing, Keep, Append, Replace}
+use Rattle.symbol_rows.specs.declared.Decision.the-variants.{Refuse, Nothing, Keep, Append, Replace, Amend}
 use Rattle.symbol_rows.specs.Decide.{refusalOf}
 use Rattle.symbol_rows.specs.Apply.{Table, appendOf, applyOf}
 use Rattle.symbols.specs.Add.{committedOf, addRowOf, decidedOf}
@@ -60,6 +60,7 @@ applied-more t r Append =
       chains = refl;
     }
 applied-more t r (Replace id) = more-none (t .link)
+applied-more t r (Amend id) = more-none (t .link)
 
 put-more : (t : Table) (r : Row) → More (t .link) (addRowOf t r File.None .table .link)
 unfolding addRowOf committedOf

@@ -19,7 +19,7 @@ use Rattle.interner_laws.specs.Interns.{keep-stays, keep-issued}
 use Rattle.symbol.specs.declared.Row.{Row}
 use Rattle.symbol.specs.declared.SttFile.the-variants as File
 use Rattle.symbol_rows.specs.declared.Decision.{Decision}
-use Rattle.symbol_rows.specs.declared.Decision.the-variants.{Refuse, Nothing, Keep, Append, Replace}
+use Rattle.symbol_rows.specs.declared.Decision.the-variants.{Refuse, Nothing, Keep, Append, Replace, Amend}
 use Rattle.symbol_rows.specs.Decide.{refusalOf}
 use Rattle.symbol_rows.specs.Apply.{Table, noteName, appendOf, applyOf}
 use Rattle.symbols.specs.Add.{committedOf, addRowOf, decidedOf}
@@ -65,6 +65,7 @@ applied-lies t r Append =
       counted = refl;
     }
 applied-lies t r (Replace id) = row-same t (applyOf t r (Replace id)) refl refl
+applied-lies t r (Amend id) = row-same t (applyOf t r (Amend id)) refl refl
 
 put-lies : (t : Table) (r : Row) → RowLies t (addRowOf t r File.None .table)
 unfolding addRowOf committedOf

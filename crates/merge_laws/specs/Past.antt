@@ -17,9 +17,9 @@ use Rattle.symbol.specs.Row.{setRow}
 use Rattle.symbol.specs.declared.SttFile.the-variants as File
 use Rattle.symbol_rows.specs.Holder.{globalAt}
 use Rattle.symbol_rows.specs.declared.Decision.{Decision}
-use Rattle.symbol_rows.specs.declared.Decision.the-variants.{Refuse, Nothing, Keep, Append, Replace}
+use Rattle.symbol_rows.specs.declared.Decision.the-variants.{Refuse, Nothing, Keep, Append, Replace, Amend}
 use Rattle.symbol_rows.specs.Decide.{refusalOf}
-use Rattle.symbol_rows.specs.Apply.{Table, noteName, appendOf, applyOf}
+use Rattle.symbol_rows.specs.Apply.{Table, noteName, appendOf, replacedIn, amendedIn, applyOf}
 use Rattle.symbols.specs.Add.{committedOf, addRowOf, decidedOf}
 use Rattle.symbol_laws.specs.History.{State, table, store, Part, issue, put, idOf, partNext}
 use Rattle.symbol_laws.specs.Below.{Below, part-below}
@@ -75,14 +75,16 @@ applied-names t r (Keep id) = refl
 applied-names t r Append =
     by-test (eqb (r .visibility) 0) (λ a. rw a) (λ a. rw a (length-set (t .names) (r .name .0 * 8 + 3) (t .link .symbols)))
 applied-names t r (Replace id) = refl
+applied-names t r (Amend id) = refl
 
 applied-symbols : (t : Table) (r : Row) (d : Decision) → length (applyOf t r d .symbols) ≡ length (t .symbols)
-unfolding applyOf appendOf setRow
+unfolding applyOf appendOf replacedIn amendedIn setRow
 applied-symbols t r (Refuse n) = refl
 applied-symbols t r Nothing = refl
 applied-symbols t r (Keep id) = refl
 applied-symbols t r Append = length-putRow (t .symbols) (t .link .symbols) _
 applied-symbols t r (Replace id) = length-putRow (t .symbols) (id .0) _
+applied-symbols t r (Amend id) = length-putRow (t .symbols) (id .0) _
 
 pub put-long : (t : Table) (r : Row)
     → let u = addRowOf t r File.None .table in

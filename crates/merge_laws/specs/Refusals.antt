@@ -41,6 +41,7 @@ use Rattle.merge_symbols.specs.Stage as Symbols
 use Rattle.merge_build.specs.declared.Plan as BuildPlan
 use Rattle.merge_build.specs.Relocations.{tableFor, limitOf, relocationsOf, symbolsOk}
 use Rattle.merge_build.specs.Build as Build
+use Rattle.symbol_laws.specs.Duplicate.{kept-number}
 
 -- a number is one of these
 abbrev pub oneOf : ℕ → List ℕ → Bool
@@ -195,7 +196,7 @@ module _ (numbers : List ℕ) where
     new : DecidedIn (newOf l symbols sections r)
     new = new-decided l symbols sections r f
 
-    known-decided : (id : SymbolId) → DecidedIn (knownOf symbols r id)
+    known-decided : (id : SymbolId) → DecidedIn (knownOf (l .gabi) symbols r id)
     unfolding knownOf rankedOf replaceOf
     known-decided id =
         let old : ℕ = rankOf (visibilityCodeAt symbols (id .0)) (field symbols (id .0) 5) in
@@ -203,7 +204,7 @@ module _ (numbers : List ℕ) where
         pick DecidedIn (leb 13 (r .value .kind)) _ _ (λ t. f .valued t)
         (λ t.
         pick DecidedIn (ltb old new) _ _ (λ t. pick DecidedIn (eqb (typeRefusal (r .kind)) 0) _ _ (λ t u w. absurd (u refl)) (λ t. f .typed))
-        (λ t. pick DecidedIn (eqb new 4) _ _ (λ t u w. duplicate) (λ t u w. absurd (u refl))))
+        (λ t. pick DecidedIn (eqb new 4) _ _ (λ t u w. duplicate) (λ t u w. absurd (u (kept-number (l .gabi) _ _ _)))))
 
     pub decide-decided : (h : Holder) → DecidedIn (decideOf l symbols sections r h)
     unfolding decideOf

@@ -16,7 +16,7 @@ use Rattle.strings.specs.Lookup.{Looked}
 use Rattle.interner.specs.Names.{Store, storeOf, keepOf}
 use Rattle.symbol.specs.declared.Row.{Row}
 use Rattle.symbol_rows.specs.declared.Decision.{Decision}
-use Rattle.symbol_rows.specs.declared.Decision.the-variants.{Refuse, Nothing, Keep, Append, Replace}
+use Rattle.symbol_rows.specs.declared.Decision.the-variants.{Refuse, Nothing, Keep, Append, Replace, Amend}
 use Rattle.symbol_rows.specs.Decide.{refusalOf}
 use Rattle.symbol_rows.specs.Apply.{Table, tableOf, appendOf, applyOf}
 use Rattle.sections.specs.Rows.{stateAt, builtOf}
@@ -57,6 +57,7 @@ applied-front t r Nothing q h = refl
 applied-front t r (Keep id) q h = refl
 applied-front t r Append q h = section-behind (t .link) (t .sections) r (t .link .symbols) q h
 applied-front t r (Replace id) q h = refl
+applied-front t r (Amend id) q h = refl
 
 pub symbol-front : (o : Symbols.Object) (s : Symbols.State) (i q : ℕ) → q < s .stage .link .slots * 8 → getD (symbolOf o s i .sections) q 0 ≡ getD (s .sections) q 0
 unfolding symbolOf lookedOf namedOf commitOf keptOf acceptRow

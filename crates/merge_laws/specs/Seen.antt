@@ -23,11 +23,11 @@ use Rattle.symbol.specs.declared.SttFile.the-variants as File
 use Rattle.symbol_rows.specs.declared.Holder.{Holder}
 use Rattle.symbol_rows.specs.declared.Holder.the-variants.{Unissued, Nobody, Removed, Known}
 use Rattle.symbol_rows.specs.declared.Decision.{Decision}
-use Rattle.symbol_rows.specs.declared.Decision.the-variants.{Refuse, Nothing, Keep, Append, Replace}
+use Rattle.symbol_rows.specs.declared.Decision.the-variants.{Refuse, Nothing, Keep, Append, Replace, Amend}
 use Rattle.symbol_rows.specs.Holder.{holderOf}
 use Rattle.symbol_rows.specs.Decide as Rows
 use Rattle.symbol_rows.specs.Decide.{sectionCell, sectionRoom, newOf, decideOf, refusalOf, idOf}
-use Rattle.symbol_rows.specs.Apply.{Table, noteName, setSectionSymbol, noteSection, appendOf, applyOf}
+use Rattle.symbol_rows.specs.Apply.{Table, noteName, setSectionSymbol, noteSection, appendOf, replacedIn, amendedIn, applyOf}
 use Rattle.symbols.specs.Add.{issuedOf, directHolderOf, decidedOf, placeOf, committedOf, addRowOf}
 use Rattle.symbol_laws.specs.Issue.{FreeRow, room-free}
 use Rattle.symbol_laws.specs.History as History
@@ -60,6 +60,7 @@ pub record Seen (s t : State) : Type 0 where
   pub chains : t .link .chains ≡ s .link .chains
   pub key : t .link .key ≡ s .link .key
   pub slots : t .link .slots ≡ s .link .slots
+  pub profile : t .link .gabi ≡ s .link .gabi
 
 -- ---- names are found alike
 
@@ -175,6 +176,7 @@ module _ (s t : State) (e : Seen s t) where
           chains = e .chains;
           key = e .key;
           slots = e .slots;
+          profile = e .profile;
         }
 
   known-same : (x : List ℕ) → ltb (findOf (t .bytes) (t .names) (t .link) x) (t .link .names) ≡ ltb (findOf (s .bytes) (s .names) (s .link) x) (s .link .names)
@@ -202,7 +204,7 @@ module _ (s t : State) (e : Seen s t) where
   decide-same r Unissued = refl
   decide-same r Nobody = simp (new-same r)
   decide-same r Removed = simp (new-same r)
-  decide-same r (Known id) = rw (new-same r, e .symbols)
+  decide-same r (Known id) = rw (new-same r, e .symbols, e .profile)
 
   holder-same : (r : Row) → directHolderOf (t .link) (t .names) (t .symbols) (r .name) File.None ≡ directHolderOf (s .link) (s .names) (s .symbols) (r .name) File.None
   unfolding directHolderOf issuedOf holderOf
@@ -226,6 +228,9 @@ set-alike l m i v j n e =
     let k : length l ≤ i = ltb-false _ _ b in
     rw (set-out m i v (rw n k), set-out l i v k) e))
     (λ a. let u : j ≢ i = eqb-false _ _ a in getD-set-other m i j v 0 u ∙ e ∙ sym (getD-set-other l i j v 0 u))
+
+abbrev withSymbols : State → List ℕ → State
+withSymbols s l = record { bytes = s .bytes; names = s .names; symbols = l; sections = s .sections; link = s .link }
 
 module _ (s t : State) (e : Seen s t) (r : Row) where
   note-cell : (id j : ℕ) → getD (t .names) j 0 ≡ getD (s .names) j 0 → getD (noteName (t .names) r id) j 0 ≡ getD (noteName (s .names) r id) j 0
@@ -279,18 +284,15 @@ module _ (s t : State) (e : Seen s t) (r : Row) where
         chains = e .chains;
         key = e .key;
         slots = e .slots;
+        profile = e .profile;
       }
 
-  applied-seen : (d : Decision) → Seen (History.withTable s (applyOf (table s) r d)) (History.withTable t (applyOf (table t) r d))
-  unfolding applyOf
-  applied-seen (Refuse n) = e
-  applied-seen Nothing = e
-  applied-seen (Keep id) = e
-  applied-seen Append = append-seen
-  applied-seen (Replace id) =
+  -- the name's row written, alike
+  stored-seen : (l m : List ℕ) → m ≡ l → Seen (withSymbols s l) (withSymbols t m)
+  stored-seen l m q =
       record {
         bytes = e .bytes;
-        symbols = rw (e .symbols);
+        symbols = q;
         names-long = e .names-long;
         names = e .names;
         heads = e .heads;
@@ -302,7 +304,19 @@ module _ (s t : State) (e : Seen s t) (r : Row) where
         chains = e .chains;
         key = e .key;
         slots = e .slots;
+        profile = e .profile;
       }
+
+  applied-seen : (d : Decision) → Seen (History.withTable s (applyOf (table s) r d)) (History.withTable t (applyOf (table t) r d))
+  unfolding applyOf
+  applied-seen (Refuse n) = e
+  applied-seen Nothing = e
+  applied-seen (Keep id) = e
+  applied-seen Append = append-seen
+  applied-seen (Replace id) =
+      stored-seen (replacedIn (s .link .gabi) (s .symbols) r id) (replacedIn (t .link .gabi) (t .symbols) r id) (rw (e .profile, e .symbols))
+  applied-seen (Amend id) =
+      stored-seen (amendedIn (s .link .gabi) (s .symbols) r id) (amendedIn (t .link .gabi) (t .symbols) r id) (rw (e .profile, e .symbols))
 
   place-same : placeOf (t .link) (r .name) File.None ≡ placeOf (s .link) (r .name) File.None
   unfolding placeOf
@@ -340,6 +354,7 @@ names-kept t r Nothing = refl
 names-kept t r (Keep id) = refl
 names-kept t r Append = refl
 names-kept t r (Replace id) = refl
+names-kept t r (Amend id) = refl
 
 put-names : (t : Table) (r : Row) → addRowOf t r File.None .table .link .names ≡ t .link .names
 unfolding addRowOf committedOf
@@ -355,6 +370,7 @@ chains-kept t r Nothing = refl
 chains-kept t r (Keep id) = refl
 chains-kept t r Append = refl
 chains-kept t r (Replace id) = refl
+chains-kept t r (Amend id) = refl
 
 put-chains : (t : Table) (r : Row) → addRowOf t r File.None .table .link .chains ≡ t .link .chains
 unfolding addRowOf committedOf
@@ -409,6 +425,7 @@ mark-seen s t n e h r =
       chains = e .chains;
       key = e .key;
       slots = e .slots;
+      profile = e .profile;
     }
 
 rows-behind : (slots : ℕ) (x old : List ℕ) → length x ≡ length old → drop (slots * 8) (rowsFrom slots x old) ≡ drop (slots * 8) old
@@ -443,6 +460,7 @@ others-seen s t x l e h =
       chains = e .chains;
       key = e .key;
       slots = e .slots;
+      profile = e .profile;
     }
 
 step-roomy : (k : Step) (t : State) → Goes k t → Roomy t → Roomy (stepNext k t)
@@ -492,6 +510,7 @@ seen-same s =
       chains = refl;
       key = refl;
       slots = refl;
+      profile = refl;
     }
 
 -- steps from s to t, and the parts ps made alone

@@ -23,7 +23,7 @@ pub data Step : Type 0 where
 abbrev pub rowsFrom : ℕ → List ℕ → List ℕ → List ℕ
 rowsFrom slots x old = take (slots * 8) x ++ drop (slots * 8) old
 
--- the counts of names, of their bytes and of symbols stay
+-- the counts of names, of their bytes and of symbols stay, and the profile
 abbrev pub countsFrom : Link → Link → Link
 countsFrom l old =
     record {
@@ -36,6 +36,7 @@ countsFrom l old =
       chains = old .chains;
       slots = old .slots;
       key = old .key;
+      gabi = old .gabi;
       broken = l .broken;
     }
 

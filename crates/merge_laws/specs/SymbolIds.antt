@@ -25,7 +25,7 @@ use Rattle.merge_plan.specs.declared.Planned.{Planned}
 use Rattle.merge_plan.specs.Plan.{Input, inputOf, plannedOf}
 use Rattle.merge_symbols.specs.Stage as Symbols
 use Rattle.merge_symbols.specs.Stage.{Object, cellOf, acceptRow, keptOf, commitOf, view, namedOf, lookedOf, symbolOf}
-use Rattle.symbol_laws.specs.View.{View, refused, kept, replaced, appended, local, decided}
+use Rattle.symbol_laws.specs.View.{View, refused, kept, amended, replaced, appended, local, decided}
 use Rattle.symbol_laws.specs.View as Decided
 use Rattle.symbol_laws.specs.History.{State, table, issue, partNext, putOf}
 use Rattle.merge_laws.specs.MergeSteps.{adds}
@@ -34,7 +34,8 @@ use Rattle.merge_laws.specs.SymbolStage.{tableIn, plan-id, plan-decides}
 -- a decision that is accepted answers the id that its cell has
 decided-cell : (t : Table) (r : Row) → refusalOf (decided t r) ≡ 0 → View t r → cellOf (decided t r) (t .link .symbols) ≡ successor (idOf (decided t r) (t .link .symbols) .0)
 decided-cell t r z (refused n e u) = absurd (u (sym (ap (λ (d : Decision). refusalOf d) e) ∙ z))
-decided-cell t r z (kept e k w o q) = rw e
+decided-cell t r z (kept e k w o q p) = rw e
+decided-cell t r z (amended e k w o q) = rw e
 decided-cell t r z (replaced e k w o) = rw e
 decided-cell t r z (appended e f k w) = rw e
 decided-cell t r z (local e f v) = rw e

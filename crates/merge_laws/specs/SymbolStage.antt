@@ -15,7 +15,7 @@ use Rattle.symbol.specs.declared.Row.{Row}
 use Rattle.symbol.specs.declared.SttFile.the-variants as File
 use Rattle.upcoming_symbol.specs.Upcoming.{elfRowOf}
 use Rattle.symbol_rows.specs.declared.Decision.{Decision}
-use Rattle.symbol_rows.specs.declared.Decision.the-variants.{Refuse, Nothing, Keep, Append, Replace}
+use Rattle.symbol_rows.specs.declared.Decision.the-variants.{Refuse, Nothing, Keep, Append, Replace, Amend}
 use Rattle.symbol_rows.specs.Decide.{sectionCell, refusalOf}
 use Rattle.symbol_rows.specs.Apply.{Table, tableOf, moreSymbols, setSectionSymbol, noteSection, appendOf, applyOf}
 use Rattle.symbols.specs.Add.{decidedOf}
@@ -163,6 +163,7 @@ applied-long t r Nothing = refl
 applied-long t r (Keep id) = refl
 applied-long t r Append = noted-long (t .link) (t .sections) r (t .link .symbols)
 applied-long t r (Replace id) = refl
+applied-long t r (Amend id) = refl
 
 pub symbol-long : (o : Object) (s : Symbols.State) (i : ℕ) → length (symbolOf o s i .sections) ≡ length (s .sections)
 unfolding symbolOf lookedOf namedOf commitOf keptOf acceptRow
@@ -195,6 +196,7 @@ module _ {A : Type 0} (count : Link → A) (same : (s : Store) (id : Interned) (
   applied-count t r (Keep id) = refl
   applied-count t r Append = also (t .link) _
   applied-count t r (Replace id) = refl
+  applied-count t r (Amend id) = refl
 
   symbol-count : (o : Object) (s : Symbols.State) (i : ℕ) → count (symbolOf o s i .stage .link) ≡ count (s .stage .link)
   unfolding symbolOf lookedOf namedOf commitOf keptOf acceptRow

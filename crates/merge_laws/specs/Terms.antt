@@ -1,8 +1,8 @@
 -- The statements about merges. Their proofs stand in the other files.
 -- Assumes nothing.
 use Prim.Native.Nat.{ℕ, suc, _<_, _≤_}
-use mathlib.Core.Path.{_≡_, _∙_}
-use mathlib.Core.Bool.{true, false, not}
+use mathlib.Core.Path.{_≡_, ap, _∙_, subst}
+use mathlib.Core.Bool.{Bool, true, false, not}
 use mathlib.Core.List.{List, [], _∷_, _++_}
 use mathlib.Core.Logic.{_≢_}
 use lib.ListN.{set, length}
@@ -30,10 +30,12 @@ use Rattle.merge_elf.specs.declared.Answer.the-variants.{Refused}
 use Rattle.merge_stages.specs.Stages.{All, Object}
 use Rattle.merge_elf.specs.Merge.{leave, headIn, mergeOf}
 use Rattle.symbol_laws.specs.Rank.{firstOf}
-use Rattle.symbol_laws.specs.Rows.{rowAt}
 use Rattle.symbol_laws.specs.History.{opened, Entry, only, rows, issue, putOf, partNext}
 use Rattle.symbol_laws.specs.Held.{Inv}
 use Rattle.symbol_laws.specs.Start.{new-inv}
+use Rattle.symbol_laws.specs.Rows.{rowAt}
+use Rattle.symbol_laws.specs.Standing.{hiddenBy}
+use Rattle.symbol_laws.specs.Profile.{new-profile}
 use Rattle.symbol_laws.specs.Demand as Demand
 use Rattle.symbol_laws.specs.Within as Within
 use Rattle.symbol_laws.specs.Below.{inv-below}
@@ -49,6 +51,7 @@ use Rattle.merge_laws.specs.Whole.{tableIn, merge-makes}
 use Rattle.merge_laws.specs.Kept.{addedRows, log-rows}
 use Rattle.merge_laws.specs.Seen.{partsIn, MadeAlone, makes-parts}
 use Rattle.merge_laws.specs.Calls.{Linked, linked, allIn, Call, merge, callNext, runCalls, logCalls, RemovesNothing, signatures, calls-keep-inv, calls-marked}
+use Rattle.merge_laws.specs.Profile.{calls-profile}
 use Rattle.merge_laws.specs.Refusals.{oneOf}
 use Rattle.merge_laws.specs.Stops as Stages
 use Rattle.merge_laws.specs.Stops.{groupsTo}
@@ -97,9 +100,9 @@ pub symbol-ids : (o : Symbols.Object) (s : Symbols.State) (i : ℕ) → nameOf o
 symbol-ids = SymbolIds.symbol-id
 
 -- "Let a link be a new table", and inputs and lists
-module _ (key : ℕ) (bytes names symbols sections inputs lists : List ℕ) (new : numberIn (newOf key bytes names symbols sections .said) ≡ 0) where
+module _ (key : ℕ) (gabi : Bool) (bytes names symbols sections inputs lists : List ℕ) (new : numberIn (newOf key gabi bytes names symbols sections .said) ≡ 0) where
   abbrev pub start : Linked
-  start = linked (opened (newOf key bytes names symbols sections)) inputs lists
+  start = linked (opened (newOf key gabi bytes names symbols sections)) inputs lists
 
   -- "and any sequence of calls that removes nothing": adds, interns and merges, refused ones too
   module _ (ks : List Call) (quiet : RemovesNothing ks start) where
@@ -111,15 +114,19 @@ module _ (key : ℕ) (bytes names symbols sections inputs lists : List ℕ) (new
     acceptedAdds n = only n (logCalls ks start)
 
     kept : Inv (end .table) (logCalls ks start)
-    kept = calls-keep-inv ks start [] quiet (new-inv key bytes names symbols sections new)
+    kept = calls-keep-inv ks start [] quiet (new-inv key gabi bytes names symbols sections new)
 
     marked : Marked (end .table) (signatures ks start)
-    marked = calls-marked ks start [] quiet (new-marked key bytes names symbols sections new)
+    marked = calls-marked ks start [] quiet (new-marked key gabi bytes names symbols sections new)
+
+    -- no call changes the profile
+    pub profile : end .table .link .gabi ≡ gabi
+    profile = calls-profile ks start ∙ new-profile key gabi bytes names symbols sections new
 
     -- "each global name has the id of its first accepted add and the content of its first accepted strong definition, else weak
     -- definition, else add"
-    pub demand-3a : (n : ℕ) (x : Entry) (xs : List Entry) → acceptedAdds n ≡ x ∷ xs → Demand.Resolved (end .table) n x xs
-    demand-3a n x xs e = Demand.resolved (end .table) _ kept n x xs e
+    pub demand-3a : (n : ℕ) (x : Entry) (xs : List Entry) → acceptedAdds n ≡ x ∷ xs → Demand.Resolved gabi (end .table) n x xs
+    demand-3a n x xs e = subst (λ (g : Bool). Demand.Resolved g (end .table) n x xs) profile (Demand.resolved (end .table) _ kept n x xs e)
 
     -- a name without accepted global add has no row
     pub no-row : (n : ℕ) → acceptedAdds n ≡ [] → n < end .table .link .names → globalAt (end .table .names) n ≡ 0
@@ -128,11 +135,13 @@ module _ (key : ℕ) (bytes names symbols sections inputs lists : List ℕ) (new
     -- what a lookup by a name then answers; a lent list has fewer than 2^64 cells
     module _ (lent : length lists ≤ notLent) where
       within : Within.Within (end .table .link) (end .table .names)
-      within = Lookups.calls-within ks start quiet (Within.new-within key bytes names symbols sections new) (new-lists key bytes names symbols sections lists) lent
+      within = Lookups.calls-within ks start quiet (Within.new-within key gabi bytes names symbols sections new) (new-lists key gabi bytes names symbols sections lists) lent
 
       pub lookup-row : (n : ℕ) (x : Entry) (xs : List Entry) → acceptedAdds n ≡ x ∷ xs
-          → getGlobalOf (end .table .link) (end .table .names) (end .table .symbols) (record { 0 = n }) ≡ Fd.Row (symbolOf (record { 0 = x .id }) (firstOf (x .row) (rows xs)))
-      lookup-row = Within.lookup-row (end .table) _ kept within
+          → getGlobalOf (end .table .link) (end .table .names) (end .table .symbols) (record { 0 = n }) ≡ Fd.Row (symbolOf (record { 0 = x .id }) (hiddenBy gabi (rows (x ∷ xs)) (firstOf (x .row) (rows xs))))
+      lookup-row n x xs e =
+          Within.lookup-row (end .table) _ kept within n x xs e
+          ∙ ap (λ (g : Bool). Fd.Row (symbolOf (record { 0 = x .id }) (hiddenBy g (rows (x ∷ xs)) (firstOf (x .row) (rows xs))))) profile
 
       pub lookup-none : (n : ℕ) → acceptedAdds n ≡ [] → getGlobalOf (end .table .link) (end .table .names) (end .table .symbols) (record { 0 = n }) ≡ notFound 23 0
       lookup-none = Within.lookup-none (end .table) _ kept within
@@ -142,15 +151,17 @@ module _ (key : ℕ) (bytes names symbols sections inputs lists : List ℕ) (new
         → Writes.Bears (runCalls ls end .table) n (globalAt (end .table .names) n)
     ids-stay ls q n i z = Writes.stays (end .table) (runCalls ls end .table) _ _ kept (calls-keep-inv ls end _ q kept) n i z
 
-    -- of the symbols that are accepted under a name the gABI resolves to the one that the row has; undefined where it has none
-    pub gabi-agrees : (n : ℕ) (x : Entry) (xs : List Entry) → acceptedAdds n ≡ x ∷ xs
-        → Agreement.Agrees (x .row) (rows xs) (symOfRow (x .row)) (rowAt (end .table .symbols) (x .id)) (resolve (symsOf (rows (x ∷ xs))))
-    gabi-agrees n x xs e = Agreement.accepted (end .table) _ kept n x xs e _ _ (all-mean-own (rows (x ∷ xs)))
-
     -- whichever symbols the rows mean
     pub gabi-agrees-any : (n : ℕ) (x : Entry) (xs : List Entry) → acceptedAdds n ≡ x ∷ xs → (s : Sym) (ss : List Sym) → AllMean (rows (x ∷ xs)) (s ∷ ss)
-        → Agreement.Agrees (x .row) (rows xs) s (rowAt (end .table .symbols) (x .id)) (resolve (s ∷ ss))
-    gabi-agrees-any n x xs e s ss m = Agreement.accepted (end .table) _ kept n x xs e s ss m
+        → Agreement.Agrees gabi (x .row) (rows xs) s (rowAt (end .table .symbols) (x .id)) (resolve (s ∷ ss))
+    gabi-agrees-any n x xs e s ss m =
+        subst (λ (g : Bool). Agreement.Agrees g (x .row) (rows xs) s (rowAt (end .table .symbols) (x .id)) (resolve (s ∷ ss))) profile
+        (Agreement.accepted (end .table) _ kept n x xs e s ss m)
+
+    -- of the symbols that are accepted under a name the gABI resolves to the one that the row has; undefined where it has none
+    pub gabi-agrees : (n : ℕ) (x : Entry) (xs : List Entry) → acceptedAdds n ≡ x ∷ xs
+        → Agreement.Agrees gabi (x .row) (rows xs) (symOfRow (x .row)) (rowAt (end .table .symbols) (x .id)) (resolve (symsOf (rows (x ∷ xs))))
+    gabi-agrees n x xs e = gabi-agrees-any n x xs e _ _ (all-mean-own (rows (x ∷ xs)))
 
     -- one more merge
     module _ (o : Object) (work ids : List ℕ) where

@@ -23,7 +23,7 @@ use Rattle.section_groups.specs.Group.{shapeOf}
 
 -- a link with one name, a free symbol row and a free section row
 abbrev link : Link
-link = record { names = 1; bytes = 0; symbols = 1; sections = 0; inputs = 0; lists = 0; chains = 1; slots = 1; key = 0; broken = false }
+link = record { names = 1; bytes = 0; symbols = 1; sections = 0; inputs = 0; lists = 0; chains = 1; slots = 1; key = 0; gabi = false; broken = false }
 
 -- what is answered to a symbol of that binding, visibility, type and section, under a name that nobody holds; section 1 has an id
 abbrev pub symbol : ℕ → ℕ → ℕ → ℕ → ℕ

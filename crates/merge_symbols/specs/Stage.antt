@@ -10,7 +10,7 @@ use Rattle.strings.specs.Lookup.{Looked}
 use Rattle.interner.specs.Names.{Store, storeOf, keepOf}
 use Rattle.symbol.specs.Codes.{successor}
 use Rattle.symbol_rows.specs.declared.Decision.{Decision}
-use Rattle.symbol_rows.specs.declared.Decision.the-variants.{Refuse, Nothing, Keep, Append, Replace}
+use Rattle.symbol_rows.specs.declared.Decision.the-variants.{Refuse, Nothing, Keep, Append, Replace, Amend}
 use Rattle.symbol_rows.specs.Decide.{refusalOf}
 use Rattle.symbol_rows.specs.Apply.{Table, tableOf, applyOf}
 use Rattle.elf_object.specs.Rows.{rowsIn, field, nameIn}
@@ -51,6 +51,7 @@ cellOf Nothing count = 0
 cellOf (Keep id) count = successor (id .0)
 cellOf Append count = successor count
 cellOf (Replace id) count = successor (id .0)
+cellOf (Amend id) count = successor (id .0)
 
 -- every cell as it was
 abbrev pub refuse : State → ℕ → ℕ → State

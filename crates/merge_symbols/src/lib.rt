@@ -36,6 +36,7 @@ fn cell_of(d: Decision, count: usize) -> u64
         Decision::Keep { id } => symbol::next(id.0) as u64,
         Decision::Append => symbol::next(count) as u64,
         Decision::Replace { id } => symbol::next(id.0) as u64,
+        Decision::Amend { id } => symbol::next(id.0) as u64,
     }
 }
 

@@ -1,5 +1,6 @@
--- Document 01, "Archives": "Admission as `ObjectRequirement::matches`: some symbol of binding 1, defined or not, bears a required name."
--- Which names are required is a test of their bytes.
+-- Document 01, "Archives": "Admission as `ObjectRequirement::matches`: some symbol of binding 1, defined or not, bears a required name." In the
+-- gABI's profile, document 02, 2026-02: "a weak or global definition, and nothing else, admits one". Which names are required is a test of
+-- their bytes.
 -- Assumes nothing.
 use Prim.Native.Nat.{ℕ, zero, suc, _+_, _/_}
 use mathlib.Core.Bool.{Bool, true, false, cond}
@@ -7,6 +8,7 @@ use mathlib.Core.List.{List, [], _∷_}
 use lib.Dec.{eqb, leb, ltb}
 use lib.ListN.{length}
 use Rattle.strings.specs.Lookup.{Looked, looked, lookUp}
+use Rattle.link.specs.declared.Link.{Link}
 use Rattle.link.specs.declared.Refusal.{Refusal}
 use Rattle.link.specs.Judge.{refused}
 use Rattle.link.specs.Said.{SaidWith}
@@ -58,25 +60,44 @@ unfoldable pub someFrom : (ℕ → Bool) → ℕ → ℕ → Bool
 someFrom f i zero = false
 someFrom f i (suc n) = cond (f i) true (someFrom f (i + 1) n)
 
--- symbol i of a table whose names are in string section `names`: binding exactly 1, of any type, defined or not
-unfoldable pub bearsRequired : List ℕ → List ℕ → ℕ → List ℕ → (List ℕ → Bool) → ℕ → Bool
-bearsRequired headers file names symbols required i =
-    cond (eqb (field symbols i 1) 1) (isRequired required (nameAnywhere headers file names (field symbols i 0))) false
+-- gABI's numbers: two of a symbol's bindings, and the section of one that is no definition
+abbrev pub globalBinding : ℕ
+globalBinding = 1
 
-unfoldable pub inTable : List ℕ → List ℕ → ℕ → List ℕ → (List ℕ → Bool) → Bool
-inTable headers file names symbols required = someFrom (bearsRequired headers file names symbols required) 0 (rowsIn symbols)
+abbrev pub weakBinding : ℕ
+weakBinding = 2
+
+abbrev pub undefinedSection : ℕ
+undefinedSection = 0
+
+unfoldable pub definesName : ℕ → ℕ → Bool
+definesName binding section =
+    cond (eqb section undefinedSection) false (cond (eqb binding globalBinding) true (cond (eqb binding weakBinding) true false))
+
+-- May a symbol of that binding and section admit its member? The old profile: binding exactly 1, defined or not. The gABI's: a definition,
+-- weak or global, also one in a section that is excluded, or a common one.
+unfoldable pub admits : Bool → ℕ → ℕ → Bool
+admits gabi binding section = cond gabi (definesName binding section) (eqb binding globalBinding)
+
+-- symbol i of a table whose names are in string section `names`, of any type
+unfoldable pub bearsRequired : Bool → List ℕ → List ℕ → ℕ → List ℕ → (List ℕ → Bool) → ℕ → Bool
+bearsRequired gabi headers file names symbols required i =
+    cond (admits gabi (field symbols i 1) (field symbols i 4)) (isRequired required (nameAnywhere headers file names (field symbols i 0))) false
+
+unfoldable pub inTable : Bool → List ℕ → List ℕ → ℕ → List ℕ → (List ℕ → Bool) → Bool
+inTable gabi headers file names symbols required = someFrom (bearsRequired gabi headers file names symbols required) 0 (rowsIn symbols)
 
 -- a symbol table of either kind
 unfoldable pub isTable : List ℕ → ℕ → Bool
 isTable headers n = cond (isSection headers n 3) true (isSection headers n 10)
 
-unfoldable pub inSection : List ℕ → List ℕ → List ℕ → (List ℕ → Bool) → ℕ → Bool
-inSection headers entries file required n =
-    cond (isTable headers n) (inTable headers file (linkAt headers n) (tableEntries headers entries (n + 1)) required) false
+unfoldable pub inSection : Bool → List ℕ → List ℕ → List ℕ → (List ℕ → Bool) → ℕ → Bool
+inSection gabi headers entries file required n =
+    cond (isTable headers n) (inTable gabi headers file (linkAt headers n) (tableEntries headers entries (n + 1)) required) false
 
 -- the Rust's `HasGlobalSymbol`
-unfoldable pub hasGlobalSymbol : List ℕ → List ℕ → List ℕ → (List ℕ → Bool) → Bool
-hasGlobalSymbol headers entries file required = someFrom (inSection headers entries file required) 0 (rowsIn headers)
+unfoldable pub hasGlobalSymbol : Bool → List ℕ → List ℕ → List ℕ → (List ℕ → Bool) → Bool
+hasGlobalSymbol gabi headers entries file required = someFrom (inSection gabi headers entries file required) 0 (rowsIn headers)
 
 abbrev pub admission : Bool → Admission
 admission true = Yes
@@ -90,8 +111,8 @@ unfoldable pub offeredIn : List ℕ → List ℕ → Walk → ℕ → Bool
 offeredIn s l w e = cond (ltb (length s) (w .length)) false (cond (ltb (length l / 8) (w .entries)) false (ltb e (w .entries)))
 
 -- 1 at the first row of the object that is out of range; 1 at 0 where the walk isn't as it was; then yes or no, over the names required of
--- the member that entry e offered
-unfoldable pub matchesOf : List ℕ → List ℕ → List ℕ → List ℕ → List ℕ → List ℕ → Walk → ℕ → Admission
-matchesOf headers entries contents file s l w e =
+-- the member that entry e offered. Of the link its profile alone is looked at, so a broken one answers as another.
+unfoldable pub matchesOf : Link → List ℕ → List ℕ → List ℕ → List ℕ → List ℕ → List ℕ → Walk → ℕ → Admission
+matchesOf link headers entries contents file s l w e =
     afterJudging (judgeOf headers entries (length contents) (length file))
-    (cond (offeredIn s l w e) (admission (hasGlobalSymbol headers entries file (requiredOf s l w e))) (Refused (refused 1 0)))
+    (cond (offeredIn s l w e) (admission (hasGlobalSymbol (link .gabi) headers entries file (requiredOf s l w e))) (Refused (refused 1 0)))

@@ -6,9 +6,11 @@ use native.Mathlib.Omega.{arith}
 use mathlib.Core.Path.{_≡_, sym, _∙_}
 use mathlib.Core.Bool.{Bool, true, false}
 use mathlib.Core.List.{List, []}
+use lib.Dec.{eqb}
 use lib.ListN.{length}
 use borrow.Author.Tests.{eq-eqb, ne-eqb, lt-leb, le-leb, lt-ltb, le-ltb}
 use Rattle.strings.specs.Lookup.{Looked, looked, lookUp}
+use Rattle.link.specs.declared.Link.{Link}
 use Rattle.link.specs.declared.Refusal.{Refusal}
 use Rattle.link.specs.Judge.{refused}
 use Rattle.archive_walk.specs.declared.Walk.{Walk}
@@ -17,7 +19,7 @@ use Rattle.elf_object.specs.Rows.{rowsIn, field, kindAt, linkAt, stringsAt, tab
 use Rattle.elf_object.specs.Judge.{judgeOf}
 use Rattle.object_requirement.specs.declared.Admission.{Admission}
 use Rattle.object_requirement.specs.declared.Admission.the-variants.{Yes, No, Refused}
-use Rattle.object_requirement.specs.Matches.{isSection, nameAnywhere, isRequired, someFrom, bearsRequired, inTable, isTable, inSection, hasGlobalSymbol, offeredIn, matchesOf}
+use Rattle.object_requirement.specs.Matches.{isSection, nameAnywhere, isRequired, someFrom, definesName, admits, bearsRequired, inTable, isTable, inSection, hasGlobalSymbol, offeredIn, matchesOf}
 
 -- ---- names
 
@@ -47,21 +49,48 @@ module _ (headers file : List ℕ) (n offset : ℕ) (t : Looked) (b : Bool) wher
 
 -- ---- symbols
 
-module _ (headers file : List ℕ) (names : ℕ) (symbols : List ℕ) (required : List ℕ → Bool) (i : ℕ) (t : Bool) (v : ℕ) where
-  pub bears-other : v ≡ field symbols i 1 → (v ≡ 1 → ⊥) → t ≡ false → t ≡ bearsRequired headers file names symbols required i
+module _ (binding section : ℕ) (t : Bool) where
+  pub defines-not : section ≡ 0 → t ≡ false → t ≡ definesName binding section
+  unfolding definesName
+  defines-not e q = simp (q, eq-eqb _ _ e)
+
+  pub defines-global : (section ≡ 0 → ⊥) → binding ≡ 1 → t ≡ true → t ≡ definesName binding section
+  unfolding definesName
+  defines-global e f q = simp (q, ne-eqb _ _ e, eq-eqb _ _ f)
+
+  pub defines-weak : (section ≡ 0 → ⊥) → (binding ≡ 1 → ⊥) → binding ≡ 2 → t ≡ true → t ≡ definesName binding section
+  unfolding definesName
+  defines-weak e f g q = simp (q, ne-eqb _ _ e, ne-eqb _ _ f, eq-eqb _ _ g)
+
+  pub defines-other : (section ≡ 0 → ⊥) → (binding ≡ 1 → ⊥) → (binding ≡ 2 → ⊥) → t ≡ false → t ≡ definesName binding section
+  unfolding definesName
+  defines-other e f g q = simp (q, ne-eqb _ _ e, ne-eqb _ _ f, ne-eqb _ _ g)
+
+  module _ (gabi : Bool) where
+    pub admits-gabi : gabi ≡ true → t ≡ definesName binding section → t ≡ admits gabi binding section
+    unfolding admits
+    admits-gabi e q = simp (q, e)
+
+    pub admits-old : gabi ≡ false → t ≡ eqb binding 1 → t ≡ admits gabi binding section
+    unfolding admits
+    admits-old e q = simp (q, e)
+
+module _ (gabi : Bool) (headers file : List ℕ) (names : ℕ) (symbols : List ℕ) (required : List ℕ → Bool) (i : ℕ) (t : Bool) (v n : ℕ) (a : Bool) where
+  pub bears-other : v ≡ field symbols i 1 → n ≡ field symbols i 4 → a ≡ admits gabi v n → a ≡ false → t ≡ false
+      → t ≡ bearsRequired gabi headers file names symbols required i
   unfolding bearsRequired
-  bears-other e f q = simp (q, ← e, ne-eqb _ _ f)
+  bears-other e f g h q = q ∙ sym (rw (← e, ← f, ← g, h))
 
   module _ (o : ℕ) (x : List ℕ) (b : Bool) where
-    pub bears-missing : v ≡ field symbols i 1 → v ≡ 1 → o ≡ field symbols i 0 → looked x b ≡ nameAnywhere headers file names o → b ≡ false → t ≡ false
-        → t ≡ bearsRequired headers file names symbols required i
+    pub bears-missing : v ≡ field symbols i 1 → n ≡ field symbols i 4 → a ≡ admits gabi v n → a ≡ true → o ≡ field symbols i 0
+        → looked x b ≡ nameAnywhere headers file names o → b ≡ false → t ≡ false → t ≡ bearsRequired gabi headers file names symbols required i
     unfolding bearsRequired isRequired
-    bears-missing e f g h z q = q ∙ sym (rw (← e, eq-eqb _ _ f, ← g, ← h, z))
+    bears-missing e f g h j k z q = q ∙ sym (rw (← e, ← f, ← g, h, ← j, ← k, z))
 
-    pub bears-name : v ≡ field symbols i 1 → v ≡ 1 → o ≡ field symbols i 0 → looked x b ≡ nameAnywhere headers file names o → b ≡ true → t ≡ required x
-        → t ≡ bearsRequired headers file names symbols required i
+    pub bears-name : v ≡ field symbols i 1 → n ≡ field symbols i 4 → a ≡ admits gabi v n → a ≡ true → o ≡ field symbols i 0
+        → looked x b ≡ nameAnywhere headers file names o → b ≡ true → t ≡ required x → t ≡ bearsRequired gabi headers file names symbols required i
     unfolding bearsRequired isRequired
-    bears-name e f g h z q = q ∙ sym (rw (← e, eq-eqb _ _ f, ← g, ← h, z))
+    bears-name e f g h j k z q = q ∙ sym (rw (← e, ← f, ← g, h, ← j, ← k, z))
 
 -- the loops: what holds from row i on, of n, is what holds from the start
 
@@ -86,15 +115,15 @@ module _ (f : ℕ → Bool) (n : ℕ) where
       unfolding someFrom
       some-on q h e z = q ∙ rw (one-less n i h) (simp (← e, z))
 
-pub table-start : (headers file : List ℕ) (names : ℕ) (symbols : List ℕ) (required : List ℕ → Bool)
-    → inTable headers file names symbols required ≡ someFrom (bearsRequired headers file names symbols required) 0 (rowsIn symbols - 0)
+pub table-start : (gabi : Bool) (headers file : List ℕ) (names : ℕ) (symbols : List ℕ) (required : List ℕ → Bool)
+    → inTable gabi headers file names symbols required ≡ someFrom (bearsRequired gabi headers file names symbols required) 0 (rowsIn symbols - 0)
 unfolding inTable
-table-start headers file names symbols required = some-start _ _
+table-start gabi headers file names symbols required = some-start _ _
 
-pub sections-start : (headers entries file : List ℕ) (required : List ℕ → Bool)
-    → hasGlobalSymbol headers entries file required ≡ someFrom (inSection headers entries file required) 0 (rowsIn headers - 0)
+pub sections-start : (gabi : Bool) (headers entries file : List ℕ) (required : List ℕ → Bool)
+    → hasGlobalSymbol gabi headers entries file required ≡ someFrom (inSection gabi headers entries file required) 0 (rowsIn headers - 0)
 unfolding hasGlobalSymbol
-sections-start headers entries file required = some-start _ _
+sections-start gabi headers entries file required = some-start _ _
 
 module _ (headers : List ℕ) (n : ℕ) (t b : Bool) where
   pub table-yes : b ≡ isSection headers n 3 → b ≡ true → t ≡ true → t ≡ isTable headers n
@@ -105,13 +134,13 @@ module _ (headers : List ℕ) (n : ℕ) (t b : Bool) where
   unfolding isTable
   table-other e f q = simp (q, ← e, f)
 
-module _ (headers entries file : List ℕ) (required : List ℕ → Bool) (n : ℕ) (t b : Bool) where
+module _ (gabi : Bool) (headers entries file : List ℕ) (required : List ℕ → Bool) (n : ℕ) (t b : Bool) where
   pub section-table : (names : ℕ) (symbols : List ℕ) → b ≡ isTable headers n → b ≡ true → names ≡ linkAt headers n
-      → symbols ≡ tableEntries headers entries (n + 1) → t ≡ inTable headers file names symbols required → t ≡ inSection headers entries file required n
+      → symbols ≡ tableEntries headers entries (n + 1) → t ≡ inTable gabi headers file names symbols required → t ≡ inSection gabi headers entries file required n
   unfolding inSection
   section-table names symbols e f g h q = simp (q, ← e, f, g, h)
 
-  pub section-none : b ≡ isTable headers n → b ≡ false → t ≡ false → t ≡ inSection headers entries file required n
+  pub section-none : b ≡ isTable headers n → b ≡ false → t ≡ false → t ≡ inSection gabi headers entries file required n
   unfolding inSection
   section-none e f q = simp (q, ← e, f)
 
@@ -132,25 +161,25 @@ module _ (s l : List ℕ) (w : Walk) (e : ℕ) (t : Bool) where
   unfolding offeredIn
   offered-none h i j q = simp (q, le-ltb _ _ h, le-ltb _ _ i, le-ltb _ _ j)
 
-module _ (headers entries contents file s l : List ℕ) (w : Walk) (k : ℕ) (t : Admission) (r : Refusal) where
+module _ (link : Link) (headers entries contents file s l : List ℕ) (w : Walk) (k : ℕ) (t : Admission) (r : Refusal) where
   pub matches-refused : r ≡ judgeOf headers entries (length contents) (length file) → (r .number ≡ 0 → ⊥) → t ≡ Refused r
-      → t ≡ matchesOf headers entries contents file s l w k
+      → t ≡ matchesOf link headers entries contents file s l w k
   unfolding matchesOf
   matches-refused e f q = q ∙ sym (rw (← e, ne-eqb _ _ f))
 
   module _ (o : Bool) where
     pub matches-unoffered : r ≡ judgeOf headers entries (length contents) (length file) → r .number ≡ 0 → o ≡ offeredIn s l w k → o ≡ false
-        → t ≡ Refused (refused 1 0) → t ≡ matchesOf headers entries contents file s l w k
+        → t ≡ Refused (refused 1 0) → t ≡ matchesOf link headers entries contents file s l w k
     unfolding matchesOf
     matches-unoffered e f g h q = q ∙ sym (rw (← e, eq-eqb _ _ f, ← g, h))
 
     module _ (b : Bool) where
       pub matches-yes : r ≡ judgeOf headers entries (length contents) (length file) → r .number ≡ 0 → o ≡ offeredIn s l w k → o ≡ true
-          → b ≡ hasGlobalSymbol headers entries file (requiredOf s l w k) → b ≡ true → t ≡ Yes → t ≡ matchesOf headers entries contents file s l w k
+          → b ≡ hasGlobalSymbol (link .gabi) headers entries file (requiredOf s l w k) → b ≡ true → t ≡ Yes → t ≡ matchesOf link headers entries contents file s l w k
       unfolding matchesOf
       matches-yes e f g h i j q = q ∙ sym (rw (← e, eq-eqb _ _ f, ← g, h, ← i, j))
 
       pub matches-no : r ≡ judgeOf headers entries (length contents) (length file) → r .number ≡ 0 → o ≡ offeredIn s l w k → o ≡ true
-          → b ≡ hasGlobalSymbol headers entries file (requiredOf s l w k) → b ≡ false → t ≡ No → t ≡ matchesOf headers entries contents file s l w k
+          → b ≡ hasGlobalSymbol (link .gabi) headers entries file (requiredOf s l w k) → b ≡ false → t ≡ No → t ≡ matchesOf link headers entries contents file s l w k
       unfolding matchesOf
       matches-no e f g h i j q = q ∙ sym (rw (← e, eq-eqb _ _ f, ← g, h, ← i, j))

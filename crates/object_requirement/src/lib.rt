@@ -1,14 +1,16 @@
-// Admission of an archive's member: does some symbol of binding 1 bear a name that was required of it? The Rust's `ObjectRequirement::matches`.
-// Every symbol table of the object is looked at, excluded or not, and so is its string section; nothing of the link is.
+// Admission of an archive's member: does some symbol bear a name that was required of it? The Rust's `ObjectRequirement::matches`: a symbol of
+// binding 1; in the gABI's profile a definition, weak or global. Every symbol table of the object is looked at, excluded or not, and so is its
+// string section; of the link nothing is but its profile.
 ghost use mathlib.Core.Path.{_≡_};
 ghost use Prim.Native.Nat.{_+_, _<_};
 ghost use Rattle.cells.specs.Slice.{before};
 ghost use Rattle.strings.specs.Lookup.{looked};
 ghost use Rattle.elf_object.specs.Rows.{stringsAt};
 ghost use Rattle.archive_walk.specs.Names.{requiredOf};
-ghost use Rattle.object_requirement.specs.Matches.{isSection, nameAnywhere, bearsRequired, inTable, isTable, inSection, hasGlobalSymbol, offeredIn};
+ghost use Rattle.object_requirement.specs.Matches.{isSection, nameAnywhere, definesName, admits, bearsRequired, inTable, isTable, inSection, hasGlobalSymbol, offeredIn};
 ghost use Rattle.object_requirement.specs.Contract.{MatchesMeets};
 use archive_walk::Walk;
+use link::Link;
 use link::Refusal;
 
 pub enum Admission {
@@ -60,8 +62,35 @@ fn name_anywhere<'a>(
 
 // ---- symbols
 
+// A weak or global definition.
+fn defines_name(binding: u64, section: u64) -> bool
+    ensures { λ r. ⌜ r ≡ definesName binding section ⌝ }
+{
+    if section == 0 {
+        return false;
+    }
+    if binding == 1 {
+        return true;
+    }
+    if binding == 2 {
+        return true;
+    }
+    false
+}
+
+// May a symbol of that binding and section admit its member?
+fn may_admit(gabi: bool, binding: u64, section: u64) -> bool
+    ensures { λ r. ⌜ r ≡ admits gabi binding section ⌝ }
+{
+    if gabi {
+        return defines_name(binding, section);
+    }
+    binding == 1
+}
+
 // Does symbol i of a table, whose names are in string section `names`, bear a required name?
 fn bears_required(
+    gabi: bool,
     headers: &[u64],
     file: &[u8],
     names: usize,
@@ -72,9 +101,11 @@ fn bears_required(
     cells: &[u64],
     entry: usize,
 ) -> bool
-    ensures { λ r. ⌜ r ≡ bearsRequired (now (headers .entry)) (now (file .entry)) names (now (symbols .entry)) (requiredOf (now (index .entry)) (now (cells .entry)) w entry) i ⌝ }
+    ensures { λ r. ⌜ r ≡ bearsRequired gabi (now (headers .entry)) (now (file .entry)) names (now (symbols .entry)) (requiredOf (now (index .entry)) (now (cells .entry)) w entry) i ⌝ }
 {
-    if cells::row_get(symbols, i, 1) == 1 {
+    let binding = cells::row_get(symbols, i, 1);
+    let section = cells::row_get(symbols, i, 4);
+    if may_admit(gabi, binding, section) {
         let mut found = false;
         let offset = cells::row_get(symbols, i, 0) as usize;
         let name = name_anywhere(headers, file, names, offset, &mut found);
@@ -86,6 +117,7 @@ fn bears_required(
 }
 
 fn in_table(
+    gabi: bool,
     headers: &[u64],
     file: &[u8],
     names: usize,
@@ -95,12 +127,23 @@ fn in_table(
     cells: &[u64],
     entry: usize,
 ) -> bool
-    ensures { λ r. ⌜ r ≡ inTable (now (headers .entry)) (now (file .entry)) names (now (symbols .entry)) (requiredOf (now (index .entry)) (now (cells .entry)) w entry) ⌝ }
+    ensures { λ r. ⌜ r ≡ inTable gabi (now (headers .entry)) (now (file .entry)) names (now (symbols .entry)) (requiredOf (now (index .entry)) (now (cells .entry)) w entry) ⌝ }
 {
     let rows = symbols.len() / 8;
     let mut i = 0;
     while i < rows {
-        if bears_required(headers, file, names, symbols, i, w, index, cells, entry) {
+        if bears_required(
+            gabi,
+            headers,
+            file,
+            names,
+            symbols,
+            i,
+            w,
+            index,
+            cells,
+            entry,
+        ) {
             return true;
         }
         i += 1;
@@ -119,6 +162,7 @@ fn is_table(headers: &[u64], n: usize) -> bool
 }
 
 fn in_section(
+    gabi: bool,
     headers: &[u64],
     entries: &[u64],
     file: &[u8],
@@ -129,17 +173,18 @@ fn in_section(
     entry: usize,
 ) -> bool
     requires { ⌜ n < 0xffffffffffffffff ⌝ }
-    ensures { λ r. ⌜ r ≡ inSection (now (headers .entry)) (now (entries .entry)) (now (file .entry)) (requiredOf (now (index .entry)) (now (cells .entry)) w entry) n ⌝ }
+    ensures { λ r. ⌜ r ≡ inSection gabi (now (headers .entry)) (now (entries .entry)) (now (file .entry)) (requiredOf (now (index .entry)) (now (cells .entry)) w entry) n ⌝ }
 {
     if is_table(headers, n) {
         let names = cells::row_get(headers, n, 3) as usize;
         let symbols = elf_object::table_entries(headers, entries, (n + 1) as u64);
-        return in_table(headers, file, names, symbols, w, index, cells, entry);
+        return in_table(gabi, headers, file, names, symbols, w, index, cells, entry);
     }
     false
 }
 
 fn has_global_symbol(
+    gabi: bool,
     headers: &[u64],
     entries: &[u64],
     file: &[u8],
@@ -148,12 +193,12 @@ fn has_global_symbol(
     cells: &[u64],
     entry: usize,
 ) -> bool
-    ensures { λ r. ⌜ r ≡ hasGlobalSymbol (now (headers .entry)) (now (entries .entry)) (now (file .entry)) (requiredOf (now (index .entry)) (now (cells .entry)) w entry) ⌝ }
+    ensures { λ r. ⌜ r ≡ hasGlobalSymbol gabi (now (headers .entry)) (now (entries .entry)) (now (file .entry)) (requiredOf (now (index .entry)) (now (cells .entry)) w entry) ⌝ }
 {
     let rows = headers.len() / 8;
     let mut n = 0;
     while n < rows {
-        if in_section(headers, entries, file, n, w, index, cells, entry) {
+        if in_section(gabi, headers, entries, file, n, w, index, cells, entry) {
             return true;
         }
         n += 1;
@@ -177,9 +222,10 @@ fn is_offered(w: Walk, index: &[u8], cells: &[u64], entry: usize) -> bool
     false
 }
 
-// The object's rows; the walk, its index and rows, and the entry by which the member was offered. 1 of the object's rows at the first, of the
-// walk's at 0.
+// The link, of which the profile counts; the object's rows; the walk, its index and rows, and the entry by which the member was offered. 1 of
+// the object's rows at the first, of the walk's at 0.
 pub fn matches(
+    l: Link,
     headers: &[u64],
     entries: &[u64],
     contents: &[u64],
@@ -189,14 +235,14 @@ pub fn matches(
     cells: &[u64],
     entry: usize,
 ) -> Admission
-    ensures { λ r. ⌜ MatchesMeets (before headers) (before entries) (before contents) (before file) (before index) (before cells) w entry r ⌝ }
+    ensures { λ r. ⌜ MatchesMeets l (before headers) (before entries) (before contents) (before file) (before index) (before cells) w entry r ⌝ }
 {
     let judged = object_range::judge(headers, entries, contents.len(), file.len());
     if judged.number != 0 {
         return Admission::Refused { refusal: judged };
     }
     if is_offered(w, index, cells, entry) {
-        if has_global_symbol(headers, entries, file, w, index, cells, entry) {
+        if has_global_symbol(l.gabi, headers, entries, file, w, index, cells, entry) {
             return Admission::Yes;
         }
         return Admission::No;

@@ -774,7 +774,9 @@ fn admit(s: State, out: &mut [u8], rows: &[u64], file: &[u8], index: &[u8]) -> R
     let object = s.object;
     let archive = s.archive;
     let walked = cells::part_of(rows, WALK, rows.len());
+    let table = s.table;
     let a = object_requirement::matches(
+        table.link,
         replay_object::headers(rows, object),
         replay_object::entries(rows, object),
         replay_object::contents(rows, object),
@@ -1107,6 +1109,7 @@ fn no_link() -> Symbols {
             chains: 0,
             slots: 0,
             key: 0,
+            gabi: false,
             broken: false,
         },
     }

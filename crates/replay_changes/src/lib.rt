@@ -287,14 +287,16 @@ fn remove(table: Symbols, symbols: &mut [u64], sections: &mut [u64], line: &[u8]
     )
 }
 
+// A second word `gabi` asks for the gABI's profile.
 fn new_link(
+    gabi: bool,
     bytes: &mut [u8],
     names: &mut [u64],
     symbols: &mut [u64],
     sections: &mut [u64],
 ) -> Changed {
     done(
-        Symbols::new(0, bytes, names, symbols, sections),
+        Symbols::new(0, gabi, bytes, names, symbols, sections),
         Reply::Silent,
     )
 }
@@ -309,7 +311,8 @@ fn change_lent(
     line: &[u8],
 ) -> Changed {
     if replay_words::is(line, 0, b"link") {
-        return new_link(bytes, names, symbols, sections);
+        let gabi = replay_words::is(line, 1, b"gabi");
+        return new_link(gabi, bytes, names, symbols, sections);
     }
     if replay_words::is(line, 0, b"remove") {
         return remove(table, symbols, sections, line);

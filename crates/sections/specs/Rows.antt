@@ -58,6 +58,7 @@ moreSections l =
       chains = l .chains;
       slots = l .slots;
       key = l .key;
+      gabi = l .gabi;
       broken = l .broken;
     }
 

@@ -44,6 +44,7 @@ pub fn reserve(l: Link, sections: &mut [u64]) -> Link
             chains: l.chains,
             slots: l.slots,
             key: l.key,
+            gabi: l.gabi,
             broken: l.broken,
         };
     }

@@ -16,7 +16,7 @@ use Rattle.interner.specs.Names.{Store, storeOf, findOf, keepOf}
 use Rattle.interner_laws.specs.Promises.{untouched-by-keep}
 use Rattle.symbol.specs.declared.Row.{Row}
 use Rattle.symbol_rows.specs.declared.Decision.{Decision}
-use Rattle.symbol_rows.specs.declared.Decision.the-variants.{Refuse, Nothing, Keep, Append, Replace}
+use Rattle.symbol_rows.specs.declared.Decision.the-variants.{Refuse, Nothing, Keep, Append, Replace, Amend}
 use Rattle.symbol_rows.specs.Decide.{refusalOf}
 use Rattle.symbol_rows.specs.Apply.{Table, tableOf, moreSymbols, appendOf, applyOf}
 use Rattle.elf_object.specs.Rows.{field}
@@ -57,6 +57,7 @@ module _ (count : Link → ℕ) (keep : (s : Store) (id : Interned) (x : List �
   apply-count t r (Keep id) = refl
   apply-count t r Append = more (t .link) _
   apply-count t r (Replace id) = refl
+  apply-count t r (Amend id) = refl
 
   commit-count : (s : Added) (x : List ℕ) (p : Definition) (i : ℕ) → count (commitOf s x p i .stage .link) ≡ count (s .stage .link)
   unfolding commitOf keptOf acceptOf

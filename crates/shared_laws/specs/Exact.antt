@@ -17,7 +17,7 @@ use Rattle.symbol_rows.specs.declared.Holder.{Holder}
 use Rattle.symbol_rows.specs.declared.Holder.the-variants.{Unissued, Nobody, Removed, Known}
 use Rattle.symbol_rows.specs.Holder.{holderOf}
 use Rattle.elf_object.specs.Rows.{rowsIn, field}
-use Rattle.library_need.specs.Need.{markAll, clearAll, provides, strongUndefined, lackedBy, wantedIn, viewOf, nameWanted, symbolWanted, someWanted, markedOf, needOf}
+use Rattle.library_need.specs.Need.{markAll, clearAll, provides, lackedBy, wantedIn, viewOf, nameWanted, symbolWanted, someWanted, markedOf, needOf}
 use Rattle.shared_laws.specs.Needed.{Lacked, undefined, recorded, Needed}
 use Rattle.shared_laws.specs.Own.{provides-own, own-provides, lacking-own, own-lacking}
 use Rattle.shared_laws.specs.Lists.{any-among, among-any}

@@ -22,7 +22,7 @@ use Rattle.interner_laws.specs.Histories.{stays-none, stays-both, issued-stays}
 use Rattle.interner_laws.specs.Promises.{keeps-good, keeps-names, keeps-issued, same-good, same-names}
 use Rattle.symbol.specs.declared.Row.{Row}
 use Rattle.symbol_rows.specs.declared.Decision.{Decision}
-use Rattle.symbol_rows.specs.declared.Decision.the-variants.{Refuse, Nothing, Keep, Append, Replace}
+use Rattle.symbol_rows.specs.declared.Decision.the-variants.{Refuse, Nothing, Keep, Append, Replace, Amend}
 use Rattle.symbol_rows.specs.Decide.{refusalOf}
 use Rattle.symbol_rows.specs.Apply.{Table, tableOf, noteName, appendOf, applyOf}
 use Rattle.upcoming_symbol.specs.Upcoming.{externalRowOf}
@@ -151,6 +151,7 @@ apply-names bytes t r (Refuse n) h g = kept-none _ g
 apply-names bytes t r Nothing h g = kept-none _ g
 apply-names bytes t r (Keep id) h g = kept-none _ g
 apply-names bytes t r (Replace id) h g = kept-none _ g
+apply-names bytes t r (Amend id) h g = kept-none _ g
 apply-names bytes t r Append h g =
     pick (λ (names : List ℕ). Kept (storeOf bytes (t .names) (t .link)) (storeOf bytes names (appendOf t r .link))) (eqb (r .visibility) 0) _ _
     (λ u. relinked bytes (t .names) (t .link) _ refl refl refl refl g) (λ u. noted bytes (t .names) (t .link) _ (r .name .0) _ refl refl refl refl h g)
@@ -168,7 +169,7 @@ define-names : (s : Added) (x : List ℕ) (binding visibility i : ℕ) → Good 
 unfolding defineOf planOf externalOf rowedOf commitOf keptOf acceptOf externalRowOf
 define-names s x binding visibility i g =
     let id = idIn (s .bytes) (s .names) (s .stage .link) x in
-    let row = externalRowOf (record { 0 = id }) binding visibility in
+    let row = externalRowOf (s .stage .link .gabi) (record { 0 = id }) binding visibility in
     let d = judgedOf (view s) (length x) row in
     let k = keepOf (addedStore s) (record { 0 = id }) x in
     pick (λ (r : Added). r .stage .number ≡ 0 → Kept (addedStore s) (addedStore r)) (eqb (refusalOf d) 2) _ _ (λ t e. absurd (omega arith))

@@ -17,7 +17,8 @@ use Rattle.symbol.specs.declared.SymbolValue.the-variants as Val
 use Rattle.symbol.specs.Codes.{visibilityAt, valueAt}
 use Rattle.symbol.specs.Row.{field, visibilityCodeAt, valueWordsAt, symbolAt}
 use Rattle.elf_object.specs.Rows as Elf
-use Rattle.library_need.specs.Need.{provides, strongUndefined}
+use Rattle.symbol_rows.specs.Undefined.{strongUndefined}
+use Rattle.library_need.specs.Need.{provides}
 use Rattle.shared_laws.specs.Needed.{GlobalOrWeak, global, weak, Defines, StrongUndefined}
 
 -- ---- what a library defines
@@ -53,7 +54,7 @@ isUndefined Val.SectionNotLoaded = false
 isUndefined Val.ExternallyDefined = false
 isUndefined (Val.Undefined zero) = true
 
-abbrev isStrong : SymbolVisibility → Bool
+abbrev pub isStrong : SymbolVisibility → Bool
 isStrong Local = false
 isStrong (Global true hidden) = false
 isStrong (Global false hidden) = true
@@ -74,7 +75,7 @@ undefined-code w =
     by-test (eqb (w .kind) 6) (λ f. rw (a, b, c, d, e, f, eqb-true (w .kind) 6 f))
     (λ f. by-test (eqb (w .kind) 7) (λ g. rw (a, b, c, d, e, f, g)) (λ g. rw (a, b, c, d, e, f, g))))))))
 
-strong-code : (k : ℕ) → isStrong (visibilityAt k) ≡ cond (eqb k 1) true (cond (eqb k 2) true false)
+pub strong-code : (k : ℕ) → isStrong (visibilityAt k) ≡ cond (eqb k 1) true (cond (eqb k 2) true false)
 unfolding visibilityAt
 strong-code k =
     by-test (eqb k 1) (λ a. rw a)

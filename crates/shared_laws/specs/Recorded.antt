@@ -19,7 +19,7 @@ use Rattle.interner_laws.specs.Promises.{untouched-by-keep}
 use Rattle.symbol.specs.declared.Row.{Row}
 use Rattle.symbol.specs.Codes.{successor}
 use Rattle.symbol_rows.specs.declared.Decision.{Decision}
-use Rattle.symbol_rows.specs.declared.Decision.the-variants.{Refuse, Nothing, Keep, Append, Replace}
+use Rattle.symbol_rows.specs.declared.Decision.the-variants.{Refuse, Nothing, Keep, Append, Replace, Amend}
 use Rattle.symbol_rows.specs.Decide.{refusalOf}
 use Rattle.symbol_rows.specs.Apply.{Table, tableOf, appendOf, applyOf}
 use Rattle.elf_object.specs.Rows.{rowsIn, field}
@@ -105,6 +105,7 @@ apply-lists t r Nothing = refl
 apply-lists t r (Keep id) = refl
 apply-lists t r Append = refl
 apply-lists t r (Replace id) = refl
+apply-lists t r (Amend id) = refl
 
 commit-lists : (s : Added) (x : List ℕ) (p : Definition) (i : ℕ) → commitOf s x p i .stage .link .lists ≡ s .stage .link .lists
 unfolding commitOf keptOf acceptOf

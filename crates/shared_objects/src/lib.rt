@@ -68,6 +68,7 @@ fn input_row(l: Link, inputs: &mut [u64], id: Interned, first: usize, middle: us
             chains: l.chains,
             slots: l.slots,
             key: l.key,
+            gabi: l.gabi,
             broken: l.broken,
         });
     }

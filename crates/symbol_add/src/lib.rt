@@ -120,12 +120,12 @@ fn file_of(u: UpcomingSymbol) -> SttFile
 }
 
 // The row that the symbol would become: a name is empty where its length is 0.
-fn upcoming_row(names: &[u64], conversion: &[u64], upcoming: UpcomingSymbol) -> Row
-    ensures { λ r. ⌜ r ≡ rowOf (now (conversion .entry)) upcoming (emptyAt (now (names .entry)) (nameOf upcoming)) ⌝ }
+fn upcoming_row(gabi: bool, names: &[u64], conversion: &[u64], upcoming: UpcomingSymbol) -> Row
+    ensures { λ r. ⌜ r ≡ rowOf gabi (now (conversion .entry)) upcoming (emptyAt (now (names .entry)) (nameOf upcoming)) ⌝ }
 {
     let name = upcoming_row::name_of(upcoming);
     let empty = cells::row_get(names, name.0, 1) == 0;
-    upcoming_row::row_of(conversion, upcoming, empty)
+    upcoming_row::row_of(gabi, conversion, upcoming, empty)
 }
 
 fn direct_holder(l: Link, names: &[u64], symbols: &[u64], name: Interned, file: SttFile) -> Holder
@@ -211,7 +211,7 @@ pub fn add(
     if head.number != 0 {
         return symbols::refused(l, head.number, head.place);
     }
-    let row = upcoming_row(names, conversion, upcoming);
+    let row = upcoming_row(l.gabi, names, conversion, upcoming);
     let file = file_of(upcoming);
     add_row(l, names, symbols, sections, row, file)
 }

@@ -3,7 +3,7 @@
 use Prim.Native.Nat.{ℕ, suc, _≤_, _<_}
 use native.Mathlib.Omega.{arith}
 use native.Mathlib.Nat.{not-suc-le-zero}
-use mathlib.Core.Path.{_≡_, refl, sym, _∙_, subst}
+use mathlib.Core.Path.{_≡_, refl, sym, ap, _∙_, subst}
 use mathlib.Core.Bool.{Bool, true, false, cond, not, _&&_, false≢true}
 use mathlib.Core.List.{List, [], _∷_}
 use lib.Dec.{eqb, ltb}
@@ -16,6 +16,7 @@ use Rattle.gabi.specs.Resolution.{Resolution, defined, duplicate, unresolved, z
 use Rattle.symbol.specs.declared.Row.{Row}
 use Rattle.symbol_laws.specs.Rank.{defines, weak, strongDefinition, weakDefinition, first, firstOf, count}
 use Rattle.symbol_laws.specs.Rows.{rowAt}
+use Rattle.symbol_laws.specs.Standing.{hiddenBy, same-by}
 use Rattle.symbol_laws.specs.History.{State, Entry, only, rows}
 use Rattle.symbol_laws.specs.Held.{Inv}
 use Rattle.symbol_laws.specs.Demand.{resolved}
@@ -101,13 +102,13 @@ no-definition r a b =
 
 -- ---- agreement
 
--- what the gABI says of the symbols, and what the row is; c is the first add
-abbrev pub Agrees : Row → List Row → Sym → Row → Resolution → Type 0
-Agrees c cs s row (defined k) = (row ≡ getD (c ∷ cs) k c) × (defines row ≡ true)
-Agrees c cs s row duplicate = ⊥
+-- what the gABI says of the symbols, and what the row is in that profile; c is the first add
+abbrev pub Agrees : Bool → Row → List Row → Sym → Row → Resolution → Type 0
+Agrees gabi c cs s row (defined k) = (row ≡ hiddenBy gabi (c ∷ cs) (getD (c ∷ cs) k c)) × (defines row ≡ true)
+Agrees gabi c cs s row duplicate = ⊥
 -- P7: whether it reads as zero is the first reference's word
-Agrees c cs s row unresolved = (row ≡ c) × (defines row ≡ false) × (Zeroes c s → row .value .a ≡ cond (isWeak s) 1 0)
-Agrees c cs s row zeroValue = (row ≡ c) × (defines row ≡ false) × (Zeroes c s → row .value .a ≡ 1)
+Agrees gabi c cs s row unresolved = (row ≡ hiddenBy gabi (c ∷ cs) c) × (defines row ≡ false) × (Zeroes c s → row .value .a ≡ cond (isWeak s) 1 0)
+Agrees gabi c cs s row zeroValue = (row ≡ hiddenBy gabi (c ∷ cs) c) × (defines row ≡ false) × (Zeroes c s → row .value .a ≡ 1)
 
 module _ (c : Row) (cs : List Row) (s : Sym) (ss : List Sym) (m : AllMean (c ∷ cs) (s ∷ ss)) where
   abbrev strongs : ℕ
@@ -122,7 +123,7 @@ module _ (c : Row) (cs : List Row) (s : Sym) (ss : List Sym) (m : AllMean (c ∷
   weak-count : Gabi.count isWeakDefinition (s ∷ ss) ≡ weaks
   weak-count = counts weakDefinition isWeakDefinition (c ∷ cs) (s ∷ ss) (weak-match (c ∷ cs) (s ∷ ss) m)
 
-  by-strong : 0 < strongs → Agrees c cs s (firstOf c cs) (defined (Gabi.first isGlobalDefinition (s ∷ ss)))
+  by-strong : 0 < strongs → Agrees false c cs s (firstOf c cs) (defined (Gabi.first isGlobalDefinition (s ∷ ss)))
   by-strong h = (
     place strongDefinition isGlobalDefinition (c ∷ cs) (s ∷ ss) _ c (strong-match (c ∷ cs) (s ∷ ss) m) h,
     definition (firstOf c cs) (not (weak (firstOf c cs))) (first-passes strongDefinition isGlobalDefinition (c ∷ cs) _ h),
@@ -132,7 +133,7 @@ module _ (c : Row) (cs : List Row) (s : Sym) (ss : List Sym) (m : AllMean (c ∷
     then : firstOf c cs ≡ first weakDefinition (c ∷ cs) c
     then = first-none strongDefinition isGlobalDefinition (c ∷ cs) _ none
 
-    by-weak : 0 < weaks → Agrees c cs s (firstOf c cs) (defined (Gabi.first isWeakDefinition (s ∷ ss)))
+    by-weak : 0 < weaks → Agrees false c cs s (firstOf c cs) (defined (Gabi.first isWeakDefinition (s ∷ ss)))
     by-weak h =
         rw then (
           place weakDefinition isWeakDefinition (c ∷ cs) (s ∷ ss) c c (weak-match (c ∷ cs) (s ∷ ss) m) h,
@@ -154,17 +155,17 @@ module _ (c : Row) (cs : List Row) (s : Sym) (ss : List Sym) (m : AllMean (c ∷
       reference : isReference s ≡ true
       reference = by-test (isReference s) (λ t. t) (λ t. absurd (false≢true (sym (rw (m .0 .refers, t) at undefined))))
 
-      by-reference : Agrees c cs s (firstOf c cs) unresolved
+      by-reference : Agrees false c cs s (firstOf c cs) unresolved
       by-reference = rw it (refl, undefined, λ z. z reference)
 
-      by-zero : has isGlobalReference (s ∷ ss) ≡ false → Agrees c cs s (firstOf c cs) zeroValue
+      by-zero : has isGlobalReference (s ∷ ss) ≡ false → Agrees false c cs s (firstOf c cs) zeroValue
       unfolding has Gabi.count isGlobalReference
       by-zero h =
           let k : Gabi.count isGlobalReference (s ∷ ss) ≤ 0 = ltb-false _ _ h in
           let w : isWeak s ≡ true = by-test (isWeak s) (λ t. t) (λ t. absurd (not-suc-le-zero (rw (m .0 .bound, t, reference) at k))) in
           rw it (refl, undefined, λ z. z reference ∙ rw w)
 
-  pub agrees : strongs ≤ 1 → Agrees c cs s (firstOf c cs) (resolve (s ∷ ss))
+  pub agrees : strongs ≤ 1 → Agrees false c cs s (firstOf c cs) (resolve (s ∷ ss))
   unfolding resolve has
   agrees one =
       rw (strong-count, le-ltb 1 strongs one)
@@ -178,9 +179,20 @@ module _ (c : Row) (cs : List Row) (s : Sym) (ss : List Sym) (m : AllMean (c ∷
       rw b
       (by-test (ltb 0 (Gabi.count isGlobalReference (s ∷ ss))) (λ d. rw d (by-reference none nor)) (λ d. rw d (by-zero none nor d)))))))
 
+-- hidden by the others, it agrees as well
+hide-agrees : (gabi : Bool) (c : Row) (cs : List Row) (s : Sym) (row : Row) (v : Resolution) → Agrees false c cs s row v
+    → Agrees gabi c cs s (hiddenBy gabi (c ∷ cs) row) v
+hide-agrees gabi c cs s row (defined k) a = (ap (hiddenBy gabi (c ∷ cs)) (a .0), rw (same-by gabi (c ∷ cs) row .value) (a .1))
+hide-agrees gabi c cs s row duplicate a = a
+hide-agrees gabi c cs s row unresolved a =
+    (ap (hiddenBy gabi (c ∷ cs)) (a .0), rw (same-by gabi (c ∷ cs) row .value) (a .1), rw (same-by gabi (c ∷ cs) row .value) (a .2))
+hide-agrees gabi c cs s row zeroValue a =
+    (ap (hiddenBy gabi (c ∷ cs)) (a .0), rw (same-by gabi (c ∷ cs) row .value) (a .1), rw (same-by gabi (c ∷ cs) row .value) (a .2))
+
 -- the row of a name that is held
 pub accepted : (t : State) (past : List Entry) → Inv t past → (n : ℕ) (x : Entry) (xs : List Entry) → only n past ≡ x ∷ xs
-    → (s : Sym) (ss : List Sym) → AllMean (rows (x ∷ xs)) (s ∷ ss) → Agrees (x .row) (rows xs) s (rowAt (t .symbols) (x .id)) (resolve (s ∷ ss))
+    → (s : Sym) (ss : List Sym) → AllMean (rows (x ∷ xs)) (s ∷ ss) → Agrees (t .link .gabi) (x .row) (rows xs) s (rowAt (t .symbols) (x .id)) (resolve (s ∷ ss))
 accepted t past inv n x xs e s ss m =
     let one : count strongDefinition (rows (x ∷ xs)) ≤ 1 = subst (λ (l : List Entry). count strongDefinition (rows l) ≤ 1) e (inv .once n) in
-    rw (resolved t past inv n x xs e .terms) (agrees (x .row) (rows xs) s ss m one)
+    rw (resolved t past inv n x xs e .terms)
+    (hide-agrees (t .link .gabi) (x .row) (rows xs) s (firstOf (x .row) (rows xs)) (resolve (s ∷ ss)) (agrees (x .row) (rows xs) s ss m one))

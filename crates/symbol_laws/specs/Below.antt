@@ -22,7 +22,7 @@ use Rattle.symbol_rows.specs.Holder.{globalAt}
 use Rattle.symbol_rows.specs.Apply.{Table, noteName, appendOf, applyOf}
 use Rattle.symbols.specs.Calls.{Left}
 use Rattle.symbols.specs.Add.{committedOf, addRowOf}
-use Rattle.symbol_laws.specs.View.{Free, View, refused, kept, replaced, appended, local, view, decided}
+use Rattle.symbol_laws.specs.View.{Free, View, refused, kept, amended, replaced, appended, local, view, decided}
 use Rattle.symbol_laws.specs.Refused.{commit-refused}
 use Rattle.symbol_laws.specs.History.{State, table, store, withTable, withStore, Entry, only, Part, issue, put, putOf, idOf, partNext}
 use Rattle.symbol_laws.specs.Held.{Held, Inv}
@@ -96,7 +96,8 @@ module _ (s : State) (b : Below s) (r : Row) where
   unfolding committedOf applyOf
   viewed (refused n e z) =
       decides (Refuse n) e (subst (λ (t : Table). Below (withTable s t)) (sym (commit-refused (table s) r File.None n z .0)) b)
-  viewed (kept e k z o w) = decides _ e b
+  viewed (kept e k z o w p) = decides _ e b
+  viewed (amended e k z o w) = decides _ e (record { few = b .few; held = b .held })
   viewed (replaced e k z o) = decides _ e (record { few = b .few; held = b .held })
   viewed (appended e f k z) = decides _ e (appended-below f)
   viewed (local e f v) = decides _ e (appended-below f)

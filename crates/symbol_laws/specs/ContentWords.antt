@@ -3,13 +3,13 @@
 -- Assumes nothing.
 use Prim.Native.Nat.{ℕ, zero, suc, _-_, _^_, _<_, _≤_}
 use native.Mathlib.Omega.{arith}
-use mathlib.Core.Path.{_≡_, refl, sym}
-use mathlib.Core.Bool.{false, not, false≢true}
+use mathlib.Core.Path.{_≡_, refl, sym, ap, _∙_}
+use mathlib.Core.Bool.{Bool, true, false, not, false≢true}
 use mathlib.Core.List.{List}
 use mathlib.Core.Logic.{_≢_}
 use lib.IntN.{ℤ, pos, negsuc}
 use lib.Dec.{eqb, ltb, leb}
-use borrow.Author.Tests.{eqb-true, eqb-false, ltb-true, ltb-false, leb-true}
+use borrow.Author.Tests.{eqb-true, eqb-false, ne-eqb, ltb-true, ltb-false, leb-true}
 use Rattle.cells.specs.Split.{by-test}
 use Rattle.gabi.specs.SymbolTable.{Sym, stbGlobal, stbWeak, sttNotype, sttObject, sttFunc, sttSection, sttFile, stvDefault, stvHidden}
 use Rattle.link.specs.declared.Link.{Link}
@@ -19,12 +19,15 @@ use Rattle.symbol.specs.declared.SymbolType.the-variants as Ty
 use Rattle.symbol.specs.declared.SymbolVisibility.{SymbolVisibility}
 use Rattle.symbol.specs.declared.SymbolVisibility.the-variants.{Global}
 use Rattle.symbol.specs.Codes.{typeAt, visibilityAt}
+use Rattle.symbol.specs.Hidden.{passes}
 use Rattle.symbol.specs.Offset.{offsetOf, offset-low, offset-high}
 use Rattle.symbol_rows.specs.declared.Holder.{Holder}
 use Rattle.symbol_rows.specs.declared.Holder.the-variants.{Unissued, Nobody, Removed, Known}
 use Rattle.symbol_rows.specs.declared.Decision.{Decision}
 use Rattle.symbol_rows.specs.Decide.{refusalOf, newOf, knownOf, namedOf, localOf, decideOf}
 use Rattle.upcoming_symbol.specs.Judge.{shownOf, hiddenOf, judgeOf}
+use Rattle.upcoming_symbol.specs.Upcoming.{libraryCode}
+use Rattle.symbol_laws.specs.Standing.{unhidden, library-visible, library-refused, library-local}
 
 -- ---- words
 
@@ -44,6 +47,11 @@ pub data IsOffset (v : ℕ) : ℤ → Type 0 where
 -- weak by its binding, hidden by its visibility
 abbrev pub shows : Sym → SymbolVisibility
 shows e = Global (eqb (e .binding) stbWeak) (eqb (e .visibility) stvHidden)
+
+-- an entry of a shared object, by the profile: "Adds from shared objects hide no row", so in gABI's its visibility counts as the default
+abbrev pub sharedEntry : Bool → Sym → Sym
+sharedEntry false e = e
+sharedEntry true e = record { binding = e .binding; type = e .type; visibility = stvDefault; section = e .section; value = e .value }
 
 -- "visibility: 0 and 2 pass", and of an add that isn't local the binding is 1 or 2
 pub record Admitted (e : Sym) : Type 0 where
@@ -126,6 +134,20 @@ admitted-is e z p =
     by-test (eqb b 1) (λ d. let g : b ≡ 1 = eqb-true _ _ d in record { bound = rw g; seen = rw f })
     (λ d. by-test (eqb b 2) (λ h. let g : b ≡ 2 = eqb-true _ _ h in record { bound = rw g; seen = rw f }) (λ h. absurd (false≢true (sym (rw (a, k, c, d, h) at p)))))))
     (λ k. absurd (false≢true (sym (rw (a, k) at p)))))
+
+-- of a shared object's entry
+shared-shows : (gabi : Bool) (e : Sym) (k : ℕ) → visibilityAt k ≡ shows e → visibilityAt (libraryCode gabi k) ≡ shows (sharedEntry gabi e)
+unfolding libraryCode passes
+shared-shows false e k p = p
+shared-shows true e k p = library-visible k ∙ ap unhidden p
+
+pub shared-is : (gabi : Bool) (e : Sym) → libraryCode gabi (judgeOf (e .binding) (e .visibility)) ≢ 0 → leb 5 (libraryCode gabi (judgeOf (e .binding) (e .visibility))) ≡ false
+    → Admitted e × (visibilityAt (libraryCode gabi (judgeOf (e .binding) (e .visibility))) ≡ shows (sharedEntry gabi e))
+shared-is gabi e z p =
+    let k : ℕ = judgeOf (e .binding) (e .visibility) in
+    let n : k ≢ 0 = eqb-false _ _ (sym (library-local gabi k) ∙ ne-eqb _ _ z) in
+    let q : leb 5 k ≡ false = sym (library-refused gabi k) ∙ p in
+    (admitted-is e n q, shared-shows gabi e k (shown-is (e .binding) (e .visibility) n q))
 
 -- what is accepted has a visibility and a value that pass
 module _ (l : Link) (symbols sections : List ℕ) (r : Row) where

@@ -12,14 +12,16 @@ use Rattle.symbol.specs.declared.Row.{Row}
 use Rattle.symbol.specs.declared.SymbolVisibility.the-variants.{Global}
 use Rattle.symbol.specs.declared.SymbolValue.the-variants.{Undefined}
 use Rattle.symbol.specs.Codes.{visibilityAt, valueAt}
+use Rattle.symbol.specs.Hidden.{hiddenCode, hideCode, passes, hideIf}
 use Rattle.symbol_rows.specs.declared.Decision.{Decision}
 use Rattle.symbol_rows.specs.declared.Decision.the-variants.{Refuse, Replace}
 use Rattle.symbol_rows.specs.Decide.{weakOf, rankOf, typeRefusal, replaceOf, rankedOf}
 use Rattle.upcoming_symbol.specs.declared.ElfSymbol.{ElfSymbol}
 use Rattle.upcoming_symbol.specs.Judge.{shownOf, hiddenOf, judgeOf}
 use Rattle.upcoming_symbol.specs.declared.Conversion.the-variants as To
-use Rattle.upcoming_symbol.specs.Upcoming.{inSection, convertedOf, undefinedOf, valueOf, elfRowOf, externalRowOf}
+use Rattle.upcoming_symbol.specs.Upcoming.{inSection, convertedOf, undefinedOf, valueOf, elfRowOf, libraryCode, externalRowOf}
 use Rattle.symbol_laws.specs.Rank.{ranked, firstOf}
+use Rattle.symbol_laws.specs.Standing.{hiddenBy}
 use Rattle.symbol_laws.specs.Gabi.{symOf}
 
 -- binding, visibility, section; of no type, at value 0
@@ -45,15 +47,21 @@ pub hidden-not-passed-on :
 unfolding combined combine rank visibilityAt weakOf shownOf hiddenOf judgeOf inSection convertedOf undefinedOf valueOf elfRowOf
 hidden-not-passed-on = (refl, refl)
 
+-- in the gABI profile it is
+pub hidden-passed-on :
+    visibilityAt (hiddenBy true (row (elf 2 2 1) ∷ row (elf 1 0 1) ∷ []) (firstOf (row (elf 2 2 1)) (row (elf 1 0 1) ∷ [])) .visibility) ≡ Global false true
+unfolding visibilityAt weakOf shownOf hiddenOf judgeOf inSection convertedOf undefinedOf valueOf elfRowOf hiddenCode hideCode hideIf
+hidden-passed-on = refl
+
 -- ---- a shared object's definition is a definition of the link
 
 -- the row that it becomes under name 1, by its binding
 abbrev pub libraryRow : ℕ → Row
-libraryRow b = externalRowOf (record { 0 = 1 }) b 0
+libraryRow b = externalRowOf false (record { 0 = 1 }) b 0
 
 -- what is decided on the second row, where the first is held under id 1
 abbrev pub second : Row → Row → Decision
-second old new = rankedOf (ranked old) (ranked new) new (record { 0 = 1 })
+second old new = rankedOf false (old .visibility) (ranked old) (ranked new) new (record { 0 = 1 })
 
 -- beside an object's strong definition 17, in either order; an object's weak one it replaces. The gABI's chapters on dynamic linking, which gabi doesn't
 -- have, see no error, and find the object's in both
@@ -62,5 +70,5 @@ pub library-defines :
     × (second (libraryRow 1) (row (elf 1 0 1)) ≡ Refuse 17)
     × (second (row (elf 2 0 1)) (libraryRow 1) ≡ Replace (record { 0 = 1 }))
     × (firstOf (row (elf 2 0 1)) (libraryRow 1 ∷ []) ≡ libraryRow 1)
-unfolding weakOf rankOf typeRefusal replaceOf rankedOf shownOf hiddenOf judgeOf inSection convertedOf undefinedOf valueOf elfRowOf externalRowOf
+unfolding weakOf rankOf typeRefusal replaceOf rankedOf shownOf hiddenOf judgeOf inSection convertedOf undefinedOf valueOf elfRowOf passes libraryCode externalRowOf
 library-defines = (refl, refl, refl, refl)

@@ -33,7 +33,7 @@ use Rattle.upcoming_symbol.specs.declared.UpcomingSymbol.{UpcomingSymbol}
 use Rattle.upcoming_symbol.specs.declared.UpcomingSymbol.the-variants as Up
 use Rattle.upcoming_symbol.specs.Upcoming.{inSection, conversionFrom, convertedOf, undefinedOf, valueOf, elfRowOf, externalRowOf, rowOf}
 use Rattle.symbols.specs.Add.{committedOf, addRowOf, decidedOf, directHolderOf}
-use Rattle.symbol_laws.specs.ContentWords.{IsType, IsOffset, Admitted, type-is, offset-is, shown-is, admitted-is, decided-passes}
+use Rattle.symbol_laws.specs.ContentWords.{IsType, IsOffset, Admitted, shows, sharedEntry, type-is, offset-is, shown-is, admitted-is, shared-is, decided-passes}
 
 -- ---- the words
 
@@ -70,13 +70,14 @@ isUndefined (Val.Undefined default) = true
 abbrev pub symbolOf : ℕ → ℕ → ℕ → ℕ → ℕ → Sym
 symbolOf b t v s x = record { binding = b; type = t; visibility = v; section = s; value = x }
 
-pub data FromAdd (conversion : List ℕ) (empty : Bool) (r : Row) : UpcomingSymbol → Type 0 where
-  unknown : (name : Interned) → r .name ≡ name → typeAt (r .kind) ≡ Ty.NoType → visibilityAt (r .visibility) ≡ Global false false → valueAt (r .value) ≡ Val.Undefined false → FromAdd conversion empty r (Up.GlobalUnknown name)
-  hidden : (name : Interned) (value : SymbolValue) → r .name ≡ name → typeAt (r .kind) ≡ Ty.NoType → visibilityAt (r .visibility) ≡ Global false true → (Fitting value → valueAt (r .value) ≡ value) → isUndefined (valueAt (r .value)) ≡ isUndefined value → FromAdd conversion empty r (Up.GlobalHidden name value)
-  external : (name : Interned) (visibility binding : ℕ) → Admitted (symbolOf binding 0 visibility shnAbs 0) → r .name ≡ name → typeAt (r .kind) ≡ Ty.NoType → visibilityAt (r .visibility) ≡ Global (eqb binding stbWeak) (eqb visibility stvHidden) → valueAt (r .value) ≡ Val.ExternallyDefined
-      → FromAdd conversion empty r (Up.ExternallyDefined name visibility binding)
+-- gabi: the profile of the link that it is made on
+pub data FromAdd (gabi : Bool) (conversion : List ℕ) (empty : Bool) (r : Row) : UpcomingSymbol → Type 0 where
+  unknown : (name : Interned) → r .name ≡ name → typeAt (r .kind) ≡ Ty.NoType → visibilityAt (r .visibility) ≡ Global false false → valueAt (r .value) ≡ Val.Undefined false → FromAdd gabi conversion empty r (Up.GlobalUnknown name)
+  hidden : (name : Interned) (value : SymbolValue) → r .name ≡ name → typeAt (r .kind) ≡ Ty.NoType → visibilityAt (r .visibility) ≡ Global false true → (Fitting value → valueAt (r .value) ≡ value) → isUndefined (valueAt (r .value)) ≡ isUndefined value → FromAdd gabi conversion empty r (Up.GlobalHidden name value)
+  external : (name : Interned) (visibility binding : ℕ) → Admitted (symbolOf binding 0 visibility shnAbs 0) → r .name ≡ name → typeAt (r .kind) ≡ Ty.NoType → visibilityAt (r .visibility) ≡ shows (sharedEntry gabi (symbolOf binding 0 visibility shnAbs 0)) → valueAt (r .value) ≡ Val.ExternallyDefined
+      → FromAdd gabi conversion empty r (Up.ExternallyDefined name visibility binding)
   elf : (e : ElfSymbol) (name : Interned) (file : SttFile) → Admitted (symbolOf (e .binding) (e .kind) (e .visibility) (e .section) (e .value)) → r .name ≡ name → IsType (e .kind) (typeAt (r .kind)) → visibilityAt (r .visibility) ≡ Global (eqb (e .binding) stbWeak) (eqb (e .visibility) stvHidden) → ElfValue conversion empty e (valueAt (r .value))
-      → FromAdd conversion empty r (Up.Elf e name file)
+      → FromAdd gabi conversion empty r (Up.Elf e name file)
 
 -- ---- laws
 
@@ -161,15 +162,17 @@ module _ (conversion : List ℕ) (empty : Bool) (e : ElfSymbol) where
       (λ c. rw (a, b, c) (converted-value (eqb-false _ _ a) (rw (a, b, c) at p)))))
 
 -- an accepted add that isn't local
-module _ (t : Table) (conversion : List ℕ) (empty : Bool) where
-  pub from-add : (u : UpcomingSymbol) → numberIn (addRowOf t (rowOf conversion u empty) File.None .said) ≡ 0 → rowOf conversion u empty .visibility ≢ 0
-      → FromAdd conversion empty (rowOf conversion u empty) u
+module _ (t : Table) (gabi : Bool) (conversion : List ℕ) (empty : Bool) where
+  pub from-add : (u : UpcomingSymbol) → numberIn (addRowOf t (rowOf gabi conversion u empty) File.None .said) ≡ 0 → rowOf gabi conversion u empty .visibility ≢ 0
+      → FromAdd gabi conversion empty (rowOf gabi conversion u empty) u
   unfolding externalRowOf elfRowOf typeAt valueAt visibilityAt
   from-add Up.Null z g = absurd (g refl)
   from-add (Up.Section s) z g = absurd (g refl)
   from-add (Up.GlobalUnknown name) z g = unknown name refl refl refl refl
   from-add (Up.GlobalHidden name value) z g = hidden name value refl refl refl (value-back value) (undefined-back value)
-  from-add (Up.ExternallyDefined name visibility binding) z g = external name visibility binding (admitted-is (symbolOf binding 0 visibility shnAbs 0) g (row-passes t _ z .0)) refl refl (shown-is binding visibility g (row-passes t _ z .0)) refl
+  from-add (Up.ExternallyDefined name visibility binding) z g =
+      let (p, q) = shared-is gabi (symbolOf binding 0 visibility shnAbs 0) g (row-passes t _ z .0) in
+      external name visibility binding p refl refl q refl
   from-add (Up.Elf e name file) z g =
-      let (p, q) = row-passes t (rowOf conversion (Up.Elf e name file) empty) z in
+      let (p, q) = row-passes t (rowOf gabi conversion (Up.Elf e name file) empty) z in
       elf e name file (admitted-is (symbolOf (e .binding) (e .kind) (e .visibility) (e .section) (e .value)) g p) refl (type-is (e .kind)) (shown-is (e .binding) (e .visibility) g p) (elf-value conversion empty e q)

@@ -3,7 +3,7 @@
 use Prim.Native.Nat.{ℕ, _+_, _≤_, _<_}
 use native.Mathlib.Omega.{arith}
 use mathlib.Core.Path.{_≡_, sym, ap, _∙_, subst}
-use mathlib.Core.Bool.{true, false}
+use mathlib.Core.Bool.{Bool, true, false}
 use mathlib.Core.List.{List, [], _∷_, _++_}
 use mathlib.Core.Logic.{_≢_}
 use lib.Dec.{eqb, ltb, leb}
@@ -15,11 +15,15 @@ use Rattle.gabi.specs.Resolution as Gabi
 use Rattle.gabi.specs.Resolution.{defined, duplicate, unresolved, zeroValue, isGlobalDefinition, isWeakDefinition, isGlobalReference, has, resolve}
 use Rattle.symbol.specs.declared.Row.{Row}
 use Rattle.symbol.specs.declared.SttFile.the-variants as File
+use Rattle.symbol.specs.Row.{visibilityCodeAt}
+use Rattle.symbol.specs.Hidden.{hiddenCode, passes}
+use Rattle.link.specs.declared.SymbolId.{SymbolId}
 use Rattle.symbol_rows.specs.declared.Holder.the-variants.{Known}
 use Rattle.symbol_rows.specs.declared.Decision.{Decision}
-use Rattle.symbol_rows.specs.Decide.{typeRefusal, replaceOf, rankedOf, knownOf, decideOf, refusalOf}
+use Rattle.symbol_rows.specs.Decide.{typeRefusal, replaceOf, keptOf, rankedOf, knownOf, decideOf, refusalOf}
 use Rattle.symbols.specs.Add.{issuedOf, directHolderOf, decidedOf, committedOf, addRowOf}
 use Rattle.symbol_laws.specs.Rank.{ranked, best-terms, best-counts, strongDefinition, firstOf, count, count-append, strong-rank, rank-most, rank-strong}
+use Rattle.symbol_laws.specs.Standing.{rank-by}
 use Rattle.symbol_laws.specs.View.{decided}
 use Rattle.symbol_laws.specs.History.{State, table, Entry, only, rows, putOf}
 use Rattle.symbol_laws.specs.Held.{Inv}
@@ -38,29 +42,38 @@ type-small : (k : ℕ) → typeRefusal k ≤ 16
 unfolding typeRefusal
 type-small k = by-test (ltb k 4) (λ a. rw a (omega arith)) (λ a. by-test (eqb k 4) (λ b. rw (a, b) (omega arith)) (λ b. rw (a, b) (omega arith)))
 
+pub kept-number : (gabi : Bool) (old new : ℕ) (id : SymbolId) → refusalOf (keptOf gabi old new id) ≡ 0
+unfolding keptOf
+kept-number gabi old new id = by-test (passes gabi new) (λ a. by-test (hiddenCode old) (λ b. rw (a, b)) (λ b. rw (a, b))) (λ a. rw a)
+
 -- a global add of a row that passes, under a name that has a row
 module _ (s : State) (past : List Entry) (inv : Inv s past) (r : Row) (x : Entry) (xs : List Entry) (e : only (r .name .0) past ≡ x ∷ xs)
-    (global : r .visibility ≢ 0) (passes : leb 5 (r .visibility) ≡ false) (valued : leb 13 (r .value .kind) ≡ false) where
+    (global : r .visibility ≢ 0) (fine : leb 5 (r .visibility) ≡ false) (valued : leb 13 (r .value .kind) ≡ false) where
   abbrev old : Row
   old = firstOf (x .row) (rows xs)
 
   abbrev number : ℕ
   number = numberIn (putOf s r .said)
 
-  found : Resolved s (r .name .0) x xs
+  found : Resolved (s .link .gabi) s (r .name .0) x xs
   found = resolved s past inv (r .name .0) x xs e
 
   holder : directHolderOf (s .link) (s .names) (s .symbols) (r .name) File.None ≡ Known (record { 0 = x .id })
   unfolding directHolderOf issuedOf
   holder = rw (lt-leb (s .link .names) (r .name .0) (found .issued)) (holder-known s past inv (r .name .0) x xs e)
 
-  known : decided (table s) r ≡ rankedOf (ranked old) (ranked r) r (record { 0 = x .id })
+  -- the decision by the rank of old: hidden doesn't enter it
+  abbrev by-rank : Decision
+  by-rank = rankedOf (s .link .gabi) (visibilityCodeAt (s .symbols) (x .id)) (ranked old) (ranked r) r (record { 0 = x .id })
+
+  known : decided (table s) r ≡ by-rank
   unfolding decidedOf decideOf knownOf
   known =
-      rw (passes, ne-eqb (r .visibility) 0 global, holder, valued)
-      (ap (λ (c : Row). rankedOf (ranked c) (ranked r) r (record { 0 = x .id })) (found .terms))
+      rw (fine, ne-eqb (r .visibility) 0 global, holder, valued)
+      (ap (λ (k : ℕ). rankedOf (s .link .gabi) (visibilityCodeAt (s .symbols) (x .id)) k (ranked r) r (record { 0 = x .id }))
+      (ap ranked (found .terms) ∙ rank-by (s .link .gabi) (rows (x ∷ xs)) old))
 
-  answered : number ≡ refusalOf (rankedOf (ranked old) (ranked r) r (record { 0 = x .id }))
+  answered : number ≡ refusalOf by-rank
   answered = put-number s r ∙ ap (λ (d : Decision). refusalOf d) known
 
   pub second-strong : strongDefinition r ≡ true → strongDefinition old ≡ true → number ≡ 17
@@ -71,7 +84,7 @@ module _ (s : State) (past : List Entry) (inv : Inv s past) (r : Row) (x : Entry
   pub seventeen : number ≡ 17 → (strongDefinition r ≡ true) × (strongDefinition old ≡ true)
   unfolding rankedOf replaceOf
   seventeen q =
-      let w : refusalOf (rankedOf (ranked old) (ranked r) r (record { 0 = x .id })) ≡ 17 = sym answered ∙ q in
+      let w : refusalOf by-rank ≡ 17 = sym answered ∙ q in
       by-test (ltb (ranked old) (ranked r))
       (λ y.
       by-test (eqb (typeRefusal (r .kind)) 0) (λ k. let z : _≡_ {A = ℕ} 0 17 = rw (y, k) at w in absurd (omega arith))
@@ -81,7 +94,7 @@ module _ (s : State) (past : List Entry) (inv : Inv s past) (r : Row) (x : Entry
       (λ k.
       let a : ranked r ≡ 4 = eqb-true _ _ k in
       (rank-strong r a, rank-strong old (omega (arith, a, ltb-false (ranked old) (ranked r) y, rank-most old))))
-      (λ k. let z : _≡_ {A = ℕ} 0 17 = rw (y, k) at w in absurd (omega arith)))
+      (λ k. let z : _≡_ {A = ℕ} 0 17 = sym (kept-number _ _ _ _) ∙ (rw (y, k) at w) in absurd (omega arith)))
 
   -- ---- the same in the gABI's terms
 

@@ -4,16 +4,17 @@ use Prim.Native.Nat.{ℕ, suc, _<_}
 use native.Mathlib.Omega.{arith}
 use native.Mathlib.Nat.{not-suc-le-zero}
 use mathlib.Core.Path.{_≡_, refl, sym, ap, _∙_}
-use mathlib.Core.Bool.{Bool, true, false, cond, not, false≢true}
+use mathlib.Core.Bool.{Bool, true, false, cond, not, _||_, false≢true}
 use mathlib.Core.List.{List, [], _∷_}
 use mathlib.Core.Logic.{_≢_}
 use lib.Dec.{eqb, leb}
 use lib.ListN.{getD}
-use borrow.Author.Tests.{eqb-true}
+use borrow.Author.Tests.{eqb-true, eq-eqb}
 use Rattle.cells.specs.Split.{by-test}
 use Rattle.link.specs.declared.Interned.{Interned}
-use Rattle.gabi.specs.SymbolTable.{Sym, stbGlobal, stbWeak, stvDefault, shnUndef, shnAbs, isGlobal, isWeak, isReference}
+use Rattle.gabi.specs.SymbolTable.{Sym, stbGlobal, stbWeak, stvDefault, stvHidden, shnUndef, shnAbs, isGlobal, isWeak, isReference}
 use Rattle.gabi.specs.Resolution as Gabi
+use Rattle.gabi.specs.Visibility.{rank, combine, combined}
 use Rattle.symbol.specs.declared.Row.{Row}
 use Rattle.symbol_rows.specs.Decide.{weakOf}
 use Rattle.upcoming_symbol.specs.declared.ElfSymbol.{ElfSymbol}
@@ -22,6 +23,8 @@ use Rattle.upcoming_symbol.specs.declared.Conversion.{Conversion}
 use Rattle.upcoming_symbol.specs.declared.Conversion.the-variants as To
 use Rattle.upcoming_symbol.specs.Upcoming.{inSection, convertedOf, undefinedOf, valueOf, elfRowOf, externalRowOf}
 use Rattle.symbol_laws.specs.Rank.{weak, first, count}
+use Rattle.symbol_laws.specs.Hidden.{isHidden, someHidden, AllShow, attribute, combined-is}
+use Rattle.symbol_laws.specs.Standing.{library-refused, library-local, library-weak}
 
 -- ---- a row and the symbol that it stands for
 
@@ -41,14 +44,14 @@ AllMean [] (s ∷ ss) = ⊥
 AllMean (r ∷ rs) [] = ⊥
 AllMean (r ∷ rs) (s ∷ ss) = Means r s × AllMean rs ss
 
--- the symbol that a row stands for: its binding, its type, and whether it is undefined. Resolution asks for no more: a definition is given as absolute,
--- of default visibility and value 0
+-- the symbol that a row stands for: its binding, its visibility, its type, and whether it is undefined. The gABI asks for no more: a definition is given as
+-- absolute, of value 0
 abbrev pub symOfRow : Row → Sym
 symOfRow r =
     record {
       binding = cond (weak r) stbWeak stbGlobal;
       type = r .kind;
-      visibility = stvDefault;
+      visibility = attribute (isHidden r);
       section = cond (eqb (r .value .kind) 7) shnUndef shnAbs;
       value = 0;
     }
@@ -76,6 +79,23 @@ symsOf (r ∷ rs) = symOfRow r ∷ symsOf rs
 pub all-mean-own : (rs : List Row) → AllMean rs (symsOf rs)
 all-mean-own [] = tt
 all-mean-own (r ∷ rs) = (means-own r, all-mean-own rs)
+
+-- ---- hidden: "the most constraining" of the visibilities of a name's symbols
+
+all-show-own : (l : List Row) → AllShow l (symsOf l)
+all-show-own [] = tt
+all-show-own (r ∷ l) = (shown (isHidden r), seen (isHidden r), all-show-own l)
+  where
+    shown : (h : Bool) → h ≡ eqb (attribute h) stvHidden
+    shown true = refl
+    shown false = refl
+
+    seen : (h : Bool) → eqb (attribute h) stvDefault ≡ not (eqb (attribute h) stvHidden)
+    seen true = refl
+    seen false = refl
+
+pub combined-rows : (l : List Row) → combined (symsOf l) ≡ attribute (someHidden l)
+combined-rows l = combined-is l (symsOf l) (all-show-own l)
 
 -- the entry of a symbol table that an upcoming symbol carries
 abbrev pub symOf : ElfSymbol → Sym
@@ -143,12 +163,13 @@ module _ (to : Conversion) (e : ElfSymbol) (name : Interned) (empty : Bool) (fil
       record { refers = reference-kind; weakly = b .weak-code; bound = b .one-of }
 
   -- a shared object's definition, which becomes a row without type and value
-  pub external-means : eqb (e .section) 0 ≡ false → externalRowOf name (e .binding) (e .visibility) .visibility ≢ 0
-      → leb 5 (externalRowOf name (e .binding) (e .visibility) .visibility) ≡ false → Means (externalRowOf name (e .binding) (e .visibility)) (symOf e)
+  pub external-means : (gabi : Bool) → eqb (e .section) 0 ≡ false → externalRowOf gabi name (e .binding) (e .visibility) .visibility ≢ 0
+      → leb 5 (externalRowOf gabi name (e .binding) (e .visibility) .visibility) ≡ false → Means (externalRowOf gabi name (e .binding) (e .visibility)) (symOf e)
   unfolding externalRowOf isReference
-  external-means d z p =
-      let b : Bound (judgeOf (e .binding) (e .visibility)) = bound-judged z p in
-      record { refers = sym d; weakly = b .weak-code; bound = b .one-of }
+  external-means gabi d z p =
+      let k : ℕ = judgeOf (e .binding) (e .visibility) in
+      let b : Bound k = bound-judged (λ q. z (eqb-true _ _ (library-local gabi k ∙ eq-eqb k 0 q))) (sym (library-refused gabi k) ∙ p) in
+      record { refers = sym d; weakly = library-weak gabi k ∙ b .weak-code; bound = b .one-of }
 
 -- ---- lists: a test on rows and the same test on symbols
 

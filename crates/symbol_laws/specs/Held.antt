@@ -3,16 +3,18 @@
 use Prim.Native.Nat.{ℕ, _+_, _*_, _≤_, _<_}
 use native.Mathlib.Omega.{arith}
 use mathlib.Core.Path.{_≡_, refl, sym, ap, _∙_}
-use mathlib.Core.Bool.{true, false, cond}
+use mathlib.Core.Bool.{Bool, true, false}
 use mathlib.Core.List.{List, [], _∷_, _++_}
 use mathlib.Core.Logic.{_≢_}
-use lib.Dec.{eqb, ltb}
+use lib.Dec.{eqb}
 use lib.ListN.{length}
 use Rattle.cells.specs.Split.{by-test}
 use Rattle.symbol.specs.declared.Row.{Row}
 use Rattle.symbol.specs.Row.{stateAt}
 use Rattle.symbol_rows.specs.Holder.{globalAt}
-use Rattle.symbol_laws.specs.Rank.{ranked, best, best-snoc, strongDefinition, count}
+use Rattle.symbol_laws.specs.Rank.{strongDefinition, count}
+use Rattle.symbol_laws.specs.Standing.{standing, rowAfter}
+use Rattle.symbol_laws.specs.Standing as Standing
 use Rattle.symbol_laws.specs.Rows.{rowAt}
 use Rattle.symbol_laws.specs.History.{State, Entry, only, rows}
 
@@ -27,10 +29,10 @@ pub record Holds (s : State) (n id : ℕ) (r : Row) : Type 0 where
   pub above : 1 ≤ id
   pub below : id < s .link .symbols
 
--- after these accepted adds of its name
+-- after these accepted adds of its name, in the link's profile
 abbrev pub Held : State → ℕ → List Entry → Type 0
 Held s n [] = globalAt (s .names) n ≡ 0
-Held s n (x ∷ xs) = Holds s n (x .id) (best (x .row) (rows xs))
+Held s n (x ∷ xs) = Holds s n (x .id) (rowAfter (s .link .gabi) (x .row) (rows xs))
 
 pub record Inv (s : State) (past : List Entry) : Type 0 where
   pub some : 1 ≤ s .link .symbols
@@ -56,25 +58,25 @@ pub rows-snoc : (l : List Entry) (x : Entry) → rows (l ++ (x ∷ [])) ≡ rows
 rows-snoc [] x = refl
 rows-snoc (z ∷ zs) x = ap (_∷_ (z .row)) (rows-snoc zs x)
 
-pub after-snoc : (c : Row) (ys : List Entry) (x : Entry)
-    → best c (rows (ys ++ (x ∷ []))) ≡ cond (ltb (ranked (best c (rows ys))) (ranked (x .row))) (x .row) (best c (rows ys))
-after-snoc c ys x = ap (best c) (rows-snoc ys x) ∙ best-snoc c (rows ys) (x .row)
+pub after-snoc : (gabi : Bool) (c : Row) (ys : List Entry) (x : Entry) → rowAfter gabi c (rows (ys ++ (x ∷ []))) ≡ standing gabi (rowAfter gabi c (rows ys)) (x .row)
+after-snoc gabi c ys x = ap (rowAfter gabi c) (rows-snoc ys x) ∙ Standing.after-snoc gabi c (rows ys) (x .row)
 
 -- ---- a name that an add doesn't touch
 
 pub held-kept : (s t : State) (n : ℕ) (l : List Entry) → globalAt (t .names) n ≡ globalAt (s .names) n → s .link .symbols ≤ t .link .symbols
-    → ((id : ℕ) (r : Row) → Holds s n id r → (stateAt (t .symbols) id ≡ stateAt (s .symbols) id) × (rowAt (t .symbols) id ≡ rowAt (s .symbols) id))
+    → t .link .gabi ≡ s .link .gabi → ((id : ℕ) (r : Row) → Holds s n id r → (stateAt (t .symbols) id ≡ stateAt (s .symbols) id) × (rowAt (t .symbols) id ≡ rowAt (s .symbols) id))
     → Held s n l → Held t n l
-held-kept s t n [] g k f h = g ∙ h
-held-kept s t n (x ∷ xs) g k f h =
-    record {
+held-kept s t n [] g k p f h = g ∙ h
+held-kept s t n (x ∷ xs) g k p f h =
+    rw p
+    (record {
       found = g ∙ h .found;
       there = f _ _ h .0 ∙ h .there;
       content = f _ _ h .1 ∙ h .content;
       named = h .named;
       above = h .above;
       below = omega (arith, h .below);
-    }
+    })
 
 -- two names have two rows
 pub apart : (s : State) (n m i j : ℕ) (c d : Row) → n ≢ m → Holds s n i c → Holds s m j d → i ≢ j

@@ -1,4 +1,4 @@
--- Visibility against the gABI: the row's is its holder's own, and "hidden isn't passed on to another holder" is the whole difference.
+-- Visibility against the gABI, in the old profile: the row's is its holder's own, and "hidden isn't passed on to another holder" is the whole difference.
 -- Assumes nothing.
 use Prim.Native.Nat.{ℕ}
 use mathlib.Core.Path.{_≡_, refl, sym, ap, _∙_}
@@ -33,7 +33,7 @@ AllShow [] (s ∷ ss) = ⊥
 AllShow (r ∷ rs) [] = ⊥
 AllShow (r ∷ rs) (s ∷ ss) = (isHidden r ≡ eqb (s .visibility) stvHidden) × (eqb (s .visibility) stvDefault ≡ not (eqb (s .visibility) stvHidden)) × AllShow rs ss
 
-abbrev attribute : Bool → ℕ
+abbrev pub attribute : Bool → ℕ
 attribute h = cond h stvHidden stvDefault
 
 visible : (v : ℕ) → eqb v stvDefault ≡ not (eqb v stvHidden) → v ≡ attribute (eqb v stvHidden)

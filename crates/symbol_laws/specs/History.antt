@@ -139,7 +139,7 @@ pub data Call : Type 0 where
 
 -- the row that an upcoming symbol would become
 abbrev pub upcoming : State → List ℕ → UpcomingSymbol → Row
-upcoming s conversion u = rowOf conversion u (emptyAt (s .names) (nameOf u))
+upcoming s conversion u = rowOf (s .link .gabi) conversion u (emptyAt (s .names) (nameOf u))
 
 abbrev pub addTo : State → List ℕ → UpcomingSymbol → Left
 addTo s conversion u = addOf (table s) conversion u

@@ -66,7 +66,7 @@ module _ (s : State) (past : List Entry) (inv : Inv s past) (x : List ℕ) where
             let u : m ≢ count = eqb-false _ _ e in
             let k : m < count = below m count u (omega arith) in
             held-kept s t m (only m past) (linked-old (s .link) (s .names) (s .link .bytes) (length x) x row m 3 (omega (arith, row .free)) (omega arith) u)
-            (omega arith) (λ i r p. (refl, refl)) (inv .held-by m k));
+            (omega arith) refl (λ i r p. (refl, refl)) (inv .held-by m k));
         unissued = λ m h. inv .unissued m (omega arith);
         once = inv .once;
       }

@@ -2,6 +2,7 @@ pub mod Terms
 pub mod Differences
 pub mod History
 pub mod Rank
+pub mod Standing
 pub mod Rows
 pub mod View
 pub mod Refused
@@ -11,6 +12,7 @@ pub mod Issue
 pub mod Start
 pub mod Calls
 pub mod Demand
+pub mod Profile
 pub mod Within
 pub mod Below
 pub mod Writes

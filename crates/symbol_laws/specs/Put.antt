@@ -3,7 +3,7 @@
 use Prim.Native.Nat.{ℕ, _+_, _*_, _≤_, _<_}
 use native.Mathlib.Omega.{arith}
 use mathlib.Core.Path.{_≡_, refl, sym, ap, _∙_, subst}
-use mathlib.Core.Bool.{Bool, true, false}
+use mathlib.Core.Bool.{true, false}
 use mathlib.Core.List.{List, [], _∷_, _++_, append-nil}
 use mathlib.Core.Logic.{_≢_}
 use lib.Dec.{eqb, ltb}
@@ -12,21 +12,24 @@ use lib.Seq.{getD-set-same, getD-set-other}
 use borrow.Author.Tests.{ltb-true, eqb-true, eqb-false, eq-eqb, ne-eqb, lt-ltb}
 use Rattle.link.specs.Said.{Said, accepted, numberIn}
 use Rattle.cells.specs.Split.{by-test}
+use Rattle.link.specs.declared.Interned.{Interned}
 use Rattle.link.specs.declared.SymbolId.{SymbolId}
 use Rattle.symbol.specs.RowLaws.{length-setRow}
 use Rattle.symbol.specs.declared.Row.{Row}
 use Rattle.symbol.specs.declared.SttFile.the-variants as File
 use Rattle.symbol.specs.Codes.{successor}
 use Rattle.symbol.specs.Row.{stateAt, setRow}
+use Rattle.symbol.specs.Hidden.{passHidden}
 use Rattle.symbol_rows.specs.declared.Decision.{Decision}
 use Rattle.symbol_rows.specs.declared.Decision.the-variants.{Refuse}
 use Rattle.symbol_rows.specs.Holder.{globalAt}
-use Rattle.symbol_rows.specs.Apply.{Table, noteName, appendOf, applyOf}
+use Rattle.symbol_rows.specs.Apply.{Table, noteName, appendOf, replacedIn, amendedIn, applyOf}
 use Rattle.symbols.specs.Calls.{Left}
 use Rattle.symbols.specs.Add.{committedOf, addRowOf}
 use Rattle.symbol_laws.specs.Rank.{ranked, best, strongDefinition, count, count-append, strong-rank, rank-most, best-low}
+use Rattle.symbol_laws.specs.Standing.{standing, rowAfter, after-first, rank-by, pass-rest}
 use Rattle.symbol_laws.specs.Rows.{rowAt, stored-there, stored-row, there-kept, row-kept}
-use Rattle.symbol_laws.specs.View.{Named, Free, View, refused, kept, replaced, appended, local, view, decided, yields}
+use Rattle.symbol_laws.specs.View.{Named, Free, View, refused, kept, amended, replaced, appended, local, view, decided, yields}
 use Rattle.symbol_laws.specs.Refused.{commit-refused}
 use Rattle.symbol_laws.specs.Below.{inv-below}
 use Rattle.symbol_laws.specs.History.{State, table, withTable, Source, Entry, noted, only, rows, putOf}
@@ -44,34 +47,46 @@ module _ (s : State) (past : List Entry) (inv : Inv s past) (r : Row) (from : So
   abbrev at : ℕ
   at = globalAt (s .names) n
 
-  abbrev over : Row → Bool
-  over c = ltb (ranked c) (ranked r)
-
   abbrev entry : ℕ → Entry
   entry id = record { name = n; id = id; row = r; from = from }
 
-  over-held : (i : ℕ) (c : Row) → Holds s n i c → yields (table s) r ≡ over c
-  over-held i c h = ap (λ (k : ℕ). over (rowAt (s .symbols) k)) (h .found) ∙ ap over (h .content)
+  -- the row that the name has, and what an accepted add leaves of it
+  abbrev now : Row
+  now = rowAt (s .symbols) at
 
-  kept-own : (l : List Entry) → Held s n l → at ≢ 0 → yields (table s) r ≡ false → Held s n (l ++ (entry at ∷ []))
+  abbrev left : Row
+  left = standing (s .link .gabi) now r
+
+  module _ (y : Entry) (ys : List Entry) (h : Holds s n (y .id) (rowAfter (s .link .gabi) (y .row) (rows ys))) where
+    content-now : now ≡ rowAfter (s .link .gabi) (y .row) (rows ys)
+    content-now = ap (rowAt (s .symbols)) (h .found) ∙ h .content
+
+    stood : rowAfter (s .link .gabi) (y .row) (rows (ys ++ (entry at ∷ []))) ≡ left
+    stood = after-snoc (s .link .gabi) (y .row) ys (entry at) ∙ ap (λ (c : Row). standing (s .link .gabi) c r) (sym content-now)
+
+    left-named : left .name .0 ≡ n
+    left-named =
+        by-test (ltb (ranked now) (ranked r)) (λ t. rw t (ap (λ (i : Interned). i .0) (pass-rest (s .link .gabi) (now .visibility) r .name)))
+        (λ t.
+        rw t
+        (ap (λ (i : Interned). i .0) (pass-rest (s .link .gabi) (r .visibility) now .name) ∙ ap (λ (c : Row). c .name .0) content-now ∙ h .named))
+
+  kept-own : (l : List Entry) → Held s n l → at ≢ 0 → left ≡ now → Held s n (l ++ (entry at ∷ []))
   kept-own [] h z o = absurd (z h)
-  kept-own (y ∷ ys) h z o =
-      let q : best (y .row) (rows (ys ++ (entry at ∷ []))) ≡ best (y .row) (rows ys) =
-      after-snoc (y .row) ys (entry at) ∙ rw (sym (over-held (y .id) _ h) ∙ o) in
-      subst (Holds s n (y .id)) (sym q) h
+  kept-own (y ∷ ys) h z o = subst (Holds s n (y .id)) (sym (stood y ys h ∙ o ∙ content-now y ys h)) h
 
-  replaced-own : (l : List Entry) → Held s n l → at ≢ 0 → yields (table s) r ≡ true
-      → Held (withSymbols s (setRow (s .symbols) (record { 0 = at }) r)) n (l ++ (entry at ∷ []))
-  replaced-own [] h z o = absurd (z h)
-  replaced-own (y ∷ ys) h z o =
-      let q : best (y .row) (rows (ys ++ (entry at ∷ []))) ≡ r = after-snoc (y .row) ys (entry at) ∙ rw (sym (over-held (y .id) _ h) ∙ o) in
+  written-own : (x : Row) → x ≡ left → (l : List Entry) → Held s n l → at ≢ 0
+      → Held (withSymbols s (setRow (s .symbols) (record { 0 = at }) x)) n (l ++ (entry at ∷ []))
+  written-own x e [] h z = absurd (z h)
+  written-own x e (y ∷ ys) h z =
+      let q : rowAfter (s .link .gabi) (y .row) (rows (ys ++ (entry at ∷ []))) ≡ left = stood y ys h in
       let w : y .id ≡ at = sym (h .found) in
       let g : at * 8 + 8 ≤ length (s .symbols) = omega (arith, h .below, inv .room) in
       record {
         found = h .found;
-        there = ap (stateAt (setRow (s .symbols) (record { 0 = at }) r)) w ∙ stored-there (s .symbols) (record { 0 = at }) r g;
-        content = ap (rowAt (setRow (s .symbols) (record { 0 = at }) r)) w ∙ stored-row (s .symbols) (record { 0 = at }) r g ∙ sym q;
-        named = ap (λ (c : Row). c .name .0) q;
+        there = ap (stateAt (setRow (s .symbols) (record { 0 = at }) x)) w ∙ stored-there (s .symbols) (record { 0 = at }) x g;
+        content = ap (rowAt (setRow (s .symbols) (record { 0 = at }) x)) w ∙ stored-row (s .symbols) (record { 0 = at }) x g ∙ e ∙ sym q;
+        named = ap (λ (c : Row). c .name .0) q ∙ left-named y ys h;
         above = h .above;
         below = h .below;
       }
@@ -108,7 +123,9 @@ module _ (s : State) (past : List Entry) (inv : Inv s past) (r : Row) (from : So
   strong-before : (l : List Entry) → Held s n l → at ≢ 0 → yields (table s) r ≡ true → strong l ≡ 0
   strong-before [] h z o = refl
   strong-before (y ∷ ys) h z o =
-      let k : ranked (best (y .row) (rows ys)) < ranked r = ltb-true _ _ (sym (over-held (y .id) _ h) ∙ o) in
+      let e : ranked now ≡ ranked (best (y .row) (rows ys)) =
+      ap ranked (content-now y ys h) ∙ rank-by (s .link .gabi) (y .row ∷ rows ys) (best (y .row) (rows ys)) in
+      let k : ranked (best (y .row) (rows ys)) < ranked r = omega (arith, e, ltb-true (ranked now) (ranked r) o) in
       best-low (y .row) (rows ys) (omega (arith, k, rank-most r))
 
   once-more : (x : Entry) → x .name ≡ n → strong (only n past) + strong (x ∷ []) ≤ 1 → (m : ℕ) → strong (only m (past ++ (x ∷ []))) ≤ 1
@@ -119,7 +136,7 @@ module _ (s : State) (past : List Entry) (inv : Inv s past) (r : Row) (from : So
       rw (only-same m past x q, strong-snoc (only m past) x, ← k) h)
       (λ q. rw (only-other m past x q) (inv .once m))
 
-  on-kept : Named (table s) r → at ≢ 0 → yields (table s) r ≡ false → ranked r ≢ 4 → Inv s (past ++ (entry at ∷ []))
+  on-kept : Named (table s) r → at ≢ 0 → left ≡ now → ranked r ≢ 4 → Inv s (past ++ (entry at ∷ []))
   on-kept k z o w =
       record {
         some = inv .some;
@@ -132,31 +149,43 @@ module _ (s : State) (past : List Entry) (inv : Inv s past) (r : Row) (from : So
         once = once-more (entry at) refl (omega (arith, inv .once n, strong-none at w));
       }
 
-  on-replaced : Named (table s) r → at ≢ 0 → yields (table s) r ≡ true
-      → Inv (withSymbols s (setRow (s .symbols) (record { 0 = at }) r)) (past ++ (entry at ∷ []))
-  on-replaced k z o =
-      let t : State = withSymbols s (setRow (s .symbols) (record { 0 = at }) r) in
+  -- the add's row in its place, or its own made hidden
+  on-written : (x : Row) → x ≡ left → Named (table s) r → at ≢ 0 → strong (only n past) + strong (entry at ∷ []) ≤ 1
+      → Inv (withSymbols s (setRow (s .symbols) (record { 0 = at }) x)) (past ++ (entry at ∷ []))
+  on-written x e k z one =
+      let t : State = withSymbols s (setRow (s .symbols) (record { 0 = at }) x) in
       record {
         some = inv .some;
-        room = subst (λ (j : ℕ). s .link .symbols * 8 ≤ j) (sym (length-setRow (s .symbols) (record { 0 = at }) r)) (inv .room);
+        room = subst (λ (j : ℕ). s .link .symbols * 8 ≤ j) (sym (length-setRow (s .symbols) (record { 0 = at }) x)) (inv .room);
         few = inv .few;
         names-room = inv .names-room;
         held-by =
-            names-held t refl (entry at) refl (k .issued) (replaced-own (only n past) (inv .held-by n (k .issued)) z o)
+            names-held t refl (entry at) refl (k .issued) (written-own x e (only n past) (inv .held-by n (k .issued)) z)
             (λ m h u.
-            held-kept s t m (only m past) refl (omega arith)
+            held-kept s t m (only m past) refl (omega arith) refl
             (λ i d p. (
-              there-kept (s .symbols) (record { 0 = at }) r i (other m u i d p (only n past) (inv .held-by n (k .issued))),
-              row-kept (s .symbols) (record { 0 = at }) r i (other m u i d p (only n past) (inv .held-by n (k .issued))),
+              there-kept (s .symbols) (record { 0 = at }) x i (other m u i d p (only n past) (inv .held-by n (k .issued))),
+              row-kept (s .symbols) (record { 0 = at }) x i (other m u i d p (only n past) (inv .held-by n (k .issued))),
             ))
             (inv .held-by m h));
         unissued = names-none t refl (entry at) refl (k .issued);
-        once = once-more (entry at) refl (omega (arith, strong-before (only n past) (inv .held-by n (k .issued)) z o, strong-one at));
+        once = once-more (entry at) refl one;
       }
     where
       other : (m : ℕ) → m ≢ n → (i : ℕ) (d : Row) → Holds s m i d → (l : List Entry) → Held s n l → i ≢ at
       other m u i d p [] h = absurd (z h)
       other m u i d p (y ∷ ys) h = λ q. apart s m n i (y .id) d _ u p h (q ∙ h .found)
+
+  on-replaced : Named (table s) r → at ≢ 0 → yields (table s) r ≡ true
+      → Inv (withSymbols s (setRow (s .symbols) (record { 0 = at }) (passHidden (s .link .gabi) (now .visibility) r))) (past ++ (entry at ∷ []))
+  on-replaced k z o =
+      on-written (passHidden (s .link .gabi) (now .visibility) r) (rw o) k z
+      (omega (arith, strong-before (only n past) (inv .held-by n (k .issued)) z o, strong-one at))
+
+  on-amended : Named (table s) r → at ≢ 0 → yields (table s) r ≡ false → ranked r ≢ 4
+      → Inv (withSymbols s (setRow (s .symbols) (record { 0 = at }) (passHidden (s .link .gabi) (r .visibility) now))) (past ++ (entry at ∷ []))
+  on-amended k z o w =
+      on-written (passHidden (s .link .gabi) (r .visibility) now) (rw o) k z (omega (arith, inv .once n, strong-none at w))
 
   -- a row is appended: no name's row moves
   module _ (f : Free (table s) r) where
@@ -206,7 +235,7 @@ module _ (s : State) (past : List Entry) (inv : Inv s past) (r : Row) (from : So
     grown-other : (l : List Entry) (m : ℕ) → globalAt (grown .names) m ≡ globalAt (s .names) m → Held s m l → Held grown m l
     unfolding appendOf
     grown-other l m g h =
-        held-kept s grown m l g (omega (arith, one-more))
+        held-kept s grown m l g (omega (arith, one-more)) refl
         (λ i d p.
         let u : i ≢ s .link .symbols = λ q. omega (arith, p .below, q) in
         (there-kept (s .symbols) id r i u, row-kept (s .symbols) id r i u))
@@ -241,7 +270,8 @@ module _ (s : State) (past : List Entry) (inv : Inv s past) (r : Row) (from : So
           held-by =
               names-held grown refl (entry (s .link .symbols)) refl (k .issued)
               (subst (λ (l : List Entry). Held grown n (l ++ (entry (s .link .symbols) ∷ [])))
-              (sym (none-held s n (only n past) (inv .held-by n (k .issued)) z)) (appended-own k))
+              (sym (none-held s n (only n past) (inv .held-by n (k .issued)) z))
+              (subst (Holds grown n (s .link .symbols)) (sym (after-first (s .link .gabi) r)) (appended-own k)))
               (λ m h u.
               grown-other (only m past) m
               (ap (λ (l : List ℕ). globalAt l m) (note k) ∙ getD-set-other (s .names) (n * 8 + 3) (m * 8 + 3) (s .link .symbols) 0 (λ q. u (omega arith)))
@@ -292,11 +322,12 @@ module _ (s : State) (past : List Entry) (inv : Inv s past) (r : Row) (from : So
       (λ z. let n : globalAt (s .names) (r .name .0) ≢ 0 = eqb-false _ _ z in absurd (omega (arith, past n, inv-below s _ inv .held (r .name .0) i n)))
 
   viewed : View (table s) r → Good (putOf s r)
-  unfolding committedOf applyOf
+  unfolding committedOf applyOf replacedIn amendedIn
   viewed (refused n e z) =
       let (a, b) = commit-refused (table s) r File.None n z in
       decides (Refuse n) e (idle (committedOf (table s) r File.None (Refuse n)) a (noted-refused r from _ b))
-  viewed (kept e k z o w) = decides _ e (logged _ _ (k .global) (on-kept s past inv r from k z o w))
+  viewed (kept e k z o w p) = decides _ e (logged _ _ (k .global) (on-kept s past inv r from k z (rw o p) w))
+  viewed (amended e k z o w) = decides _ e (logged _ _ (k .global) (on-amended s past inv r from k z o w))
   viewed (replaced e k z o) = decides _ e (logged _ _ (k .global) (on-replaced s past inv r from k z o))
   viewed (appended e f k z) = decides _ e (logged _ _ (k .global) (on-appended s past inv r from f k (unheld (k .issued) z)))
   viewed (local e f v) =

@@ -83,7 +83,7 @@ module _ (t : Table) (r : Row) (file : SttFile) where
 
 module _ (t : Table) (conversion : List ℕ) (u : UpcomingSymbol) where
   abbrev row : Row
-  row = rowOf conversion u (emptyAt (t .names) (nameOf u))
+  row = rowOf (t .link .gabi) conversion u (emptyAt (t .names) (nameOf u))
 
   pub add-refused : numberIn (addOf t conversion u .said) ≢ 0 → addOf t conversion u .table ≡ t
   unfolding addOf

@@ -8,19 +8,9 @@ use mathlib.Core.Logic.{_≢_}
 use lib.ListN.{length}
 use Rattle.link.specs.declared.SymbolId.{SymbolId}
 use Rattle.symbol.specs.declared.Row.{Row}
-use Rattle.symbol.specs.Row.{field, stateAt, visibilityCodeAt, valueWordsAt, symbolAt, setRow}
+use Rattle.symbol.specs.Row.{stateAt, symbolAt, setRow}
+pub use Rattle.symbol.specs.Row.{rowAt}
 use Rattle.symbol.specs.RowLaws.{symbolOf, field-same, field-other}
-
--- the seven cells behind a row's state
-abbrev pub rowAt : List ℕ → ℕ → Row
-rowAt symbols i =
-    record {
-      name = record { 0 = field symbols i 1 };
-      kind = field symbols i 2;
-      file = field symbols i 3;
-      visibility = visibilityCodeAt symbols i;
-      value = valueWordsAt symbols i;
-    }
 
 -- the symbol at an id is what its row means
 pub means : (symbols : List ℕ) (id : SymbolId) → symbolAt symbols id ≡ symbolOf id (rowAt symbols (id .0))

@@ -3,6 +3,7 @@
 use Prim.Native.Nat.{ℕ, _/_, _≤_, _<_}
 use native.Mathlib.Omega.{arith}
 use mathlib.Core.Path.{_≡_, refl, subst}
+use mathlib.Core.Bool.{Bool}
 use mathlib.Core.List.{List, []}
 use mathlib.Core.Logic.{_≢_}
 use lib.Dec.{eqb}
@@ -46,8 +47,8 @@ names-blank key bytes names z =
     let s : Store = storeOf bytes (Names.clearHeads names) (Names.noNames key (nameRows (length names))) in
     by-test (roomOf s 0) (λ b. rw (a, b) (added-blank s refl (room-free s 0 b))) (λ b. absurd (z (rw (a, b)))))
 
-module _ (symbols sections : List ℕ) (s : Store) (some : symbolRows (length symbols) ≢ 0) where
-  null-inv : (s .link .names ≢ 0 → Blank s) → numberIn (nullOf symbols sections s .said) ≡ 0 → Inv (opened (nullOf symbols sections s)) []
+module _ (gabi : Bool) (symbols sections : List ℕ) (s : Store) (some : symbolRows (length symbols) ≢ 0) where
+  null-inv : (s .link .names ≢ 0 → Blank s) → numberIn (nullOf gabi symbols sections s .said) ≡ 0 → Inv (opened (nullOf gabi symbols sections s)) []
   unfolding nullOf
   null-inv blank e =
       by-test (eqb (s .link .names) 0) (λ a. let q : _≡_ {A = ℕ} 2 0 = rw a at e in absurd (omega arith))
@@ -65,9 +66,9 @@ module _ (symbols sections : List ℕ) (s : Store) (some : symbolRows (length sy
         once = λ n. omega arith;
       }))
 
-module _ (key : ℕ) (bytes names symbols sections : List ℕ) where
-  pub new-inv : numberIn (newOf key bytes names symbols sections .said) ≡ 0 → Inv (opened (newOf key bytes names symbols sections)) []
+module _ (key : ℕ) (gabi : Bool) (bytes names symbols sections : List ℕ) where
+  pub new-inv : numberIn (newOf key gabi bytes names symbols sections .said) ≡ 0 → Inv (opened (newOf key gabi bytes names symbols sections)) []
   unfolding newOf
   new-inv e =
       by-test (eqb (symbolRows (length symbols)) 0) (λ a. let q : _≡_ {A = ℕ} 2 0 = rw a at e in absurd (omega arith))
-      (λ a. rw a (null-inv symbols sections (Names.newOf key bytes names .store) (eqb-false _ _ a) (names-blank key bytes names) (rw a at e)))
+      (λ a. rw a (null-inv gabi symbols sections (Names.newOf key bytes names .store) (eqb-false _ _ a) (names-blank key bytes names) (rw a at e)))

@@ -2,7 +2,7 @@
 -- Assumes nothing.
 use Prim.Native.Nat.{ℕ, _+_, _*_, _/_, _≤_, _<_}
 use native.Mathlib.Omega.{arith}
-use mathlib.Core.Path.{_≡_, ap, _∙_}
+use mathlib.Core.Path.{_≡_, sym, ap, _∙_}
 use mathlib.Core.Bool.{Bool, true, false, false≢true}
 use mathlib.Core.Logic.{_≢_}
 use lib.Dec.{eqb, ltb, leb}
@@ -13,15 +13,17 @@ use Rattle.link.specs.Bounds.{lesser, symbolRows}
 use Rattle.symbol.specs.declared.Row.{Row}
 use Rattle.symbol.specs.declared.SttFile.the-variants as File
 use Rattle.symbol.specs.Row.{stateAt}
+use Rattle.symbol.specs.Hidden.{hiddenCode, passes, passHidden}
 use Rattle.symbol_rows.specs.declared.Holder.{Holder}
 use Rattle.symbol_rows.specs.declared.Holder.the-variants.{Unissued, Nobody, Removed, Known}
 use Rattle.symbol_rows.specs.declared.Decision.{Decision}
-use Rattle.symbol_rows.specs.declared.Decision.the-variants.{Refuse, Keep, Append, Replace}
+use Rattle.symbol_rows.specs.declared.Decision.the-variants.{Refuse, Keep, Append, Replace, Amend}
 use Rattle.symbol_rows.specs.Holder.{globalAt, heldBy, holderOf}
-use Rattle.symbol_rows.specs.Decide.{typeRefusal, roomOf, newOf, replaceOf, rankedOf, knownOf, namedOf, localOf, decideOf}
+use Rattle.symbol_rows.specs.Decide.{typeRefusal, roomOf, newOf, replaceOf, keptOf, rankedOf, knownOf, namedOf, localOf, decideOf}
 use Rattle.symbol_rows.specs.Apply.{Table}
 use Rattle.symbols.specs.Add.{issuedOf, directHolderOf, decidedOf}
 use Rattle.symbol_laws.specs.Rank.{ranked}
+use Rattle.symbol_laws.specs.Standing.{code-hides, pass-none, pass-had}
 use Rattle.symbol_laws.specs.Rows.{rowAt}
 
 pub lesser-first : (a b : ℕ) → lesser a b ≤ a
@@ -71,7 +73,9 @@ module _ (t : Table) (r : Row) where
 
   pub data View : Type 0 where
     refused : (n : ℕ) → decided ≡ Refuse n → n ≢ 0 → View
-    kept : decided ≡ Keep (record { 0 = held }) → Named → held ≢ 0 → yields ≡ false → ranked r ≢ 4 → View
+    kept : decided ≡ Keep (record { 0 = held }) → Named → held ≢ 0 → yields ≡ false → ranked r ≢ 4
+        → passHidden (t .link .gabi) (r .visibility) (rowAt (t .symbols) held) ≡ rowAt (t .symbols) held → View
+    amended : decided ≡ Amend (record { 0 = held }) → Named → held ≢ 0 → yields ≡ false → ranked r ≢ 4 → View
     replaced : decided ≡ Replace (record { 0 = held }) → Named → held ≢ 0 → yields ≡ true → View
     appended : decided ≡ Append → Free → Named → (held ≢ 0 → t .link .symbols ≤ held) → View
     local : decided ≡ Append → Free → r .visibility ≡ 0 → View
@@ -99,7 +103,18 @@ module _ (t : Table) (r : Row) where
       (λ k. refused (typeRefusal (r .kind)) (e ∙ rw (h, k)) (eqb-false _ _ k)))
 
   -- a known name
-  known-view : decided ≡ knownOf (t .symbols) r (record { 0 = held }) → Named → held ≢ 0 → View
+  kept-view : decided ≡ keptOf (t .link .gabi) (rowAt (t .symbols) held .visibility) (r .visibility) (record { 0 = held }) → Named → held ≢ 0 → yields ≡ false
+      → ranked r ≢ 4 → View
+  unfolding keptOf
+  kept-view e n s y k =
+      by-test (passes (t .link .gabi) (r .visibility))
+      (λ p.
+      by-test (hiddenCode (rowAt (t .symbols) held .visibility))
+      (λ h. kept (e ∙ rw (p, h)) n s y k (pass-had (t .link .gabi) (r .visibility) _ (sym (code-hides (rowAt (t .symbols) held .visibility)) ∙ h)))
+      (λ h. amended (e ∙ rw (p, h)) n s y k))
+      (λ p. kept (e ∙ rw p) n s y k (pass-none (t .link .gabi) (r .visibility) _ p))
+
+  known-view : decided ≡ knownOf (t .link .gabi) (t .symbols) r (record { 0 = held }) → Named → held ≢ 0 → View
   unfolding knownOf rankedOf replaceOf
   known-view e n s =
       by-test (leb 13 (r .value .kind)) (λ h. refused (r .value .kind) (e ∙ rw h) (λ z. omega (arith, leb-true 13 (r .value .kind) h)))
@@ -109,7 +124,7 @@ module _ (t : Table) (r : Row) where
       by-test (eqb (typeRefusal (r .kind)) 0) (λ k. replaced (e ∙ rw (h, y, k)) n s y)
       (λ k. refused (typeRefusal (r .kind)) (e ∙ rw (h, y, k)) (eqb-false _ _ k)))
       (λ y.
-      by-test (eqb (ranked r) 4) (λ k. refused 17 (e ∙ rw (h, y, k)) (λ z. omega arith)) (λ k. kept (e ∙ rw (h, y, k)) n s y (eqb-false _ _ k))))
+      by-test (eqb (ranked r) 4) (λ k. refused 17 (e ∙ rw (h, y, k)) (λ z. omega arith)) (λ k. kept-view (e ∙ rw (h, y, k)) n s y (eqb-false _ _ k))))
 
   holder-is : leb (t .link .names) (r .name .0) ≡ false → directHolderOf (t .link) (t .names) (t .symbols) (r .name) File.None ≡ heldBy (t .link .symbols) (t .symbols) held
   unfolding directHolderOf issuedOf holderOf

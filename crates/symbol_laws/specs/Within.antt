@@ -3,7 +3,7 @@
 use Prim.Native.Nat.{ℕ, _+_, _-_, _*_, _/_, _<_, _≤_}
 use native.Mathlib.Omega.{arith}
 use mathlib.Core.Path.{_≡_, refl, ap, _∙_}
-use mathlib.Core.Bool.{true, false, false≢true}
+use mathlib.Core.Bool.{Bool, true, false, false≢true}
 use mathlib.Core.List.{List, [], _∷_}
 use lib.Dec.{eqb, ltb, leb}
 use lib.ListN.{length, length-set}
@@ -22,7 +22,7 @@ use Rattle.symbol.specs.RowLaws.{symbolOf}
 use Rattle.symbol.specs.declared.Row.{Row}
 use Rattle.symbol.specs.declared.SttFile.the-variants as File
 use Rattle.symbol_rows.specs.declared.Decision.{Decision}
-use Rattle.symbol_rows.specs.declared.Decision.the-variants.{Refuse, Nothing, Keep, Append, Replace}
+use Rattle.symbol_rows.specs.declared.Decision.the-variants.{Refuse, Nothing, Keep, Append, Replace, Amend}
 use Rattle.symbol_rows.specs.declared.Holder.{Holder}
 use Rattle.symbol_rows.specs.declared.Holder.the-variants.{Nobody, Known}
 use Rattle.symbol_rows.specs.Holder.{holderOf}
@@ -39,6 +39,7 @@ use Rattle.symbols.specs.Add.{decidedOf, committedOf, addRowOf}
 use Rattle.symbols.specs.New.{nullOf, newOf}
 use Rattle.symbols.specs.Lookup.{foundAt, heldOf, notFound, getOf, getGlobalOf}
 use Rattle.symbol_laws.specs.Rank.{firstOf}
+use Rattle.symbol_laws.specs.Standing.{hiddenBy}
 use Rattle.symbol_laws.specs.Rows.{means}
 use Rattle.symbol_laws.specs.View.{lesser-first}
 use Rattle.symbol_laws.specs.History.{State, table, store, opened, Entry, only, rows, Part, issue, put, idOf, partNext, runParts, Call, runCalls, RemovesNothing}
@@ -77,6 +78,7 @@ applied-within t r Append w =
       chains-lent = rw (noted-long (t .names) r (t .link .symbols)) (w .chains-lent);
     }
 applied-within t r (Replace id) w = w
+applied-within t r (Amend id) w = w
 
 put-within : (t : Table) (r : Row) → Within (t .link) (t .names) → Within (addRowOf t r File.None .table .link) (addRowOf t r File.None .table .names)
 unfolding addRowOf committedOf
@@ -148,10 +150,10 @@ names-within key bytes names z =
     rw b
     (keep-within (storeOf bytes (Names.clearHeads names) (Names.noNames key (nameRows (length names)))) (record { 0 = 0 }) [] (blank-within key bytes names)))
 
-null-within : (symbols sections : List ℕ) (s : Store) → s .link .sections ≡ 0 → (s .link .names ≢ 0 → Within (s .link) (s .names)) → numberIn (nullOf symbols sections s .said) ≡ 0
-    → Within (nullOf symbols sections s .table .link) (nullOf symbols sections s .table .names)
+null-within : (gabi : Bool) (symbols sections : List ℕ) (s : Store) → s .link .sections ≡ 0 → (s .link .names ≢ 0 → Within (s .link) (s .names)) → numberIn (nullOf gabi symbols sections s .said) ≡ 0
+    → Within (nullOf gabi symbols sections s .table .link) (nullOf gabi symbols sections s .table .names)
 unfolding nullOf
-null-within symbols sections s n f e =
+null-within gabi symbols sections s n f e =
     by-test (eqb (s .link .names) 0) (λ a. let q : _≡_ {A = ℕ} 2 0 = rw a at e in absurd (omega arith))
     (λ a.
     let w : Within (s .link) (s .names) = f (eqb-false _ _ a) in
@@ -171,12 +173,12 @@ no-sections key bytes names =
     by-test (eqb (nameRows (length names)) 0) (λ a. rw a)
     (λ a. rw a (keeps (λ (k : Store). k .link .sections ≡ 0) (storeOf bytes (Names.clearHeads names) (Names.noNames key (nameRows (length names)))) (record { 0 = 0 }) [] refl (λ h r. refl)))
 
-pub new-within : (key : ℕ) (bytes names symbols sections : List ℕ) → numberIn (newOf key bytes names symbols sections .said) ≡ 0
-    → Within (opened (newOf key bytes names symbols sections) .link) (opened (newOf key bytes names symbols sections) .names)
+pub new-within : (key : ℕ) (gabi : Bool) (bytes names symbols sections : List ℕ) → numberIn (newOf key gabi bytes names symbols sections .said) ≡ 0
+    → Within (opened (newOf key gabi bytes names symbols sections) .link) (opened (newOf key gabi bytes names symbols sections) .names)
 unfolding newOf
-new-within key bytes names symbols sections e =
+new-within key gabi bytes names symbols sections e =
     by-test (eqb (symbolRows (length symbols)) 0) (λ a. let q : _≡_ {A = ℕ} 2 0 = rw a at e in absurd (omega arith))
-    (λ a. rw a (null-within symbols sections (Names.newOf key bytes names .store) (no-sections key bytes names) (names-within key bytes names) (rw a at e)))
+    (λ a. rw a (null-within gabi symbols sections (Names.newOf key bytes names .store) (no-sections key bytes names) (names-within key bytes names) (rw a at e)))
 
 -- ---- lookups
 
@@ -241,7 +243,7 @@ module _ (s : State) (f : Fits s) (w : Within (s .link) (s .names)) where
 
 module _ (s : State) (past : List Entry) (inv : Inv s past) (w : Within (s .link) (s .names)) where
   pub lookup-row : (n : ℕ) (x : Entry) (xs : List Entry) → only n past ≡ x ∷ xs
-      → getGlobalOf (s .link) (s .names) (s .symbols) (record { 0 = n }) ≡ Fd.Row (symbolOf (record { 0 = x .id }) (firstOf (x .row) (rows xs)))
+      → getGlobalOf (s .link) (s .names) (s .symbols) (record { 0 = n }) ≡ Fd.Row (symbolOf (record { 0 = x .id }) (hiddenBy (s .link .gabi) (rows (x ∷ xs)) (firstOf (x .row) (rows xs))))
   lookup-row n x xs e =
       looked s (inv-fits s past inv) w n (Known (record { 0 = x .id })) (holder-known s past inv n x xs e)
       ∙ ap Fd.Row (means (s .symbols) (record { 0 = x .id }) ∙ ap (symbolOf (record { 0 = x .id })) (resolved s past inv n x xs e .terms))

@@ -1,9 +1,10 @@
 -- What the calls write: no symbol row but the one that an add answers, and nothing past the counts.
 -- Assumes nothing.
-use Prim.Native.Nat.{ℕ, _+_, _*_, _/_, _%_, _≤_, _<_}
+use Prim.Native.Nat.{ℕ, zero, suc, _+_, _*_, _/_, _%_, _≤_, _<_}
 use native.Mathlib.Omega.{arith}
 use native.Mathlib.Nat.{mod-lt, div-add-mod'}
 use mathlib.Core.Path.{_≡_, refl, sym, ap, _∙_, subst}
+use mathlib.Core.Bool.{Bool}
 use mathlib.Core.List.{List, [], _∷_, _++_}
 use mathlib.Core.Logic.{_≢_}
 use lib.Dec.{eqb, ltb, leb}
@@ -18,30 +19,32 @@ use Rattle.link.specs.declared.Interned.{Interned}
 use Rattle.link.specs.Bounds.{sectionSlots}
 use Rattle.link.specs.Judge.{changeOf}
 use Rattle.interner.specs.Names.{Store, roomOf, added, keepOf}
-use Rattle.symbol.specs.RowLaws.{field-other}
+use Rattle.symbol.specs.RowLaws.{field-same, field-other}
 use Rattle.symbol.specs.declared.Row.{Row}
+use Rattle.symbol.specs.declared.Words.{Words}
 use Rattle.symbol.specs.declared.SttFile.{SttFile}
 use Rattle.symbol.specs.declared.SttFile.the-variants as File
 use Rattle.symbol.specs.Codes.{successor}
-use Rattle.symbol.specs.Row.{field, stateAt, setRow}
+use Rattle.symbol.specs.Row.{field, stateAt, rowAt, cellsOf, setRow}
+use Rattle.symbol.specs.Hidden.{passHidden}
 use Rattle.symbol_rows.specs.declared.Decision.{Decision}
 use Rattle.symbol_rows.specs.declared.Decision.the-variants.{Refuse}
 use Rattle.symbol_rows.specs.Holder.{globalAt}
 use Rattle.symbol_rows.specs.Decide.{sectionCell}
-use Rattle.symbol_rows.specs.Apply.{Table, noteName, setSectionSymbol, noteSection, appendOf, applyOf}
+use Rattle.symbol_rows.specs.Apply.{Table, tableOf, noteName, setSectionSymbol, noteSection, appendOf, replacedIn, amendedIn, applyOf}
 use Rattle.symbols.specs.Calls.{Left, lentOf}
 use Rattle.upcoming_symbol.specs.declared.UpcomingSymbol.{UpcomingSymbol}
 use Rattle.upcoming_symbol.specs.Upcoming.{nameOf, rowOf}
 use Rattle.symbols.specs.Add.{emptyAt, fileOf, lent, judgeAddOf, committedOf, addRowOf, addOf}
 use Rattle.symbols.specs.Remove.{rowsOf, dropSection, removeRowOf, removeOf}
-use Rattle.symbol_laws.specs.View.{Free, View, refused, kept, replaced, appended, local, view, decided}
+use Rattle.symbol_laws.specs.View.{Named, Free, View, refused, kept, amended, replaced, appended, local, view, held, decided}
 use Rattle.symbol_laws.specs.Refused.{commit-refused, row-refused, row-accepted, add-accepted, intern-accepted}
 use Rattle.symbol_laws.specs.Calls.{call-refused}
 use Rattle.symbol_laws.specs.History.{State, table, store, withTable, withStore, withRows, Entry, only, rows, putOf, idOf, Call, add, intern, remove, upcoming, callNext, callNumber}
 use Rattle.symbol_laws.specs.Held.{Holds, Held, Inv}
 use Rattle.symbol_laws.specs.Below.{Below}
 use Rattle.symbol_laws.specs.Issue.{FreeRow, linked-old, room-free}
-use Rattle.symbol_laws.specs.Rank.{best}
+use Rattle.symbol_laws.specs.Standing.{rowAfter, pass-rest}
 use Rattle.symbol_laws.specs.Demand.{resolved}
 
 -- ---- one row
@@ -55,11 +58,12 @@ module _ (t : Table) (r : Row) where
   decides d e g = subst (λ (d : Decision). OneRow (committedOf t r File.None d)) (sym e) g
 
   viewed : View t r → OneRow (addRowOf t r File.None)
-  unfolding committedOf applyOf appendOf
+  unfolding committedOf applyOf appendOf replacedIn amendedIn
   viewed (refused n e z) =
       decides (Refuse n) e (λ j f h u. ap (λ (t : Table). field (t .symbols) j f) (commit-refused t r File.None n z .0))
-  viewed (kept e k z o w) = decides _ e (λ j f h u. refl)
-  viewed (replaced e k z o) = decides _ e (λ j f h u. field-other (t .symbols) _ r j f h u)
+  viewed (kept e k z o w p) = decides _ e (λ j f h u. refl)
+  viewed (amended e k z o w) = decides _ e (λ j f h u. field-other (t .symbols) _ _ j f h u)
+  viewed (replaced e k z o) = decides _ e (λ j f h u. field-other (t .symbols) _ _ j f h u)
   viewed (appended e f k z) = decides _ e (λ j f h u. field-other (t .symbols) _ r j f h u)
   viewed (local e f v) = decides _ e (λ j f h u. field-other (t .symbols) _ r j f h u)
 
@@ -75,7 +79,27 @@ pub add-one-row : (t : Table) (conversion : List ℕ) (u : UpcomingSymbol) (j f 
 unfolding addOf
 add-one-row t conversion u j f h n =
     by-test (eqb (judgeAddOf (t .link) (lent t) u .number) 0)
-    (λ a. rw a (one-row t (rowOf conversion u (emptyAt (t .names) (nameOf u))) (fileOf u) j f h (rw a at n))) (λ a. rw a)
+    (λ a. rw a (one-row t (rowOf (t .link .gabi) conversion u (emptyAt (t .names) (nameOf u))) (fileOf u) j f h (rw a at n))) (λ a. rw a)
+
+-- of a present row that only becomes hidden no cell changes but its visibility's
+module _ (gabi : Bool) (symbols : List ℕ) (r : Row) (id : SymbolId) (present : stateAt symbols (id .0) ≡ 1) where
+  abbrev amended-row : Row
+  amended-row = passHidden gabi (r .visibility) (rowAt symbols (id .0))
+
+  amended-cell : (f : ℕ) → f < 8 → f ≢ 4 → getD (cellsOf amended-row) f 0 ≡ field symbols (id .0) f
+  amended-cell zero h u = sym present
+  amended-cell (suc zero) h u = ap (λ (n : Interned). n .0) (pass-rest gabi (r .visibility) (rowAt symbols (id .0)) .name)
+  amended-cell (suc (suc zero)) h u = pass-rest gabi (r .visibility) (rowAt symbols (id .0)) .kind
+  amended-cell (suc (suc (suc zero))) h u = pass-rest gabi (r .visibility) (rowAt symbols (id .0)) .file
+  amended-cell (suc (suc (suc (suc zero)))) h u = absurd (u refl)
+  amended-cell (suc (suc (suc (suc (suc zero))))) h u = ap (λ (w : Words). w .kind) (pass-rest gabi (r .visibility) (rowAt symbols (id .0)) .value)
+  amended-cell (suc (suc (suc (suc (suc (suc zero)))))) h u = ap (λ (w : Words). w .a) (pass-rest gabi (r .visibility) (rowAt symbols (id .0)) .value)
+  amended-cell (suc (suc (suc (suc (suc (suc (suc zero))))))) h u = ap (λ (w : Words). w .b) (pass-rest gabi (r .visibility) (rowAt symbols (id .0)) .value)
+  amended-cell (suc (suc (suc (suc (suc (suc (suc (suc f)))))))) h u = absurd (omega arith)
+
+  pub amend-one-cell : id .0 * 8 + 8 ≤ length symbols → (f : ℕ) → f < 8 → f ≢ 4 → field (amendedIn gabi symbols r id) (id .0) f ≡ field symbols (id .0) f
+  unfolding amendedIn
+  amend-one-cell g f h u = field-same symbols id amended-row f h g ∙ amended-cell f h u
 
 -- ---- past the counts
 
@@ -129,6 +153,16 @@ module _ (s : State) (b : Below s) where
           sections = λ q h. section-behind (s .link) (s .sections) r (s .link .symbols) q h;
         }
 
+    -- the name's row written
+    written-past : Named (table s) r → held (table s) r ≢ 0 → (x : Row)
+        → Untouched s (withTable s (tableOf (s .names) (setRow (s .symbols) (record { 0 = held (table s) r }) x) (s .sections) (s .link)))
+    written-past k z x =
+        record {
+          symbols = λ q h. stored-past (s .symbols) _ x (s .link .symbols) q (b .held (r .name .0) (k .issued) z) h;
+          names = λ q h k. refl;
+          sections = λ q h. refl;
+        }
+
     Past : Left → Type 0
     Past o = Untouched s (withTable s (o .table))
 
@@ -137,18 +171,13 @@ module _ (s : State) (b : Below s) where
     past-decides d e g = subst (λ (d : Decision). Past (committedOf (table s) r File.None d)) (sym e) g
 
     past-viewed : View (table s) r → Past (putOf s r)
-    unfolding Past committedOf applyOf
+    unfolding Past committedOf applyOf replacedIn amendedIn
     past-viewed (refused n e z) =
         past-decides (Refuse n) e
         (subst (λ (t : Table). Untouched s (withTable s t)) (sym (commit-refused (table s) r File.None n z .0)) (untouched s))
-    past-viewed (kept e k z o w) = past-decides _ e (untouched s)
-    past-viewed (replaced e k z o) =
-        past-decides _ e
-        (record {
-          symbols = λ q h. stored-past (s .symbols) _ r (s .link .symbols) q (b .held (r .name .0) (k .issued) z) h;
-          names = λ q h k. refl;
-          sections = λ q h. refl;
-        })
+    past-viewed (kept e k z o w p) = past-decides _ e (untouched s)
+    past-viewed (amended e k z o w) = past-decides _ e (written-past k z _)
+    past-viewed (replaced e k z o) = past-decides _ e (written-past k z _)
     past-viewed (appended e f k z) = past-decides _ e (appended-past f (λ v. k .issued))
     past-viewed (local e f v) = past-decides _ e (appended-past f (λ z. absurd (z v)))
 
@@ -226,7 +255,7 @@ module _ (s t : State) (past more : List Entry) (before : Inv s past) (after : I
   bears : (l : List Entry) → only n past ≡ l → globalAt (s .names) n ≢ 0 → Bears t n (globalAt (s .names) n)
   bears [] e z = absurd (z (subst (Held s n) e (before .held-by n issued)))
   bears (x ∷ xs) e z =
-      let h : Holds s n (x .id) (best (x .row) (rows xs)) = subst (Held s n) e (before .held-by n issued) in
+      let h : Holds s n (x .id) (rowAfter (s .link .gabi) (x .row) (rows xs)) = subst (Held s n) e (before .held-by n issued) in
       let q : only n (past ++ more) ≡ x ∷ (xs ++ only n more) = only-append n past more ∙ ap (λ (l : List Entry). l ++ only n more) e in
       let k = resolved t (past ++ more) after n x (xs ++ only n more) q in
       rw (h .found) (record { found = k .id; present = k .present; name = k .bears })

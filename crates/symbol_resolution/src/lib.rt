@@ -1,6 +1,6 @@
 // What an add decides on a row under its name's holder; nothing is written.
 ghost use mathlib.Core.Path.{_≡_};
-ghost use Rattle.symbol_rows.specs.Decide.{weakOf, rankOf, typeRefusal, roomOf, newOf, replaceOf, knownOf, namedOf, localOf, decideOf};
+ghost use Rattle.symbol_rows.specs.Decide.{weakOf, rankOf, typeRefusal, roomOf, newOf, replaceOf, keptOf, knownOf, namedOf, localOf, decideOf};
 use link::Link;
 use link::SectionId;
 use link::SymbolId;
@@ -93,26 +93,37 @@ fn decide_replace(row: Row, id: SymbolId) -> Decision
     Decision::Replace { id: id }
 }
 
+// A row that stays, by its and the add's visibility.
+fn decide_kept(gabi: bool, old: u64, new: u64, id: SymbolId) -> Decision
+    ensures { λ r. ⌜ r ≡ keptOf gabi old new id ⌝ }
+{
+    if symbol::passes_hidden(gabi, new) {
+        if symbol::is_hidden(old) {
+            return Decision::Keep { id: id };
+        }
+        return Decision::Amend { id: id };
+    }
+    Decision::Keep { id: id }
+}
+
 // A known name: value, then by rank.
-fn decide_known(symbols: &[u64], row: Row, id: SymbolId) -> Decision
-    ensures { λ r. ⌜ r ≡ knownOf (now (symbols .entry)) row id ⌝ }
+fn decide_known(gabi: bool, symbols: &[u64], row: Row, id: SymbolId) -> Decision
+    ensures { λ r. ⌜ r ≡ knownOf gabi (now (symbols .entry)) row id ⌝ }
 {
     let v = row.value;
     if 13 <= v.kind {
         return Decision::Refuse { number: v.kind };
     }
     let new = rank(row.visibility, v.kind);
-    let old = rank(
-        cells::row_get(symbols, id.0, 4),
-        cells::row_get(symbols, id.0, 5),
-    );
+    let shown = cells::row_get(symbols, id.0, 4);
+    let old = rank(shown, cells::row_get(symbols, id.0, 5));
     if old < new {
         return decide_replace(row, id);
     }
     if new == 4 {
         return Decision::Refuse { number: 17 };
     }
-    Decision::Keep { id: id }
+    decide_kept(gabi, shown, row.visibility, id)
 }
 
 fn decide_named(l: Link, symbols: &[u64], sections: &[u64], row: Row, holder: Holder) -> Decision
@@ -122,7 +133,7 @@ fn decide_named(l: Link, symbols: &[u64], sections: &[u64], row: Row, holder: Ho
         Holder::Unissued => Decision::Refuse { number: 21 },
         Holder::Removed => Decision::Refuse { number: 21 },
         Holder::Nobody => decide_new(l, symbols, sections, row),
-        Holder::Known { id } => decide_known(symbols, row, id),
+        Holder::Known { id } => decide_known(l.gabi, symbols, row, id),
     }
 }
 

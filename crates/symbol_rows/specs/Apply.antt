@@ -1,16 +1,18 @@
 -- What a decision writes: the row, the name's global symbol, the section's symbol.
 -- Assumes nothing.
 use Prim.Native.Nat.{ℕ, _+_, _*_}
-use mathlib.Core.Bool.{cond}
+use mathlib.Core.Bool.{Bool, cond}
 use mathlib.Core.List.{List}
 use lib.Dec.{eqb, ltb}
 use lib.ListN.{set, length}
 use Rattle.link.specs.declared.Link.{Link}
+use Rattle.link.specs.declared.SymbolId.{SymbolId}
 use Rattle.symbol.specs.declared.Row.{Row}
 use Rattle.symbol.specs.Codes.{successor}
-use Rattle.symbol.specs.Row.{setRow}
+use Rattle.symbol.specs.Row.{visibilityCodeAt, rowAt, setRow}
+use Rattle.symbol.specs.Hidden.{passHidden}
 use Rattle.symbol_rows.specs.declared.Decision.{Decision}
-use Rattle.symbol_rows.specs.declared.Decision.the-variants.{Refuse, Nothing, Keep, Append, Replace}
+use Rattle.symbol_rows.specs.declared.Decision.the-variants.{Refuse, Nothing, Keep, Append, Replace, Amend}
 use Rattle.symbol_rows.specs.Decide.{sectionCell}
 
 -- the lent cells that an add may write, and the counts
@@ -35,6 +37,7 @@ moreSymbols l n =
       chains = l .chains;
       slots = l .slots;
       key = l .key;
+      gabi = l .gabi;
       broken = l .broken;
     }
 
@@ -55,12 +58,21 @@ appendOf t r =
     tableOf (noteName (t .names) r (t .link .symbols)) (setRow (t .symbols) (record { 0 = t .link .symbols }) r)
     (noteSection (t .link) (t .sections) r (t .link .symbols)) (moreSymbols (t .link) (successor (t .link .symbols)))
 
+-- the add in the row's place, hidden too if the row was and hidden passes
+unfoldable pub replacedIn : Bool → List ℕ → Row → SymbolId → List ℕ
+replacedIn gabi symbols r id = setRow symbols id (passHidden gabi (visibilityCodeAt symbols (id .0)) r)
+
+-- the row as it is, hidden too if the add is and hidden passes
+unfoldable pub amendedIn : Bool → List ℕ → Row → SymbolId → List ℕ
+amendedIn gabi symbols r id = setRow symbols id (passHidden gabi (r .visibility) (rowAt symbols (id .0)))
+
 abbrev pub applied : Table → Row → Decision → Table
 applied t r (Refuse n) = t
 applied t r Nothing = t
 applied t r (Keep id) = t
 applied t r Append = appendOf t r
-applied t r (Replace id) = tableOf (t .names) (setRow (t .symbols) id r) (t .sections) (t .link)
+applied t r (Replace id) = tableOf (t .names) (replacedIn (t .link .gabi) (t .symbols) r id) (t .sections) (t .link)
+applied t r (Amend id) = tableOf (t .names) (amendedIn (t .link .gabi) (t .symbols) r id) (t .sections) (t .link)
 
 unfoldable pub applyOf : Table → Row → Decision → Table
 applyOf t r d = applied t r d

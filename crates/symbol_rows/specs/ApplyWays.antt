@@ -2,6 +2,7 @@
 -- Assumes nothing.
 use Prim.Native.Nat.{ℕ, _+_, _*_}
 use mathlib.Core.Path.{_≡_}
+use mathlib.Core.Bool.{Bool}
 use mathlib.Core.List.{List}
 use lib.ListN.{set, length}
 use borrow.Author.Tests.{eq-eqb, ne-eqb}
@@ -9,11 +10,12 @@ use Rattle.link.specs.declared.Link.{Link}
 use Rattle.link.specs.declared.SymbolId.{SymbolId}
 use Rattle.symbol.specs.declared.Row.{Row}
 use Rattle.symbol.specs.Codes.{successor}
-use Rattle.symbol.specs.Row.{setRow}
+use Rattle.symbol.specs.Row.{visibilityCodeAt, rowAt, setRow}
+use Rattle.symbol.specs.Hidden.{passHidden}
 use Rattle.symbol_rows.specs.declared.Decision.{Decision}
-use Rattle.symbol_rows.specs.declared.Decision.the-variants.{Replace}
+use Rattle.symbol_rows.specs.declared.Decision.the-variants.{Replace, Amend}
 use Rattle.symbol_rows.specs.Decide.{sectionCell}
-use Rattle.symbol_rows.specs.Apply.{Table, tableOf, moreSymbols, noteName, setSectionSymbol, noteSection, appendOf, applied, applyOf}
+use Rattle.symbol_rows.specs.Apply.{Table, tableOf, moreSymbols, noteName, setSectionSymbol, noteSection, appendOf, replacedIn, amendedIn, applied, applyOf}
 
 module _ (names t : List ℕ) (r : Row) (id : ℕ) where
   pub name-global : (r .visibility ≡ 0 → ⊥) → t ≡ set names (r .name .0 * 8 + 3) id → t ≡ noteName names r id
@@ -42,6 +44,15 @@ module _ (l : Link) (sections t : List ℕ) (r : Row) (id : ℕ) where
   unfolding noteSection
   section-global n q = simp (q, ne-eqb _ _ n)
 
+module _ (gabi : Bool) (symbols t : List ℕ) (r : Row) (id : SymbolId) where
+  pub replace-done : (v : ℕ) (x : Row) → v ≡ visibilityCodeAt symbols (id .0) → x ≡ passHidden gabi v r → t ≡ setRow symbols id x → t ≡ replacedIn gabi symbols r id
+  unfolding replacedIn
+  replace-done v x e f q = simp (q, f, e)
+
+  pub amend-done : (c x : Row) → c ≡ rowAt symbols (id .0) → x ≡ passHidden gabi (r .visibility) c → t ≡ setRow symbols id x → t ≡ amendedIn gabi symbols r id
+  unfolding amendedIn
+  amend-done c x e f q = simp (q, f, e)
+
 module _ (s t : Table) (r : Row) where
   pub append-done : (names′ symbols′ sections′ : List ℕ) (n : ℕ) → symbols′ ≡ setRow (s .symbols) (record { 0 = s .link .symbols }) r
       → names′ ≡ noteName (s .names) r (s .link .symbols) → sections′ ≡ noteSection (s .link) (s .sections) r (s .link .symbols) → n ≡ successor (s .link .symbols)
@@ -54,7 +65,12 @@ module _ (s t : Table) (r : Row) where
     unfolding applyOf
     apply-decided e f q = simp (q, f)
 
-    pub apply-replace : (id : SymbolId) (symbols′ : List ℕ) → d ≡ Replace id → symbols′ ≡ setRow (s .symbols) id r
+    pub apply-replace : (id : SymbolId) (symbols′ : List ℕ) → d ≡ Replace id → symbols′ ≡ replacedIn (s .link .gabi) (s .symbols) r id
         → t ≡ tableOf (s .names) symbols′ (s .sections) (s .link) → t ≡ applyOf s r d
     unfolding applyOf
     apply-replace id symbols′ e f q = simp (q, e, f)
+
+    pub apply-amend : (id : SymbolId) (symbols′ : List ℕ) → d ≡ Amend id → symbols′ ≡ amendedIn (s .link .gabi) (s .symbols) r id
+        → t ≡ tableOf (s .names) symbols′ (s .sections) (s .link) → t ≡ applyOf s r d
+    unfolding applyOf
+    apply-amend id symbols′ e f q = simp (q, e, f)

@@ -10,10 +10,11 @@ use Rattle.link.specs.declared.SymbolId.{SymbolId}
 use Rattle.link.specs.Bounds.{symbolRows, sectionSlots}
 use Rattle.symbol.specs.declared.Row.{Row}
 use Rattle.symbol.specs.Row.{field, visibilityCodeAt}
+use Rattle.symbol.specs.Hidden.{hiddenCode, passes}
 use Rattle.symbol_rows.specs.declared.Holder.{Holder}
 use Rattle.symbol_rows.specs.declared.Holder.the-variants.{Unissued, Nobody, Removed, Known}
 use Rattle.symbol_rows.specs.declared.Decision.{Decision}
-use Rattle.symbol_rows.specs.declared.Decision.the-variants.{Refuse, Nothing, Keep, Append, Replace}
+use Rattle.symbol_rows.specs.declared.Decision.the-variants.{Refuse, Nothing, Keep, Append, Replace, Amend}
 
 unfoldable pub weakOf : ℕ → Bool
 weakOf v = cond (eqb v 3) true (cond (eqb v 4) true false)
@@ -49,22 +50,27 @@ newOf l symbols sections r =
 unfoldable pub replaceOf : Row → SymbolId → Decision
 replaceOf r id = cond (eqb (typeRefusal (r .kind)) 0) (Replace id) (Refuse (typeRefusal (r .kind)))
 
--- a row yields to a greater rank; two strong definitions are 17; else the row stays
-unfoldable pub rankedOf : ℕ → ℕ → Row → SymbolId → Decision
-rankedOf old new r id = cond (ltb old new) (replaceOf r id) (cond (eqb new 4) (Refuse 17) (Keep id))
+-- a row that stays: in the gABI profile it becomes hidden where the add is and it isn't
+unfoldable pub keptOf : Bool → ℕ → ℕ → SymbolId → Decision
+keptOf gabi old new id = cond (passes gabi new) (cond (hiddenCode old) (Keep id) (Amend id)) (Keep id)
+
+-- a row of visibility v and rank old yields to a greater rank; two strong definitions are 17; else the row stays
+unfoldable pub rankedOf : Bool → ℕ → ℕ → ℕ → Row → SymbolId → Decision
+rankedOf gabi v old new r id = cond (ltb old new) (replaceOf r id) (cond (eqb new 4) (Refuse 17) (keptOf gabi v (r .visibility) id))
 
 -- a known name, after the value (13, 14)
-unfoldable pub knownOf : List ℕ → Row → SymbolId → Decision
-knownOf symbols r id =
+unfoldable pub knownOf : Bool → List ℕ → Row → SymbolId → Decision
+knownOf gabi symbols r id =
     cond (leb 13 (r .value .kind)) (Refuse (r .value .kind))
-    (rankedOf (rankOf (visibilityCodeAt symbols (id .0)) (field symbols (id .0) 5)) (rankOf (r .visibility) (r .value .kind)) r id)
+    (rankedOf gabi (visibilityCodeAt symbols (id .0)) (rankOf (visibilityCodeAt symbols (id .0)) (field symbols (id .0) 5))
+    (rankOf (r .visibility) (r .value .kind)) r id)
 
 -- "a name id never issued, or a global or weak name whose row was removed, gives 21"
 abbrev pub namedOf : Link → List ℕ → List ℕ → Row → Holder → Decision
 namedOf l symbols sections r Unissued = Refuse 21
 namedOf l symbols sections r Nobody = newOf l symbols sections r
 namedOf l symbols sections r Removed = Refuse 21
-namedOf l symbols sections r (Known id) = knownOf symbols r id
+namedOf l symbols sections r (Known id) = knownOf (l .gabi) symbols r id
 
 abbrev pub localOf : Link → List ℕ → List ℕ → Row → Holder → Decision
 localOf l symbols sections r Unissued = Refuse 21
@@ -85,6 +91,7 @@ refusalOf Nothing = 0
 refusalOf (Keep id) = 0
 refusalOf Append = 0
 refusalOf (Replace id) = 0
+refusalOf (Amend id) = 0
 
 abbrev pub idOf : Decision → ℕ → SymbolId
 idOf (Refuse n) count = record { 0 = 0 }
@@ -92,3 +99,4 @@ idOf Nothing count = record { 0 = 0 }
 idOf (Keep id) count = id
 idOf Append count = record { 0 = count }
 idOf (Replace id) count = id
+idOf (Amend id) count = id

@@ -15,12 +15,13 @@ use Rattle.link.specs.declared.SymbolId.{SymbolId}
 use Rattle.link.specs.Bounds.{symbolRows, sectionSlots}
 use Rattle.symbol.specs.declared.Row.{Row}
 use Rattle.symbol.specs.Row.{field, stateAt, visibilityCodeAt}
+use Rattle.symbol.specs.Hidden.{hiddenCode, passes}
 use Rattle.symbol_rows.specs.declared.Holder.{Holder}
 use Rattle.symbol_rows.specs.declared.Holder.the-variants.{Nobody, Removed, Known}
 use Rattle.symbol_rows.specs.declared.Decision.{Decision}
-use Rattle.symbol_rows.specs.declared.Decision.the-variants.{Refuse, Keep, Append, Replace}
+use Rattle.symbol_rows.specs.declared.Decision.the-variants.{Refuse, Keep, Append, Replace, Amend}
 use Rattle.symbol_rows.specs.Holder.{globalAt, heldBy, holderOf}
-use Rattle.symbol_rows.specs.Decide.{weakOf, rankOf, typeRefusal, sectionCell, sectionRoom, roomOf, newOf, replaceOf, rankedOf, knownOf, namedOf, localOf, decideOf, idOf}
+use Rattle.symbol_rows.specs.Decide.{weakOf, rankOf, typeRefusal, sectionCell, sectionRoom, roomOf, newOf, replaceOf, keptOf, rankedOf, knownOf, namedOf, localOf, decideOf, idOf}
 
 module _ (l : Link) (names symbols : List ℕ) (name : Interned) (t : Holder) where
   pub holder-new : l .names ≤ name .0 → t ≡ Nobody → t ≡ holderOf l names symbols name
@@ -159,25 +160,39 @@ module _ (r : Row) (id : SymbolId) (t : Decision) (k : ℕ) where
   unfolding replaceOf
   replace-fine e z q = simp (q, ← e, eq-eqb _ _ z)
 
-module _ (symbols : List ℕ) (r : Row) (id : SymbolId) (t : Decision) where
-  pub known-value : 13 ≤ r .value .kind → t ≡ Refuse (r .value .kind) → t ≡ knownOf symbols r id
+module _ (gabi : Bool) (old new : ℕ) (id : SymbolId) (t : Decision) (b : Bool) where
+  pub kept-shown : b ≡ passes gabi new → b ≡ false → t ≡ Keep id → t ≡ keptOf gabi old new id
+  unfolding keptOf
+  kept-shown e h q = simp (q, ← e, h)
+
+  module _ (a : Bool) where
+    pub kept-hidden : b ≡ passes gabi new → b ≡ true → a ≡ hiddenCode old → a ≡ true → t ≡ Keep id → t ≡ keptOf gabi old new id
+    unfolding keptOf
+    kept-hidden e h f g q = simp (q, ← e, h, ← f, g)
+
+    pub kept-amended : b ≡ passes gabi new → b ≡ true → a ≡ hiddenCode old → a ≡ false → t ≡ Amend id → t ≡ keptOf gabi old new id
+    unfolding keptOf
+    kept-amended e h f g q = simp (q, ← e, h, ← f, g)
+
+module _ (gabi : Bool) (symbols : List ℕ) (r : Row) (id : SymbolId) (t : Decision) where
+  pub known-value : 13 ≤ r .value .kind → t ≡ Refuse (r .value .kind) → t ≡ knownOf gabi symbols r id
   unfolding knownOf
   known-value h q = simp (q, le-leb _ _ h)
 
   -- the row's visibility and kind of value, and both ranks
   module _ (v k old new : ℕ) where
     pub known-yields : r .value .kind < 13 → new ≡ rankOf (r .visibility) (r .value .kind) → v ≡ visibilityCodeAt symbols (id .0) → k ≡ field symbols (id .0) 5
-        → old ≡ rankOf v k → old < new → t ≡ replaceOf r id → t ≡ knownOf symbols r id
+        → old ≡ rankOf v k → old < new → t ≡ replaceOf r id → t ≡ knownOf gabi symbols r id
     unfolding knownOf rankedOf
     known-yields h e a b f g q = simp (q, lt-leb _ _ h, ← e, ← a, ← b, ← f, lt-ltb _ _ g)
 
     pub known-twice : r .value .kind < 13 → new ≡ rankOf (r .visibility) (r .value .kind) → v ≡ visibilityCodeAt symbols (id .0) → k ≡ field symbols (id .0) 5
-        → old ≡ rankOf v k → new ≤ old → new ≡ 4 → t ≡ Refuse 17 → t ≡ knownOf symbols r id
+        → old ≡ rankOf v k → new ≤ old → new ≡ 4 → t ≡ Refuse 17 → t ≡ knownOf gabi symbols r id
     unfolding knownOf rankedOf
     known-twice h e a b f g i q = simp (q, lt-leb _ _ h, ← e, ← a, ← b, ← f, le-ltb _ _ g, eq-eqb _ _ i)
 
     pub known-kept : r .value .kind < 13 → new ≡ rankOf (r .visibility) (r .value .kind) → v ≡ visibilityCodeAt symbols (id .0) → k ≡ field symbols (id .0) 5
-        → old ≡ rankOf v k → new ≤ old → (new ≡ 4 → ⊥) → t ≡ Keep id → t ≡ knownOf symbols r id
+        → old ≡ rankOf v k → new ≤ old → (new ≡ 4 → ⊥) → t ≡ keptOf gabi v (r .visibility) id → t ≡ knownOf gabi symbols r id
     unfolding knownOf rankedOf
     known-kept h e a b f g n q = simp (q, lt-leb _ _ h, ← e, ← a, ← b, ← f, le-ltb _ _ g, ne-eqb _ _ n)
 

@@ -1,4 +1,5 @@
 pub mod Holder
+pub mod Undefined
 pub mod Decide
 pub mod Apply
 pub mod DecideWays

@@ -1,6 +1,7 @@
 // Who holds a name, what can be decided on an add, and the cells with the symbols of sections.
 ghost use mathlib.Core.Path.{_≡_};
 ghost use Rattle.symbol_rows.specs.Holder.{holderOf};
+ghost use Rattle.symbol_rows.specs.Undefined.{strongUndefined};
 ghost use Rattle.symbol_rows.specs.Decide.{sectionCell, refusalOf, idOf};
 ghost use Rattle.symbol_rows.specs.Apply.{setSectionSymbol};
 use link::Interned;
@@ -15,13 +16,14 @@ pub enum Holder {
     Known { id: SymbolId },
 }
 
-// Nothing: the symbol gets no id, and nothing is written.
+// Nothing: the symbol gets no id, and nothing is written. Keep writes nothing; Amend passes hidden to the row that stays.
 pub enum Decision {
     Refuse { number: u64 },
     Nothing,
     Keep { id: SymbolId },
     Append,
     Replace { id: SymbolId },
+    Amend { id: SymbolId },
 }
 
 // ---- who holds a name
@@ -46,6 +48,23 @@ pub fn holder_of(l: Link, names: &[u64], symbols: &[u64], name: Interned) -> Hol
     Holder::Known { id: SymbolId(id) }
 }
 
+// Is the row undefined, global and not weak?
+pub fn is_strong_undefined(symbols: &[u64], id: SymbolId) -> bool
+    ensures { λ r. ⌜ r ≡ strongUndefined (now (symbols .entry)) id ⌝ }
+{
+    if cells::row_get(symbols, id.0, 5) != 7 {
+        return false;
+    }
+    let visibility = cells::row_get(symbols, id.0, 4);
+    if visibility == 1 {
+        return true;
+    }
+    if visibility == 2 {
+        return true;
+    }
+    false
+}
+
 // ---- what is decided
 
 pub fn refusal_of(d: Decision) -> u64
@@ -57,6 +76,7 @@ pub fn refusal_of(d: Decision) -> u64
         Decision::Keep { id: _ } => 0,
         Decision::Append => 0,
         Decision::Replace { id: _ } => 0,
+        Decision::Amend { id: _ } => 0,
     }
 }
 
@@ -70,6 +90,7 @@ pub fn id_of(d: Decision, count: usize) -> SymbolId
         Decision::Keep { id } => id,
         Decision::Append => SymbolId(count),
         Decision::Replace { id } => id,
+        Decision::Amend { id } => id,
     }
 }
 

@@ -1,6 +1,6 @@
 // What a decision on an add writes.
 ghost use mathlib.Core.Path.{_≡_};
-ghost use Rattle.symbol_rows.specs.Apply.{tableOf, noteName, noteSection, appendOf, applyOf};
+ghost use Rattle.symbol_rows.specs.Apply.{tableOf, noteName, noteSection, appendOf, replacedIn, amendedIn, applyOf};
 use link::Link;
 use link::SectionId;
 use link::SymbolId;
@@ -45,8 +45,25 @@ fn append(l: Link, names: &mut [u64], symbols: &mut [u64], sections: &mut [u64],
         chains: l.chains,
         slots: l.slots,
         key: l.key,
+        gabi: l.gabi,
         broken: l.broken,
     }
+}
+
+// The add takes the row.
+fn replace(gabi: bool, symbols: &mut [u64], row: Row, id: SymbolId)
+    ensures { λ _. ⌜ now (symbols .exit) ≡ replacedIn gabi (now (symbols .entry)) row id ⌝ }
+{
+    let old = cells::row_get(symbols, id.0, 4);
+    symbol::set_row(symbols, id, symbol::pass_hidden(gabi, old, row));
+}
+
+// The row stays, and takes hidden from the add.
+fn amend(gabi: bool, symbols: &mut [u64], row: Row, id: SymbolId)
+    ensures { λ _. ⌜ now (symbols .exit) ≡ amendedIn gabi (now (symbols .entry)) row id ⌝ }
+{
+    let old = symbol::row_in(symbols, id);
+    symbol::set_row(symbols, id, symbol::pass_hidden(gabi, row.visibility, old));
 }
 
 pub fn apply(
@@ -65,7 +82,11 @@ pub fn apply(
         Decision::Keep { id: _ } => l,
         Decision::Append => append(l, names, symbols, sections, row),
         Decision::Replace { id } => {
-            symbol::set_row(symbols, id, row);
+            replace(l.gabi, symbols, row, id);
+            l
+        }
+        Decision::Amend { id } => {
+            amend(l.gabi, symbols, row, id);
             l
         }
     }

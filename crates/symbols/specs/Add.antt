@@ -82,5 +82,5 @@ lent t = lentOf (nameRows (length (t .names))) (length (t .symbols)) (sectionSlo
 unfoldable pub addOf : Table → List ℕ → UpcomingSymbol → Left
 addOf t conversion u =
     cond (eqb (judgeAddOf (t .link) (lent t) u .number) 0)
-    (addRowOf t (rowOf conversion u (emptyAt (t .names) (nameOf u))) (fileOf u))
+    (addRowOf t (rowOf (t .link .gabi) conversion u (emptyAt (t .names) (nameOf u))) (fileOf u))
     (left t (refusing (judgeAddOf (t .link) (lent t) u)))

@@ -38,4 +38,4 @@ lentOf names symbols sections =
     record { names = names; bytes = notLent; symbols = symbols; sections = sections; inputs = notLent; lists = notLent }
 
 abbrev pub noRows : Link
-noRows = record { names = 0; bytes = 0; symbols = 0; sections = 0; inputs = 0; lists = 0; chains = 0; slots = 0; key = 0; broken = false }
+noRows = record { names = 0; bytes = 0; symbols = 0; sections = 0; inputs = 0; lists = 0; chains = 0; slots = 0; key = 0; gabi = false; broken = false }

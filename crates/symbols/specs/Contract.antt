@@ -3,6 +3,7 @@
 -- Assumes nothing.
 use Prim.Native.Nat.{ℕ}
 use mathlib.Core.Path.{_≡_}
+use mathlib.Core.Bool.{Bool}
 use mathlib.Core.List.{List}
 use Rattle.cells.specs.Slice.{Slice, after}
 use Rattle.link.specs.declared.Link.{Link}
@@ -33,9 +34,9 @@ abbrev pub newExit : Slice → Slice → Slice → Slice → Outcome → NewExit
 newExit bytes names symbols sections r =
     record { bytes = after bytes; names = after names; symbols = after symbols; sections = after sections; result = r }
 
-abbrev pub NewMeets : ℕ → List ℕ → List ℕ → List ℕ → List ℕ → NewExit → Type 0
-NewMeets key bytes names symbols sections e =
-    newOutcome (e .bytes) (e .names) (e .symbols) (e .sections) (e .result) ≡ newOf key bytes names symbols sections
+abbrev pub NewMeets : ℕ → Bool → List ℕ → List ℕ → List ℕ → List ℕ → NewExit → Type 0
+NewMeets key gabi bytes names symbols sections e =
+    newOutcome (e .bytes) (e .names) (e .symbols) (e .sections) (e .result) ≡ newOf key gabi bytes names symbols sections
 
 -- ---- `add`, lent the conversion of its section numbers
 

@@ -1,7 +1,7 @@
 -- A new table: the empty name and the null symbol. "Two rows lent: null and one undefined name fit".
 -- Assumes nothing.
 use Prim.Native.Nat.{ℕ, _*_, _-_}
-use mathlib.Core.Bool.{cond}
+use mathlib.Core.Bool.{Bool, cond}
 use mathlib.Core.List.{List, _++_}
 use lib.Dec.{eqb}
 use lib.ListN.{length, take, replicate}
@@ -33,9 +33,9 @@ newLeft bytes t s = record { bytes = bytes; table = t; said = s }
 abbrev pub newOutcome : List ℕ → List ℕ → List ℕ → List ℕ → Outcome → NewLeft
 newOutcome bytes names symbols sections r = newLeft bytes (tableOf names symbols sections (r .table .link)) (said (r .answer))
 
--- one symbol, and cells for that many sections' symbols
-abbrev pub oneSymbol : Link → ℕ → Link
-oneSymbol l slots =
+-- in that profile: one symbol, and cells for that many sections' symbols
+abbrev pub oneSymbol : Bool → Link → ℕ → Link
+oneSymbol gabi l slots =
     record {
       names = l .names;
       bytes = l .bytes;
@@ -46,6 +46,7 @@ oneSymbol l slots =
       chains = l .chains;
       slots = slots;
       key = l .key;
+      gabi = gabi;
       broken = l .broken;
     }
 
@@ -55,14 +56,14 @@ clearSymbols sections =
     take (sectionSlots (length sections) * 8) sections ++ replicate (length sections - sectionSlots (length sections) * 8) 0
 
 -- over the names' store as a new table of names leaves it
-unfoldable pub nullOf : List ℕ → List ℕ → Store → NewLeft
-nullOf symbols sections s =
+unfoldable pub nullOf : Bool → List ℕ → List ℕ → Store → NewLeft
+nullOf gabi symbols sections s =
     cond (eqb (s .link .names) 0) (newLeft (s .bytes) (tableOf (s .names) symbols sections (s .link)) (refusing (refused 2 0)))
     (newLeft (s .bytes)
-    (tableOf (s .names) (setRow symbols (record { 0 = 0 }) nullRow) (clearSymbols sections) (oneSymbol (s .link) (sectionSlots (length sections)))) (accepted 0))
+    (tableOf (s .names) (setRow symbols (record { 0 = 0 }) nullRow) (clearSymbols sections) (oneSymbol gabi (s .link) (sectionSlots (length sections)))) (accepted 0))
 
 -- no symbol row, or no row for the empty name: 2, and nothing is written
-unfoldable pub newOf : ℕ → List ℕ → List ℕ → List ℕ → List ℕ → NewLeft
-newOf key bytes names symbols sections =
+unfoldable pub newOf : ℕ → Bool → List ℕ → List ℕ → List ℕ → List ℕ → NewLeft
+newOf key gabi bytes names symbols sections =
     cond (eqb (symbolRows (length symbols)) 0) (newLeft bytes (tableOf names symbols sections noRows) (refusing (refused 2 0)))
-    (nullOf symbols sections (Names.newOf key bytes names .store))
+    (nullOf gabi symbols sections (Names.newOf key bytes names .store))

@@ -50,26 +50,26 @@ pub symbols-cleared : (sections t : List ℕ) (rows : ℕ) → rows ≡ sectionS
 unfolding clearSymbols
 symbols-cleared sections t rows e q = simp (q, e)
 
-module _ (key : ℕ) (bytes names symbols sections : List ℕ) (rows : ℕ) (t : NewLeft) where
+module _ (key : ℕ) (gabi : Bool) (bytes names symbols sections : List ℕ) (rows : ℕ) (t : NewLeft) where
   pub new-no-row : (l : Link) (o : Outcome) → rows ≡ symbolRows (length symbols) → rows ≡ 0 → l ≡ noRows → o ≡ refusedOf l 2 0
-      → t ≡ newOutcome bytes names symbols sections o → t ≡ newOf key bytes names symbols sections
+      → t ≡ newOutcome bytes names symbols sections o → t ≡ newOf key gabi bytes names symbols sections
   unfolding newOf
   new-no-row l o e z f g q = simp (q, g, f, ← e, eq-eqb _ _ z)
 
-  pub new-named : (w : Names.Left) → rows ≡ symbolRows (length symbols) → (rows ≡ 0 → ⊥) → w ≡ Names.newOf key bytes names → t ≡ nullOf symbols sections (w .store)
-      → t ≡ newOf key bytes names symbols sections
+  pub new-named : (w : Names.Left) → rows ≡ symbolRows (length symbols) → (rows ≡ 0 → ⊥) → w ≡ Names.newOf key bytes names → t ≡ nullOf gabi symbols sections (w .store)
+      → t ≡ newOf key gabi bytes names symbols sections
   unfolding newOf
   new-named w e n f q = simp (q, ← e, ne-eqb _ _ n, ← f)
 
-module _ (symbols sections : List ℕ) (s : Store) (t : NewLeft) where
+module _ (gabi : Bool) (symbols sections : List ℕ) (s : Store) (t : NewLeft) where
   pub null-no-name : (o : Outcome) → s .link .names ≡ 0 → o ≡ refusedOf (s .link) 2 0 → t ≡ newOutcome (s .bytes) (s .names) symbols sections o
-      → t ≡ nullOf symbols sections s
+      → t ≡ nullOf gabi symbols sections s
   unfolding nullOf
   null-no-name o z f q = simp (q, f, eq-eqb _ _ z)
 
   pub null-done : (symbols′ sections′ : List ℕ) (r : Row) (slots : ℕ) (l : Link) → (s .link .names ≡ 0 → ⊥) → slots ≡ sectionSlots (length sections) → sections′ ≡ clearSymbols sections → r ≡ nullRow
-      → symbols′ ≡ setRow symbols (record { 0 = 0 }) r → l ≡ oneSymbol (s .link) slots
-      → t ≡ newLeft (s .bytes) (tableOf (s .names) symbols′ sections′ l) (accepted 0) → t ≡ nullOf symbols sections s
+      → symbols′ ≡ setRow symbols (record { 0 = 0 }) r → l ≡ oneSymbol gabi (s .link) slots
+      → t ≡ newLeft (s .bytes) (tableOf (s .names) symbols′ sections′ l) (accepted 0) → t ≡ nullOf gabi symbols sections s
   unfolding nullOf
   null-done symbols′ sections′ r slots l n e a b c d q = simp (q, d, c, b, a, e, ne-eqb _ _ n)
 
@@ -162,14 +162,14 @@ module _ (s : Table) (conversion : List ℕ) (u : UpcomingSymbol) (head : Refusa
   unfolding addOf
   add-refused o e n f q = simp (q, f, ← e, ne-eqb _ _ n)
 
-  pub add-judged : (r : Row) (file : SttFile) → head ≡ judgeAddOf (s .link) (lent s) u → head .number ≡ 0 → r ≡ rowOf conversion u (emptyAt (s .names) (nameOf u))
+  pub add-judged : (r : Row) (file : SttFile) → head ≡ judgeAddOf (s .link) (lent s) u → head .number ≡ 0 → r ≡ rowOf (s .link .gabi) conversion u (emptyAt (s .names) (nameOf u))
       → file ≡ fileOf u → t ≡ addRowOf s r file → t ≡ addOf s conversion u
   unfolding addOf
   add-judged r file e z f g q = simp (q, g, f, ← e, eq-eqb _ _ z)
 
-pub row-made : (names conversion : List ℕ) (u : UpcomingSymbol) (name : Interned) (n : ℕ) (t : Row) → name ≡ nameOf u → n ≡ getD names (name .0 * 8 + 1) 0
-    → t ≡ rowOf conversion u (eqb n 0) → t ≡ rowOf conversion u (emptyAt names (nameOf u))
-row-made names conversion u name n t e f q = simp (q, f, e)
+pub row-made : (gabi : Bool) (names conversion : List ℕ) (u : UpcomingSymbol) (name : Interned) (n : ℕ) (t : Row) → name ≡ nameOf u → n ≡ getD names (name .0 * 8 + 1) 0
+    → t ≡ rowOf gabi conversion u (eqb n 0) → t ≡ rowOf gabi conversion u (emptyAt names (nameOf u))
+row-made gabi names conversion u name n t e f q = simp (q, f, e)
 
 pub row-added : (s : Table) (r : Row) (file : SttFile) (d : Decision) (t : Left) → d ≡ decidedOf s r file → t ≡ committedOf s r file d → t ≡ addRowOf s r file
 unfolding addRowOf

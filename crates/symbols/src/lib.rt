@@ -107,13 +107,14 @@ fn no_rows() -> Link
         chains: 0,
         slots: 0,
         key: 0,
+        gabi: false,
         broken: false,
     }
 }
 
 // One symbol, and cells for that many sections' symbols.
-fn one_symbol(l: Link, slots: usize) -> Link
-    ensures { λ r. ⌜ r ≡ oneSymbol l slots ⌝ }
+fn one_symbol(gabi: bool, l: Link, slots: usize) -> Link
+    ensures { λ r. ⌜ r ≡ oneSymbol gabi l slots ⌝ }
 {
     Link {
         names: l.names,
@@ -125,13 +126,14 @@ fn one_symbol(l: Link, slots: usize) -> Link
         chains: l.chains,
         slots: slots,
         key: l.key,
+        gabi: gabi,
         broken: l.broken,
     }
 }
 
 // The null symbol over the names' counts l, where the empty name was issued; whatever the names' bytes and rows are.
-fn null_table(l: Link, symbols: &mut [u64], sections: &mut [u64]) -> Outcome
-    ensures { λ r. ⌜ ((bytes names : List ℕ) → newOutcome bytes names (now (symbols .exit)) (now (sections .exit)) r ≡ nullOf (now (symbols .entry)) (now (sections .entry)) (storeOf bytes names l)) ⌝ }
+fn null_table(gabi: bool, l: Link, symbols: &mut [u64], sections: &mut [u64]) -> Outcome
+    ensures { λ r. ⌜ ((bytes names : List ℕ) → newOutcome bytes names (now (symbols .exit)) (now (sections .exit)) r ≡ nullOf gabi (now (symbols .entry)) (now (sections .entry)) (storeOf bytes names l)) ⌝ }
 {
     if l.names == 0 {
         return refused(l, 2, 0);
@@ -141,7 +143,7 @@ fn null_table(l: Link, symbols: &mut [u64], sections: &mut [u64]) -> Outcome
     symbol::set_row(symbols, Symbols::NULL_SYMBOL_ID, null_row());
     Outcome {
         table: Symbols {
-            link: one_symbol(l, slots),
+            link: one_symbol(gabi, l, slots),
         },
         answer: Answer::Symbol {
             id: Symbols::NULL_SYMBOL_ID,
@@ -154,20 +156,21 @@ fn null_table(l: Link, symbols: &mut [u64], sections: &mut [u64]) -> Outcome
 impl Symbols {
     pub const NULL_SYMBOL_ID: SymbolId = SymbolId(0);
 
-    // A table with the null symbol alone, and the empty name. What the lent cells held before doesn't matter. Any number is a key of the names' hash.
+    // A table with the null symbol alone, and the empty name, in the old or the gABI profile. What the lent cells held before doesn't matter. Any number is a key of the names' hash.
     pub fn new(
         key: usize,
+        gabi: bool,
         bytes: &mut [u8],
         names: &mut [u64],
         symbols: &mut [u64],
         sections: &mut [u64],
     ) -> Outcome
-        ensures { λ r. ⌜ NewMeets key (before bytes) (before names) (before symbols) (before sections) (newExit bytes names symbols sections r) ⌝ }
+        ensures { λ r. ⌜ NewMeets key gabi (before bytes) (before names) (before symbols) (before sections) (newExit bytes names symbols sections r) ⌝ }
     {
         if link::symbol_rows(symbols.len()) == 0 {
             return refused(no_rows(), 2, 0);
         }
         let named = interner_calls::new(key, bytes, names);
-        null_table(named.link, symbols, sections)
+        null_table(gabi, named.link, symbols, sections)
     }
 }

@@ -1,7 +1,7 @@
 // The row that an upcoming symbol would become: its name, binding and visibility, value.
 ghost use mathlib.Core.Path.{_≡_};
 ghost use Rattle.upcoming_symbol.specs.Judge.{shownOf, hiddenOf, judgeOf};
-ghost use Rattle.upcoming_symbol.specs.Upcoming.{nameOf, inSection, convertedOf, valueOf, rowAre, elfRowOf, externalRowOf, rowOf};
+ghost use Rattle.upcoming_symbol.specs.Upcoming.{nameOf, inSection, convertedOf, valueOf, rowAre, elfRowOf, libraryCode, externalRowOf, rowOf};
 use link::Interned;
 use symbol::Row;
 use symbol::Words;
@@ -114,15 +114,25 @@ pub fn elf_row(c: Conversion, e: ElfSymbol, name: Interned, empty: bool, file: u
     row_at(name, e.kind, file, visibility, value)
 }
 
+// In the gABI profile a shared object hides no row.
+fn library_code(gabi: bool, code: u64) -> u64
+    ensures { λ r. ⌜ r ≡ libraryCode gabi code ⌝ }
+{
+    if symbol::passes_hidden(gabi, code) {
+        return symbol::show(code);
+    }
+    code
+}
+
 // Of a symbol that a shared object defines.
-pub fn external_row(name: Interned, binding: u64, visibility: u64) -> Row
-    ensures { λ r. ⌜ r ≡ externalRowOf name binding visibility ⌝ }
+pub fn external_row(gabi: bool, name: Interned, binding: u64, visibility: u64) -> Row
+    ensures { λ r. ⌜ r ≡ externalRowOf gabi name binding visibility ⌝ }
 {
     row_at(
         name,
         0,
         0,
-        judge(binding, visibility),
+        library_code(gabi, judge(binding, visibility)),
         symbol::words_at(6, 0, 0),
     )
 }
@@ -149,8 +159,8 @@ pub fn name_of(u: UpcomingSymbol) -> Interned
     }
 }
 
-pub fn row_of(conversion: &[u64], u: UpcomingSymbol, empty: bool) -> Row
-    ensures { λ r. ⌜ r ≡ rowOf (now (conversion .entry)) u empty ⌝ }
+pub fn row_of(gabi: bool, conversion: &[u64], u: UpcomingSymbol, empty: bool) -> Row
+    ensures { λ r. ⌜ r ≡ rowOf gabi (now (conversion .entry)) u empty ⌝ }
 {
     match u {
         UpcomingSymbol::Null => row_at(Interned(0), 0, 0, 0, symbol::words_at(0, 0, 0)),
@@ -171,7 +181,7 @@ pub fn row_of(conversion: &[u64], u: UpcomingSymbol, empty: bool) -> Row
             name,
             visibility,
             binding,
-        } => external_row(name, binding, visibility),
+        } => external_row(gabi, name, binding, visibility),
         UpcomingSymbol::Elf { elf, name, file } => {
             let cell = cells::get(conversion, elf.section as usize);
             let c = upcoming_symbol::conversion_from(cell);

@@ -3,7 +3,7 @@
 -- Assumes nothing.
 use Prim.Native.Nat.{ℕ, zero, suc, _+_, _*_, _-_, _^_}
 use mathlib.Core.Path.{_≡_, refl}
-use mathlib.Core.Bool.{true, false}
+use mathlib.Core.Bool.{Bool, true, false}
 use mathlib.Core.List.{List, [], _∷_}
 use lib.IntN.{ℤ, pos, negsuc}
 use lib.ListN.{length, replicate}
@@ -27,13 +27,14 @@ use Rattle.symbol.specs.declared.SttFile.the-variants as File
 use Rattle.symbol.specs.Offset.{offsetOf, wordOf}
 use Rattle.symbol.specs.Codes.{typeAt, successor, fileAt, visibilityAt, valueAt}
 use Rattle.symbol.specs.Row.{symbolAt, setRow}
+use Rattle.symbol.specs.Hidden.{hiddenCode, hideCode, showCode, passes, hideIf, passHidden}
 use Rattle.upcoming_symbol.specs.declared.UpcomingSymbol.{UpcomingSymbol}
-use Rattle.upcoming_symbol.specs.declared.UpcomingSymbol.the-variants.{Elf}
+use Rattle.upcoming_symbol.specs.declared.UpcomingSymbol.the-variants.{Elf, ExternallyDefined}
 use Rattle.upcoming_symbol.specs.Judge as Fields
-use Rattle.upcoming_symbol.specs.Upcoming.{inSection, conversionFrom, convertedOf, undefinedOf, valueOf, elfRowOf}
+use Rattle.upcoming_symbol.specs.Upcoming.{inSection, conversionFrom, convertedOf, undefinedOf, valueOf, elfRowOf, libraryCode, externalRowOf}
 use Rattle.symbol_rows.specs.Holder.{heldBy, holderOf}
 use Rattle.symbol_rows.specs.Decide as Decide
-use Rattle.symbol_rows.specs.Apply.{noteName, setSectionSymbol, noteSection, appendOf, applyOf}
+use Rattle.symbol_rows.specs.Apply.{noteName, setSectionSymbol, noteSection, appendOf, replacedIn, amendedIn, applyOf}
 use Rattle.symbols.specs.declared.Found.{Found}
 use Rattle.symbols.specs.declared.Found.the-variants as Fd
 use Rattle.symbols.specs.Calls.{Left}
@@ -54,45 +55,44 @@ mute = 109 ∷ 117 ∷ 116 ∷ 101 ∷ []
 abbrev pub clear : List ℕ
 clear = 99 ∷ 108 ∷ 101 ∷ 97 ∷ 114 ∷ []
 
-unfoldable pub start : ℕ → State
-start n =
+unfoldable pub start : Bool → ℕ → State
+start profile n =
     callNext (intern clear)
     (callNext (intern mute)
-    (opened (newOf 0 (replicate {A = ℕ} 16 0) (replicate {A = ℕ} 27 0) (replicate {A = ℕ} (n * 8) 0) (replicate {A = ℕ} 90 0))))
+    (opened (newOf 0 profile (replicate {A = ℕ} 16 0) (replicate {A = ℕ} 27 0) (replicate {A = ℕ} (n * 8) 0) (replicate {A = ℕ} 90 0))))
+
+-- the profiles
+abbrev pub old : Bool
+old = false
+
+abbrev pub gabi : Bool
+gabi = true
 
 -- ---- a line of a sheet
 
-pub record Line : Type 0 where
-  pub name : ℕ
-  pub binding : ℕ
-  pub visibility : ℕ
-  pub type : ℕ
-  pub section : ℕ
-  pub value : ℕ
+-- name, binding, visibility, type, section, value
+abbrev pub line : ℕ → ℕ → ℕ → ℕ → ℕ → ℕ → UpcomingSymbol
+line n b v k s x = Elf (record { binding = b; visibility = v; kind = k; section = s; value = x }) (record { 0 = n }) File.None
 
-abbrev pub line : ℕ → ℕ → ℕ → ℕ → ℕ → ℕ → Line
-line n b v k s x = record { name = n; binding = b; visibility = v; type = k; section = s; value = x }
+-- what a shared object defines: name, binding, visibility
+abbrev pub shared : ℕ → ℕ → ℕ → UpcomingSymbol
+shared n b v = ExternallyDefined (record { 0 = n }) v b
 
 -- "Sections 1 to 9 have ids 1 to 9"; section 10 isn't loaded
 abbrev pub sections : List ℕ
 sections = 0 ∷ 3 ∷ 4 ∷ 5 ∷ 6 ∷ 7 ∷ 8 ∷ 9 ∷ 10 ∷ 11 ∷ 1 ∷ []
 
-abbrev pub symbolOf : Line → UpcomingSymbol
-symbolOf l =
-    Elf (record { binding = l .binding; visibility = l .visibility; kind = l .type; section = l .section; value = l .value })
-    (record { 0 = l .name }) File.None
-
-abbrev pub added : Line → State → Left
-added l s = addTo s sections (symbolOf l)
+abbrev pub added : UpcomingSymbol → State → Left
+added u s = addTo s sections u
 
 -- what each line answers, and the table at the end, row by row
-abbrev pub answers : List Line → State → List Said
+abbrev pub answers : List UpcomingSymbol → State → List Said
 answers [] s = []
-answers (l ∷ ls) s = added l s .said ∷ answers ls (withTable s (added l s .table))
+answers (u ∷ us) s = added u s .said ∷ answers us (withTable s (added u s .table))
 
-abbrev pub after : List Line → State → State
+abbrev pub after : List UpcomingSymbol → State → State
 after [] s = s
-after (l ∷ ls) s = after ls (withTable s (added l s .table))
+after (u ∷ us) s = after us (withTable s (added u s .table))
 
 abbrev pub rowsFrom : ℕ → ℕ → State → List Found
 rowsFrom i zero s = []
@@ -105,17 +105,23 @@ found (x ∷ xs) = Fd.Row x ∷ found xs
 -- ---- the list
 
 pub data Case : Type 0 where
-  -- symbol rows lent, the sheet, its answers, and the whole table then
-  adds : ℕ → List Line → List Said → List Symbol → Case
+  -- profile, symbol rows lent, the sheet, its answers, and the whole table then
+  adds : Bool → ℕ → List UpcomingSymbol → List Said → List Symbol → Case
+  -- the same in both profiles
+  both : ℕ → List UpcomingSymbol → List Said → List Symbol → Case
   -- a value in a section, and its offset
   offset : ℕ → ℤ → Case
   group : Groups.Example → Case
   walk : Walks.Example → Case
   collection : Collections.Example → Case
 
+abbrev pub Adds : Bool → ℕ → List UpcomingSymbol → List Said → List Symbol → Type 0
+Adds profile n us said table =
+    (answers us (start profile n) ≡ said) × (after us (start profile n) .link .symbols ≡ length table) × (rowsFrom 0 (length table) (after us (start profile n)) ≡ found table)
+
 abbrev pub Right : Case → Type 0
-Right (adds n ls said table) =
-    (answers ls (start n) ≡ said) × (after ls (start n) .link .symbols ≡ length table) × (rowsFrom 0 (length table) (after ls (start n)) ≡ found table)
+Right (adds profile n us said table) = Adds profile n us said table
+Right (both n us said table) = Adds old n us said table × Adds gabi n us said table
 Right (offset v z) = offsetOf v ≡ z
 Right (group e) = Groups.Right e
 Right (walk e) = Walks.Right e
@@ -133,6 +139,9 @@ strong = Global false false
 abbrev pub weak : SymbolVisibility
 weak = Global true false
 
+abbrev pub hidden : SymbolVisibility
+hidden = Global false true
+
 abbrev pub relative : ℕ → ℕ → SymbolValue
 relative s x = Val.SectionRelative (record { 0 = s }) (pos x)
 
@@ -142,44 +151,64 @@ refused n = refusing (Judge.refused n 0)
 abbrev pub cases : List Case
 cases =
     -- P1: the sheet's rows 1 and 2
-    adds 4 (line 1 2 0 2 1 16 ∷ line 1 1 0 2 2 0 ∷ []) (accepted 1 ∷ accepted 1 ∷ []) (null ∷ symbol 1 1 Ty.Function strong (relative 2 0) ∷ [])
-    -- P2: strong then weak, unchanged
-    ∷ adds 4 (line 1 1 0 2 2 0 ∷ line 1 2 0 2 1 16 ∷ []) (accepted 1 ∷ accepted 1 ∷ []) (null ∷ symbol 1 1 Ty.Function strong (relative 2 0) ∷ [])
+    both 4 (line 1 2 0 2 1 16 ∷ line 1 1 0 2 2 0 ∷ []) (accepted 1 ∷ accepted 1 ∷ []) (null ∷ symbol 1 1 Ty.Function strong (relative 2 0) ∷ [])
+    -- P2: strong then weak, not hidden: unchanged
+    ∷ both 4 (line 1 1 0 2 2 0 ∷ line 1 2 0 2 1 16 ∷ []) (accepted 1 ∷ accepted 1 ∷ []) (null ∷ symbol 1 1 Ty.Function strong (relative 2 0) ∷ [])
     -- P3: the offset of 2^63 is -2^63
     ∷ offset (2 ^ 63) (negsuc (2 ^ 63 - 1))
     -- P4: the offset of 2^63 - 1 is itself
     ∷ offset (2 ^ 63 - 1) (pos (2 ^ 63 - 1))
     -- P5: local internal
-    ∷ adds 4 (line 1 0 1 0 1 0 ∷ []) (refused 10 ∷ []) (null ∷ [])
+    ∷ both 4 (line 1 0 1 0 1 0 ∷ []) (refused 10 ∷ []) (null ∷ [])
     -- P6: local hidden
-    ∷ adds 4 (line 1 0 2 0 1 0 ∷ []) (refused 11 ∷ []) (null ∷ [])
+    ∷ both 4 (line 1 0 2 0 1 0 ∷ []) (refused 11 ∷ []) (null ∷ [])
     -- P7: weak then strong reference: weak
-    ∷ adds 4 (line 1 2 0 0 0 0 ∷ line 1 1 0 0 0 0 ∷ []) (accepted 1 ∷ accepted 1 ∷ []) (null ∷ symbol 1 1 Ty.NoType weak (Val.Undefined true) ∷ [])
+    ∷ both 4 (line 1 2 0 0 0 0 ∷ line 1 1 0 0 0 0 ∷ []) (accepted 1 ∷ accepted 1 ∷ []) (null ∷ symbol 1 1 Ty.NoType weak (Val.Undefined true) ∷ [])
     -- P8: non-COMDAT, zero sections: 4; COMDAT: 5
     ∷ group Groups.p8
     ∷ group Groups.p8Comdat
     -- P9: undefined of type 4 under a known name is accepted; new: 15
-    ∷ adds 4 (line 1 1 0 2 1 0 ∷ line 1 1 0 4 0 0 ∷ line 2 1 0 4 0 0 ∷ []) (accepted 1 ∷ accepted 1 ∷ refused 15 ∷ [])
+    ∷ both 4 (line 1 1 0 2 1 0 ∷ line 1 1 0 4 0 0 ∷ line 2 1 0 4 0 0 ∷ []) (accepted 1 ∷ accepted 1 ∷ refused 15 ∷ [])
     (null ∷ symbol 1 1 Ty.Function strong (relative 1 0) ∷ [])
     -- P10: one name to A and B, undefined: both are offered
     ∷ walk Walks.p10
+    ∷ walk (Walks.p10In true)
     -- P11: one useless member: 2 passes
     ∷ walk Walks.p11
+    ∷ walk (Walks.p11In true)
+    -- a weak reference: in the old profile it ties its member, in the gABI profile none
+    ∷ walk Walks.weakTies
+    ∷ walk Walks.weakTiesNone
     -- P12: two unrooted sections naming each other: both dropped
     ∷ collection Collections.p12
     -- the add sheet
-    ∷ adds 4 (line 1 2 0 2 1 16 ∷ line 1 1 0 2 2 0 ∷ line 1 1 0 2 0 0 ∷ line 2 2 0 0 0 0 ∷ line 1 1 0 2 3 0 ∷ [])
+    ∷ both 4 (line 1 2 0 2 1 16 ∷ line 1 1 0 2 2 0 ∷ line 1 1 0 2 0 0 ∷ line 2 2 0 0 0 0 ∷ line 1 1 0 2 3 0 ∷ [])
     (accepted 1 ∷ accepted 1 ∷ accepted 1 ∷ accepted 2 ∷ refused 17 ∷ [])
     (null ∷ symbol 1 1 Ty.Function strong (relative 2 0) ∷ symbol 2 2 Ty.NoType weak (Val.Undefined true) ∷ [])
-    -- "hidden isn't passed on to another holder"
-    ∷ adds 4 (line 1 2 2 2 1 0 ∷ line 1 1 0 2 2 0 ∷ []) (accepted 1 ∷ accepted 1 ∷ []) (null ∷ symbol 1 1 Ty.Function strong (relative 2 0) ∷ [])
+    -- "hidden isn't passed on to another holder"; in the gABI profile it is
+    ∷ adds old 4 (line 1 2 2 2 1 0 ∷ line 1 1 0 2 2 0 ∷ []) (accepted 1 ∷ accepted 1 ∷ []) (null ∷ symbol 1 1 Ty.Function strong (relative 2 0) ∷ [])
+    ∷ adds gabi 4 (line 1 2 2 2 1 0 ∷ line 1 1 0 2 2 0 ∷ []) (accepted 1 ∷ accepted 1 ∷ []) (null ∷ symbol 1 1 Ty.Function hidden (relative 2 0) ∷ [])
     -- ruled out: "checking type before the duplicate"
-    ∷ adds 4 (line 1 1 0 2 1 0 ∷ line 1 1 0 4 2 0 ∷ []) (accepted 1 ∷ refused 17 ∷ []) (null ∷ symbol 1 1 Ty.Function strong (relative 1 0) ∷ [])
+    ∷ both 4 (line 1 1 0 2 1 0 ∷ line 1 1 0 4 2 0 ∷ []) (accepted 1 ∷ refused 17 ∷ []) (null ∷ symbol 1 1 Ty.Function strong (relative 1 0) ∷ [])
     -- ruled out: "reading "not loaded" as undefined"
-    ∷ adds 4 (line 1 1 0 2 10 0 ∷ line 1 1 0 2 1 0 ∷ []) (accepted 1 ∷ refused 17 ∷ []) (null ∷ symbol 1 1 Ty.Function strong Val.SectionNotLoaded ∷ [])
+    ∷ both 4 (line 1 1 0 2 10 0 ∷ line 1 1 0 2 1 0 ∷ []) (accepted 1 ∷ refused 17 ∷ []) (null ∷ symbol 1 1 Ty.Function strong Val.SectionNotLoaded ∷ [])
     -- "Two rows lent: null and one undefined name fit, a second name gets 2, a definition of the first name is accepted"
-    ∷ adds 2 (line 1 1 0 0 0 0 ∷ line 2 1 0 0 0 0 ∷ line 1 1 0 2 1 0 ∷ []) (accepted 1 ∷ refused 2 ∷ accepted 1 ∷ [])
+    ∷ both 2 (line 1 1 0 0 0 0 ∷ line 2 1 0 0 0 0 ∷ line 1 1 0 2 1 0 ∷ []) (accepted 1 ∷ refused 2 ∷ accepted 1 ∷ [])
     (null ∷ symbol 1 1 Ty.Function strong (relative 1 0) ∷ [])
+    -- hidden: a hidden reference, then a definition that isn't
+    ∷ adds old 4 (line 1 1 2 0 0 0 ∷ line 1 1 0 2 2 0 ∷ []) (accepted 1 ∷ accepted 1 ∷ []) (null ∷ symbol 1 1 Ty.Function strong (relative 2 0) ∷ [])
+    ∷ adds gabi 4 (line 1 1 2 0 0 0 ∷ line 1 1 0 2 2 0 ∷ []) (accepted 1 ∷ accepted 1 ∷ []) (null ∷ symbol 1 1 Ty.Function hidden (relative 2 0) ∷ [])
+    -- a definition, then a hidden weak one: unchanged, but in the gABI profile hidden
+    ∷ adds old 4 (line 1 1 0 2 2 0 ∷ line 1 2 2 2 1 0 ∷ []) (accepted 1 ∷ accepted 1 ∷ []) (null ∷ symbol 1 1 Ty.Function strong (relative 2 0) ∷ [])
+    ∷ adds gabi 4 (line 1 1 0 2 2 0 ∷ line 1 2 2 2 1 0 ∷ []) (accepted 1 ∷ accepted 1 ∷ []) (null ∷ symbol 1 1 Ty.Function hidden (relative 2 0) ∷ [])
+    -- a shared object's hidden definition, of a new name
+    ∷ adds old 4 (shared 1 1 2 ∷ []) (accepted 1 ∷ []) (null ∷ symbol 1 1 Ty.NoType hidden Val.ExternallyDefined ∷ [])
+    ∷ adds gabi 4 (shared 1 1 2 ∷ []) (accepted 1 ∷ []) (null ∷ symbol 1 1 Ty.NoType strong Val.ExternallyDefined ∷ [])
+    -- an object's hidden reference, then a shared object's definition
+    ∷ adds old 4 (line 1 1 2 0 0 0 ∷ shared 1 1 0 ∷ []) (accepted 1 ∷ accepted 1 ∷ []) (null ∷ symbol 1 1 Ty.NoType strong Val.ExternallyDefined ∷ [])
+    ∷ adds gabi 4 (line 1 1 2 0 0 0 ∷ shared 1 1 0 ∷ []) (accepted 1 ∷ accepted 1 ∷ []) (null ∷ symbol 1 1 Ty.NoType hidden Val.ExternallyDefined ∷ [])
+    -- a refused add hides nothing
+    ∷ both 4 (line 1 1 0 2 1 0 ∷ line 1 1 2 2 2 0 ∷ []) (accepted 1 ∷ refused 17 ∷ []) (null ∷ symbol 1 1 Ty.Function strong (relative 1 0) ∷ [])
     ∷ []
 
 abbrev pub All : (Case → Type 0) → List Case → Type 0
@@ -187,6 +216,6 @@ All P [] = Unit {0}
 All P (x ∷ xs) = P x × All P xs
 
 pub promises : All Right cases
-unfolding start putRow same copied lesser Judge.judgeSections Judge.judgeNames Judge.judgeLists Judge.afterSymbols Judge.afterSections Judge.judgeOf Judge.changeOf wordAt Keyed.folded Keyed.mixed Keyed.hashFrom Keyed.pointOf Keyed.hashOf spread headCell Names.chase Names.seekOf Names.findFrom Names.findOf Names.roomOf Names.fitsOf Names.linked Names.keepOf Interns.issueOf Interns.internOf Interns.clearHeads Interns.newOf offsetOf wordOf typeAt successor fileAt visibilityAt valueAt symbolAt setRow Fields.sectionInRange Fields.elfInRange Fields.shownOf Fields.hiddenOf Fields.judgeOf inSection conversionFrom convertedOf undefinedOf valueOf elfRowOf heldBy holderOf Decide.weakOf Decide.rankOf Decide.typeRefusal Decide.sectionCell Decide.sectionRoom Decide.roomOf Decide.newOf Decide.replaceOf Decide.rankedOf Decide.knownOf Decide.decideOf noteName setSectionSymbol noteSection appendOf applyOf clearSymbols nullOf newOf judgeAddOf issuedOf directHolderOf placeOf decidedOf committedOf addRowOf addOf foundAt getOf
+unfolding start putRow same copied lesser Judge.judgeSections Judge.judgeNames Judge.judgeLists Judge.afterSymbols Judge.afterSections Judge.judgeOf Judge.changeOf wordAt Keyed.folded Keyed.mixed Keyed.hashFrom Keyed.pointOf Keyed.hashOf spread headCell Names.chase Names.seekOf Names.findFrom Names.findOf Names.roomOf Names.fitsOf Names.linked Names.keepOf Interns.issueOf Interns.internOf Interns.clearHeads Interns.newOf offsetOf wordOf typeAt successor fileAt visibilityAt valueAt symbolAt setRow Fields.sectionInRange Fields.elfInRange Fields.externalInRange Fields.shownOf Fields.hiddenOf Fields.judgeOf inSection conversionFrom convertedOf undefinedOf valueOf elfRowOf libraryCode externalRowOf heldBy holderOf Decide.weakOf Decide.rankOf Decide.typeRefusal Decide.sectionCell Decide.sectionRoom Decide.roomOf Decide.newOf Decide.replaceOf hiddenCode hideCode showCode passes hideIf passHidden Decide.keptOf Decide.rankedOf Decide.knownOf Decide.decideOf noteName setSectionSymbol noteSection appendOf replacedIn amendedIn applyOf clearSymbols nullOf newOf judgeAddOf issuedOf directHolderOf placeOf decidedOf committedOf addRowOf addOf foundAt getOf
 promises =
-    ((refl, refl, refl), ((refl, refl, refl), (refl, (refl, ((refl, refl, refl), ((refl, refl, refl), ((refl, refl, refl), (Groups.p8-right, (Groups.p8-comdat-right, ((refl, refl, refl), (Walks.p10-right, (Walks.p11-right, (Collections.p12-right, ((refl, refl, refl), ((refl, refl, refl), ((refl, refl, refl), ((refl, refl, refl), ((refl, refl, refl), tt))))))))))))))))))
+    (((refl, refl, refl), (refl, refl, refl)), (((refl, refl, refl), (refl, refl, refl)), (refl, (refl, (((refl, refl, refl), (refl, refl, refl)), (((refl, refl, refl), (refl, refl, refl)), (((refl, refl, refl), (refl, refl, refl)), (Groups.p8-right, (Groups.p8-comdat-right, (((refl, refl, refl), (refl, refl, refl)), (Walks.p10-right, (Walks.p10-gabi-right, (Walks.p11-right, (Walks.p11-gabi-right, (Walks.weak-ties-right, (Walks.weak-ties-none-right, (Collections.p12-right, (((refl, refl, refl), (refl, refl, refl)), ((refl, refl, refl), ((refl, refl, refl), (((refl, refl, refl), (refl, refl, refl)), (((refl, refl, refl), (refl, refl, refl)), (((refl, refl, refl), (refl, refl, refl)), ((refl, refl, refl), ((refl, refl, refl), ((refl, refl, refl), ((refl, refl, refl), ((refl, refl, refl), ((refl, refl, refl), ((refl, refl, refl), ((refl, refl, refl), (((refl, refl, refl), (refl, refl, refl)), tt))))))))))))))))))))))))))))))))

@@ -27,7 +27,7 @@ objectWith flags sections =
 abbrev pub table : State
 table =
     stateOf [] (replicate {A = ℕ} 9 0) (replicate {A = ℕ} 16 0)
-    (record { names = 1; bytes = 0; symbols = 1; sections = 0; inputs = 0; lists = 0; chains = 1; slots = 0; key = 0; broken = false })
+    (record { names = 1; bytes = 0; symbols = 1; sections = 0; inputs = 0; lists = 0; chains = 1; slots = 0; key = 0; gabi = false; broken = false })
 
 -- refused with that number at section 1, and everything left as it was
 abbrev pub Right : Example → Type 0

@@ -94,7 +94,7 @@ impl Machine {
 
     /// Merges the object announced last.
     pub fn time_merge(&mut self) -> Result<Duration, Fault> {
-        let elf = self.object.elf()?;
+        let elf = self.rows.object.elf()?;
         let link = &mut self.link;
         let source = ObjectSpan::new_synthetic();
         let (time, merged) =
@@ -104,7 +104,7 @@ impl Machine {
 
     /// Loads the library announced last.
     pub fn time_load(&mut self) -> Result<Duration, Fault> {
-        let rows = &self.library;
+        let rows = &self.rows.library;
         let (library, file) = (rows.library(), rows.file.clone());
         let object = &mut self.link.object;
         let (time, loaded) = timed(|| load_inputs::load(object, library, file, rows.as_needed));
@@ -115,7 +115,7 @@ impl Machine {
     /// stand-in reads a file of a few bytes, which is opened before.
     pub fn time_start(&mut self) -> Result<Duration, Fault> {
         cuddld_ar::clear_shelf();
-        let file = TemporaryFile::new(&cuddld_ar::shelve(self.archive.archive()?))?;
+        let file = TemporaryFile::new(&cuddld_ar::shelve(self.rows.archive.archive()?))?;
         let time = load_inputs::time_new(&file.path, &self.link.object.symbols);
         time.map_err(|error| error.to_string())?.ok_or_else(|| "nothing is offered".into())
     }

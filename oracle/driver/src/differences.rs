@@ -98,7 +98,7 @@ pub(crate) fn show() -> String {
     tell("an admission issues the member's names (name6)", "no name", is_issued("name6"));
 
     let (machine, _) = fresh("archive 1 1\nentry 8 a");
-    let file = cuddld_ar::shelve(machine.archive.archive().expect("an archive"));
+    let file = cuddld_ar::shelve(machine.rows.archive.archive().expect("an archive"));
     let file = TemporaryFile::new(&file).expect("a file");
     tell(
         "`PendingArchive::new` makes the first pass: a name that is referred to after it is too late",

@@ -114,7 +114,7 @@ impl Machine {
     pub(crate) fn try_add(&mut self, add: &Direct) -> Result<u64, u64> {
         let mut not_loaded = BTreeSet::new();
         let mut conversion = BTreeMap::new();
-        for (number, entry) in self.conversion.iter().enumerate() {
+        for (number, entry) in self.rows.conversion.iter().enumerate() {
             match entry {
                 Conversion::Nothing => {}
                 Conversion::NotLoaded => {

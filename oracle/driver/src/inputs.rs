@@ -12,7 +12,7 @@ use std::sync::atomic::{AtomicU64, Ordering};
 
 impl Machine {
     pub(crate) fn merge(&mut self) -> Result<String, Fault> {
-        let elf = self.object.elf()?;
+        let elf = self.rows.object.elf()?;
         let link = &mut self.link;
         let call = || {
             let source = ObjectSpan::new_synthetic();
@@ -26,7 +26,7 @@ impl Machine {
     }
 
     pub(crate) fn load(&mut self) -> String {
-        let rows = &self.library;
+        let rows = &self.rows.library;
         let object = &mut self.link.object;
         let inputs = object.inputs.len();
         let call = || load_inputs::load(object, rows.library(), rows.file.clone(), rows.as_needed);
@@ -40,7 +40,7 @@ impl Machine {
     }
 
     pub(crate) fn start(&mut self) -> Result<String, Fault> {
-        let archive = self.archive.archive()?;
+        let archive = self.rows.archive.archive()?;
         self.walk = None;
         self.required = None;
         Ok(match guarded(|| ArchiveWalk::start(archive, &self.link.object.symbols)) {
@@ -72,12 +72,12 @@ impl Machine {
 
     pub(crate) fn admit(&self) -> Result<String, Fault> {
         let required = self.required.as_ref().ok_or("nothing is required")?;
-        Ok(if required.admits(&self.object.elf()?) { "yes".into() } else { "no".into() })
+        Ok(if required.admits(&self.rows.object.elf()?) { "yes".into() } else { "no".into() })
     }
 
     pub(crate) fn walk(&mut self) -> Result<Vec<String>, Fault> {
-        let mut archive = self.archive.archive()?;
-        for (offset, rows) in &self.archive.members {
+        let mut archive = self.rows.archive.archive()?;
+        for (offset, rows) in &self.rows.archive.members {
             let bytes = cuddld_elf::shelve(Stored::Object(rows.elf()?));
             archive.members.insert(*offset as u32, bytes);
         }

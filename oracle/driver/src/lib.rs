@@ -16,6 +16,7 @@ mod repr;
 #[allow(dead_code)]
 mod utils;
 
+mod announced;
 pub mod bench;
 mod broken;
 mod count;
@@ -27,6 +28,7 @@ mod inputs;
 mod link;
 mod machine;
 mod model;
+mod reference;
 mod refusal;
 mod rows;
 mod selftest;
@@ -38,6 +40,8 @@ pub use broken::{breaks, changes};
 pub use count::count;
 pub use generate::{KINDS, Random, Said, histories, list};
 pub use machine::Machine;
+pub use model::Seen;
+pub use reference::{Reference, begins};
 pub use refusal::silence_panics;
 
 /// The program `oracle`.
@@ -45,8 +49,10 @@ pub fn run_command() {
     silence_panics();
     let words: Vec<String> = std::env::args().skip(1).collect();
     let words: Vec<&str> = words.iter().map(String::as_str).collect();
+    let (mut rust, mut model) = (Machine::new(), model::Model::new());
     let result = match words.as_slice() {
-        ["run"] => run(),
+        ["run"] => run(|line| rust.line(line)),
+        ["model"] => run(|line| model.line(line)),
         ["gen", "sheets", seed, count, folder] => sheets(number(seed), number(count), folder),
         ["gen", kind, seed, count] => match generate::list(kind, number(seed), number(count)) {
             Some(list) => print(&list),
@@ -68,9 +74,9 @@ pub fn run_command() {
 /// The longest line of a list, so that a program with a fixed buffer can read it.
 const LONGEST: usize = 4096;
 
-fn run() -> Result<(), String> {
+/// Writes a list with the answers that are made to its lines.
+fn run(mut answer: impl FnMut(&str) -> Result<Vec<String>, form::Fault>) -> Result<(), String> {
     let text = read_all()?;
-    let mut machine = machine::Machine::new();
     let mut out = String::new();
     for (number, line) in text.lines().enumerate() {
         // Old answers are made again.
@@ -83,7 +89,7 @@ fn run() -> Result<(), String> {
             continue;
         }
         let at = |fault| format!("line {}: {fault}: {line}", number + 1);
-        for answer in machine.line(line).map_err(at)? {
+        for answer in answer(line).map_err(at)? {
             out += &format!("> {answer}\n");
         }
     }
@@ -96,20 +102,21 @@ fn run() -> Result<(), String> {
 /// Runs a list on the Rust and on our reading of document 01, and stops at the first difference.
 fn reading(text: &str) -> Result<String, String> {
     let mut machine = machine::Machine::new();
-    let mut model = model::Model::default();
+    let mut model = model::Model::new();
     let (mut lines, mut answers) = (0, 0);
     let mut link = Vec::new();
     for line in text.lines() {
         if line.is_empty() || line.starts_with(['#', '>']) {
             continue;
         }
-        if line == "link" {
+        if begins(line) {
             link.clear();
         }
         link.push(line);
         let rust = machine.line(line).map_err(|fault| format!("{fault}: {line}"))?;
-        let ours = model.line(line, &machine);
-        if rust != ours {
+        let ours = model.line(line).map_err(|fault| format!("{fault}: {line}"))?;
+        let same = |(rust, ours): (&String, &String)| same_answer(rust, ours);
+        if rust.len() != ours.len() || !rust.iter().zip(&ours).all(same) {
             let link = link.join("\n");
             return Err(format!("{link}\n\nthe Rust: {rust:#?}\nthe reading: {ours:#?}"));
         }
@@ -117,6 +124,14 @@ fn reading(text: &str) -> Result<String, String> {
         answers += rust.len();
     }
     Ok(format!("{lines} lines, {answers} answers, no difference\n"))
+}
+
+/// Whether an answer is the one that is expected, in which a place of `?` isn't compared.
+pub fn same_answer(expected: &str, answer: &str) -> bool {
+    match expected.strip_suffix(" ?") {
+        Some(expected) => answer.rsplit_once(' ').is_some_and(|(answer, _)| answer == expected),
+        None => expected == answer,
+    }
 }
 
 /// Sheets and what `addsheet` must print for them: N.sheet and N.expected.

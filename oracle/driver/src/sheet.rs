@@ -8,7 +8,7 @@ use cuddld_utils::ints::ExtractNumber;
 
 pub(crate) fn answer(sheet: &str) -> Result<String, Fault> {
     let mut machine = Machine::new();
-    machine.conversion =
+    machine.rows.conversion =
         std::iter::once(Conversion::Nothing).chain((1..10).map(Conversion::Id)).collect();
 
     let mut refused = String::new();

@@ -1,4 +1,5 @@
-//! The oracle (the Rust of cuddld) and this port, run on the same links in one process.
+//! The oracle and this port, run on the same links in one process. The oracle is the Rust of cuddld
+//! for links of the old profile, and a plain reading of the documents for those of the gABI profile.
 pub mod minimise;
 pub mod ours;
 pub mod rows;
@@ -6,12 +7,7 @@ pub mod rows;
 use ours::Ours;
 
 /// Whether an answer of ours is the Rust's. A place of `?` isn't compared (oracle/README.md).
-pub fn same_answer(rust: &str, ours: &str) -> bool {
-    match rust.strip_suffix(" ?") {
-        Some(rust) => ours.rsplit_once(' ').is_some_and(|(ours, _)| ours == rust),
-        None => rust == ours,
-    }
-}
+pub use oracle::same_answer;
 
 pub fn same_answers(rust: &[String], ours: &[String]) -> bool {
     rust.len() == ours.len() && rust.iter().zip(ours).all(|(rust, ours)| same_answer(rust, ours))
@@ -86,8 +82,8 @@ mod tests {
 
     fn run(lines: &[&str]) -> Vec<Outcome> {
         oracle::silence_panics();
-        let (mut machine, mut sides) = (oracle::Machine::new(), Sides::default());
-        lines.iter().map(|line| sides.line(line, &machine.line(line).unwrap())).collect()
+        let (mut reference, mut sides) = (oracle::Reference::new(), Sides::default());
+        lines.iter().map(|line| sides.line(line, &reference.line(line).unwrap())).collect()
     }
 
     #[test]
@@ -113,6 +109,19 @@ mod tests {
         let calls = ["add unknown a", "remove 0", "merge", "load", "collect 0 0 00", "dump"];
         let outcomes = run(&[&object[..], &calls[..]].concat());
         assert!(outcomes.iter().all(|outcome| matches!(outcome, Outcome::Same)));
+    }
+
+    #[test]
+    fn links_of_both_profiles_in_turn() {
+        let lines =
+            ["add elf a 1 0 0 65521 4 0 -", "add elf a 2 0 2 65521 8 0 -", "global a", "dump"];
+        let links = ["link", "link gabi", "link gabi", "link"];
+        let lines: Vec<_> = links.iter().flat_map(|link| [&[*link], &lines[..]].concat()).collect();
+        assert!(run(&lines).iter().all(|outcome| matches!(outcome, Outcome::Same)));
+        let mut ours = Ours::new();
+        let answers: Vec<_> = lines.iter().map(|line| ours.line(line)).collect();
+        let hidden = |at: usize| answers[at] == ["symbol 1 a global 1 0 0 - abs 4"];
+        assert_eq!([3, 8, 13, 18].map(hidden), [false, true, true, false]);
     }
 
     #[test]

@@ -1,7 +1,7 @@
 //! Makes a link on which the two sides differ short.
 use crate::rows::*;
 use crate::{Outcome, Sides};
-use oracle::Machine;
+use oracle::{Reference, begins};
 
 /// The first line whose answers differ, with both answers.
 pub struct Difference {
@@ -12,10 +12,10 @@ pub struct Difference {
 
 /// Runs lines on both sides, from nothing.
 pub fn difference(lines: &[String]) -> Option<Difference> {
-    let (mut machine, mut sides) = (Machine::new(), Sides::default());
+    let (mut reference, mut sides) = (Reference::new(), Sides::default());
     for line in lines {
         // A line that the oracle doesn't take is no difference.
-        let rust = machine.line(line).ok()?;
+        let rust = reference.line(line).ok()?;
         if let Outcome::Differs(rust, ours) = sides.line(line, &rust) {
             return Some(Difference { line: line.clone(), rust, ours });
         }
@@ -47,7 +47,7 @@ pub fn minimise(lines: &[String]) -> Vec<String> {
         while at > 0 {
             at -= 1;
             // A list begins with a new link.
-            if matches!(&blocks[at], Block::Line(line) if line == "link") {
+            if matches!(&blocks[at], Block::Line(line) if begins(line)) {
                 continue;
             }
             let mut fewer = blocks.clone();
@@ -81,7 +81,7 @@ fn announced(blocks: &[Block]) -> bool {
     let (mut object, mut library) = (false, false);
     blocks.iter().all(|block| {
         match block {
-            Block::Line(line) if line == "link" => (object, library) = (false, false),
+            Block::Line(line) if begins(line) => (object, library) = (false, false),
             Block::Object(_) => object = true,
             Block::Library(_) => library = true,
             _ => {}

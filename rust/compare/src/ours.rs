@@ -7,12 +7,15 @@ use std::cell::Cell;
 use std::collections::{BTreeMap, BTreeSet};
 use std::panic::{AssertUnwindSafe, catch_unwind};
 
-/// Enough for the links of the lists: the Rust's have no bounds, so that none may be met here.
+/// Enough for the links of the lists: the Rust's have no bounds, so that none may be met here, nor
+/// have those of the plain reading.
 const CAPACITY: Capacity =
     Capacity { names: 512, name_bytes: 65_536, symbols: 1024, sections: 256, inputs: 64 };
 
 pub struct Ours {
     link: Link,
+    /// A link of the other profile, for the next one that is.
+    other: Link,
     /// Has the groups of the merged objects, each added by itself.
     alone: Link,
     conversion: SectionConversion,
@@ -61,11 +64,14 @@ impl Default for Ours {
 
 impl Ours {
     pub fn new() -> Self {
-        let mut link = Link::with_capacity(CAPACITY).expect("room for the null symbol");
+        let new =
+            |profile| Link::with_profile(profile, CAPACITY).expect("room for the null symbol");
+        let mut link = new(Profile::Old);
         Ours {
             empty: link.intern(b"").expect("the empty name"),
             alone: link.clone(),
             link,
+            other: new(Profile::Gabi),
             conversion: SectionConversion::new(),
             object: ObjectRows::default(),
             library: LibraryRows::default(),
@@ -85,7 +91,7 @@ impl Ours {
     /// The answers to a line, without their `> `. A panic is one, so that its link isn't lost.
     pub fn line(&mut self, line: &str) -> Vec<String> {
         let counts = |link: &Link| format!("{link:?}");
-        let before = (self.is_broken() && line != "link").then(|| counts(&self.link));
+        let before = (self.is_broken() && !oracle::begins(line)).then(|| counts(&self.link));
         ANSWERS.set(true);
         let answers = catch_unwind(AssertUnwindSafe(|| self.answers(line)));
         ANSWERS.set(false);
@@ -100,7 +106,11 @@ impl Ours {
     fn answers(&mut self, line: &str) -> Vec<String> {
         let (keyword, mut words) = Words::of(line);
         match keyword {
-            "link" => self.clear(),
+            "link" => self.clear(match words.0.next() {
+                None => Profile::Old,
+                Some("gabi") => Profile::Gabi,
+                Some(other) => panic!("no profile {other:?}"),
+            }),
             "conversion" => self.conversion = words.0.map(converted).collect(),
             "add" => return vec![told(self.add(&mut words).map(id))],
             "remove" => {
@@ -161,7 +171,10 @@ impl Ours {
         Vec::new()
     }
 
-    fn clear(&mut self) {
+    fn clear(&mut self, profile: Profile) {
+        if self.link.profile() != profile {
+            std::mem::swap(&mut self.link, &mut self.other);
+        }
         self.link.clear();
         self.alone.clear();
         (self.object, self.library) = (ObjectRows::default(), LibraryRows::default());
@@ -277,8 +290,8 @@ impl Ours {
     fn admit(&self) -> Result<String, Refusal> {
         let object = object(&self.object);
         let admitted = match (&self.required, &self.walk, &self.offered) {
-            (Some(names), _, _) => by_hand(names, &object)?,
-            (None, Some(walk), Some(member)) => walk.admits(member, &object)?,
+            (Some(names), _, _) => by_hand(self.link.profile(), names, &object)?,
+            (None, Some(walk), Some(member)) => walk.admits(&self.link, member, &object)?,
             _ => panic!("nothing is required"),
         };
         Ok(if admitted { "yes".into() } else { "no".into() })
@@ -304,7 +317,7 @@ impl Ours {
                 }
             };
             let rows = &self.members[&member.offset];
-            let outcome = match walk.admits(&member, &object(rows)) {
+            let outcome = match walk.admits(&self.link, &member, &object(rows)) {
                 Ok(false) => "no".into(),
                 Ok(true) => merge(&mut self.link, &mut self.alone, rows),
                 Err(refusal) => refused(refusal),
@@ -620,11 +633,11 @@ fn merge(link: &mut Link, alone: &mut Link, rows: &ObjectRows) -> String {
 
 /// Admission by names that were set by hand: a walk over a link in which just these are
 /// undefined, of an index that ties them all to one member.
-fn by_hand(names: &[String], object: &Object) -> Result<bool, Refusal> {
+fn by_hand(profile: Profile, names: &[String], object: &Object) -> Result<bool, Refusal> {
     if names.is_empty() {
         return Ok(false);
     }
-    let mut link = Link::with_capacity(CAPACITY)?;
+    let mut link = Link::with_profile(profile, CAPACITY)?;
     let mut archive = ArchiveRows { has_index: true, entries: Vec::new() };
     for name in names {
         archive.entries.push((8, name.clone()));
@@ -633,7 +646,7 @@ fn by_hand(names: &[String], object: &Object) -> Result<bool, Refusal> {
     }
     let mut walk = PendingArchive::new(archive.index())?;
     match walk.next(&link)? {
-        Step::Member(member) => walk.admits(&member, object),
+        Step::Member(member) => walk.admits(&link, &member, object),
         Step::Done { .. } => panic!("an undefined name is tied to a member"),
     }
 }

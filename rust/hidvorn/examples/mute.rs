@@ -99,7 +99,7 @@ fn link_title(core: &Object<'_>) -> Result<(), Refusal> {
         let (_, name, object) = members.iter().find(|(at, ..)| *at == member.offset).unwrap();
         let required: Vec<_> = walk.required(&member).map(String::from_utf8_lossy).collect();
         println!("pass {} offers {name}, for {}", member.passes, required.join(", "));
-        if walk.admits(&member, object)? {
+        if walk.admits(&link, &member, object)? {
             let merged = link.merge_elf(object)?;
             // Whoever has the section has the symbol.
             let holder = merged.link().get_global(mute)?.value.section().map(Converted::Section);

@@ -8,8 +8,9 @@ use std::hash::{BuildHasher, RandomState};
 ///
 /// Each call for the next member is lent the link as it stands then. Where no member is queued it
 /// makes a pass over the index and queues, in the order of the first entries that ask for them,
-/// the members not offered yet that the index ties to an undefined name. A pass that queues
-/// nothing ends the walk. An index of m members takes at most m + 1 passes.
+/// the members not offered yet that the index ties to an undefined name; in a link of the gABI's
+/// profile a weak reference ties none. A pass that queues nothing ends the walk. An index of m
+/// members takes at most m + 1 passes.
 #[derive(Clone, Debug)]
 pub struct PendingArchive<'a> {
     index: Cow<'a, [u8]>,
@@ -41,7 +42,7 @@ pub struct IndexEntry<'a> {
 pub enum Step {
     /// This member is offered; whether it is to be merged, `PendingArchive::admits` tells.
     Member(Member),
-    /// No undefined name is tied to a member that wasn't offered.
+    /// No name that ties is tied to a member that wasn't offered.
     Done {
         /// The passes made.
         passes: u64,
@@ -67,7 +68,7 @@ impl<'a> PendingArchive<'a> {
             None => 0,
         };
         let mut archive = PendingArchive { index, rows: vec![0; entries * 8], walk: [0; 7] };
-        let mut header: Header = [0; 16];
+        let mut header: Header = [0; 24];
         let PendingArchive { index, rows, walk } = &mut archive;
         ffi::archive_start(&mut header, walk, key as usize, index, rows)?;
         Ok(archive)
@@ -97,7 +98,7 @@ impl<'a> PendingArchive<'a> {
         let mut header = link.header;
         let PendingArchive { index, rows, walk } = self;
         ffi::archive_next(&mut header, walk, index, rows, &link.bytes, &link.names, &link.symbols)?;
-        let [there, offset, entry, passes, _] = header[VALUE..] else { unreachable!() };
+        let [there, offset, entry, passes, ..] = header[VALUE..] else { unreachable!() };
         Ok(match there {
             0 => Step::Done { passes },
             _ => Step::Member(Member { offset, passes, entry: entry as usize }),
@@ -105,12 +106,18 @@ impl<'a> PendingArchive<'a> {
     }
 
     /// Whether an offered member is to be merged: some symbol of binding 1 in its object bears a
-    /// name that was undefined in the pass that queued it. 1 if a row of the object is bad.
+    /// name that tied it in the pass that queued it; in a link of the gABI's profile a definition,
+    /// weak or global, does. Of the link its profile alone counts. 1 if a row of the object is bad.
     ///
     /// The member must be one of this walk. Another walk's stands for whatever entry has its number
     /// here, and gives 1 if there is none.
-    pub fn admits(&self, member: &Member, object: &Object<'_>) -> Result<bool, Refusal> {
-        let mut header: Header = [0; 16];
+    pub fn admits(
+        &self,
+        link: &Link,
+        member: &Member,
+        object: &Object<'_>,
+    ) -> Result<bool, Refusal> {
+        let mut header = link.header;
         ffi::matches(
             &mut header,
             &self.walk,
@@ -125,7 +132,7 @@ impl<'a> PendingArchive<'a> {
         Ok(header[VALUE] == 1)
     }
 
-    /// The names that were undefined in the pass that queued the member, by the index' entries. A
+    /// The names that tied the member in the pass that queued it, by the index' entries. A
     /// member of another walk is taken as by `admits`; if no entry has its number there are none.
     pub fn required<'b>(&'b self, member: &Member) -> impl Iterator<Item = &'b [u8]> {
         let rows = self.rows.as_chunks::<8>().0;

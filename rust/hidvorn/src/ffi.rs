@@ -12,8 +12,8 @@
 use crate::{Cause, Refusal};
 
 /// The link's counts (0 to 7), whether it is broken (8), the last answer: number, place, values (9
-/// to 14), and the key of its names (15).
-pub(crate) type Header = [u64; 16];
+/// to 14), the key of its names (15) and its profile (16); the others are left as they are.
+pub(crate) type Header = [u64; 24];
 
 /// Key, entries, length of the index, passes, queued, offered, done.
 pub(crate) type Walk = [u64; 7];
@@ -23,6 +23,9 @@ pub(crate) const VALUE: usize = 11;
 
 /// The key of the names' hash.
 pub(crate) const KEY: usize = 15;
+
+/// The profile of the link.
+pub(crate) const PROFILE: usize = 16;
 
 fn answer(header: &Header) -> Result<(), Refusal> {
     match header[9] {
@@ -39,6 +42,7 @@ unsafe extern "C" {
         header: *mut u64,
         header_len: usize,
         key: usize,
+        profile: u64,
         bytes: *mut u8,
         bytes_len: usize,
         names: *mut u64,
@@ -292,6 +296,7 @@ unsafe extern "C" {
 pub(crate) fn new(
     header: &mut Header,
     key: usize,
+    profile: u64,
     bytes: &mut [u8],
     names: &mut [u64],
     symbols: &mut [u64],
@@ -303,6 +308,7 @@ pub(crate) fn new(
             header.as_mut_ptr(),
             header.len(),
             key,
+            profile,
             bytes.as_mut_ptr(),
             bytes.len(),
             names.as_mut_ptr(),

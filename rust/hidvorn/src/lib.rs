@@ -60,7 +60,7 @@ pub use archive::{IndexEntry, Member, PendingArchive, Step};
 pub use group::GroupMarks;
 pub use ids::{Interned, SectionId, SymbolId};
 pub use library::{LibraryName, Load, SharedObject};
-pub use link::{Capacity, Collected, Link};
+pub use link::{Capacity, Collected, Link, Profile};
 pub use merged::Merged;
 pub use object::{Object, Relocations, SectionContent, SectionHeader};
 pub use refusal::{Cause, Refusal};

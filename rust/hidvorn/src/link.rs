@@ -1,5 +1,5 @@
 //! The link: its storage and its calls.
-use crate::ffi::{self, Header, KEY, VALUE};
+use crate::ffi::{self, Header, KEY, PROFILE, VALUE};
 use crate::{
     GroupMarks, Interned, LibraryName, Load, Merged, Object, Refusal, SectionId, SharedObject,
     Symbol, SymbolId, UpcomingSymbol,
@@ -48,6 +48,31 @@ impl Default for Capacity {
     }
 }
 
+/// Whose rules a link follows where cuddld and the gABI differ: chosen when it is made, and fixed
+/// for its life.
+#[derive(Clone, Copy, Debug, Default, PartialEq, Eq)]
+pub enum Profile {
+    /// The old profile, cuddld's answers: an undefined name pulls archive members though its
+    /// reference is weak; a symbol of binding 1, defined or not, admits a member; a row is hidden
+    /// if the symbol that holds it is.
+    #[default]
+    Old,
+    /// By the gABI's letter: a weak reference pulls no member; a global or weak definition, and
+    /// nothing else, admits one; a hidden symbol of any object hides its name's row, whoever holds
+    /// it. A shared object's symbol hides none.
+    Gabi,
+}
+
+impl Profile {
+    /// Its number in the calls of libffi.a.
+    fn number(self) -> u64 {
+        match self {
+            Profile::Old => 0,
+            Profile::Gabi => 1,
+        }
+    }
+}
+
 /// The most sections that an object can have.
 pub(crate) const OBJECT_SECTIONS: usize = 65_280;
 
@@ -82,7 +107,7 @@ pub struct Collected {
 }
 
 impl Link {
-    /// An empty link of `Capacity::BOUNDS`.
+    /// An empty link of `Capacity::BOUNDS`, in the old profile.
     pub fn new() -> Self {
         Link::with_capacity(Capacity::BOUNDS).expect("there is room for the null symbol")
     }
@@ -93,15 +118,20 @@ impl Link {
     /// Names are found by a hash whose key is drawn at random, so that nobody can choose names that
     /// make a link slow. No answer depends on it.
     pub fn with_capacity(capacity: Capacity) -> Result<Self, Refusal> {
-        Link::with_key(RandomState::new().hash_one(()), capacity)
+        Link::with_profile(Profile::Old, capacity)
+    }
+
+    /// The same in a profile.
+    pub fn with_profile(profile: Profile, capacity: Capacity) -> Result<Self, Refusal> {
+        Link::with_key(RandomState::new().hash_one(()), profile, capacity)
     }
 
     /// The same with a key that the caller chooses, for runs that are to take the same steps.
-    pub fn with_key(key: u64, capacity: Capacity) -> Result<Self, Refusal> {
+    pub fn with_key(key: u64, profile: Profile, capacity: Capacity) -> Result<Self, Refusal> {
         // Each has a byte of its own, but for the empty one.
         let names = capacity.names.min(Capacity::BOUNDS.name_bytes + 1);
         let mut link = Link {
-            header: [0; 16],
+            header: [0; 24],
             bytes: vec![0; capacity.name_bytes.min(Capacity::BOUNDS.name_bytes)],
             names: vec![0; names * 9],
             symbols: vec![0; capacity.symbols.min(Capacity::BOUNDS.symbols) * 8],
@@ -112,20 +142,28 @@ impl Link {
             ids: Vec::new(),
             marks: vec![0; names],
         };
-        link.start(key)?;
+        link.start(key, profile)?;
         Ok(link)
     }
 
-    /// Makes this an empty link again, in the same storage. It takes time by the capacity, not by
-    /// what the link holds.
+    /// Makes this an empty link of the same profile again, in the same storage. It takes time by
+    /// the capacity, not by what the link holds.
     pub fn clear(&mut self) {
-        let key = self.header[KEY];
-        self.start(key).expect("the same storage had room for a link before");
+        let (key, profile) = (self.header[KEY], self.profile());
+        self.start(key, profile).expect("the same storage had room for a link before");
     }
 
-    fn start(&mut self, key: u64) -> Result<(), Refusal> {
+    fn start(&mut self, key: u64, profile: Profile) -> Result<(), Refusal> {
         let Link { header, bytes, names, symbols, sections, .. } = self;
-        ffi::new(header, key as usize, bytes, names, symbols, sections)
+        ffi::new(header, key as usize, profile.number(), bytes, names, symbols, sections)
+    }
+
+    /// The profile that the link was made with.
+    pub fn profile(&self) -> Profile {
+        match self.header[PROFILE] {
+            0 => Profile::Old,
+            _ => Profile::Gabi,
+        }
     }
 
     /// Whether a refusal inside a merge or a load broke the link (`Refusal` tells which do): no call
@@ -349,6 +387,7 @@ impl fmt::Debug for Link {
             .field("symbols", &self.symbol_count())
             .field("sections", &self.section_count())
             .field("inputs", &self.input_count())
+            .field("profile", &self.profile())
             .field("broken", &self.is_broken())
             .finish_non_exhaustive()
     }

@@ -3,36 +3,9 @@
 mod support;
 
 use hidvorn::*;
-use support::{refused, strings};
+use support::{object, refused, strings};
 
 const SMALL: Capacity = Capacity { names: 8, name_bytes: 64, symbols: 4, sections: 4, inputs: 2 };
-
-/// An object of one program section, number 1, and the symbols: binding, section, visibility.
-fn object(symbols: &[(&str, u64, usize, u64)]) -> Object<'static> {
-    let names: Vec<_> = symbols.iter().map(|(name, ..)| *name).collect();
-    let (bytes, places) = strings(&[&[".text"], names.as_slice()].concat());
-    let len = bytes.len();
-    let mut object = Object::new(bytes);
-    let header = |content| SectionHeader { content, ..Default::default() };
-    object.push_section(header(SectionContent::Null));
-    let content = SectionContent::Program;
-    object.push_section(SectionHeader { name: places[0], read: true, ..header(content) });
-    object.push_section(header(SectionContent::StringTable { first: 0, len }));
-    object.set_section_names(2);
-    object.push_symbol(ElfSymbol::default());
-    for ((_, binding, section, visibility), name) in symbols.iter().zip(&places[1..]) {
-        object.push_symbol(ElfSymbol {
-            name: *name,
-            binding: *binding,
-            section: *section,
-            visibility: *visibility,
-            ..Default::default()
-        });
-    }
-    let count = symbols.len() + 1;
-    object.push_section(header(SectionContent::SymbolTable { strings: 2, first: 0, count }));
-    object
-}
 
 fn unknown(link: &mut Link, name: &str) -> Result<SymbolId, Refusal> {
     let name = link.intern(name.as_bytes())?;
@@ -140,7 +113,7 @@ fn a_broken_link() {
     let mut walk = PendingArchive::new(&b"\0\0\0\x01\0\0\0\x08bar\0"[..]).unwrap();
     let Ok(Step::Member(member)) = walk.next(&link) else { panic!("bar is undefined") };
     assert_eq!((member.offset, member.passes), (8, 1));
-    assert!(walk.admits(&member, &twice).unwrap());
+    assert!(walk.admits(&link, &member, &twice).unwrap());
     assert_eq!(walk.next(&link), Ok(Step::Done { passes: 2 }));
 
     // The same storage again: nothing of the old link is left.
@@ -302,7 +275,9 @@ fn groups_of_a_table_that_is_not_loaded() {
         false => SectionContent::SymbolTable { strings: 2, first: 0, count },
         true => SectionContent::DynamicSymbolTable { strings: 2, first: 0, count },
     };
-    for (dynamic, exclude, number) in [(false, true, 6), (true, false, 6), (true, true, 6), (false, false, 0)] {
+    for (dynamic, exclude, number) in
+        [(false, true, 6), (true, false, 6), (true, true, 6), (false, false, 0)]
+    {
         let mut object = Object::new(bytes.clone());
         object.push_symbol(ElfSymbol::default());
         object.push_symbol(ElfSymbol { name: places[0], binding: 1, ..Default::default() });
@@ -506,7 +481,8 @@ fn a_walk_under_any_key() {
         let mut offers = Vec::new();
         while let Step::Member(member) = walk.next(&link).unwrap() {
             let names = walk.required(&member).map(<[u8]>::to_vec).collect::<Vec<_>>();
-            offers.push((member.offset, member.passes, walk.admits(&member, &object), names));
+            let admitted = walk.admits(&link, &member, &object);
+            offers.push((member.offset, member.passes, admitted, names));
         }
         (offers, walk.passes())
     };
@@ -535,9 +511,9 @@ fn a_walk_asked_for_another_walks_member() {
     let name = |entry| walk.entry(entry).map(|entry| (entry.offset, entry.name));
     assert_eq!([0, 1, 2].map(name), [Some((8, &b"a"[..])), Some((16, b"b")), None]);
     assert_eq!((walk.entry_count(), walk.entry(usize::MAX)), (2, None));
-    assert_eq!([first, second].map(|member| walk.admits(&member, &object)), [Ok(true); 2]);
-    assert_eq!(other.admits(&first, &object), Ok(false));
-    assert_eq!(refused(other.admits(&second, &object)), (1, 0));
+    assert_eq!([first, second].map(|member| walk.admits(&link, &member, &object)), [Ok(true); 2]);
+    assert_eq!(other.admits(&link, &first, &object), Ok(false));
+    assert_eq!(refused(other.admits(&link, &second, &object)), (1, 0));
     assert_eq!(other.required(&second).count(), 0);
 }
 
@@ -545,7 +521,7 @@ fn a_walk_asked_for_another_walks_member() {
 fn a_link_is_told_by_its_counts() {
     let mut link = Link::new();
     link.merge_elf(&object(&[("foo", 1, 1, 0)])).unwrap();
-    let told =
-        "Link { names: 3, name_bytes: 8, symbols: 2, sections: 1, inputs: 1, broken: false, .. }";
+    let told = "Link { names: 3, name_bytes: 8, symbols: 2, sections: 1, inputs: 1, profile: Old, \
+                broken: false, .. }";
     assert_eq!(format!("{link:?}"), told);
 }

@@ -1,5 +1,5 @@
 use borrow.Author.Needs.{needs}
-use Rattle.archive_walk.specs.Ways.{tie-undefined, tie-not}
+use Rattle.archive_walk.specs.Ways.{tie-tied, tie-not}
 use Rattle.archive_pass.proofs.tie.Statement.{statement}
 use Rattle.archive_pass.proofs.tie.Tie as tie
 
@@ -12,6 +12,6 @@ tie-spec =
     (λ c κs. search needs)
     (λ c κs. search needs)
     (λ c. search needs)
-    (λ c. search tie-undefined)
+    (λ c. search tie-tied)
     (λ c. search needs)
     (λ c. search tie-not))

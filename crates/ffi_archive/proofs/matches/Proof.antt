@@ -16,5 +16,6 @@ matches-spec =
     (λ c κs. search needs)
     (λ c κs. search needs)
     (λ c κs. search needs)
+    (λ c κs. search needs)
     (λ c. search needs)
     (λ c. search matches-told))

@@ -1,5 +1,5 @@
 use borrow.Author.Needs.{needs}
-use Rattle.ffi_symbols.specs.Ways.{new-short, new-told}
+use Rattle.ffi_symbols.specs.Ways.{new-short, new-old, new-gabi, new-other}
 use Rattle.ffi_symbols.proofs.new.Statement.{statement}
 use Rattle.ffi_symbols.proofs.new.Tie as tie
 
@@ -9,11 +9,20 @@ new-spec =
     (tie.spec
     (λ c. search new-short)
     (λ c κs. search needs)
+    (λ c. search needs)
+    (λ c. search needs)
+    (λ c. search needs)
+    (λ c. search needs)
+    (λ c. search needs)
+    (λ c. search new-old)
+    (λ c κs. search needs)
+    (λ c. search needs)
+    (λ c. search needs)
+    (λ c. search needs)
+    (λ c. search needs)
+    (λ c. search needs)
+    (λ c. search new-gabi)
     (λ c κs. search needs)
     (λ c κs. search needs)
     (λ c. search needs)
-    (λ c. search needs)
-    (λ c. search needs)
-    (λ c. search needs)
-    (λ c. search needs)
-    (λ c. search new-told))
+    (λ c. search new-other))

@@ -8,12 +8,12 @@ use Rattle.object_requirement.proofs.has_global_symbol.Statement.{state
 use Rattle.object_requirement.proofs.has_global_symbol.Tie as tie
 
 abbrev Inv-loop : tie.InvT-loop
-Inv-loop headers entries file w index cells entry rows n₀ n =
-    hasGlobalSymbol headers entries file (requiredOf index cells w entry)
-    ≡ someFrom (inSection headers entries file (requiredOf index cells w entry)) n (rows - n)
+Inv-loop gabi headers entries file w index cells entry rows n₀ n =
+    hasGlobalSymbol gabi headers entries file (requiredOf index cells w entry)
+    ≡ someFrom (inSection gabi headers entries file (requiredOf index cells w entry)) n (rows - n)
 
 abbrev μ-loop : tie.MeasureT-loop
-μ-loop headers entries file w index cells entry rows n₀ n = rows - n
+μ-loop gabi headers entries file w index cells entry rows n₀ n = rows - n
 
 pub has-global-symbol-spec : {M : Type 1} → statement M
 has-global-symbol-spec =

@@ -8,12 +8,12 @@ use Rattle.object_requirement.proofs.in_table.Statement.{statement}
 use Rattle.object_requirement.proofs.in_table.Tie as tie
 
 abbrev Inv-loop : tie.InvT-loop
-Inv-loop headers file names symbols w index cells entry rows i₀ i =
-    inTable headers file names symbols (requiredOf index cells w entry)
-    ≡ someFrom (bearsRequired headers file names symbols (requiredOf index cells w entry)) i (rows - i)
+Inv-loop gabi headers file names symbols w index cells entry rows i₀ i =
+    inTable gabi headers file names symbols (requiredOf index cells w entry)
+    ≡ someFrom (bearsRequired gabi headers file names symbols (requiredOf index cells w entry)) i (rows - i)
 
 abbrev μ-loop : tie.MeasureT-loop
-μ-loop headers file names symbols w index cells entry rows i₀ i = rows - i
+μ-loop gabi headers file names symbols w index cells entry rows i₀ i = rows - i
 
 pub in-table-spec : {M : Type 1} → statement M
 in-table-spec =

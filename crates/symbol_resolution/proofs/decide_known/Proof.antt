@@ -15,4 +15,5 @@ decide-known-spec =
     (λ c κs. search needs)
     (λ c. search known-yields)
     (λ c. search known-twice)
+    (λ c κs. search needs)
     (λ c. search known-kept))

@@ -1,5 +1,5 @@
 use borrow.Author.Needs.{needs}
-use Rattle.symbol_rows.specs.ApplyWays.{apply-decided, apply-replace}
+use Rattle.symbol_rows.specs.ApplyWays.{apply-decided, apply-replace, apply-amend}
 use Rattle.symbol_write.proofs.apply.Statement.{statement}
 use Rattle.symbol_write.proofs.apply.Tie as tie
 
@@ -14,6 +14,8 @@ apply-spec =
     (λ c κs. search needs)
     (λ c. search needs)
     (λ c κs. search needs)
+    (λ c. search needs)
+    (λ c κs. search needs)
     (λ c. search apply-decided)
     (λ c. search apply-decided)
     (λ c. search apply-decided)
@@ -22,4 +24,6 @@ apply-spec =
     (λ c. search needs)
     (λ c. search apply-decided)
     (λ c. search needs)
-    (λ c. search apply-replace))
+    (λ c. search apply-replace)
+    (λ c. search needs)
+    (λ c. search apply-amend))

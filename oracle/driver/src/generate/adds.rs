@@ -65,14 +65,14 @@ const SECTIONS: [&str; 9] = [
 pub(crate) fn short(script: &mut Script, _: u64) {
     script.say(CONVERSION);
     for word in words(LETTERS.len(), 2).into_iter().chain(words(FEW, 3)) {
-        script.say("link");
+        script.link();
         for letter in word {
             script.say(LETTERS[letter]);
         }
         script.say("global a");
     }
     for word in words(SECTIONS.len(), 3) {
-        script.say("link");
+        script.link();
         for letter in word {
             script.say(SECTIONS[letter]);
         }
@@ -100,7 +100,7 @@ const NAMES: [&str; 8] = ["a", "b", "c", "d", "mute", "clear", "-", "a.long.name
 pub(crate) fn random(script: &mut Script, count: u64) {
     for _ in 0..count {
         conversion(script);
-        script.say("link");
+        script.link();
         let length = script.random.between(4, 30);
         for _ in 0..length {
             match script.random.below(100) {
@@ -214,5 +214,5 @@ fn binding(script: &mut Script) -> u64 {
 }
 
 fn visibility(script: &mut Script) -> u64 {
-    script.random.pick(&[0, 0, 0, 0, 0, 0, 0, 0, 0, 2, 2, 1, 3])
+    script.random.visibility(&[0, 0, 0, 0, 0, 0, 0, 0, 0, 2, 2, 1, 3])
 }

@@ -4,7 +4,7 @@ use super::objects::{Plan, object, offset};
 use super::random::Random;
 use super::script::Script;
 use crate::form;
-use crate::rows::{ObjectRows, SectionRow, SymbolRow};
+use crate::rows::{ABSOLUTE, COMMON, ObjectRows, SectionRow, SymbolRow};
 use std::collections::BTreeMap;
 
 const NAMES: [&str; 7] = ["a", "b", "c", "d", "e", "mute", "clear"];
@@ -78,6 +78,11 @@ fn member<'a>(random: &mut Random, names: &[&'a str], strong: &mut Vec<&'a str>)
         if random.chance(8) {
             continue;
         }
+        if random.hides && random.chance(10) {
+            // What defines a name in no section of the member, and a binding that admits none.
+            symbol(name, random.pick(&[1, 2, 3]), random.pick(&[1, ABSOLUTE, COMMON]));
+            continue;
+        }
         let free = strong.iter().position(|other| other == name);
         match (random.below(10), free) {
             (0, _) => symbol(name, 1, 0),
@@ -118,6 +123,7 @@ fn one_section(random: &mut Random, wanted: &[(&str, u64, u64)]) -> ObjectRows {
             binding: *binding,
             kind,
             section: *section,
+            visibility: if *binding == 0 { 0 } else { random.hidden() },
             ..SymbolRow::default()
         });
     }
@@ -143,7 +149,7 @@ pub(super) fn describe(script: &mut Script, made: &Made) {
     for (offset, name) in &made.entries {
         script.say(format!("entry {offset} {}", form::name(name)));
     }
-    let index = script.machine.archive.index();
+    let index = script.reference.rows().archive.index();
     script.say(format!("index {}", form::hex(&index)));
 }
 
@@ -151,13 +157,20 @@ pub(super) fn describe(script: &mut Script, made: &Made) {
 pub(super) fn references(script: &mut Script) {
     for _ in 0..script.random.between(1, 3) {
         let (name, binding) = (script.random.pick(&NAMES), script.random.pick(&[1, 1, 2]));
-        script.say(format!("add elf {name} {binding} 0 0 0 0 0 -"));
+        if script.random.hides && script.random.chance(20) {
+            // Strong, though it may be zero by default.
+            let zero = script.random.below(2);
+            script.say(format!("add hidden {name} undef {zero}"));
+            continue;
+        }
+        let visibility = script.random.hidden();
+        script.say(format!("add elf {name} {binding} 0 {visibility} 0 0 0 -"));
     }
 }
 
 pub(crate) fn steps(script: &mut Script, count: u64) {
     for _ in 0..count {
-        script.say("link");
+        script.link();
         references(script);
         let made = archive(&mut script.random);
         describe(script, &made);
@@ -224,7 +237,10 @@ pub(super) fn walk_in_steps(script: &mut Script, made: &Made) -> bool {
 fn between(script: &mut Script) {
     let name = script.random.pick(&NAMES);
     match script.random.below(5) {
-        0 | 1 => script.say(format!("add elf {name} 2 0 0 65521 7 0 -")),
+        0 | 1 => {
+            let visibility = script.random.hidden();
+            script.say(format!("add elf {name} 2 0 {visibility} 65521 7 0 -"))
+        }
         2 | 3 => script.say(format!("add unknown {name}")),
         _ => {
             let id = script.random.below(script.symbol_count());
@@ -235,7 +251,7 @@ fn between(script: &mut Script) {
 
 pub(crate) fn walks(script: &mut Script, count: u64) {
     for _ in 0..count {
-        script.say("link");
+        script.link();
         references(script);
         if script.random.chance(8) {
             let id = script.random.below(script.symbol_count());

@@ -9,7 +9,7 @@ use crate::rows::{ObjectRows, SectionRow, SymbolRow};
 pub(crate) fn links(script: &mut Script, count: u64) {
     script.say(merges::CONVERSION);
     for _ in 0..count {
-        script.say("link");
+        script.link();
         let objects = script.random.between(1, 2);
         for place in 0..objects {
             let plan = Plan {

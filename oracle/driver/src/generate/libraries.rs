@@ -3,6 +3,7 @@ use super::merges::{self, refused};
 use super::objects::{object, offset};
 use super::random::Random;
 use super::script::Script;
+use crate::form;
 use crate::rows::{ABSOLUTE, COMMON, LibraryRows, SymbolRow};
 
 const NAMES: [&str; 10] = ["a", "b", "c", "d", "e", "f", "mute", "a0", "b0", ""];
@@ -11,12 +12,13 @@ const LIBRARIES: [&str; 6] = ["liba.so", "libb.so", "libc.so", "libd.so", "x", "
 pub(crate) fn links(script: &mut Script, count: u64) {
     script.say(merges::CONVERSION);
     for _ in 0..count {
-        script.say("link");
+        script.link();
         // Undefined names, strong and weak, that libraries may be needed for.
         for name in ["a", "b", "c", "d", "mute"] {
             let binding = script.random.below(4);
             if binding == 1 || binding == 2 {
-                script.say(format!("add elf {name} {binding} 0 0 0 0 0 -"));
+                let visibility = script.random.hidden();
+                script.say(format!("add elf {name} {binding} 0 {visibility} 0 0 0 -"));
             }
         }
         if script.random.chance(25) {
@@ -49,6 +51,12 @@ pub(crate) fn links(script: &mut Script, count: u64) {
                     break;
                 }
             }
+            if script.random.hides && script.random.chance(40) {
+                // A row that the library holds may be hidden by a reference.
+                let name = form::name(script.random.pick(&NAMES));
+                let (binding, visibility) = (script.random.between(1, 2), script.random.hidden());
+                script.say(format!("add elf {name} {binding} 0 {visibility} 0 0 0 -"));
+            }
             if script.random.chance(40) {
                 merges::direct_calls(script);
             }
@@ -75,7 +83,7 @@ pub(crate) fn library(random: &mut Random) -> LibraryRows {
             // Of an undefined symbol it isn't judged.
             (0, _) => random.pick(&[0, 0, 1, 2, 3]),
             (_, 0) => 0,
-            _ => random.pick(&[0, 0, 0, 2]),
+            _ => random.visibility(&[0, 0, 0, 2]),
         };
         let kind = random.below(16);
         symbols.push(SymbolRow { name, binding, kind, visibility, section, value: random.value() });

@@ -29,7 +29,7 @@ pub(crate) fn plan(place: u64) -> Plan {
 pub(crate) fn histories(script: &mut Script, count: u64) {
     script.say(CONVERSION);
     for _ in 0..count {
-        script.say("link");
+        script.link();
         let objects = script.random.between(1, 4);
         for place in 0..objects {
             let mut rows = object(&mut script.random, &plan(place));
@@ -60,7 +60,7 @@ pub(crate) fn refusals(script: &mut Script, count: u64) {
     script.say(CONVERSION);
     for at in 0..count {
         let number = damage::NUMBERS[(at % damage::NUMBERS.len() as u64) as usize];
-        script.say("link");
+        script.link();
         let earlier = script.random.between(0, 1);
         let mut broken = false;
         for place in 0..earlier {

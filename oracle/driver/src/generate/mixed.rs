@@ -12,7 +12,7 @@ use super::script::Script;
 pub(crate) fn links(script: &mut Script, count: u64) {
     script.say(merges::CONVERSION);
     for _ in 0..count {
-        script.say("link");
+        script.link();
         let steps = script.random.between(2, 8);
         for place in 0..steps {
             if step(script, place % 4) {

@@ -12,6 +12,9 @@ mod random;
 mod script;
 mod sheets;
 
+use crate::model::Seen;
+use script::Script;
+
 const LIMITS: &str = include_str!("../../limits.txt");
 
 /// The kinds of random links.
@@ -25,11 +28,17 @@ pub fn list(kind: &str, seed: u64, count: u64) -> Option<String> {
         "examples" => return Some(crate::selftest::EXAMPLES.into()),
         _ => {}
     }
-    Some(histories(kind, seed, count)?.iter().map(|said| format!("{}\n", said.line)).collect())
+    let (said, _) = histories(kind, seed, count)?;
+    Some(said.iter().map(|said| format!("{}\n", said.line)).collect())
 }
 
-/// Operations with the Rust's answers.
-pub fn histories(kind: &str, seed: u64, count: u64) -> Option<Vec<Said>> {
+/// Operations with the Rust's answers. A kind behind `gabi-`: links of the gABI profile with the plain
+/// reading's answers, and what they tried.
+pub fn histories(kind: &str, seed: u64, count: u64) -> Option<(Vec<Said>, Seen)> {
+    let (gabi, kind) = match kind.strip_prefix("gabi-") {
+        Some(kind) => (true, kind),
+        None => (false, kind),
+    };
     let make = match kind {
         "short-adds" => adds::short,
         "adds" => adds::random,
@@ -42,7 +51,7 @@ pub fn histories(kind: &str, seed: u64, count: u64) -> Option<Vec<Said>> {
         "mixed" => mixed::links,
         _ => return None,
     };
-    let mut script = script::Script::new(seed);
+    let mut script = if gabi { Script::gabi(seed) } else { Script::new(seed) };
     make(&mut script, count);
     Some(script.said())
 }

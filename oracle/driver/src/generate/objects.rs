@@ -115,7 +115,9 @@ impl Maker<'_> {
     /// Each group lists one program section and is signed by a global or weak symbol in it.
     fn groups(&mut self) {
         if !self.random.chance(6) {
-            self.rows.symbols.push(SymbolRow::default());
+            // Its visibility doesn't count.
+            let visibility = self.random.hidden();
+            self.rows.symbols.push(SymbolRow { visibility, ..SymbolRow::default() });
         }
         let (table, programs) = (self.of_kind(&[3]), self.of_kind(&[1, 2]));
         for group in self.of_kind(&[7]) {
@@ -137,6 +139,7 @@ impl Maker<'_> {
                 binding: self.random.pick(&[1, 2, 2]),
                 kind: 2,
                 section: self.random.pick(&[listed, listed, 0]),
+                visibility: self.random.hidden(),
                 ..SymbolRow::default()
             };
             self.rows.symbols.push(symbol);
@@ -155,7 +158,7 @@ impl Maker<'_> {
         for _ in 0..self.random.between(self.plan.symbols.0, self.plan.symbols.1) {
             let value = self.random.value();
             let kind = self.random.below(4);
-            let hidden = self.random.pick(&[0, 0, 0, 0, 0, 2]);
+            let hidden = self.random.visibility(&[0, 0, 0, 0, 0, 2]);
             let any = self.random.pick(&self.plan.names);
             let (name, binding, kind, visibility, section, value) = match self.random.below(20) {
                 0 | 1 => {

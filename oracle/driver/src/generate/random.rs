@@ -1,15 +1,33 @@
 //! splitmix64, and choices made with it.
 
-pub struct Random(u64);
+pub struct Random {
+    state: u64,
+    /// Hidden symbols are to be frequent: for links of the gABI profile.
+    pub(crate) hides: bool,
+}
 
 impl Random {
     pub fn new(seed: u64) -> Self {
-        Random(seed)
+        Random { state: seed, hides: false }
+    }
+
+    pub(crate) fn hiding(seed: u64) -> Self {
+        Random { state: seed, hides: true }
+    }
+
+    /// The visibility of a symbol that is to be accepted: default, or often hidden.
+    pub(crate) fn hidden(&mut self) -> u64 {
+        if self.hides && self.chance(40) { 2 } else { 0 }
+    }
+
+    /// One of these visibilities, or often hidden.
+    pub(crate) fn visibility(&mut self, usual: &[u64]) -> u64 {
+        if self.hides && self.chance(30) { 2 } else { self.pick(usual) }
     }
 
     pub(crate) fn next(&mut self) -> u64 {
-        self.0 = self.0.wrapping_add(0x9e37_79b9_7f4a_7c15);
-        let mut z = self.0;
+        self.state = self.state.wrapping_add(0x9e37_79b9_7f4a_7c15);
+        let mut z = self.state;
         z = (z ^ (z >> 30)).wrapping_mul(0xbf58_476d_1ce4_e5b9);
         z = (z ^ (z >> 27)).wrapping_mul(0x94d0_49bb_1331_11eb);
         z ^ (z >> 31)

@@ -1,15 +1,17 @@
 //! A list being written. Each line is also run, so that a generator sees the answers.
 use super::random::Random;
-use crate::machine::Machine;
+use crate::model::Seen;
+use crate::reference::Reference;
 use crate::rows::{LibraryRows, ObjectRows};
 
 pub(crate) struct Script {
     pub(crate) random: Random,
-    pub(crate) machine: Machine,
+    pub(crate) reference: Reference,
+    gabi: bool,
     said: Vec<Said>,
 }
 
-/// An operation and what the Rust answers, without the `> `.
+/// An operation and what the Rust answers (the plain reading in the gABI profile), without the `> `.
 pub struct Said {
     pub line: String,
     pub answers: Vec<String>,
@@ -17,17 +19,33 @@ pub struct Said {
 
 impl Script {
     pub(crate) fn new(seed: u64) -> Self {
-        Script { random: Random::new(seed), machine: Machine::new(), said: Vec::new() }
+        Script {
+            random: Random::new(seed),
+            reference: Reference::new(),
+            gabi: false,
+            said: Vec::new(),
+        }
     }
 
-    pub(crate) fn said(self) -> Vec<Said> {
-        self.said
+    /// Its links are of the gABI profile, with many hidden symbols.
+    pub(crate) fn gabi(seed: u64) -> Self {
+        Script { random: Random::hiding(seed), gabi: true, ..Script::new(seed) }
+    }
+
+    pub(crate) fn said(self) -> (Vec<Said>, Seen) {
+        let seen = self.reference.seen();
+        (self.said, seen)
+    }
+
+    /// A new link.
+    pub(crate) fn link(&mut self) {
+        self.say(if self.gabi { "link gabi" } else { "link" });
     }
 
     /// The answer's first line, or nothing.
     pub(crate) fn say(&mut self, line: impl AsRef<str>) -> String {
         let line = line.as_ref();
-        let answers = match self.machine.line(line) {
+        let answers = match self.reference.line(line) {
             Ok(answers) => answers,
             Err(fault) => panic!("oracle: generated {line:?}: {fault}"),
         };
@@ -55,10 +73,10 @@ impl Script {
     }
 
     pub(crate) fn symbol_count(&self) -> u64 {
-        self.machine.link.object.symbols.rows().len() as u64
+        self.reference.counts().0
     }
 
     pub(crate) fn section_count(&self) -> u64 {
-        self.machine.link.object.sections.rows().count() as u64
+        self.reference.counts().1
     }
 }

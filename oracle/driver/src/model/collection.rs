@@ -33,9 +33,8 @@ impl Model {
 
         let built =
             |id: &u64| matches!(self.sections.get(*id as usize), Some(Section::Built { .. }));
-        if !reached.iter().all(built) {
-            // The lowest; not compared, because the Rust tells none.
-            return Err(Refused(21, None));
+        if let Some(lowest) = reached.iter().find(|id| !built(id)) {
+            return Err(Refused(21, Some(*lowest)));
         }
         let mut dropped = Vec::new();
         for id in 0..self.sections.len() as u64 {

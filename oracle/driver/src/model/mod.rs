@@ -1,16 +1,19 @@
 //! Document 01 read as a plain program, without a line of the Rust: a second opinion. It is run
 //! beside the Rust on every list, so that a difference between the two is seen before anything is
 //! proved from the reading. Capacities, and so refusal 2, aren't in it.
+//!
+//! It also has the gABI profile of document 02's request 2026-02, which the Rust doesn't: there it
+//! is what this port is compared with.
 mod archive;
 mod collection;
 mod merge;
 mod shared;
 mod table;
 
+use crate::announced::Announced;
 use crate::broken::{breaks, changes};
 use crate::direct::Direct;
-use crate::form::{self, Words};
-use crate::machine::Machine;
+use crate::form::{self, Fault, Words};
 use archive::Walk;
 use std::collections::BTreeSet;
 use table::{Item, Table};
@@ -27,14 +30,55 @@ impl Refused {
     }
 }
 
-#[derive(Default)]
 pub(crate) struct Model {
+    rows: Announced,
     table: Table,
     sections: Vec<Section>,
     groups: BTreeSet<String>,
     inputs: Vec<Input>,
-    walk: Walk,
+    walk: Option<Walk>,
+    required: Option<BTreeSet<String>>,
     broken: bool,
+    /// Of the links before this one.
+    seen: Seen,
+}
+
+/// How often the gABI profile answered otherwise than the old one would on the same table, so that a
+/// run shows what it tried.
+#[derive(Clone, Copy, Default)]
+pub struct Seen {
+    /// Links with one of the next three.
+    pub links: u64,
+    /// A row that was kept became hidden.
+    pub kept_row_hidden: u64,
+    /// A row stayed hidden though what replaced it isn't.
+    pub stayed_hidden: u64,
+    /// A library's hidden symbol made or took a row and didn't hide it.
+    pub library_unhid: u64,
+    /// A refused add of an object, hidden, left its name's row unhidden: as in the old profile.
+    pub refused_hid_not: u64,
+    /// Passes over an index with a weak reference in it.
+    pub passes_tied_less: u64,
+    /// Admissions: by a weak definition alone, not by a reference, and those alike in both profiles.
+    pub admitted_more: u64,
+    pub admitted_less: u64,
+    pub admitted_alike: u64,
+}
+
+impl Seen {
+    pub fn and(self, other: Seen) -> Seen {
+        Seen {
+            links: self.links + other.links,
+            kept_row_hidden: self.kept_row_hidden + other.kept_row_hidden,
+            stayed_hidden: self.stayed_hidden + other.stayed_hidden,
+            library_unhid: self.library_unhid + other.library_unhid,
+            refused_hid_not: self.refused_hid_not + other.refused_hid_not,
+            passes_tied_less: self.passes_tied_less + other.passes_tied_less,
+            admitted_more: self.admitted_more + other.admitted_more,
+            admitted_less: self.admitted_less + other.admitted_less,
+            admitted_alike: self.admitted_alike + other.admitted_alike,
+        }
+    }
 }
 
 enum Section {
@@ -49,71 +93,132 @@ enum Input {
 }
 
 impl Model {
-    /// The answers to a line. What the line announces is read from the machine, which ran it.
-    pub(crate) fn line(&mut self, line: &str, machine: &Machine) -> Vec<String> {
-        if self.broken && changes(line) {
-            return vec![Refused(22, Some(0)).line()];
+    pub(crate) fn new() -> Self {
+        Model {
+            rows: Announced::default(),
+            table: Table::new(false),
+            sections: Vec::new(),
+            groups: BTreeSet::new(),
+            inputs: Vec::new(),
+            walk: None,
+            required: None,
+            broken: false,
+            seen: Seen::default(),
         }
-        let answers = self.answers(line, machine);
-        self.broken |= breaks(line, &answers);
-        answers
     }
 
-    fn answers(&mut self, line: &str, machine: &Machine) -> Vec<String> {
+    /// The answers to a line, without their `> `.
+    pub(crate) fn line(&mut self, line: &str) -> Result<Vec<String>, Fault> {
+        if self.broken && changes(line) {
+            return Ok(vec![Refused(22, Some(0)).line()]);
+        }
+        let mut rows = std::mem::take(&mut self.rows);
+        let answers = self.answers(line, &mut rows);
+        self.rows = rows;
+        let answers = answers?;
+        self.broken |= breaks(line, &answers);
+        Ok(answers)
+    }
+
+    /// Of all links so far.
+    pub(crate) fn seen(&self) -> Seen {
+        let Seen { kept_row_hidden, stayed_hidden, library_unhid, .. } = self.table.seen.get();
+        let links = (kept_row_hidden + stayed_hidden + library_unhid > 0) as u64;
+        self.seen.and(Seen { links, ..self.table.seen.get() })
+    }
+
+    pub(crate) fn counts(&self) -> (u64, u64) {
+        (self.table.rows.len() as u64, self.sections.len() as u64)
+    }
+
+    pub(crate) fn rows(&self) -> &Announced {
+        &self.rows
+    }
+
+    fn answers(&mut self, line: &str, rows: &mut Announced) -> Result<Vec<String>, Fault> {
         let mut words = Words::of(line);
+        let keyword = words.word()?;
+        if keyword == "archive" {
+            (self.walk, self.required) = (None, None);
+        }
+        if rows.takes(line)? {
+            return Ok(Vec::new());
+        }
         let refused_or = |result: Result<String, Refused>| match result {
             Ok(answer) => vec![answer],
             Err(refused) => vec![refused.line()],
         };
-        match words.word().expect("a keyword") {
+        let answers = match keyword {
             "link" => {
-                *self = Model::default();
+                let gabi = match words.rest()[..] {
+                    [] => false,
+                    ["gabi"] => true,
+                    _ => return Err("no such profile".into()),
+                };
+                rows.clear();
+                *self = Model { table: Table::new(gabi), seen: self.seen(), ..Model::new() };
                 Vec::new()
             }
             "add" => {
-                let direct = Direct::read(&mut words).expect("an add");
-                let item = Item::of_direct(&direct, &machine.conversion);
+                let item = Item::of_direct(&Direct::read(&mut words)?, &rows.conversion);
                 refused_or(match self.table.add(item) {
                     Ok(id) => Ok(format!("id {id}")),
                     Err(21) => Err(Refused(21, None)),
                     Err(number) => Err(Refused(number, Some(0))),
                 })
             }
-            "remove" => refused_or(self.table.remove(number(&mut words)).map(|()| "ok".into())),
-            "get" => refused_or(self.table.get(number(&mut words))),
-            "global" => refused_or(self.table.get_global(&words.name().expect("a name"))),
+            "remove" => refused_or(self.table.remove(words.number()?).map(|()| "ok".into())),
+            "get" => refused_or(self.table.get(words.number()?)),
+            "global" => refused_or(self.table.get_global(&words.name()?)),
             "sectionsymbol" => {
-                vec![match self.table.section_symbols.get(&number(&mut words)) {
+                vec![match self.table.section_symbols.get(&words.number()?) {
                     Some(id) => format!("id {id}"),
                     None => "none".into(),
                 }]
             }
             "dump" => self.dump(),
-            "merge" => refused_or(self.merge(&machine.object).map(|()| "merged".into())),
-            "load" => refused_or(self.load(&machine.library)),
-            "archive" => {
-                self.walk = Walk::default();
-                Vec::new()
+            "merge" => {
+                rows.whole()?;
+                refused_or(self.merge(&rows.object).map(|()| "merged".into()))
             }
-            "start" => refused_or(self.walk.start(&machine.archive)),
-            "next" => refused_or(self.walk.next(&machine.archive, &self.table)),
+            "load" => {
+                rows.whole()?;
+                refused_or(self.load(&rows.library))
+            }
+            "start" => {
+                rows.archive.whole()?;
+                (self.walk, self.required) = (None, None);
+                refused_or(Walk::start(&rows.archive).map(|walk| {
+                    self.walk = Some(walk);
+                    "started".into()
+                }))
+            }
+            "next" => refused_or(self.next(&rows.archive)?),
             "require" => {
-                self.walk.required = words.names().expect("names").into_iter().collect();
+                self.required = Some(words.names()?.into_iter().collect());
                 Vec::new()
             }
             "admit" => {
-                let yes = archive::admits(&machine.object, &self.walk.required);
-                vec![if yes { "yes".into() } else { "no".into() }]
+                rows.whole()?;
+                vec![self.admit(&rows.object)?]
             }
-            "walk" => self.whole_walk(&machine.archive),
+            "walk" => {
+                rows.archive.whole()?;
+                self.whole_walk(&rows.archive)?
+            }
             "collect" => {
-                let there = words.flag().expect("a flag");
-                let entry = number(&mut words);
-                let marks = words.bytes().expect("marks");
+                let there = words.flag()?;
+                let entry = words.number()?;
+                let marks = words.bytes()?;
+                if marks.len() < self.table.rows.len() {
+                    return Err("fewer marks than symbol rows".into());
+                }
                 refused_or(self.collect(there.then_some(entry), &marks))
             }
-            _ => Vec::new(),
-        }
+            other => return Err(format!("no operation {other:?}")),
+        };
+        words.end()?;
+        Ok(answers)
     }
 
     fn dump(&self) -> Vec<String> {
@@ -145,10 +250,6 @@ impl Model {
         }));
         out
     }
-}
-
-fn number(words: &mut Words) -> u64 {
-    words.number().expect("a number")
 }
 
 /// The name at an offset: from there, in a name's middle or not, to the next zero byte.

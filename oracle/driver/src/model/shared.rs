@@ -18,6 +18,7 @@ impl Model {
             if symbol.section != 0 {
                 let item = Item {
                     class: class(symbol.binding, symbol.visibility),
+                    library: true,
                     name,
                     kind: 0,
                     file: None,
@@ -49,7 +50,7 @@ impl Model {
 
     fn wants_strongly(&self, name: &str) -> bool {
         let row = self.table.names.get(name).and_then(|id| self.table.present(*id));
-        row.is_some_and(|row| row.value.is_undefined() && row.global.is_some_and(|(weak, _)| !weak))
+        row.is_some_and(|row| row.value.is_undefined() && !row.is_weak())
     }
 
     fn library_wants(&self, wanted: &String, library: &String) -> bool {

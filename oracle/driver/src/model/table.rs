@@ -1,13 +1,19 @@
 //! 01 "Symbols".
-use super::Refused;
+use super::{Refused, Seen};
 use crate::direct::{Conversion, Direct};
 use crate::form;
 use crate::repr::symbols::SymbolValue;
 use crate::rows::{ABSOLUTE, COMMON, SymbolRow};
 use cuddld_utils::ints::ExtractNumber;
+use std::cell::Cell;
 use std::collections::BTreeMap;
 
+#[derive(Default)]
 pub(super) struct Table {
+    /// The gABI profile (02, 2026-02).
+    pub(super) gabi: bool,
+    /// Where it answered otherwise than the old profile.
+    pub(super) seen: Cell<Seen>,
     pub(super) rows: Vec<Row>,
     pub(super) section_symbols: BTreeMap<u64, u64>,
     pub(super) names: BTreeMap<String, u64>,
@@ -52,9 +58,17 @@ impl Value {
     }
 }
 
+impl Row {
+    pub(super) fn is_weak(&self) -> bool {
+        self.global.is_some_and(|(weak, _)| weak)
+    }
+}
+
 /// What is to be added, judged in part.
 pub(super) struct Item {
     pub(super) class: Result<Option<(bool, bool)>, u64>,
+    /// From a shared object; every other add counts as from an object.
+    pub(super) library: bool,
     pub(super) name: String,
     /// The type by gABI's number.
     pub(super) kind: u64,
@@ -95,12 +109,14 @@ impl Item {
                 }
             },
         };
-        Item { class: class(row.binding, row.visibility), name, kind: row.kind, file, value }
+        let class = class(row.binding, row.visibility);
+        Item { class, library: false, name, kind: row.kind, file, value }
     }
 
     pub(super) fn of_direct(direct: &Direct, conversion: &[Conversion]) -> Item {
         let plain = |class, name: &str, kind, value| Item {
             class: Ok(class),
+            library: false,
             name: name.into(),
             kind,
             file: None,
@@ -129,6 +145,7 @@ impl Item {
             }
             Direct::External { name, binding, visibility } => Item {
                 class: class(*binding, *visibility),
+                library: true,
                 ..plain(None, name, 0, Value::External)
             },
             Direct::Elf { name, row, file } => {
@@ -140,10 +157,9 @@ impl Item {
     }
 }
 
-impl Default for Table {
-    fn default() -> Self {
-        let mut table =
-            Table { rows: Vec::new(), section_symbols: BTreeMap::new(), names: BTreeMap::new() };
+impl Table {
+    pub(super) fn new(gabi: bool) -> Self {
+        let mut table = Table { gabi, ..Table::default() };
         table.rows.push(Row {
             removed: false,
             name: String::new(),
@@ -154,11 +170,14 @@ impl Default for Table {
         });
         table
     }
-}
 
-impl Table {
     pub(super) fn add(&mut self, item: Item) -> Result<u64, u64> {
-        let global = item.class?;
+        let mut global = item.class?;
+        let judged_hidden = is_hidden(global);
+        if let (true, true, Some((_, hidden))) = (self.gabi, item.library, &mut global) {
+            // "Adds from shared objects hide no row, not even one they hold."
+            *hidden = false;
+        }
         let known = global.and_then(|_| self.names.get(&item.name).copied());
         if known.is_some_and(|id| self.rows[id as usize].removed) {
             return Err(21);
@@ -188,6 +207,7 @@ impl Table {
                 (None, Value::Section(section)) => drop(self.section_symbols.insert(*section, id)),
                 _ => {}
             }
+            self.see(|seen| seen.library_unhid += (judged_hidden && !is_hidden(global)) as u64);
             return Ok(id);
         };
 
@@ -199,13 +219,39 @@ impl Table {
         };
         let weak = |global: Option<(bool, bool)>| global.is_some_and(|(weak, _)| weak);
         let old = &self.rows[id as usize];
+        let was_hidden = is_hidden(old.global);
         let (new, old) = (rank(&value, weak(global)), rank(&old.value, weak(old.global)));
+        let judged = match () {
+            () if new > old => judge(item.kind),
+            () if new == 4 => Err(17),
+            () => Ok(item.kind),
+        };
+        self.see(|seen| {
+            seen.refused_hid_not += (judged.is_err() && is_hidden(global) && !was_hidden) as u64;
+        });
+        let kind = judged?;
         if new > old {
-            self.rows[id as usize] = row(judge(item.kind)?);
-        } else if new == 4 {
-            return Err(17);
+            self.rows[id as usize] = row(kind);
+        }
+        if self.gabi {
+            // "hidden on any accepted add from an object passes to the name's row, whoever holds it"
+            let hidden = was_hidden || is_hidden(global);
+            let holder = &mut self.rows[id as usize].global;
+            *holder = holder.map(|(weak, _)| (weak, hidden));
+            self.see(|seen| match (new > old, judged_hidden) {
+                (false, _) => seen.kept_row_hidden += (hidden && !was_hidden) as u64,
+                (true, false) => seen.stayed_hidden += hidden as u64,
+                (true, true) => seen.library_unhid += !hidden as u64,
+            });
         }
         Ok(id)
+    }
+
+    /// Counts what the profiles do otherwise.
+    pub(super) fn see(&self, count: impl Fn(&mut Seen)) {
+        let mut seen = self.seen.get();
+        count(&mut seen);
+        self.seen.set(seen);
     }
 
     pub(super) fn remove(&mut self, id: u64) -> Result<(), Refused> {
@@ -253,6 +299,10 @@ impl Table {
             out.push(format!("global {} {id}", form::name(&row.name)));
         }
     }
+}
+
+fn is_hidden(global: Option<(bool, bool)>) -> bool {
+    global.is_some_and(|(_, hidden)| hidden)
 }
 
 fn line(id: u64, row: &Row) -> String {

@@ -1,10 +1,12 @@
 //! Random links of every kind on the Rust and on this port, in one process.
 //!
 //! `compare [SEED [LINKS]]`: so many links; stops at the first difference, makes its link short
-//! and prints it. `compare list`: compares on the list that comes by standard input.
+//! and prints it. `compare gabi [SEED [LINKS]]`: links of the gABI profile, in which a plain reading
+//! of the documents stands for the Rust. `compare list`: compares on the list that comes by standard
+//! input, each link with what its profile is compared with.
 use compare::minimise::{difference, minimise};
 use compare::{Outcome, Sides};
-use oracle::{KINDS, Said, histories};
+use oracle::{KINDS, Reference, Said, Seen, begins, histories};
 use std::collections::BTreeMap;
 use std::io::Read;
 use std::process::exit;
@@ -23,14 +25,19 @@ struct Counts {
     left_out: u64,
     refusals: BTreeMap<u64, u64>,
     kinds: BTreeMap<String, u64>,
+    seen: Seen,
 }
 
 fn main() {
     oracle::silence_panics();
     compare::ours::silence_panics();
-    let words: Vec<String> = std::env::args().skip(1).collect();
+    let mut words: Vec<String> = std::env::args().skip(1).collect();
     if words.first().is_some_and(|word| word == "list") {
         return list();
+    }
+    let gabi = words.first().is_some_and(|word| word == "gabi");
+    if gabi {
+        words.remove(0);
     }
     let number = |at: usize, default| match words.get(at) {
         Some(word) => word.parse().unwrap_or_else(|_| usage()),
@@ -41,47 +48,61 @@ fn main() {
     let mut counts = Counts::default();
     let mut sides = Sides::default();
     let mut chunk = 0;
+    if gabi {
+        // Every short word over small alphabets: the seed plays no part.
+        run("gabi-short-adds", 0, 0, &mut sides, &mut counts);
+    }
+    let links = links + counts.links;
     while counts.links < links {
         let kind = KINDS[(chunk % KINDS.len() as u64) as usize];
+        let kind = if gabi { format!("gabi-{kind}") } else { kind.into() };
         // Every chunk can be made again by itself: oracle gen KIND SEED COUNT.
         let own = seed.wrapping_mul(1_000_003).wrapping_add(chunk);
         let count = CHUNK.min(links - counts.links);
-        let said = histories(kind, own, count).expect("a kind of links");
-        compare(&mut sides, &said, &format!("{kind} {own} {count}"), &mut counts);
-        *counts.kinds.entry(kind.into()).or_default() += count;
+        run(&kind, own, count, &mut sides, &mut counts);
         chunk += 1;
     }
     print(&counts, started.elapsed().as_secs_f64());
 }
 
+/// Makes links of a kind and compares on them.
+fn run(kind: &str, seed: u64, count: u64, sides: &mut Sides, counts: &mut Counts) {
+    let (said, seen) = histories(kind, seed, count).expect("a kind of links");
+    let before = counts.links;
+    compare(sides, &said, &format!("{kind} {seed} {count}"), counts);
+    *counts.kinds.entry(kind.into()).or_default() += counts.links - before;
+    counts.seen = counts.seen.and(seen);
+}
+
 fn usage() -> ! {
-    eprintln!("usage: compare [SEED [LINKS]], or compare list");
+    eprintln!("usage: compare [gabi] [SEED [LINKS]], or compare list");
     exit(2);
 }
 
 fn list() {
     let mut text = String::new();
     std::io::stdin().read_to_string(&mut text).expect("a list");
-    let mut machine = oracle::Machine::new();
+    let mut reference = Reference::new();
     let mut said = Vec::new();
     for line in text.lines() {
         if line.is_empty() || line.starts_with(['#', '>']) {
             continue;
         }
-        let answers = machine.line(line).unwrap_or_else(|fault| {
+        let answers = reference.line(line).unwrap_or_else(|fault| {
             eprintln!("{fault}: {line}");
             exit(2);
         });
         said.push(Said { line: line.into(), answers });
     }
-    let (started, mut counts) = (Instant::now(), Counts::default());
+    let (started, seen) = (Instant::now(), reference.seen());
+    let mut counts = Counts { seen, ..Counts::default() };
     compare(&mut Sides::default(), &said, "list", &mut counts);
     print(&counts, started.elapsed().as_secs_f64());
 }
 
 fn compare(sides: &mut Sides, said: &[Said], made_by: &str, counts: &mut Counts) {
     for (at, Said { line, answers }) in said.iter().enumerate() {
-        counts.links += (line == "link") as u64;
+        counts.links += begins(line) as u64;
         match sides.line(line, answers) {
             Outcome::Same => {}
             Outcome::LeftOut => {
@@ -114,7 +135,7 @@ fn count_refusal(answer: &str, refusals: &mut BTreeMap<u64, u64>) {
 /// cells hold must not matter), these stay too.
 fn differs(lines: &[String], made_by: &str, rust: &[String], ours: &[String]) -> ! {
     println!("a difference in a link made by: oracle gen {made_by}");
-    let starts = (0..lines.len()).rev().filter(|at| lines[*at] == "link");
+    let starts = (0..lines.len()).rev().filter(|at| begins(&lines[*at]));
     let Some(lines) = starts.map(|at| from(lines, at)).find(|lines| difference(lines).is_some())
     else {
         println!("run again it doesn't differ; the answers were");
@@ -142,7 +163,7 @@ fn print_answers(rust: &[String], ours: &[String]) {
             (Some(rust), Some(ours)) if compare::same_answer(rust, ours) => println!("> {rust}"),
             (rust, ours) => {
                 let none = String::from("(nothing)");
-                println!("# the Rust: {}", rust.unwrap_or(&none));
+                println!("# expected: {}", rust.unwrap_or(&none));
                 println!("# ours:     {}", ours.unwrap_or(&none));
             }
         }
@@ -164,5 +185,25 @@ fn print(counts: &Counts, seconds: f64) {
     }
     for (number, times) in &counts.refusals {
         println!("{times:>9} refused {number}");
+    }
+    print_seen(&counts.seen);
+}
+
+/// Where the gABI profile and the old one differ on the table as it stood: nothing without such links.
+fn print_seen(seen: &Seen) {
+    let counts = [
+        (seen.links, "links in which hidden went otherwise than in the old profile, by"),
+        (seen.kept_row_hidden, "rows hidden by a later add that doesn't hold them"),
+        (seen.stayed_hidden, "rows that stayed hidden under a holder that isn't"),
+        (seen.library_unhid, "rows that a library's hidden symbol made or took, not hidden"),
+        (seen.refused_hid_not, "refused hidden adds that left a row unhidden (as there)"),
+        (seen.passes_tied_less, "passes that tied less, for weak references"),
+        (seen.admitted_more, "members admitted by a weak definition alone"),
+        (seen.admitted_less, "members not admitted by a reference"),
+        (seen.admitted_alike, "admissions alike in both profiles"),
+    ];
+    if counts.iter().any(|(times, _)| *times > 0) {
+        println!("beside the old profile:");
+        counts.iter().for_each(|(times, what)| println!("{times:>9} {what}"));
     }
 }

@@ -1,4 +1,6 @@
-//! What the tests have in common.
+//! What the tests have in common; not each uses all of it.
+#![allow(dead_code)]
+
 use hidvorn::*;
 
 /// The number and place of a refusal.
@@ -17,4 +19,31 @@ pub fn strings(names: &[&str]) -> (Vec<u8>, Vec<usize>) {
         bytes.push(0);
     }
     (bytes, places)
+}
+
+/// An object of one program section, number 1, and the symbols: binding, section, visibility.
+pub fn object(symbols: &[(&str, u64, usize, u64)]) -> Object<'static> {
+    let names: Vec<_> = symbols.iter().map(|(name, ..)| *name).collect();
+    let (bytes, places) = strings(&[&[".text"], names.as_slice()].concat());
+    let len = bytes.len();
+    let mut object = Object::new(bytes);
+    let header = |content| SectionHeader { content, ..Default::default() };
+    object.push_section(header(SectionContent::Null));
+    let content = SectionContent::Program;
+    object.push_section(SectionHeader { name: places[0], read: true, ..header(content) });
+    object.push_section(header(SectionContent::StringTable { first: 0, len }));
+    object.set_section_names(2);
+    object.push_symbol(ElfSymbol::default());
+    for ((_, binding, section, visibility), name) in symbols.iter().zip(&places[1..]) {
+        object.push_symbol(ElfSymbol {
+            name: *name,
+            binding: *binding,
+            section: *section,
+            visibility: *visibility,
+            ..Default::default()
+        });
+    }
+    let count = symbols.len() + 1;
+    object.push_section(header(SectionContent::SymbolTable { strings: 2, first: 0, count }));
+    object
 }

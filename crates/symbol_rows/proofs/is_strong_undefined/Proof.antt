@@ -1,7 +1,7 @@
 use borrow.Author.Needs.{needs}
-use Rattle.library_need.specs.Ways.{strong-defined, strong-global, strong-hidden, strong-weak}
-use Rattle.library_need.proofs.is_strong_undefined.Statement.{statement}
-use Rattle.library_need.proofs.is_strong_undefined.Tie as tie
+use Rattle.symbol_rows.specs.Undefined.{strong-defined, strong-global, strong-hidden, strong-weak}
+use Rattle.symbol_rows.proofs.is_strong_undefined.Statement.{statement}
+use Rattle.symbol_rows.proofs.is_strong_undefined.Tie as tie
 
 pub is-strong-undefined-spec : {M : Type 1} → statement M
 is-strong-undefined-spec =
