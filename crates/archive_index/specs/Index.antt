@@ -5,7 +5,7 @@ use mathlib.Core.Bool.{cond}
 use mathlib.Core.List.{List}
 use lib.Dec.{eqb}
 use lib.ListN.{getD, length}
-use Rattle.gabi.specs.StringTable.{hasName, nameAt}
+use Rattle.gabi.specs.StringTable.{ended, nameAt}
 
 -- the big-endian number of 32 bits at place i; a byte past the end is 0
 abbrev pub wordAt : List ℕ → ℕ → ℕ
@@ -19,7 +19,7 @@ offsetOf s k = wordAt s (4 + 4 * k)
 
 -- the place after the name at place p and its zero byte; 0 where it is cut short
 unfoldable pub afterOf : List ℕ → ℕ → ℕ
-afterOf s p = cond (hasName s p) (p + length (nameAt s p) + 1) 0
+afterOf s p = cond (ended s p) (p + length (nameAt s p) + 1) 0
 
 -- where the names start, after c offsets
 abbrev pub namesAt : ℕ → ℕ

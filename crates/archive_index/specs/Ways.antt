@@ -10,8 +10,8 @@ use mathlib.Core.List.{List, [], _∷_}
 use lib.Dec.{eqb}
 use lib.ListN.{getD, set, length, List·getD-eq-default}
 use borrow.Author.Tests.{eq-eqb, ne-eqb, lt-ltb, le-ltb}
-use Rattle.gabi.specs.StringTable.{hasName, nameAt, name-inside}
-use Rattle.strings.specs.Lookup.{Looked, looked, lookUp}
+use Rattle.gabi.specs.StringTable.{ended, nameAt, name-inside}
+use Rattle.strings.specs.Lookup.{Looked, looked, lookEnded}
 use Rattle.cells.specs.Rows.{putRow}
 use Rattle.link.specs.Bounds.{lesser}
 use Rattle.archive_index.specs.declared.Opened.{Opened}
@@ -41,11 +41,11 @@ module _ (s : List ℕ) (t : ℕ) where
 
 -- ---- names
 
-module _ (s : List ℕ) (p : ℕ) (x : List ℕ) (f : Bool) (e : looked x f ≡ lookUp s p) where
+module _ (s : List ℕ) (p : ℕ) (x : List ℕ) (f : Bool) (e : looked x f ≡ lookEnded s p) where
   name-is : x ≡ nameAt s p
   name-is = ap (λ (y : Looked). y .name) e
 
-  found-is : f ≡ hasName s p
+  found-is : f ≡ ended s p
   found-is = ap (λ (y : Looked). y .found) e
 
   pub after-fits : f ≡ true → p + length x < length s

@@ -86,7 +86,7 @@ pub fn after_name(index: &[u8], at: usize) -> usize
     ensures { λ r. ⌜ r ≡ afterOf (now (index .entry)) at ⌝ }
 {
     let mut found = false;
-    let name = strings::get(index, at, &mut found);
+    let name = strings::ended(index, at, &mut found);
     if found {
         return at + name.len() + 1;
     }

@@ -12,7 +12,7 @@ use lib.Dec.{eqb}
 use lib.ListN.{getD, set, length, length-set}
 use lib.Seq.{getD-set-same, getD-set-other}
 use borrow.Author.Tests.{eq-eqb, ne-eqb}
-use Rattle.gabi.specs.StringTable.{hasName, nameAt, name-part}
+use Rattle.gabi.specs.StringTable.{ended, nameAt, name-part}
 use Rattle.cells.specs.Rows.{length-putRow, row-same, row-other}
 use Rattle.archive_index.specs.declared.Spot.{Spot}
 use Rattle.archive_index.specs.declared.Spot.the-variants.{Known, Free}
@@ -204,7 +204,7 @@ module _ (s : List ℕ) (c : ℕ) where
 
     -- ---- entry k is entered
 
-    module _ (p : ℕ) (at-p : placeOf s c k ≡ p) (has : hasName s p ≡ true) (h : k < c) where
+    module _ (p : ℕ) (at-p : placeOf s c k ≡ p) (has : ended s p ≡ true) (h : k < c) where
       size : afterOf s p - (p + 1) ≡ length (nameAt s p)
       unfolding afterOf
       size = rw has (omega arith)
@@ -338,9 +338,9 @@ module _ (s : List ℕ) (c : ℕ) where
 
   -- ---- all entries
 
-  pub has-name : (p : ℕ) → (afterOf s p ≡ 0 → ⊥) → hasName s p ≡ true
+  pub has-name : (p : ℕ) → (afterOf s p ≡ 0 → ⊥) → ended s p ≡ true
   unfolding afterOf
-  has-name p n = go (hasName s p) n
+  has-name p n = go (ended s p) n
     where
       go : (t : Bool) → (cond t (p + length (nameAt s p) + 1) 0 ≡ 0 → ⊥) → t ≡ true
       go true f = refl

@@ -6,7 +6,7 @@ use mathlib.Core.Path.{_≡_, refl}
 use mathlib.Core.Bool.{Bool, true, false}
 use mathlib.Core.List.{List, [], _∷_}
 use lib.ListN.{replicate}
-use Rattle.gabi.specs.StringTable.{beforeZero, hasName, nameAt}
+use Rattle.gabi.specs.StringTable.{beforeZero, ended, nameAt}
 use Rattle.cells.specs.Rows.{putRow}
 use Rattle.byte_slices.specs.Bytes.{wordAt, same}
 use Rattle.link.specs.Bounds.{lesser}
@@ -126,7 +126,7 @@ abbrev inBoth : (Bool → Example) → List Example → List Example
 inBoth e es = e false ∷ e true ∷ es
 
 pub examples : All (inBoth p10In (inBoth p11In (inBoth firstTied (inBoth removedLater (inBoth nothing (weakTies ∷ weakTiesNone ∷ []))))))
-unfolding beforeZero hasName nameAt putRow same lesser judgeSections judgeNames judgeLists afterSymbols afterSections judgeOf wordAt Keyed.folded Keyed.mixed Keyed.hashFrom Keyed.pointOf Keyed.hashOf spread headCell chase seekOf findFrom findOf heldBy holderOf countOf offsetOf afterOf cutOf Rows.descend Rows.spotOf Rows.enterOf Rows.enterAll Rows.noHeads Rows.rowsOf openRowsOf openNamesOf openEntriesOf openOf nameChain along bearsOf borneFrom chained headedOf notedOf judgeTable nameHolder removedName strongUndefined tiesRow tiedName begunOf startOf offerOf marked enqueue tieOf tieAll removedOf makeOf searchOf passOf walkFits goOf nextOf stepRun history startRun
+unfolding beforeZero ended nameAt putRow same lesser judgeSections judgeNames judgeLists afterSymbols afterSections judgeOf wordAt Keyed.folded Keyed.mixed Keyed.hashFrom Keyed.pointOf Keyed.hashOf spread headCell chase seekOf findFrom findOf heldBy holderOf countOf offsetOf afterOf cutOf Rows.descend Rows.spotOf Rows.enterOf Rows.enterAll Rows.noHeads Rows.rowsOf openRowsOf openNamesOf openEntriesOf openOf nameChain along bearsOf borneFrom chained headedOf notedOf judgeTable nameHolder removedName strongUndefined tiesRow tiedName begunOf startOf offerOf marked enqueue tieOf tieAll removedOf makeOf searchOf passOf walkFits goOf nextOf stepRun history startRun
 examples =
     ((refl, refl, refl), ((refl, refl, refl), ((refl, refl, refl), ((refl, refl, refl), ((refl, refl, refl), ((refl, refl, refl), ((refl, refl, refl), ((refl, refl, refl), ((refl, refl, refl), ((refl, refl, refl), ((refl, refl, refl), ((refl, refl, refl), tt))))))))))))
 

@@ -11,7 +11,7 @@ use lib.Dec.{eqb, ltb}
 use lib.ListN.{getD, take, drop, length, length-append}
 use lib.Seq.{getD-drop, drop-drop, drop-at, take-at, drop-append-seam}
 use borrow.Author.Tests.{lt-ltb, le-ltb, eq-eqb, ne-eqb}
-use Rattle.gabi.specs.StringTable.{beforeZero, hasName, nameAt}
+use Rattle.gabi.specs.StringTable.{beforeZero, ended, nameAt}
 use Rattle.gabi.specs.ArchiveIndex.{Entry, word, offsets, names, indexBytes, NoZero, AllFit}
 use Rattle.archive_index.specs.Open.{offsetsIn, refusedAs, openRowsOf, openNamesOf, openEntriesOf, openOf}
 use Rattle.archive_index.specs.Index.{wordAt, countOf, offsetOf, afterOf, namesAt, placeOf, nameOf, cutOf}
@@ -65,8 +65,8 @@ before-end (x ∷ n) m (z, zs) = rw (ne-eqb x 0 z) (ap suc (before-end n m zs))
 
 -- a name that stands at place p, with its zero byte
 module _ (s n m : List ℕ) (p : ℕ) (z : NoZero n) (e : drop p s ≡ n ++ 0 ∷ m) where
-  has-it : hasName s p ≡ true
-  unfolding hasName
+  has-it : ended s p ≡ true
+  unfolding ended
   has-it =
       let l : length n < length (n ++ 0 ∷ m) = omega (arith, length-append n (0 ∷ m)) in
       rw (e, before-end n m z) (lt-ltb (length n) (length (n ++ 0 ∷ m)) l)

@@ -8,8 +8,8 @@ use mathlib.Core.Bool.{Bool, true, false}
 use mathlib.Core.List.{List, []}
 use lib.ListN.{length, take, drop}
 use borrow.Author.Tests.{lt-ltb, le-ltb}
-use Rattle.gabi.specs.StringTable.{hasName, nameAt, name-part}
-use Rattle.strings.specs.Lookup.{Looked, looked, lookUp}
+use Rattle.gabi.specs.StringTable.{ended, nameAt, name-part}
+use Rattle.strings.specs.Lookup.{Looked, looked, lookEnded}
 use Rattle.archive_index.specs.Index.{offsetOf, afterOf, placeOf, nameOf}
 use Rattle.archive_reader.specs.Entry.{entryOffset, entryName}
 
@@ -26,11 +26,11 @@ module _ (s : List ℕ) (c : ℕ) where
   place-there i k at h g e = let f : i ≡ k = omega arith in rw f at e
 
 -- the part as long as the name is the name
-pub part-name : (s : List ℕ) (p : ℕ) (x t : List ℕ) (f : Bool) → looked x f ≡ lookUp s p → t ≡ take (length x) (drop p s) → t ≡ nameAt s p
+pub part-name : (s : List ℕ) (p : ℕ) (x t : List ℕ) (f : Bool) → looked x f ≡ lookEnded s p → t ≡ take (length x) (drop p s) → t ≡ nameAt s p
 unfolding nameAt
-part-name s p x t f e q = q ∙ rw (ap (λ (y : Looked). y .name) e) (go (hasName s p) refl)
+part-name s p x t f e q = q ∙ rw (ap (λ (y : Looked). y .name) e) (go (ended s p) refl)
   where
-    go : (b : Bool) → hasName s p ≡ b → take (length (nameAt s p)) (drop p s) ≡ nameAt s p
+    go : (b : Bool) → ended s p ≡ b → take (length (nameAt s p)) (drop p s) ≡ nameAt s p
     go true h = sym (name-part s p h)
     go false h = rw h refl
 

@@ -28,7 +28,7 @@ fn name_from(bytes: &[u8], at: usize) -> &[u8]
     ensures { λ r. ⌜ (now r ≡ nameAt (now (bytes .entry)) at) × (r .ptr .0 ≡ bytes .entry .ptr .0) ⌝ }
 {
     let mut found = false;
-    let name = strings::get(bytes, at, &mut found);
+    let name = strings::ended(bytes, at, &mut found);
     byte_slices::part_of(bytes, at, name.len())
 }
 

@@ -7,7 +7,7 @@ use mathlib.Core.Path.{_≡_, refl}
 use mathlib.Core.Bool.{Bool, true, false}
 use mathlib.Core.List.{List, [], _∷_}
 use lib.ListN.{replicate}
-use Rattle.gabi.specs.StringTable.{beforeZero, hasName, nameAt, sameName}
+use Rattle.gabi.specs.StringTable.{beforeZero, ended, hasName, nameAt, sameName}
 use Rattle.gabi.specs.StringTable as Strings
 use Rattle.gabi.specs.SymbolTable.{isGlobal, isWeak, isReference, isDefinition}
 use Rattle.gabi.specs.Resolution as Gabi
@@ -142,7 +142,7 @@ pub data All : List Case → Type 0 where
   also : {c : Case} {cs : List Case} → Right c → All cs → All (c ∷ cs)
 
 pub differences : All (agreeing false ∷ weakReference ∷ weakDefinition ∷ memberRefers ∷ agreeing true ∷ weakTiesNone ∷ weakAdmits ∷ referenceAdmitsNot ∷ localAdmitsNot ∷ [])
-unfolding beforeZero hasName nameAt sameName Strings.among isGlobal isWeak isReference isDefinition Gabi.count isGlobalDefinition isWeakDefinition isGlobalReference has resolve isUnresolved wants offers extracts putRow same lesser judgeSections judgeNames judgeLists afterSymbols afterSections Link.judgeOf wordAt Keyed.folded Keyed.mixed Keyed.hashFrom Keyed.pointOf Keyed.hashOf spread headCell chase seekOf findFrom findOf heldBy holderOf shownOf hiddenOf sectionInRange elfInRange Upcoming.judgeOf inSection convertedOf undefinedOf valueOf elfRowOf countOf offsetOf afterOf cutOf Rows.descend Rows.spotOf Rows.enterOf Rows.enterAll Rows.noHeads Rows.rowsOf openRowsOf openNamesOf openEntriesOf openOf judgeTable nameHolder removedName strongUndefined tiesRow tiedName nameChain along bearsOf borneFrom chained headedOf notedOf requiredOf begunOf startOf offerOf marked enqueue tieOf tieAll removedOf makeOf searchOf passOf walkFits goOf nextOf stepRun history startRun Object.sectionOf Object.entriesFrom Object.tableEntries Judged.rangeOk Judged.contentsOk Judged.headerOk Judged.entryOk Judged.firstBad Judged.badHeader Judged.badEntry Judged.judgeOf Admits.isSection Admits.nameAnywhere Admits.isRequired Admits.someFrom Admits.definesName Admits.admits Admits.bearsRequired Admits.inTable Admits.isTable Admits.inSection Admits.hasGlobalSymbol Admits.offeredIn Admits.matchesOf withName rowsNamed sectionNamed sectionsNamed memberOf
+unfolding beforeZero ended hasName nameAt sameName Strings.among isGlobal isWeak isReference isDefinition Gabi.count isGlobalDefinition isWeakDefinition isGlobalReference has resolve isUnresolved wants offers extracts putRow same lesser judgeSections judgeNames judgeLists afterSymbols afterSections Link.judgeOf wordAt Keyed.folded Keyed.mixed Keyed.hashFrom Keyed.pointOf Keyed.hashOf spread headCell chase seekOf findFrom findOf heldBy holderOf shownOf hiddenOf sectionInRange elfInRange Upcoming.judgeOf inSection convertedOf undefinedOf valueOf elfRowOf countOf offsetOf afterOf cutOf Rows.descend Rows.spotOf Rows.enterOf Rows.enterAll Rows.noHeads Rows.rowsOf openRowsOf openNamesOf openEntriesOf openOf judgeTable nameHolder removedName strongUndefined tiesRow tiedName nameChain along bearsOf borneFrom chained headedOf notedOf requiredOf begunOf startOf offerOf marked enqueue tieOf tieAll removedOf makeOf searchOf passOf walkFits goOf nextOf stepRun history startRun Object.sectionOf Object.entriesFrom Object.tableEntries Judged.rangeOk Judged.contentsOk Judged.headerOk Judged.entryOk Judged.firstBad Judged.badHeader Judged.badEntry Judged.judgeOf Admits.isSection Admits.nameAnywhere Admits.isRequired Admits.someFrom Admits.definesName Admits.admits Admits.bearsRequired Admits.inTable Admits.isTable Admits.inSection Admits.hasGlobalSymbol Admits.offeredIn Admits.matchesOf withName rowsNamed sectionNamed sectionsNamed memberOf
 differences =
     also {c = agreeing false} (refl, refl, refl, refl, refl)
     (also {c = weakReference} (refl, refl, refl, refl, refl)

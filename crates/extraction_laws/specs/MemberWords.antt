@@ -3,32 +3,39 @@
 -- Assumes nothing.
 use Prim.Native.Nat.{ℕ, zero, suc, _+_, _-_}
 use mathlib.Core.Path.{_≡_, refl, ap, _∙_}
-use mathlib.Core.Bool.{Bool, true, false, cond, _||_}
+use mathlib.Core.Bool.{Bool, true, false, cond, _&&_, _||_}
 use mathlib.Core.List.{List, [], _∷_, _++_}
 use native.Mathlib.Omega.{arith}
 use lib.Dec.{eqb, leb}
 use borrow.Author.Tests.{leb-true, leb-false, lt-ltb, le-ltb, ne-eqb}
 use Rattle.cells.specs.Split.{by-test}
-use Rattle.gabi.specs.StringTable.{beforeZero, hasName, nameAt}
+use Rattle.gabi.specs.StringTable.{hasName, nameAt, name-empty}
 use Rattle.gabi.specs.Archive.{Named}
-use Rattle.strings.specs.Lookup.{Looked, lookUp}
+use Rattle.strings.specs.Lookup.{Looked, looked}
 use Rattle.elf_object.specs.Rows.{rowsIn, field, kindAt, sectionOf, entriesFrom, tableEntries, elfAt}
 use Rattle.object_requirement.specs.Matches as Admits
 use Rattle.symbol_laws.specs.ObjectWords.{sectionsIn, symbolTable, stringTable, dynamicSymbols, hasKind, linkOf, stringsOf, entriesOf, entriesIn, entryName, entry}
 use Rattle.symbol_laws.specs.Gabi.{symOf}
 use Rattle.extraction_laws.specs.Member.{withName, rowsNamed, sectionNamed, sectionsNamed, memberOf}
 
--- the n symbols from i on of a table, by the bytes of its string section
-unfoldable pub namedFrom : List ℕ → List ℕ → ℕ → ℕ → List Named
-namedFrom strings table i zero = []
-namedFrom strings table i (suc n) =
-    cond (hasName strings (entryName table i))
-    (record { name = nameAt strings (entryName table i); symbol = entry table i } ∷ namedFrom strings table (i + 1) n)
-    (namedFrom strings table (i + 1) n)
+-- the n symbols from i on of a table, by whether it has a string section and that section's bytes
+unfoldable pub namedFrom : Bool → List ℕ → List ℕ → ℕ → ℕ → List Named
+namedFrom there strings table i zero = []
+namedFrom there strings table i (suc n) =
+    cond (there && hasName strings (entryName table i))
+    (record { name = nameAt strings (entryName table i); symbol = entry table i } ∷ namedFrom there strings table (i + 1) n)
+    (namedFrom there strings table (i + 1) n)
 
--- the strings of the section that table n links to
+-- the section that table n links to is a string section, and its strings
+abbrev pub hasStrings : List ℕ → ℕ → Bool
+hasStrings headers n = hasKind headers (linkOf headers n) stringTable
+
 abbrev pub stringsFor : List ℕ → List ℕ → ℕ → List ℕ
-stringsFor headers file n = stringsOf headers file (hasKind headers (linkOf headers n) stringTable) (linkOf headers n)
+stringsFor headers file n = stringsOf headers file (hasStrings headers n) (linkOf headers n)
+
+abbrev pub tableFrom : List ℕ → List ℕ → List ℕ → ℕ → List Named
+tableFrom headers entries file n =
+    namedFrom (hasStrings headers n) (stringsFor headers file n) (entriesOf headers entries n) 0 (entriesIn (entriesOf headers entries n))
 
 abbrev pub hasSymbols : List ℕ → ℕ → Bool
 hasSymbols headers n = hasKind headers n symbolTable || hasKind headers n dynamicSymbols
@@ -37,7 +44,7 @@ hasSymbols headers n = hasKind headers n symbolTable || hasKind headers n dynami
 unfoldable pub symbolsFrom : List ℕ → List ℕ → List ℕ → ℕ → ℕ → List Named
 symbolsFrom headers entries file n zero = []
 symbolsFrom headers entries file n (suc m) =
-    cond (hasSymbols headers n) (namedFrom (stringsFor headers file n) (entriesOf headers entries n) 0 (entriesIn (entriesOf headers entries n))) []
+    cond (hasSymbols headers n) (tableFrom headers entries file n) []
     ++ symbolsFrom headers entries file (n + 1) m
 
 unfoldable pub symbolsOf : List ℕ → List ℕ → List ℕ → List Named
@@ -60,23 +67,21 @@ table-same headers n =
     or-is true b = refl
     or-is false b = refl
 
-empty-has : (o : ℕ) → hasName [] o ≡ false
-unfolding hasName beforeZero
-empty-has zero = refl
-empty-has (suc o) = refl
+lookIn : Bool → List ℕ → ℕ → Looked
+lookIn there strings o = looked (nameAt strings o) (there && hasName strings o)
 
-name-same : (headers file : List ℕ) (n o : ℕ) → Admits.nameAnywhere headers file n o ≡ lookUp (stringsOf headers file (hasKind headers n stringTable) n) o
-unfolding Admits.nameAnywhere stringsOf nameAt
+name-same : (headers file : List ℕ) (n o : ℕ) → Admits.nameAnywhere headers file n o ≡ lookIn (hasKind headers n stringTable) (stringsOf headers file (hasKind headers n stringTable) n) o
+unfolding Admits.nameAnywhere stringsOf lookIn
 name-same headers file n o =
-    rw (section-same headers n 4) (by-test (hasKind headers n stringTable) (λ a. rw a) (λ a. rw (a, empty-has o)))
+    rw (section-same headers n 4) (by-test (hasKind headers n stringTable) (λ a. rw a) (λ a. rw (a, name-empty o)))
 
 rows-same : (headers file : List ℕ) (names : ℕ) (table : List ℕ) (n i : ℕ)
-    → rowsNamed headers file names table i n ≡ namedFrom (stringsOf headers file (hasKind headers names stringTable) names) table i n
-unfolding rowsNamed namedFrom withName
+    → rowsNamed headers file names table i n ≡ namedFrom (hasKind headers names stringTable) (stringsOf headers file (hasKind headers names stringTable) names) table i n
+unfolding rowsNamed namedFrom withName lookIn
 rows-same headers file names table zero i = refl
 rows-same headers file names table (suc n) i =
     ap (λ (x : Looked). withName x (symOf (elfAt table i)) (rowsNamed headers file names table (i + 1) n)) (name-same headers file names (field table i 0))
-    ∙ ap (withName (lookUp (stringsOf headers file (hasKind headers names stringTable) names) (field table i 0)) (symOf (elfAt table i))) (rows-same headers file names table n (i + 1))
+    ∙ ap (withName (lookIn (hasKind headers names stringTable) (stringsOf headers file (hasKind headers names stringTable) names) (field table i 0)) (symOf (elfAt table i))) (rows-same headers file names table n (i + 1))
 
 entries-same : (headers entries : List ℕ) (n : ℕ) → tableEntries headers entries (n + 1) ≡ entriesOf headers entries n
 unfolding tableEntries entriesFrom sectionOf
@@ -86,7 +91,7 @@ entries-same headers entries n =
 
 section-named : (headers entries file : List ℕ) (n : ℕ)
     → sectionNamed headers entries file n
-    ≡ cond (hasSymbols headers n) (namedFrom (stringsFor headers file n) (entriesOf headers entries n) 0 (entriesIn (entriesOf headers entries n))) []
+    ≡ cond (hasSymbols headers n) (tableFrom headers entries file n) []
 unfolding sectionNamed
 section-named headers entries file n =
     rw (table-same headers n, entries-same headers entries n)
@@ -98,7 +103,7 @@ unfolding sectionsNamed symbolsFrom
 sections-same headers entries file zero n = refl
 sections-same headers entries file (suc m) n =
     ap (λ (l : List Named). l ++ sectionsNamed headers entries file (n + 1) m) (section-named headers entries file n)
-    ∙ ap (_++_ (cond (hasSymbols headers n) (namedFrom (stringsFor headers file n) (entriesOf headers entries n) 0 (entriesIn (entriesOf headers entries n))) [])) (sections-same headers entries file m (n + 1))
+    ∙ ap (_++_ (cond (hasSymbols headers n) (tableFrom headers entries file n) [])) (sections-same headers entries file m (n + 1))
 
 pub member-is : (headers entries file : List ℕ) → memberOf headers entries file ≡ symbolsOf headers entries file
 unfolding memberOf symbolsOf

@@ -57,7 +57,7 @@ intern-one-outcome h bytes names name x y e f = ap {B = Names.InternExit} (λ (o
 -- new
 pub new-one-outcome : (h : List ℕ) (key profile : ℕ) (bytes names symbols sections : List ℕ) (x y : Symbols.NewExit) → Symbols.NewMeets h key profile bytes names symbols sections x
     → Symbols.NewMeets h key profile bytes names symbols sections y → x ≡ y
-new-one-outcome h key bytes names symbols sections x y e f = ap {B = Symbols.NewExit} (λ (o : SymbolsCalls.NewLeft). record { number = o .told .number; header = o .told .header; bytes = o .bytes; names = o .names; symbols = o .symbols; sections = o .sections }) (e ∙ sym f)
+new-one-outcome h key profile bytes names symbols sections x y e f = ap {B = Symbols.NewExit} (λ (o : SymbolsCalls.NewLeft). record { number = o .told .number; header = o .told .header; bytes = o .bytes; names = o .names; symbols = o .symbols; sections = o .sections }) (e ∙ sym f)
 
 -- add
 pub add-one-outcome : (h names symbols sections conversion item : List ℕ) (x y : Symbols.AddExit) → Symbols.AddMeets h names symbols sections conversion item x

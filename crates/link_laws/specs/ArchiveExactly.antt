@@ -10,7 +10,7 @@ use lib.Dec.{eqb, ltb}
 use lib.ListN.{getD, length}
 use borrow.Author.Tests.{ltb-true, ltb-false, lt-ltb, le-ltb, ne-eqb}
 use Rattle.cells.specs.Split.{by-test}
-use Rattle.gabi.specs.StringTable.{hasName, nameAt}
+use Rattle.gabi.specs.StringTable.{ended, nameAt}
 use Rattle.link.specs.declared.Refusal.{Refusal}
 use Rattle.link.specs.Bounds.{lesser, notLent}
 use Rattle.link.specs.Judge.{refused}
@@ -113,12 +113,12 @@ module _ (s : List ℕ) (long : ltb (length s) 4 ≡ false) where
 -- names one after the other
 module _ (s : List ℕ) (c : ℕ) where
   names-first : (n k p : ℕ) → p ≡ nameStart s c k
-      → cond (ltb (cutOf s p n k) (k + n)) (refused 1 (cutOf s p n k)) (refused 0 0) ≡ firstOf (each (λ j. not (hasName s (nameStart s c j)) gives 1 at j) k n)
+      → cond (ltb (cutOf s p n k) (k + n)) (refused 1 (cutOf s p n k)) (refused 0 0) ≡ firstOf (each (λ j. not (ended s (nameStart s c j)) gives 1 at j) k n)
   unfolding cutOf afterOf
   names-first zero k p e = rw (le-ltb k (k + 0) (omega arith))
   names-first (suc n) k p e =
       let q : k + suc n ≡ k + 1 + n = omega arith in
-      by-test (hasName s (nameStart s c k))
+      by-test (ended s (nameStart s c k))
       (λ h.
       rw (e, h, some (nameStart s c k + length (nameAt s (nameStart s c k))), q)
       (names-first n (k + 1) (nameStart s c k + length (nameAt s (nameStart s c k)) + 1) (ap (nameStart s c) (sym (add-one k)))))
@@ -136,20 +136,20 @@ module _ (s l : List ℕ) where
   rows-exactly c p = by-test (ltb (length l / 8) c) (λ a. rw a) (λ a. rw a)
 
   names-exactly : (c : ℕ) → openSaid (openNamesOf s l c (namesAt c))
-      ≡ firstOf (each (λ k. not (hasName s (nameStart s c k)) gives 1 at k) 0 c ++ ((ltb (length l / 8) c gives 2 at 0) ∷ []))
+      ≡ firstOf (each (λ k. not (ended s (nameStart s c k)) gives 1 at k) 0 c ++ ((ltb (length l / 8) c gives 2 at 0) ∷ []))
   unfolding openNamesOf
   names-exactly c =
       let e : 0 + c ≡ c = omega arith in
       let cut = cutOf s (namesAt c) c 0 in
-      follows (each (λ k. not (hasName s (nameStart s c k)) gives 1 at k) 0 c) _ (cond (ltb cut c) (refused 1 cut) (refused 0 0)) _
-      (each-numbered (λ k. not (hasName s (nameStart s c k))) 1 refl c 0)
+      follows (each (λ k. not (ended s (nameStart s c k)) gives 1 at k) 0 c) _ (cond (ltb cut c) (refused 1 cut) (refused 0 0)) _
+      (each-numbered (λ k. not (ended s (nameStart s c k))) 1 refl c 0)
       (ap (λ (m : ℕ). cond (ltb cut m) (refused 1 cut) (refused 0 0)) (sym e) ∙ names-first s c c 0 (namesAt c) refl)
       (λ z. by-test (ltb cut c) (λ a. rw a) (λ a. absurd (true≢false (rw a at z))))
       (λ z. by-test (ltb cut c) (λ a. absurd (false≢true (rw a at z))) (λ a. rw a (rows-exactly c (namesAt c))))
 
   entries-exactly : (c : ℕ) → ltb (length s) 4 ≡ false → openSaid (openEntriesOf s l c)
       ≡ firstOf (each (λ k. not (ltb k 65535) || isOffsetCut s k gives 1 at k) 0 c
-      ++ (each (λ k. not (hasName s (nameStart s c k)) gives 1 at k) 0 c ++ ((ltb (length l / 8) c gives 2 at 0) ∷ [])))
+      ++ (each (λ k. not (ended s (nameStart s c k)) gives 1 at k) 0 c ++ ((ltb (length l / 8) c gives 2 at 0) ∷ [])))
   unfolding openEntriesOf
   entries-exactly c long =
       follows (each (λ k. not (ltb k 65535) || isOffsetCut s k gives 1 at k) 0 c) _

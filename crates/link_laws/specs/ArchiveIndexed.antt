@@ -9,7 +9,7 @@ use lib.Dec.{eqb, ltb}
 use lib.ListN.{length}
 use borrow.Author.Tests.{eqb-true, eqb-false, eq-eqb}
 use Rattle.cells.specs.Split.{by-test}
-use Rattle.gabi.specs.StringTable.{hasName, nameAt}
+use Rattle.gabi.specs.StringTable.{ended, nameAt}
 use Rattle.link.specs.declared.Refusal.{Refusal}
 use Rattle.archive_index.specs.Index.{countOf, afterOf, placeOf, nameOf}
 use Rattle.archive_index.specs.Open.{openOf}
@@ -33,13 +33,13 @@ module _ (key : ℕ) (index cells : List ℕ) (begun : begunNumber (startOf key 
       by-test (eqb (openOf index cells .opened .refusal .number) 0) (λ e. eqb-true _ _ e) (λ e. absurd (eqb-false _ _ e (rw e at begun)))
 
   -- the names are whole
-  whole : (j : ℕ) → j < c → hasName index (nameStart index (entriesIn index) j) ≡ true
+  whole : (j : ℕ) → j < c → ended index (nameStart index (entriesIn index) j) ≡ true
   whole j l =
       let e : eqb (firstOf (startRules index cells) .number) 0 ≡ true = ap (λ (r : Refusal). eqb (r .number) 0) (sym (open-exactly index cells)) ∙ eq-eqb _ _ opened in
       let a = none-both (emptyRules index) (offsetRules index ++ (nameRules index ++ cellRules index cells)) refl e .1 in
       let b = none-both (offsetRules index) (nameRules index ++ cellRules index cells) (each-numbered (λ k. not (ltb k 65535) || isOffsetCut index k) 1 refl (entriesIn index) 0) a .1 in
       let d = none-both (nameRules index) (cellRules index cells) (each-numbered (isNameCut index) 1 refl (entriesIn index) 0) b .0 in
-      not-false (hasName index (nameStart index (entriesIn index) j)) (each-none (isNameCut index) 1 refl (entriesIn index) 0 d j (omega arith) (omega (arith, l, count-is index)))
+      not-false (ended index (nameStart index (entriesIn index) j)) (each-none (isNameCut index) 1 refl (entriesIn index) 0 d j (omega arith) (omega (arith, l, count-is index)))
     where
       not-false : (b : Bool) → not b ≡ false → b ≡ true
       not-false true e = refl

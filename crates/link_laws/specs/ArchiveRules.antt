@@ -6,7 +6,7 @@ use mathlib.Core.List.{List, [], _∷_, _++_}
 use lib.Dec.{eqb, ltb}
 use lib.ListN.{getD, length}
 use Rattle.byte_slices.specs.Bytes.{part}
-use Rattle.gabi.specs.StringTable.{hasName, nameAt}
+use Rattle.gabi.specs.StringTable.{ended, nameAt}
 use Rattle.link.specs.Bounds.{notLent}
 use Rattle.archive_walk.specs.declared.Walk.{Walk}
 use Rattle.symbol_laws.specs.History.{State}
@@ -32,7 +32,7 @@ abbrev pub isOffsetCut : List ℕ → ℕ → Bool
 isOffsetCut index k = ltb (length index) (4 + 4 * k + 4)
 
 abbrev pub isNameCut : List ℕ → ℕ → Bool
-isNameCut index k = not (hasName index (nameStart index (entriesIn index) k))
+isNameCut index k = not (ended index (nameStart index (entriesIn index) k))
 
 -- ---- the start: "An empty index slice gives 20 before 1; one of 1 to 3 bytes gives 1 at 0"; "index entries to 65,535"; "Fewer cells lent than entries
 -- give 2 at the start"

@@ -9,7 +9,7 @@ use mathlib.Core.Bool.{Bool}
 use mathlib.Core.List.{List}
 use denote.Triple.Both.{Both}
 use Rattle.strings.specs.Lookup.{Looked}
-use Rattle.strings.specs.Contract.{StringExit, StringMeets}
+use Rattle.strings.specs.Contract.{StringExit, StringMeets, EndedMeets}
 use Rattle.link.specs.declared.Link.{Link}
 use Rattle.interner.specs.declared.Outcome as Interner
 use Rattle.interner.specs.Calls as Names
@@ -313,6 +313,9 @@ new-names-one-outcome key bytes names x y e f = intern-one x y (e ∙ sym f)
 -- of a string lookup, and of the filter
 pub string-one-outcome : (table : List ℕ) (offset : ℕ) (x y : StringExit) → StringMeets table offset x → StringMeets table offset y → x ≡ y
 string-one-outcome table offset x y e f = ap {B = StringExit} (λ (o : Looked). record { result = o .name; found = o .found }) (e ∙ sym f)
+
+pub ended-one-outcome : (bytes : List ℕ) (offset : ℕ) (x y : StringExit) → EndedMeets bytes offset x → EndedMeets bytes offset y → x ≡ y
+ended-one-outcome bytes offset x y e f = ap {B = StringExit} (λ (o : Looked). record { result = o .name; found = o .found }) (e ∙ sym f)
 
 pub filter-one-outcome : (work entries : List ℕ) (x y : ℕ) → FilterMeets work entries x → FilterMeets work entries y → x ≡ y
 filter-one-outcome work entries x y e f = e ∙ sym f

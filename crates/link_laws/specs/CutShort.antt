@@ -12,7 +12,7 @@ use lib.ListN.{length}
 use borrow.Author.Tests.{ltb-true, ltb-false, ne-eqb, lt-ltb, le-leb, lt-leb}
 use Rattle.cells.specs.Split.{by-test}
 use Rattle.byte_slices.specs.Ways.{pick}
-use Rattle.gabi.specs.StringTable.{hasName, nameAt}
+use Rattle.gabi.specs.StringTable.{ended, nameAt}
 use Rattle.link.specs.Bounds.{lesser}
 use Rattle.elf_object.specs.Judge.{firstBad}
 use Rattle.archive_index.specs.Index.{countOf, afterOf, namesAt, placeOf, cutOf}
@@ -32,7 +32,7 @@ module _ (index : List ℕ) where
   offsetWhole k = cond (ltb k 65535) (leb (8 + 4 * k) (length index)) false
 
   abbrev pub nameWhole : ℕ → Bool
-  nameWhole k = hasName index (placeOf index (countOf index) k)
+  nameWhole k = ended index (placeOf index (countOf index) k)
 
   pub data CutShort (p : ℕ) : Type 0 where
     count : length index < 4 → p ≡ 0 → CutShort p
@@ -43,13 +43,13 @@ module _ (index : List ℕ) where
   unfolding cutOf firstBad afterOf placeOf
   cut-first zero k p e = refl
   cut-first (suc n) k p e =
-      by-test (hasName index p)
+      by-test (ended index p)
       (λ t.
-      let here : nameWhole k ≡ true = ap (hasName index) e ∙ t in
+      let here : nameWhole k ≡ true = ap (ended index) e ∙ t in
       let more : p + length (nameAt index p) + 1 ≢ 0 = λ z. omega arith in
       let on : placeOf index (countOf index) (k + 1) ≡ p + length (nameAt index p) + 1 = ap (placeOf index (countOf index)) (add-one k) ∙ rw (e, t) in
       rw (t, ne-eqb _ _ more, here) (cut-first n (k + 1) (p + length (nameAt index p) + 1) on))
-      (λ t. let here : nameWhole k ≡ false = ap (hasName index) e ∙ t in rw (t, here))
+      (λ t. let here : nameWhole k ≡ false = ap (ended index) e ∙ t in rw (t, here))
 
   whole : (k : ℕ) → k < 65535 → 8 + 4 * k ≤ length index → offsetWhole k ≡ true
   whole k a b = rw (lt-ltb _ _ a, le-leb _ _ b)

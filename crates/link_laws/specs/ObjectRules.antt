@@ -76,7 +76,7 @@ isComdat headers n = not (eqb (flagsAt headers n / 8 % 2) 0)
 -- ---- names
 
 -- "A name starts at an offset below the string table's length and runs from there [..] to the next zero byte; otherwise, or if its string section isn't
--- loaded, it is missing"
+-- loaded, it is missing"; document 02, 2026-04: in a table of length 0 "Offset 0 there gives the empty name"
 abbrev pub stringsIn : List ℕ → List ℕ → ℕ → List ℕ
 stringsIn headers file n = part file (firstAt headers n) (countAt headers n)
 

@@ -149,7 +149,7 @@ use Rattle.link_laws.specs.CutShort as CutShort
 use Rattle.link_laws.specs.Contracts as Contracts
 use Rattle.link_laws.specs.Contracts.{Exit, Meets}
 use Rattle.symbols.specs.Contract.{NewExit, NewMeets}
-use Rattle.strings.specs.Contract.{StringExit, StringMeets}
+use Rattle.strings.specs.Contract.{StringExit, StringMeets, EndedMeets}
 use Rattle.section_groups.specs.Contract.{FilterMeets}
 use Rattle.link_laws.specs.KeyFree as KeyFree
 use Rattle.link_laws.specs.KeyFree.{Alike, SameAnswers}
@@ -450,6 +450,9 @@ new-one-outcome = Contracts.new-one-outcome
 
 pub string-one-outcome : (table : List ℕ) (offset : ℕ) (x y : StringExit) → StringMeets table offset x → StringMeets table offset y → x ≡ y
 string-one-outcome = Contracts.string-one-outcome
+
+pub ended-one-outcome : (bytes : List ℕ) (offset : ℕ) (x y : StringExit) → EndedMeets bytes offset x → EndedMeets bytes offset y → x ≡ y
+ended-one-outcome = Contracts.ended-one-outcome
 
 pub filter-one-outcome : (work entries : List ℕ) (x y : ℕ) → FilterMeets work entries x → FilterMeets work entries y → x ≡ y
 filter-one-outcome = Contracts.filter-one-outcome

@@ -16,7 +16,6 @@ use Rattle.gabi.specs.StringTable.{nameAt}
 use Rattle.link.specs.declared.Link.{Link}
 use Rattle.link.specs.Bounds.{sectionRows, sectionSlots, inputRows}
 use Rattle.link.specs.Passed.{passed-slots, passed-sections}
-use Rattle.strings.specs.Lookup.{Looked}
 use Rattle.interner.specs.Names.{Store, storeOf, keepOf}
 use Rattle.interner_laws.specs.Good.{Good}
 use Rattle.interner_laws.specs.Good as Good
@@ -313,7 +312,7 @@ module _ (o : Object) (a : All) (ok : mergeOf o a .said .number ≡ 0) (met : Li
       (by-test (loadedAs headers n group) (λ t. let q : markAt work n ≡ 1 = rw t at m in rw q) (λ t. let q : markAt work n ≡ 0 = rw t at m in rw q))
 
   name-is : (n : ℕ) → Elf.nameIn headers (o .file) (o .strings) (nameOffset headers n) .name ≡ nameAt (sectionNames o) (nameOffset headers n)
-  name-is n = ap (λ (x : Looked). x .name) (name-same headers (o .file) (o .strings) (nameOffset headers n))
+  name-is n = name-same headers (o .file) (o .strings) (nameOffset headers n)
 
   module _ (n kind : ℕ) (e : loadedAs headers n kind ≡ true) (r : removed n ≡ false) (rowed : isRowed headers n ≡ true)
       (kinds : (m : ℕ) → loadedAs headers m kind ≡ true → isRowed headers m ≡ true) (ks : List ℕ)

@@ -11,7 +11,6 @@ use lib.Dec.{eqb, ltb}
 use borrow.Author.Tests.{eqb-true, eqb-false, ne-eqb, ltb-false}
 use Rattle.cells.specs.Split.{by-test}
 use Rattle.gabi.specs.StringTable.{nameAt}
-use Rattle.strings.specs.Lookup.{Looked}
 use Rattle.interner_laws.specs.Good.{Issued}
 use Rattle.symbol.specs.declared.Row.{Row}
 use Rattle.symbol_rows.specs.declared.Decision.{Decision}
@@ -102,7 +101,7 @@ module _ (o : Object) (a : All) (met : List (List ℕ)) where
     module _ (head : headIn o a .number ≡ 0) (goes : reserved o a .reserved .number ≡ 0) (passes : grouped o a .stage .number ≡ 0) where
       name-own : (i : ℕ) → i < rowsIn (object o a .entries) → nameOf (symbolReader o a) i .name ≡ nameBytes i
       name-own i h =
-          ap (λ (x : Looked). x .name) (names-are o a head goes i (field (object o a .entries) i 0) h)
+          names-are o a head goes i (field (object o a .entries) i 0) h
           ∙ ap (λ (l : List ℕ). nameAt (Words.symbolNames (o .headers) (o .file) (sectionsIn (o .headers))) (field l i 0)) (symbols-are o a head goes)
 
       from-symbol : (i : ℕ) → Comes o a i → next (symbolsTo o a i) i .stage .number ≡ 0 → nameOf (symbolReader o a) i .found ≡ true

@@ -6,7 +6,7 @@ use mathlib.Core.Bool.{Bool, false, cond, _&&_, _||_}
 use mathlib.Core.List.{List, [], _∷_, _++_}
 use lib.Dec.{eqb}
 use lib.ListN.{getD}
-use Rattle.gabi.specs.StringTable.{hasName, nameAt, among}
+use Rattle.gabi.specs.StringTable.{nameAt, among}
 use Rattle.symbol_laws.specs.ObjectWords.{partFrom, sectionsIn, program, uninitialized, symbolTable, stringTable, rel, rela, group, infoOf, firstOf, countOf, linkOf, loadedAs, stringsOf, entriesOf, entryName}
 
 module _ (headers : List ℕ) where
@@ -34,7 +34,7 @@ module _ (headers : List ℕ) where
   entriesTo entries zero = []
   entriesTo entries (suc t) = cond (loadedAs headers t symbolTable) (entriesOf headers entries t) (entriesTo entries t)
 
-  -- and the bytes of its string section: "if its string section isn't loaded, it is missing"
+  -- and the bytes of its string section, none where that isn't loaded
   unfoldable pub symbolNames : List ℕ → ℕ → List ℕ
   symbolNames file zero = []
   symbolNames file (suc t) =
@@ -43,12 +43,9 @@ module _ (headers : List ℕ) where
 -- ---- groups
 
 module _ (headers entries contents file : List ℕ) where
-  -- the entries of the loaded symbol table, and the name of symbol i of it
+  -- the entries of the loaded symbol table, and the name of symbol i of it, empty where it is missing
   abbrev pub symbolsOf : List ℕ
   symbolsOf = entriesTo headers entries (sectionsIn headers)
-
-  abbrev pub hasSymbolName : ℕ → Bool
-  hasSymbolName i = hasName (symbolNames headers file (sectionsIn headers)) (entryName symbolsOf i)
 
   abbrev pub symbolName : ℕ → List ℕ
   symbolName i = nameAt (symbolNames headers file (sectionsIn headers)) (entryName symbolsOf i)

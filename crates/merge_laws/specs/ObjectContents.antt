@@ -14,7 +14,6 @@ use borrow.Author.Tests.{eqb-true, eqb-false, ltb-true, ltb-false, lt-ltb, ne-eq
 use Rattle.cells.specs.Split.{by-test}
 use Rattle.gabi.specs.StringTable.{nameAt}
 use Rattle.gabi.specs.SymbolTable.{stbLocal, stbWeak, shnUndef, shnLoreserve, shnAbs}
-use Rattle.strings.specs.Lookup.{Looked}
 use Rattle.interner.specs.Names.{storeOf, fitsOf}
 use Rattle.symbol.specs.declared.Row.{Row}
 use Rattle.symbol.specs.declared.Words.{Words}
@@ -234,7 +233,7 @@ module _ (o : Object) (a : All) (head : headIn o a .number ≡ 0) (goes : reserv
   empty = eqb (length (nameOf (symbolReader o a) i .name)) 0
 
   name-is : nameOf (symbolReader o a) i .name ≡ nameBytes headers (o .entries) (o .contents) (o .file) (a .stage .link .sections) met t i
-  name-is = ap (λ (x : Looked). x .name) (names-are o a head goes i (field t i 0) low)
+  name-is = names-are o a head goes i (field t i 0) low
 
   empty-is : empty ≡ eqb (length (nameBytes headers (o .entries) (o .contents) (o .file) (a .stage .link .sections) met t i)) 0
   empty-is = ap (λ (x : List ℕ). eqb (length x) 0) name-is

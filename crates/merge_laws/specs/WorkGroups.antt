@@ -13,9 +13,9 @@ use lib.ListN.{getD, set, length, length-set}
 use lib.Seq.{getD-set-same, getD-set-other}
 use borrow.Author.Tests.{eqb-true, eqb-false, ltb-true, ltb-false, leb-false, ne-eqb, lt-ltb, le-ltb}
 use Rattle.cells.specs.Split.{by-test}
-use Rattle.gabi.specs.StringTable.{beforeZero, hasName, nameAt, among}
+use Rattle.gabi.specs.StringTable.{nameAt, among, name-empty}
 use Rattle.link.specs.Judge.{changeOf}
-use Rattle.strings.specs.Lookup.{Looked, lookUp}
+use Rattle.strings.specs.Lookup.{Looked}
 use Rattle.elf_object.specs.Rows as Elf
 use Rattle.elf_object.specs.Rows.{rowsIn, field, linkAt, infoAt, firstAt, markAt, isLoaded, nameIn, tableEntries, entriesFrom, sectionOf}
 use Rattle.elf_object.specs.Judge as Judge
@@ -86,17 +86,12 @@ table-entries headers entries (suc t) =
     let e : t + 1 - 1 ≡ t = omega arith in
     by-test (loadedAs headers t symbolTable) (λ a. rw (a, ne-eqb (t + 1) 0 (λ q. omega arith), e)) (λ a. rw a (table-entries headers entries t))
 
-empty-has : (o : ℕ) → hasName [] o ≡ false
-unfolding hasName beforeZero
-empty-has zero = refl
-empty-has (suc o) = refl
-
-pub name-same : (headers file : List ℕ) (n o : ℕ) → nameIn headers file n o ≡ lookUp (stringsOf headers file (loadedAs headers n stringTable) n) o
-unfolding nameIn stringsOf nameAt
+pub name-same : (headers file : List ℕ) (n o : ℕ) → nameIn headers file n o .name ≡ nameAt (stringsOf headers file (loadedAs headers n stringTable) n) o
+unfolding nameIn stringsOf
 name-same headers file n o =
-    rw (loaded-same headers n 4) (by-test (loadedAs headers n stringTable) (λ a. rw a) (λ a. rw (a, empty-has o)))
+    rw (loaded-same headers n 4) (by-test (loadedAs headers n stringTable) (λ a. rw a) (λ a. rw (a, name-empty o)))
 
-table-names : (headers file : List ℕ) (k o : ℕ) → tableTo headers k ≢ 0 → nameIn headers file (linkAt headers (sectionOf (tableTo headers k))) o ≡ lookUp (symbolNames headers file k) o
+table-names : (headers file : List ℕ) (k o : ℕ) → tableTo headers k ≢ 0 → nameIn headers file (linkAt headers (sectionOf (tableTo headers k))) o .name ≡ nameAt (symbolNames headers file k) o
 unfolding sectionOf symbolNames
 table-names headers file zero o u = absurd (u refl)
 table-names headers file (suc t) o u =
@@ -280,9 +275,9 @@ module _ (o : Object) (a : All) (head : headIn o a .number ≡ 0) (goes : reserv
   pub symbols-are : object o a .entries ≡ symbolsOf headers (o .entries) (o .contents) (o .file)
   symbols-are = ap (tableEntries headers (o .entries)) (noted .table) ∙ table-entries headers (o .entries) rows
 
-  pub names-are : (i off : ℕ) → i < rowsIn (object o a .entries) → nameIn headers (o .file) (linkAt headers (object o a .table)) off ≡ lookUp (symbolNames headers (o .file) rows) off
+  pub names-are : (i off : ℕ) → i < rowsIn (object o a .entries) → nameIn headers (o .file) (linkAt headers (object o a .table)) off .name ≡ nameAt (symbolNames headers (o .file) rows) off
   names-are i off h =
-      ap (λ (t : ℕ). nameIn headers (o .file) (linkAt headers (sectionOf t)) off) (noted .table)
+      ap (λ (t : ℕ). nameIn headers (o .file) (linkAt headers (sectionOf t)) off .name) (noted .table)
       ∙ table-names headers (o .file) rows off (λ z. none (ap (λ (l : List ℕ). rowsIn l) (symbols-are ∙ no-entries headers (o .entries) rows z)))
     where
       none : rowsIn (object o a .entries) ≡ 0 → ⊥
@@ -319,8 +314,7 @@ module _ (o : Object) (a : All) (head : headIn o a .number ≡ 0) (goes : reserv
     signature-is : (g : ℕ) → g < rows → isLoaded headers g 7 ≡ true → signature o a g ≡ groupSignature headers (o .entries) (o .contents) (o .file) g
     unfolding signatureOf
     signature-is g h l =
-        ap (λ (x : Looked). x .name)
-        (names-are (infoAt headers g) (field (object o a .entries) (infoAt headers g) 0) (group-inside (reader o a) (groupsTo o a g) g l (next-going o a passes g h)))
+        names-are (infoAt headers g) (field (object o a .entries) (infoAt headers g) 0) (group-inside (reader o a) (groupsTo o a g) g l (next-going o a passes g h))
         ∙ ap (λ (l : List ℕ). nameAt (symbolNames headers (o .file) rows) (field l (infoAt headers g) 0)) symbols-are
 
     pub met-is : (n : ℕ) → n ≤ rows → metTo o a met n ≡ met ++ ours n

@@ -10,3 +10,4 @@ pub mod Recorded
 pub mod Counted
 pub mod LibraryRow
 pub mod Names
+pub mod EmptyStrings

@@ -34,10 +34,12 @@ fn two_names() {
     show(table, 18446744073709551615);
 }
 
-// No byte at all, zero bytes alone, no zero byte, a last name without one.
+// No byte at all, which has an empty name at 0 alone; zero bytes alone, no zero byte, a last name without one.
 fn odd_tables() {
     show(b"", 0);
     show(b"", 1);
+    show(b"", 18446744073709551615);
+    show(b"a", 0);
     show(b"\0", 0);
     show(b"\0", 1);
     show(b"\0\0", 1);

@@ -88,7 +88,7 @@ module _ (headers : List ℕ) (n : ℕ) where
 
 -- ---- names
 
--- the bytes of a string section; of another section none, so that no name is found there
+-- the bytes of a string section; of another section none. That a name is missing there has to be said beside: an empty string section has one
 unfoldable pub stringsOf : List ℕ → List ℕ → Bool → ℕ → List ℕ
 stringsOf headers file there n = cond there (partFrom file (firstOf headers n) (countOf headers n)) []
 

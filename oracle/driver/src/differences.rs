@@ -131,7 +131,7 @@ pub(crate) fn show() -> String {
             && refusal::last_message() == "section is a placeholder",
     );
 
-    let (_, last) = fresh("library 1 1 x 1 x 1 0\nstrings -\nsymbol 0 1 0 0 1 0\nload");
+    let (_, last) = fresh("library 1 1 x 1 x 1 0\nstrings 00\nsymbol 1 1 0 0 1 0\nload");
     tell(
         "a library with a missing symbol name is refused before its need is judged (by the stand-in)",
         "not needed",

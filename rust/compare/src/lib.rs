@@ -20,6 +20,14 @@ pub fn same_answers(rust: &[String], ours: &[String]) -> bool {
 pub struct Domain {
     broken: bool,
     left: bool,
+    /// A string table of length 0 has an empty name by the gABI (document 02, 2026-04), and none in
+    /// the oracle. The object announced last has one; one of the archive's members; the library
+    /// announced last, and symbols.
+    empty_object: bool,
+    empty_member: bool,
+    empty_library: bool,
+    /// The library whose rows follow has one.
+    bare: bool,
 }
 
 impl Domain {
@@ -28,7 +36,21 @@ impl Domain {
     pub fn compares(&mut self, line: &str, rust: &[String]) -> bool {
         let keyword = line.split(' ').next().unwrap_or_default();
         match keyword {
-            "link" => *self = Domain::default(),
+            // What was announced outlives the link.
+            "link" => {
+                let Domain { empty_object, empty_library, .. } = *self;
+                *self = Domain { empty_object, empty_library, ..Domain::default() };
+            }
+            "object" => (self.empty_object, self.bare) = (false, false),
+            "section" => self.empty_object |= is_empty_table(line),
+            "library" => (self.empty_library, self.bare) = (false, false),
+            "strings" => self.bare = line == "strings -",
+            "symbol" => self.empty_library |= self.bare,
+            "archive" => self.empty_member = false,
+            "member" => self.empty_member |= self.empty_object,
+            "merge" | "admit" if self.empty_object => self.left = true,
+            "walk" if self.empty_member => self.left = true,
+            "load" if self.empty_library => self.left = true,
             // Its merges would meet 22 on one side alone.
             "walk" if self.broken => self.left = true,
             // The Rust reads all names of a library before it judges anything.
@@ -38,6 +60,12 @@ impl Domain {
         self.broken |= oracle::breaks(line, rust);
         !self.left
     }
+}
+
+/// A section row of kind 4 without bytes.
+fn is_empty_table(line: &str) -> bool {
+    let words: Vec<&str> = line.split(' ').collect();
+    words.get(1) == Some(&"4") && words.get(9) == Some(&"-")
 }
 
 /// This port beside the Rust's answers, line by line.
@@ -94,6 +122,19 @@ mod tests {
         let outcomes = run(&[&missing[..], &later[..]].concat());
         assert!(matches!(outcomes[4], Outcome::LeftOut));
         assert!(outcomes[6..].iter().all(|outcome| matches!(outcome, Outcome::Same)));
+    }
+
+    #[test]
+    fn an_empty_string_table_is_left_out() {
+        let table = "section 3 0 0 0 0 1 0 0 - 2 0 1";
+        let object =
+            |strings| ["link", "object 2 1 1", table, strings, "symbol 0 0 0 0 0 0", "merge"];
+        let outcomes = run(&object("section 4 0 0 0 0 0 0 0 - 0"));
+        assert!(matches!(outcomes[5], Outcome::LeftOut));
+        let outcomes = run(&object("section 4 0 0 0 0 0 0 0 00 0"));
+        assert!(outcomes.iter().all(|outcome| matches!(outcome, Outcome::Same)));
+        let outcomes = run(&["link", "library 0 0 - 1 l.so 0 0", "strings -", "load", "dump"]);
+        assert!(outcomes.iter().all(|outcome| matches!(outcome, Outcome::Same)));
     }
 
     #[test]

@@ -2,8 +2,9 @@
 use super::random::Random;
 use crate::rows::{ABSOLUTE, COMMON, ObjectRows, SymbolRow};
 
-/// Keeps an object inside the compared domain: one loaded symbol table (a second gives 24), and
-/// symbol tables with rows that are there.
+/// Keeps an object inside the compared domain: one loaded symbol table (a second gives 24), symbol
+/// tables with rows that are there, and string tables with a byte (an empty one is compared with the
+/// gABI, not with the Rust).
 pub(crate) fn tidy(rows: &mut ObjectRows) {
     let count = rows.symbols.len() as u64;
     let mut loaded = false;
@@ -19,6 +20,9 @@ pub(crate) fn tidy(rows: &mut ObjectRows) {
             if !fits {
                 row.items = vec![0, count];
             }
+        }
+        if row.kind == 4 && row.bytes.is_empty() {
+            row.bytes.push(b'z');
         }
     }
 }
