@@ -3,9 +3,10 @@ ghost use mathlib.Core.Path.{_≡_};
 ghost use Prim.Native.Nat.{_+_, _<_};
 ghost use lib.ListN.{length};
 ghost use Rattle.cells.specs.Slice.{before};
-ghost use Rattle.archive_walk.specs.Look.{tableOf, judgeTable, nameHolder, removedName, tiesRow, tiedName};
+ghost use Rattle.archive_walk.specs.Look.{tableOf, judgeTable, nameHolder, wasRemoved, tiesRow, ties, tiedName};
 ghost use Rattle.archive_walk.specs.Walk.{stepMoved, refusedMove, offerOf, queueOf, marked, enqueue, tieOf, tieAll, removedOf, makeOf, passOf, walkFits};
 ghost use Rattle.archive_walk.specs.Contract.{nextExit, tableIn, NextMeets};
+ghost use Rattle.archive_pass.specs.Notes.{entryHolder, isNoted, noteTie, Noted};
 use archive_walk::Moved;
 use archive_walk::Offer;
 use archive_walk::Walk;
@@ -40,10 +41,9 @@ fn name_holder(l: Link, bytes: &[u8], names: &[u64], symbols: &[u64], x: &[u8]) 
     symbol_rows::holder_of(l, names, symbols, id)
 }
 
-fn is_removed(l: Link, bytes: &[u8], names: &[u64], symbols: &[u64], x: &[u8]) -> bool
-    ensures { λ r. ⌜ r ≡ removedName (tableOf l (now (bytes .entry)) (now (names .entry)) (now (symbols .entry))) (now (x .entry)) ⌝ }
+fn was_removed(holder: Holder) -> bool
+    ensures { λ r. ⌜ r ≡ wasRemoved holder ⌝ }
 {
-    let holder = name_holder(l, bytes, names, symbols, x);
     match holder {
         Holder::Unissued => false,
         Holder::Nobody => false,
@@ -62,20 +62,66 @@ fn row_ties(gabi: bool, symbols: &[u64], id: SymbolId) -> bool
     cells::row_get(symbols, id.0, 5) == 7
 }
 
-fn is_tied(l: Link, bytes: &[u8], names: &[u64], symbols: &[u64], x: &[u8]) -> bool
-    ensures { λ r. ⌜ r ≡ tiedName (tableOf l (now (bytes .entry)) (now (names .entry)) (now (symbols .entry))) (now (x .entry)) ⌝ }
+fn does_tie(gabi: bool, symbols: &[u64], holder: Holder) -> bool
+    ensures { λ r. ⌜ r ≡ ties gabi (now (symbols .entry)) holder ⌝ }
 {
-    let holder = name_holder(l, bytes, names, symbols, x);
     match holder {
         Holder::Unissued => false,
         Holder::Nobody => false,
         Holder::Removed => false,
-        Holder::Known { id } => row_ties(l.gabi, symbols, id),
+        Holder::Known { id } => row_ties(gabi, symbols, id),
     }
 }
 
-// The first entry whose name's row was removed, or the number of entries.
-fn first_removed(
+fn is_tied(l: Link, bytes: &[u8], names: &[u64], symbols: &[u64], x: &[u8]) -> bool
+    ensures { λ r. ⌜ r ≡ tiedName (tableOf l (now (bytes .entry)) (now (names .entry)) (now (symbols .entry))) (now (x .entry)) ⌝ }
+{
+    let holder = name_holder(l, bytes, names, symbols, x);
+    does_tie(l.gabi, symbols, holder)
+}
+
+// ---- notes of which entries may tie: a byte for each, which entries 4,096 apart share
+
+fn is_noted(notes: &[u8], k: usize) -> bool
+    ensures { λ r. ⌜ r ≡ isNoted (now (notes .entry)) k ⌝ }
+{
+    let i = k % 4096;
+    if i < notes.len() {
+        return notes[i] == 1;
+    }
+    false
+}
+
+// Entry k is noted if its name's holder ties.
+fn note_tie(gabi: bool, symbols: &[u64], holder: Holder, notes: &mut [u8], k: usize)
+    ensures { λ _. ⌜ now (notes .exit) ≡ noteTie gabi (now (symbols .entry)) holder (now (notes .entry)) k ⌝ }
+{
+    if does_tie(gabi, symbols, holder) {
+        let i = k % 4096;
+        if i < notes.len() {
+            notes[i] = 1;
+        }
+    }
+}
+
+// Who holds the name of entry k.
+fn entry_holder(
+    index: &[u8],
+    cells: &[u64],
+    k: usize,
+    l: Link,
+    bytes: &[u8],
+    names: &[u64],
+    symbols: &[u64],
+) -> Holder
+    ensures { λ r. ⌜ r ≡ entryHolder (now (index .entry)) (now (cells .entry)) (tableOf l (now (bytes .entry)) (now (names .entry)) (now (symbols .entry))) k ⌝ }
+{
+    let name = archive_index::name(index, cells, k);
+    name_holder(l, bytes, names, symbols, name)
+}
+
+// The first entry whose name's row was removed, or the number of entries; those before it that tie are noted, so that no name is looked up for both.
+fn survey(
     index: &[u8],
     cells: &[u64],
     entries: usize,
@@ -83,24 +129,25 @@ fn first_removed(
     bytes: &[u8],
     names: &[u64],
     symbols: &[u64],
+    notes: &mut [u8],
 ) -> usize
+    requires { ⌜ length (now notes) ≡ 4096 ⌝ }
     ensures { λ r. ⌜ r ≡ removedOf (now (index .entry)) (now (cells .entry)) (tableOf l (now (bytes .entry)) (now (names .entry)) (now (symbols .entry))) entries 0 ⌝ }
+    ensures noted { λ r. ⌜ Noted (now (index .entry)) (now (cells .entry)) (tableOf l (now (bytes .entry)) (now (names .entry)) (now (symbols .entry))) r (now (notes .exit)) ⌝ }
 {
     let mut k = 0;
     while k < entries {
-        if is_removed(
-            l,
-            bytes,
-            names,
-            symbols,
-            archive_index::name(index, cells, k),
-        ) {
+        let holder = entry_holder(index, cells, k, l, bytes, names, symbols);
+        if was_removed(holder) {
             return k;
         }
+        note_tie(l.gabi, symbols, holder, notes, k);
         k += 1;
     }
     k
 }
+
+// ---- a pass
 
 // Entry k goes to the end of the queue, and its name is required of its member.
 fn mark(w: Walk, index: &[u8], cells: &mut [u64], queued: usize, p: usize, k: usize, r: usize)
@@ -164,6 +211,31 @@ fn tie(
     queued
 }
 
+// An entry that isn't noted doesn't tie.
+fn tie_noted(
+    w: Walk,
+    index: &[u8],
+    cells: &mut [u64],
+    queued: usize,
+    p: usize,
+    k: usize,
+    l: Link,
+    bytes: &[u8],
+    names: &[u64],
+    symbols: &[u64],
+    notes: &[u8],
+) -> usize
+    requires { ⌜ queued < 0xffffffffffffffff ⌝ }
+    requires { ⌜ k < w .entries ⌝ }
+    requires { ⌜ Noted (now index) (now cells) (tableOf l (now bytes) (now names) (now symbols)) (w .entries) (now notes) ⌝ }
+    ensures { λ n. ⌜ queueOf (now (cells .exit)) n ≡ tieOf (w .key) (w .entries) (now (index .entry)) (tableOf l (now (bytes .entry)) (now (names .entry)) (now (symbols .entry))) p k (queueOf (now (cells .entry)) queued) ⌝ }
+{
+    if is_noted(notes, k) {
+        return tie(w, index, cells, queued, p, k, l, bytes, names, symbols);
+    }
+    queued
+}
+
 // Pass p of the walk over all its entries.
 fn tie_all(
     w: Walk,
@@ -174,14 +246,16 @@ fn tie_all(
     bytes: &[u8],
     names: &[u64],
     symbols: &[u64],
+    notes: &[u8],
 ) -> usize
     requires { ⌜ w .queued + w .entries < 0xffffffffffffffff ⌝ }
+    requires { ⌜ Noted (now index) (now cells) (tableOf l (now bytes) (now names) (now symbols)) (w .entries) (now notes) ⌝ }
     ensures { λ n. ⌜ queueOf (now (cells .exit)) n ≡ tieAll (w .key) (w .entries) (now (index .entry)) (tableOf l (now (bytes .entry)) (now (names .entry)) (now (symbols .entry))) p (w .entries) 0 (queueOf (now (cells .entry)) (w .queued)) ⌝ }
 {
     let mut n = w.queued;
     let mut k = 0;
     while k < w.entries {
-        n = tie(w, index, cells, n, p, k, l, bytes, names, symbols);
+        n = tie_noted(w, index, cells, n, p, k, l, bytes, names, symbols, notes);
         k += 1;
     }
     n
@@ -247,13 +321,15 @@ fn make_pass(
     bytes: &[u8],
     names: &[u64],
     symbols: &[u64],
+    notes: &[u8],
 ) -> Moved
     requires { ⌜ w .queued + w .entries < 0xffffffffffffffff ⌝ }
     requires { ⌜ w .passes < 0xffffffffffffffff ⌝ }
+    requires { ⌜ Noted (now index) (now cells) (tableOf l (now bytes) (now names) (now symbols)) (w .entries) (now notes) ⌝ }
     ensures { λ r. ⌜ stepMoved (now (cells .exit)) r ≡ makeOf (now (index .entry)) (now (cells .entry)) w (tableOf l (now (bytes .entry)) (now (names .entry)) (now (symbols .entry))) ⌝ }
 {
     let p = w.passes + 1;
-    let n = tie_all(w, index, cells, p, l, bytes, names, symbols);
+    let n = tie_all(w, index, cells, p, l, bytes, names, symbols, notes);
     let after = Walk {
         key: w.key,
         entries: w.entries,
@@ -284,11 +360,21 @@ fn pass(
     if judged.number != 0 {
         return refuse(w, judged.number, judged.place);
     }
-    let x = first_removed(index, cells, w.entries, l, bytes, names, symbols);
+    let mut notes = [0u8; 4096];
+    let x = survey(
+        index,
+        cells,
+        w.entries,
+        l,
+        bytes,
+        names,
+        symbols,
+        &mut notes,
+    );
     if x < w.entries {
         return refuse(w, 21, x as u64);
     }
-    make_pass(w, index, cells, l, bytes, names, symbols)
+    make_pass(w, index, cells, l, bytes, names, symbols, &notes)
 }
 
 // The index and the rows are as long as at the start, and the counts are those of a walk.

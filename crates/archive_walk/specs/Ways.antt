@@ -1,6 +1,6 @@
 -- The ways through the functions.
 -- Assumes nothing.
-use Prim.Native.Nat.{ℕ, suc, _+_, _*_, _-_, _/_, _%_, _<_, _≤_}
+use Prim.Native.Nat.{ℕ, zero, suc, _+_, _*_, _-_, _/_, _%_, _<_, _≤_}
 use native.Mathlib.Omega.{arith}
 use native.Mathlib.Nat.{sub-eq-zero-of-le}
 use mathlib.Core.Path.{_≡_, refl, sym, ap, subst, _∙_}
@@ -20,7 +20,6 @@ use Rattle.keyed_hash.specs.Keyed.{hashOf}
 use Rattle.interner.specs.Names.{findOf}
 use Rattle.symbol.specs.Row.{field}
 use Rattle.symbol_rows.specs.declared.Holder.{Holder}
-use Rattle.symbol_rows.specs.declared.Holder.the-variants.{Unissued, Nobody, Removed, Known}
 use Rattle.symbol_rows.specs.Holder.{holderOf}
 use Rattle.symbol_rows.specs.Undefined.{strongUndefined}
 use Rattle.archive_index.specs.declared.Opened.{Opened}
@@ -34,7 +33,7 @@ use Rattle.archive_walk.specs.declared.Begun.the-variants.{Ready}
 use Rattle.archive_walk.specs.declared.Begun.the-variants as Begins
 use Rattle.archive_walk.specs.declared.Offer.the-variants.{Member, Done, Refused}
 use Rattle.archive_walk.specs.declared.Moved.{Moved}
-use Rattle.archive_walk.specs.Look.{Table, lentOf, judgeTable, nameHolder, removedName, tiesRow, tiedName}
+use Rattle.archive_walk.specs.Look.{Table, lentOf, judgeTable, nameHolder, tiesRow, tiedName}
 use Rattle.archive_walk.specs.Walk.{startLeft, freshWalk, noWalk, begunOf, startOf, stepMoved, refusedMove, handedOut, ended, offerOf, Queue, queueOf, marked, enqueue, tieOf, tieAll, removedOf, passed, makeOf, searchOf, passOf, walkFits, goOf, nextOf}
 use Rattle.archive_walk.specs.Names.{nameChain, along, bearsOf, borneFrom, chained, headedOf, notedOf, requiredOf}
 
@@ -109,10 +108,19 @@ module _ (s l : List ℕ) (w : Walk) (k : ℕ) (t : List ℕ) (r : ℕ) (x : Lis
   unfolding notedOf chained
   note-new e g h i j z q = q ∙ sym (rw (← e, ← g, ← h, ← i, ← j, z))
 
-pub required-is : (s l : List ℕ) (w : Walk) (e : ℕ) (x : List ℕ) (r b head : ℕ) (t : Bool) → r ≡ memberAt l e → b ≡ nameChain (w .key) (w .entries) r x → head ≡ headAt l b
-    → t ≡ borneFrom s l r x head → t ≡ requiredOf s l w e x
-unfolding requiredOf chained
-required-is s l w e x r b head t f g h q = q ∙ rw (h, g, f)
+module _ (s l : List ℕ) (w : Walk) (e : ℕ) (x : List ℕ) (r b head : ℕ) (t : Bool) where
+  pub required-is : r ≡ memberAt l e → b ≡ nameChain (w .key) (w .entries) r x → head ≡ headAt l b → t ≡ borneFrom s l r x head → t ≡ requiredOf s l w e x
+  unfolding requiredOf chained
+  required-is f g h q = q ∙ rw (h, g, f)
+
+  -- an empty chain, which most are
+  pub required-none : r ≡ memberAt l e → b ≡ nameChain (w .key) (w .entries) r x → head ≡ headAt l b → head ≡ 0 → t ≡ false → t ≡ requiredOf s l w e x
+  unfolding borneFrom along
+  required-none f g h z q = required-is f g h (q ∙ sym (rw z (none (length l / 8))))
+    where
+      none : (n : ℕ) → along l (bearsOf s l r x) 0 n ≡ false
+      none zero = refl
+      none (suc n) = refl
 
 -- ---- the start
 
@@ -143,39 +151,6 @@ module _ (t : Table) (x : List ℕ) where
   unfolding nameHolder
   holder-is h i e q = q ∙ rw e
 
-  module _ (h : Holder) (y : Bool) where
-    pub removed-unissued : h ≡ nameHolder t x → h ≡ Unissued → y ≡ false → y ≡ removedName t x
-    unfolding removedName
-    removed-unissued e f q = q ∙ sym (rw (← e, f))
-
-    pub removed-nobody : h ≡ nameHolder t x → h ≡ Nobody → y ≡ false → y ≡ removedName t x
-    unfolding removedName
-    removed-nobody e f q = q ∙ sym (rw (← e, f))
-
-    pub removed-removed : h ≡ nameHolder t x → h ≡ Removed → y ≡ true → y ≡ removedName t x
-    unfolding removedName
-    removed-removed e f q = q ∙ sym (rw (← e, f))
-
-    pub removed-known : (id : SymbolId) → h ≡ nameHolder t x → h ≡ Known id → y ≡ false → y ≡ removedName t x
-    unfolding removedName
-    removed-known id e f q = q ∙ sym (rw (← e, f))
-
-    pub tied-unissued : h ≡ nameHolder t x → h ≡ Unissued → y ≡ false → y ≡ tiedName t x
-    unfolding tiedName
-    tied-unissued e f q = q ∙ sym (rw (← e, f))
-
-    pub tied-nobody : h ≡ nameHolder t x → h ≡ Nobody → y ≡ false → y ≡ tiedName t x
-    unfolding tiedName
-    tied-nobody e f q = q ∙ sym (rw (← e, f))
-
-    pub tied-removed : h ≡ nameHolder t x → h ≡ Removed → y ≡ false → y ≡ tiedName t x
-    unfolding tiedName
-    tied-removed e f q = q ∙ sym (rw (← e, f))
-
-    pub tied-known : (id : SymbolId) → h ≡ nameHolder t x → h ≡ Known id → y ≡ tiesRow (t .link .gabi) (t .symbols) id → y ≡ tiedName t x
-    unfolding tiedName
-    tied-known id e f q = q ∙ sym (rw (← e, f))
-
 module _ (gabi : Bool) (symbols : List ℕ) (id : SymbolId) (y : Bool) where
   pub ties-strong : gabi ≡ true → y ≡ strongUndefined symbols id → y ≡ tiesRow gabi symbols id
   unfolding tiesRow
@@ -187,19 +162,9 @@ module _ (gabi : Bool) (symbols : List ℕ) (id : SymbolId) (y : Bool) where
 
 -- ---- a pass
 
-module _ (s l : List ℕ) (t : Table) (c k w : ℕ) where
-  module _ (x : List ℕ) (b : Bool) where
-    pub search-hit : k < c → x ≡ storedName s l k → b ≡ removedName t x → b ≡ true → w ≡ removedOf s l t (c - k) k → k ≡ w
-    unfolding removedOf
-    search-hit h e f g q = sym (q ∙ rw (one-more c k h) (simp (← e, ← f, g)))
-
-    pub search-on : k < c → x ≡ storedName s l k → b ≡ removedName t x → b ≡ false → w ≡ removedOf s l t (c - k) k → w ≡ removedOf s l t (c - (k + 1)) (k + 1)
-    unfolding removedOf
-    search-on h e f g q = q ∙ rw (one-more c k h) (simp (← e, ← f, g))
-
-  pub search-end : c ≤ k → w ≡ removedOf s l t (c - k) k → k ≡ w
-  unfolding removedOf
-  search-end h q = sym (q ∙ rw (sub-eq-zero-of-le h))
+pub search-end : (s l : List ℕ) (t : Table) (c k w : ℕ) → c ≤ k → w ≡ removedOf s l t (c - k) k → k ≡ w
+unfolding removedOf
+search-end s l t c k w h q = sym (q ∙ rw (sub-eq-zero-of-le h))
 
 pub mark-is : (w : Walk) (s l m u t : List ℕ) (n p k r : ℕ) → m ≡ notedOf (w .key) (w .entries) s l k → u ≡ set m (r * 8 + 6) p → t ≡ set u (n * 8 + 7) k
     → t ≡ marked (w .key) (w .entries) s p k r l n

@@ -130,7 +130,11 @@ pub fn is_required(w: Walk, index: &[u8], cells: &[u64], entry: usize, x: &[u8])
 {
     let r = cells::row_get(cells, entry, 1);
     let b = name_chain(w.key, w.entries, r, x);
-    is_borne(index, cells, r, x, cells::row_get(cells, b, 3) as usize)
+    let first = cells::row_get(cells, b, 3) as usize;
+    if first == 0 {
+        return false;
+    }
+    is_borne(index, cells, r, x, first)
 }
 
 // ---- the start

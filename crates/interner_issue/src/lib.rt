@@ -82,9 +82,33 @@ pub fn keep_at(
     l
 }
 
+// The same where no head is told. Not by `keep_at`: a link handed on twice costs more than the hash.
 pub fn keep(l: Link, bytes: &mut [u8], names: &mut [u64], id: Interned, x: &[u8]) -> Link
     ensures { λ r. ⌜ storeOf (now (bytes .exit)) (now (names .exit)) r ≡ keepOf (storeOf (now (bytes .entry)) (now (names .entry)) l) id (now (x .entry)) ⌝ }
 {
-    let head = interner::head_cell(l, names.len(), x);
-    keep_at(l, bytes, names, id, head, x)
+    if id.0 < l.names {
+        return l;
+    }
+    let len = x.len();
+    if room(l, bytes, names, len) {
+        let id = l.names;
+        let start = l.bytes;
+        let head = interner::head_cell(l, names.len(), x);
+        byte_slices::copy_in(bytes, start, x);
+        link_row(names, id, start, len, head);
+        return Link {
+            names: id + 1,
+            bytes: start + len,
+            symbols: l.symbols,
+            sections: l.sections,
+            inputs: l.inputs,
+            lists: l.lists,
+            chains: l.chains,
+            slots: l.slots,
+            key: l.key,
+            gabi: l.gabi,
+            broken: l.broken,
+        };
+    }
+    l
 }

@@ -1,7 +1,10 @@
 // A hash of names that depends on a key: who doesn't know the key can't choose names that share a chain.
 ghost use mathlib.Core.Path.{_≡_};
-ghost use Prim.Native.Nat.{_<_};
+ghost use Prim.Native.Nat.{_+_, _<_};
+ghost use lib.ListN.{length};
+ghost use Rattle.byte_slices.specs.Bytes.{wordAt};
 ghost use Rattle.keyed_hash.specs.Keyed.{folded, mixed, pointOf, hashOf};
+ghost use Rattle.keyed_hash.specs.Ways.{lastMixed};
 
 // The same number modulo 2^33 - 9: above 2^33, nines.
 fn folded(x: usize) -> usize
@@ -34,6 +37,34 @@ fn point(key: usize, base: usize) -> usize
     r
 }
 
+fn wide(x: u8) -> usize
+    ensures { λ r. ⌜ r ≡ x ⌝ }
+    ensures small { λ r. ⌜ r < 256 ⌝ }
+{
+    x as usize
+}
+
+// A word whose bytes are all there, read at once.
+fn whole_word(x: &[u8], i: usize) -> usize
+    requires { ⌜ i + 3 < length (now x) ⌝ }
+    ensures { λ r. ⌜ r ≡ wordAt (now (x .entry)) i ⌝ }
+    ensures small { λ r. ⌜ r < 0x100000000 ⌝ }
+{
+    wide(x[i]) + wide(x[i + 1]) * 0x100 + wide(x[i + 2]) * 0x1_0000 + wide(x[i + 3]) * 0x100_0000
+}
+
+// The last word, of which some bytes are missing, taken in; nothing where none is left.
+fn last_mixed(r: usize, h: usize, x: &[u8], i: usize) -> usize
+    requires { ⌜ r < 0x10000000 ⌝ }
+    requires { ⌜ h < 0x400000000 ⌝ }
+    ensures { λ t. ⌜ t ≡ lastMixed r h (now (x .entry)) i ⌝ }
+{
+    if i < x.len() {
+        return mixed(r, h, byte_slices::word_at(x, i));
+    }
+    h
+}
+
 // Any number is a key; its lowest 28 bits count.
 pub fn hash(key: usize, x: &[u8]) -> usize
     ensures { λ r. ⌜ r ≡ hashOf key (now (x .entry)) ⌝ }
@@ -42,9 +73,9 @@ pub fn hash(key: usize, x: &[u8]) -> usize
     let r = point(key, 0x9e3_779b);
     let mut h = x.len() % 0x1_0000_0000;
     let mut i = 0;
-    while i < x.len() {
-        h = mixed(r, h, byte_slices::word_at(x, i));
+    while 3 < x.len() - i {
+        h = mixed(r, h, whole_word(x, i));
         i += 4;
     }
-    folded(h) % 0x2_0000_0000 / 2
+    folded(last_mixed(r, h, x, i)) % 0x2_0000_0000 / 2
 }

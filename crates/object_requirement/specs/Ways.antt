@@ -67,30 +67,30 @@ module _ (binding section : ℕ) (t : Bool) where
   defines-other e f g q = simp (q, ne-eqb _ _ e, ne-eqb _ _ f, ne-eqb _ _ g)
 
   module _ (gabi : Bool) where
-    pub admits-gabi : gabi ≡ true → t ≡ definesName binding section → t ≡ admits gabi binding section
+    pub admits-gabi : (v n : ℕ) → v ≡ binding → gabi ≡ true → n ≡ section → t ≡ definesName v n → t ≡ admits gabi binding section
     unfolding admits
-    admits-gabi e q = simp (q, e)
+    admits-gabi v n f e g q = q ∙ sym (rw (← f, e, ← g))
 
-    pub admits-old : gabi ≡ false → t ≡ eqb binding 1 → t ≡ admits gabi binding section
+    pub admits-old : (v : ℕ) → v ≡ binding → gabi ≡ false → t ≡ eqb v 1 → t ≡ admits gabi binding section
     unfolding admits
-    admits-old e q = simp (q, e)
+    admits-old v f e q = q ∙ sym (rw (← f, e))
 
-module _ (gabi : Bool) (headers file : List ℕ) (names : ℕ) (symbols : List ℕ) (required : List ℕ → Bool) (i : ℕ) (t : Bool) (v n : ℕ) (a : Bool) where
-  pub bears-other : v ≡ field symbols i 1 → n ≡ field symbols i 4 → a ≡ admits gabi v n → a ≡ false → t ≡ false
+module _ (gabi : Bool) (headers file : List ℕ) (names : ℕ) (symbols : List ℕ) (required : List ℕ → Bool) (i : ℕ) (t a : Bool) where
+  pub bears-other : a ≡ admits gabi (field symbols i 1) (field symbols i 4) → a ≡ false → t ≡ false
       → t ≡ bearsRequired gabi headers file names symbols required i
   unfolding bearsRequired
-  bears-other e f g h q = q ∙ sym (rw (← e, ← f, ← g, h))
+  bears-other g h q = q ∙ sym (rw (← g, h))
 
   module _ (o : ℕ) (x : List ℕ) (b : Bool) where
-    pub bears-missing : v ≡ field symbols i 1 → n ≡ field symbols i 4 → a ≡ admits gabi v n → a ≡ true → o ≡ field symbols i 0
+    pub bears-missing : a ≡ admits gabi (field symbols i 1) (field symbols i 4) → a ≡ true → o ≡ field symbols i 0
         → looked x b ≡ nameAnywhere headers file names o → b ≡ false → t ≡ false → t ≡ bearsRequired gabi headers file names symbols required i
     unfolding bearsRequired isRequired
-    bears-missing e f g h j k z q = q ∙ sym (rw (← e, ← f, ← g, h, ← j, ← k, z))
+    bears-missing g h j k z q = q ∙ sym (rw (← g, h, ← j, ← k, z))
 
-    pub bears-name : v ≡ field symbols i 1 → n ≡ field symbols i 4 → a ≡ admits gabi v n → a ≡ true → o ≡ field symbols i 0
+    pub bears-name : a ≡ admits gabi (field symbols i 1) (field symbols i 4) → a ≡ true → o ≡ field symbols i 0
         → looked x b ≡ nameAnywhere headers file names o → b ≡ true → t ≡ required x → t ≡ bearsRequired gabi headers file names symbols required i
     unfolding bearsRequired isRequired
-    bears-name e f g h j k z q = q ∙ sym (rw (← e, ← f, ← g, h, ← j, ← k, z))
+    bears-name g h j k z q = q ∙ sym (rw (← g, h, ← j, ← k, z))
 
 -- the loops: what holds from row i on, of n, is what holds from the start
 

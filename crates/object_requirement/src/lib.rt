@@ -5,7 +5,7 @@ ghost use mathlib.Core.Path.{_≡_};
 ghost use Prim.Native.Nat.{_+_, _<_};
 ghost use Rattle.cells.specs.Slice.{before};
 ghost use Rattle.strings.specs.Lookup.{looked};
-ghost use Rattle.elf_object.specs.Rows.{stringsAt};
+ghost use Rattle.elf_object.specs.Rows.{field, stringsAt};
 ghost use Rattle.archive_walk.specs.Names.{requiredOf};
 ghost use Rattle.object_requirement.specs.Matches.{isSection, nameAnywhere, definesName, admits, bearsRequired, inTable, isTable, inSection, hasGlobalSymbol, offeredIn};
 ghost use Rattle.object_requirement.specs.Contract.{MatchesMeets};
@@ -78,11 +78,13 @@ fn defines_name(binding: u64, section: u64) -> bool
     false
 }
 
-// May a symbol of that binding and section admit its member?
-fn may_admit(gabi: bool, binding: u64, section: u64) -> bool
-    ensures { λ r. ⌜ r ≡ admits gabi binding section ⌝ }
+// May symbol i of a table admit its member?
+fn may_admit(gabi: bool, symbols: &[u64], i: usize) -> bool
+    ensures { λ r. ⌜ r ≡ admits gabi (field (now (symbols .entry)) i 1) (field (now (symbols .entry)) i 4) ⌝ }
 {
+    let binding = cells::row_get(symbols, i, 1);
     if gabi {
+        let section = cells::row_get(symbols, i, 4);
         return defines_name(binding, section);
     }
     binding == 1
@@ -103,9 +105,7 @@ fn bears_required(
 ) -> bool
     ensures { λ r. ⌜ r ≡ bearsRequired gabi (now (headers .entry)) (now (file .entry)) names (now (symbols .entry)) (requiredOf (now (index .entry)) (now (cells .entry)) w entry) i ⌝ }
 {
-    let binding = cells::row_get(symbols, i, 1);
-    let section = cells::row_get(symbols, i, 4);
-    if may_admit(gabi, binding, section) {
+    if may_admit(gabi, symbols, i) {
         let mut found = false;
         let offset = cells::row_get(symbols, i, 0) as usize;
         let name = name_anywhere(headers, file, names, offset, &mut found);

@@ -1,2 +1,4 @@
 pub mod Index
 pub mod Ways
+pub mod Offer
+pub mod OfferWays

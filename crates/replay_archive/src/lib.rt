@@ -1,5 +1,9 @@
 // An archive as a list tells it: its System V index in lent bytes, put together from entries or told whole; and what a walk over it answers.
 ghost use mathlib.Core.Path.{_≡_};
+ghost use Rattle.text_lines.specs.Text.{textOf};
+ghost use Rattle.replay_text.specs.Answers.{putAll};
+ghost use Rattle.replay_archive.specs.Offer.{entryName, tiedTo, beforeBest, nearerOf, nearestOf, nextRequired, requiredCount, namesFrom, requiredText, memberText, offerText};
+ghost use Rattle.replay_archive.specs.OfferWays.{spacedName};
 ghost use Rattle.replay_archive.specs.Index.{toldAs, putByte, putWord, offsetPlace, announceOf, named, entryOf, indexOf};
 use archive_walk::Offer;
 
@@ -102,7 +106,9 @@ pub fn told(file: &mut [u8], at: usize, a: Archive, line: &[u8]) -> Archive
 // ---- the names required of a member, by bytes
 
 // Entries are given by their number and 1; 0 is none.
-fn name_of<'a>(index: &'a [u8], rows: &[u64], entry: usize) -> &'a [u8] {
+fn name_of<'a>(index: &'a [u8], rows: &[u64], entry: usize) -> &'a [u8]
+    ensures { λ x. ⌜ now x ≡ entryName (now (index .entry)) (now (rows .entry)) entry ⌝ }
+{
     if entry == 0 {
         return byte_slices::part_of(index, 0, 0);
     }
@@ -110,27 +116,40 @@ fn name_of<'a>(index: &'a [u8], rows: &[u64], entry: usize) -> &'a [u8] {
 }
 
 // Is entry k's name required of the member whose first entry is r?
-fn is_tied(rows: &[u64], r: u64, k: usize) -> bool {
+fn is_tied(rows: &[u64], r: u64, k: usize) -> bool
+    ensures { λ b. ⌜ b ≡ tiedTo (now (rows .entry)) r k ⌝ }
+{
     if cells::row_get(rows, k, 0) == 1 {
         return cells::row_get(rows, k, 1) == r;
     }
     false
 }
 
-fn nearer(index: &[u8], rows: &[u64], last: usize, best: usize, entry: usize) -> bool {
-    let x = name_of(index, rows, entry);
-    if last != 0 {
-        if replay_words::before(name_of(index, rows, last), x) {} else {
-            return false;
-        }
+fn before_best(index: &[u8], rows: &[u64], best: usize, entry: usize) -> bool
+    ensures { λ b. ⌜ b ≡ beforeBest (now (index .entry)) (now (rows .entry)) best entry ⌝ }
+{
+    if best == 0 {
+        return true;
     }
-    if best != 0 {
-        return replay_words::before(x, name_of(index, rows, best));
-    }
-    true
+    replay_words::before(name_of(index, rows, entry), name_of(index, rows, best))
 }
 
-fn nearest(index: &[u8], rows: &[u64], r: u64, last: usize, best: usize, k: usize) -> usize {
+// Does the name stand behind the last one, and before the best so far?
+fn nearer(index: &[u8], rows: &[u64], last: usize, best: usize, entry: usize) -> bool
+    ensures { λ b. ⌜ b ≡ nearerOf (now (index .entry)) (now (rows .entry)) last best entry ⌝ }
+{
+    if last == 0 {
+        return before_best(index, rows, best, entry);
+    }
+    if replay_words::before(name_of(index, rows, last), name_of(index, rows, entry)) {
+        return before_best(index, rows, best, entry);
+    }
+    false
+}
+
+fn nearest(index: &[u8], rows: &[u64], r: u64, last: usize, best: usize, k: usize) -> usize
+    ensures { λ t. ⌜ t ≡ nearestOf (now (index .entry)) (now (rows .entry)) r last best k ⌝ }
+{
     if is_tied(rows, r, k) {
         let entry = symbol::next(k);
         if nearer(index, rows, last, best, entry) {
@@ -141,7 +160,9 @@ fn nearest(index: &[u8], rows: &[u64], r: u64, last: usize, best: usize, k: usiz
 }
 
 // The required name that comes behind the last one, by bytes; 0 for none.
-fn next_required(index: &[u8], rows: &[u64], entries: usize, r: u64, last: usize) -> usize {
+fn next_required(index: &[u8], rows: &[u64], entries: usize, r: u64, last: usize) -> usize
+    ensures { λ t. ⌜ t ≡ nextRequired (now (index .entry)) (now (rows .entry)) entries r last ⌝ }
+{
     let mut best = 0;
     let mut k = 0;
     while k < entries {
@@ -151,7 +172,9 @@ fn next_required(index: &[u8], rows: &[u64], entries: usize, r: u64, last: usize
     best
 }
 
-fn required(index: &[u8], rows: &[u64], entries: usize, r: u64) -> usize {
+fn required(index: &[u8], rows: &[u64], entries: usize, r: u64) -> usize
+    ensures { λ n. ⌜ n ≡ requiredCount (now (index .entry)) (now (rows .entry)) entries r ⌝ }
+{
     let mut n = 0;
     let mut last = next_required(index, rows, entries, r, 0);
     let mut left = entries;
@@ -166,12 +189,37 @@ fn required(index: &[u8], rows: &[u64], entries: usize, r: u64) -> usize {
     n
 }
 
-fn put_name(out: &mut [u8], n: usize, x: &[u8]) -> usize {
+fn put_name(out: &mut [u8], n: usize, x: &[u8]) -> usize
+    ensures { λ k. ⌜ textOf (now (out .exit)) k ≡ putAll (textOf (now (out .entry)) n) (spacedName (now (x .entry))) ⌝ }
+{
     let k = text_out::put(out, n, b" ");
     if x.len() == 0 {
         return text_out::put(out, k, b"-");
     }
     text_out::put(out, k, x)
+}
+
+// The first so many of the required names.
+fn put_names(
+    out: &mut [u8],
+    from: usize,
+    index: &[u8],
+    rows: &[u64],
+    entries: usize,
+    r: u64,
+    count: usize,
+) -> usize
+    ensures { λ k. ⌜ textOf (now (out .exit)) k ≡ putAll (textOf (now (out .entry)) from) (namesFrom (now (index .entry)) (now (rows .entry)) entries r count 0) ⌝ }
+{
+    let mut n = from;
+    let mut last = 0;
+    let mut k = 0;
+    while k < count {
+        last = next_required(index, rows, entries, r, last);
+        n = put_name(out, n, name_of(index, rows, last));
+        k += 1;
+    }
+    n
 }
 
 fn put_required(
@@ -181,17 +229,12 @@ fn put_required(
     rows: &[u64],
     entries: usize,
     r: u64,
-) -> usize {
+) -> usize
+    ensures { λ k. ⌜ textOf (now (out .exit)) k ≡ putAll (textOf (now (out .entry)) from) (requiredText (now (index .entry)) (now (rows .entry)) entries r) ⌝ }
+{
     let count = required(index, rows, entries, r);
-    let mut n = replay_text::put_numbered(out, from, b" ", count as u64);
-    let mut last = 0;
-    let mut k = 0;
-    while k < count {
-        last = next_required(index, rows, entries, r, last);
-        n = put_name(out, n, name_of(index, rows, last));
-        k += 1;
-    }
-    n
+    let n = replay_text::put_numbered(out, from, b" ", count as u64);
+    put_names(out, n, index, rows, entries, r, count)
 }
 
 // ---- answers
@@ -204,20 +247,18 @@ fn put_member(
     offset: u64,
     entry: usize,
     passes: usize,
-) -> usize {
+) -> usize
+    ensures { λ k. ⌜ textOf (now (out .exit)) k ≡ putAll (textOf (now (out .entry)) 0) (memberText (now (index .entry)) (now (rows .entry)) entries offset entry passes) ⌝ }
+{
     let n = replay_text::put_numbered(out, 0, b"member ", offset);
     let k = replay_text::put_numbered(out, n, b" ", passes as u64);
     let r = cells::row_get(rows, entry, 1);
     put_required(out, k, index, rows, entries, r)
 }
 
-pub fn put_offer(
-    out: &mut [u8],
-    index: &[u8],
-    rows: &[u64],
-    entries: usize,
-    offer: Offer,
-) -> usize {
+pub fn put_offer(out: &mut [u8], index: &[u8], rows: &[u64], entries: usize, offer: Offer) -> usize
+    ensures { λ k. ⌜ textOf (now (out .exit)) k ≡ putAll (textOf (now (out .entry)) 0) (offerText (now (index .entry)) (now (rows .entry)) entries offer) ⌝ }
+{
     match offer {
         Offer::Member {
             offset,

@@ -1,5 +1,5 @@
 use borrow.Author.Needs.{needs}
-use Rattle.archive_walk.specs.Ways.{tied-unissued, tied-nobody, tied-removed, tied-known}
+use Rattle.archive_pass.specs.Ways.{tied-is}
 use Rattle.archive_pass.proofs.is_tied.Statement.{statement}
 use Rattle.archive_pass.proofs.is_tied.Tie as tie
 
@@ -8,12 +8,5 @@ is-tied-spec =
     tie.close
     (tie.spec
     (λ c κs. search needs)
-    (λ c. search needs)
-    (λ c. search needs)
-    (λ c. search needs)
-    (λ c. search needs)
     (λ c κs. search needs)
-    (λ c. search tied-unissued)
-    (λ c. search tied-nobody)
-    (λ c. search tied-removed)
-    (λ c. search tied-known))
+    (λ c. search tied-is))

@@ -1,5 +1,6 @@
 use borrow.Author.Needs.{needs}
 use Rattle.archive_walk.specs.Ways.{pass-judged, pass-removed, pass-made}
+use Rattle.archive_pass.specs.Ways.{noted-enough}
 use Rattle.archive_pass.proofs.pass.Statement.{statement}
 use Rattle.archive_pass.proofs.pass.Tie as tie
 
@@ -10,10 +11,12 @@ pass-spec =
     (λ c κs. search needs)
     (λ c κs. search needs)
     (λ c. search pass-judged)
+    (λ c. search needs)
     (λ c κs. search needs)
     (λ c κs. search needs)
     (λ c. search needs)
     (λ c. search pass-removed)
-    (λ c κs. search needs)
+    (λ c. search needs)
+    (λ c κs. (search needs, (search needs, search noted-enough)))
     (λ c. search needs)
     (λ c. search pass-made))

@@ -1,5 +1,5 @@
 use borrow.Author.Needs.{needs}
-use Rattle.archive_walk.specs.Ways.{required-is}
+use Rattle.archive_walk.specs.Ways.{required-is, required-none}
 use Rattle.archive_walk.proofs.is_required.Statement.{statement}
 use Rattle.archive_walk.proofs.is_required.Tie as tie
 
@@ -10,5 +10,6 @@ is-required-spec =
     (λ c κs. search needs)
     (λ c κs. search needs)
     (λ c κs. search needs)
+    (λ c. search required-none)
     (λ c κs. search needs)
     (λ c. search required-is))

@@ -1,5 +1,5 @@
 use borrow.Author.Needs.{needs}
-use Rattle.interner.specs.Ways.{keep-head}
+use Rattle.interner.specs.Ways.{own-known, room-names, room-next, room-sum, own-new, own-full}
 use Rattle.interner_issue.proofs.keep.Statement.{statement}
 use Rattle.interner_issue.proofs.keep.Tie as tie
 
@@ -7,8 +7,16 @@ pub keep-spec : {M : Type 1} → statement M
 keep-spec =
     tie.close
     (tie.spec
+    (λ c. search own-known)
     (λ c κs. search needs)
     (λ c κs. search needs)
+    (λ c κs. search needs)
+    (λ c κs. search (needs, room-names))
+    (λ c. search (needs, room-next))
+    (λ c. search (needs, room-sum))
     (λ c. search needs)
     (λ c. search needs)
-    (λ c. search keep-head))
+    (λ c. search own-new)
+    (λ c. search needs)
+    (λ c. search needs)
+    (λ c. search own-full))

@@ -11,8 +11,6 @@ bears-required-spec =
     (λ c κs. search needs)
     (λ c κs. search needs)
     (λ c κs. search needs)
-    (λ c κs. search needs)
-    (λ c κs. search needs)
     (λ c. search bears-name)
     (λ c. search bears-missing)
     (λ c. search bears-other))

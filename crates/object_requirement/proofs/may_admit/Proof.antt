@@ -8,5 +8,7 @@ may-admit-spec =
     tie.close
     (tie.spec
     (λ c κs. search needs)
+    (λ c κs. search needs)
+    (λ c κs. search needs)
     (λ c. search admits-gabi)
     (λ c. search admits-old))
