@@ -14,6 +14,7 @@ pub mod Walked
 pub mod Required
 pub mod Asked
 pub mod WalkLaws
+pub mod StartRead
 pub mod AnyKey
 pub mod Again
 pub mod Answers

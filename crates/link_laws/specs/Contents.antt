@@ -1,4 +1,4 @@
--- Whence the row of a name is: the entry of an object, of a library, or of a direct add, with what that entry says of type, section, value, weak and hidden.
+-- Whence the row of a name is: the entry of an object, of a library, or of a direct add, with what that entry says of type, section, value, weak, hidden and file.
 -- Assumes nothing.
 use Prim.Native.Nat.{ℕ}
 use mathlib.Core.Path.{_≡_, refl, sym, ap, _∙_, subst}

@@ -2,12 +2,13 @@
 -- Assumes nothing.
 use Prim.Native.Nat.{ℕ}
 use mathlib.Core.Path.{_≡_, refl, sym, ap, _∙_, subst}
+use mathlib.Core.Bool.{true}
 use mathlib.Core.List.{List, [], _∷_, _++_}
 use native.Mathlib.Omega.{arith}
 use lib.Dec.{eqb, ltb}
 use borrow.Author.Tests.{eqb-true, ltb-true, ltb-false}
 use Rattle.cells.specs.Split.{by-test}
-use Rattle.gabi.specs.StringTable.{nameAt}
+use Rattle.gabi.specs.StringTable.{hasName, nameAt}
 use Rattle.link.specs.Said.{Said, numberIn}
 use Rattle.interner_laws.specs.Good.{Chained, Issued, count, name, find}
 use Rattle.interner_laws.specs.Find.{found}
@@ -33,7 +34,7 @@ use Rattle.link_laws.specs.OwnEntries.{AllFrom}
 
 -- ---- the words
 
--- the entry that the row is from bears the name b: an object's or a library's symbol by its string; a direct add is by the id that the caller gave it, n
+-- the entry that the row is from bears the name b: an object's or a library's symbol by its string, which isn't missing; a direct add is by the id that the caller gave it, n
 abbrev pub CallBears : List ℕ → ℕ → (k : Call) (s : Linked) (met : List (List ℕ)) (r : Row) → FromCall k s met r → Type 0
 CallBears b n (intern x) s met r p = ⊥
 CallBears b n (resolve id) s met r p = ⊥
@@ -43,8 +44,8 @@ CallBears b n (get id) s met r p = ⊥
 CallBears b n (getGlobal name) s met r p = ⊥
 CallBears b n (sectionSymbol section) s met r p = ⊥
 CallBears b n (addGroup o work i) s met r p = ⊥
-CallBears b n (merge o work ids) s met r p = Words.symbolName (o .headers) (o .entries) (o .contents) (o .file) (p .number) ≡ b
-CallBears b n (load o marks) s met r p = nameAt (o .file) (entryName (o .entries) (p .number)) ≡ b
+CallBears b n (merge o work ids) s met r p = Words.Bears (o .headers) (o .entries) (o .contents) (o .file) (p .number) b
+CallBears b n (load o marks) s met r p = (hasName (o .file) (entryName (o .entries) (p .number)) ≡ true) × (nameAt (o .file) (entryName (o .entries) (p .number)) ≡ b)
 CallBears b n (archiveStart key index cells) s met r p = ⊥
 CallBears b n (archiveNext index cells w) s met r p = ⊥
 CallBears b n (matches headers entries contents file index cells w e) s met r p = ⊥
@@ -57,10 +58,10 @@ Bears b n r (k ∷ ks) s met (later p) = Bears b n r ks (callNext k s) (met ++ s
 -- ---- an entry's name
 
 add-id : (gabi : _) (conversion : List ℕ) (empty : _) (r : Row) (u : _) → FromAdd gabi conversion empty r u → r .name ≡ nameOf u
-add-id gabi conversion empty r u (Direct.unknown name a b c d) = a
-add-id gabi conversion empty r u (Direct.hidden name value a b c d e) = a
-add-id gabi conversion empty r u (Direct.external name visibility binding p a b c d) = a
-add-id gabi conversion empty r u (Direct.elf e name file p a b c d) = a
+add-id gabi conversion empty r u (Direct.unknown name a b c d) = a .named
+add-id gabi conversion empty r u (Direct.hidden name value a b c d e) = a .named
+add-id gabi conversion empty r u (Direct.external name visibility binding p a b c d) = a .named
+add-id gabi conversion empty r u (Direct.elf e name file p a b c d) = a .named
 
 module _ (b : List ℕ) (n : ℕ) (r : Row) (e : r .name .0 ≡ n) where
   -- in a later link t, where the id n stands for the bytes b
@@ -74,8 +75,8 @@ module _ (b : List ℕ) (n : ℕ) (r : Row) (e : r .name .0 ≡ n) where
   call-bears (getGlobal name) s t met p f = p
   call-bears (sectionSymbol section) s t met p f = p
   call-bears (addGroup o work i) s t met p f = p
-  call-bears (merge o work ids) s t met p f = f _ (p .named)
-  call-bears (load o marks) s t met p f = f _ (p .named)
+  call-bears (merge o work ids) s t met p f = record { found = p .bears .found; bytes = p .bears .bytes ∙ f _ (p .named) }
+  call-bears (load o marks) s t met p f = (p .found, f _ (p .named))
   call-bears (archiveStart key index cells) s t met p f = p
   call-bears (archiveNext index cells w) s t met p f = p
   call-bears (matches headers entries contents file index cells w e) s t met p f = p

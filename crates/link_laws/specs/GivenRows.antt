@@ -4,7 +4,7 @@
 use Prim.Native.Nat.{ℕ, suc, _+_, _*_, _≤_, _<_}
 use native.Mathlib.Omega.{arith}
 use mathlib.Core.Path.{_≡_, refl, sym, ap, subst, _∙_}
-use mathlib.Core.Bool.{true}
+use mathlib.Core.Bool.{Bool, true}
 use mathlib.Core.List.{List, [], _∷_, _++_}
 use mathlib.Core.Logic.{_≢_}
 use lib.Dec.{eqb}
@@ -12,7 +12,6 @@ use lib.ListN.{length, getD}
 use lib.Seq.{getD-set-same}
 use borrow.Author.Tests.{eqb-true, eqb-false, eq-eqb, ne-eqb, lt-leb, lt-ltb, ltb-false}
 use Rattle.cells.specs.Split.{by-test}
-use Rattle.gabi.specs.StringTable.{nameAt}
 use Rattle.gabi.specs.SymbolTable.{stbLocal}
 use Rattle.link.specs.declared.SymbolId.{SymbolId}
 use Rattle.link.specs.Said.{numberIn, valueIn}
@@ -37,11 +36,11 @@ use Rattle.symbols.specs.Calls.{Left}
 use Rattle.symbols.specs.Add.{committedOf, addRowOf}
 use Rattle.symbols.specs.Lookup.{notFound}
 use Rattle.strings.specs.Lookup.{Looked}
-use Rattle.elf_object.specs.Rows.{rowsIn, field}
+use Rattle.elf_object.specs.Rows.{rowsIn}
 use Rattle.merge_plan.specs.Plan.{inputOf}
 use Rattle.merge_symbols.specs.Stage as Symbols
 use Rattle.merge_stages.specs.Stages as Stages
-use Rattle.symbol_laws.specs.ObjectWords.{sectionsIn, entriesIn, entry}
+use Rattle.symbol_laws.specs.ObjectWords.{entriesIn, entry}
 use Rattle.symbol_laws.specs.View.{Free, View, refused, kept, amended, replaced, appended, local, view, decided, held}
 use Rattle.symbol_laws.specs.Rows.{rowAt, stored-row}
 use Rattle.symbol_laws.specs.Within as Within
@@ -53,7 +52,8 @@ use Rattle.merge_build.specs.Relocations.{idIn}
 use Rattle.merge_laws.specs.MergeSteps.{adds}
 use Rattle.merge_laws.specs.MergeWords as Words
 use Rattle.merge_laws.specs.Marked.{Marked, steps-marked, marksOf}
-use Rattle.merge_laws.specs.WorkGroups.{symbols-are, names-are}
+use Rattle.merge_laws.specs.WorkGroups.{symbols-are, bears-own}
+use Rattle.merge_laws.specs.FileNames.{IsFile, file-stays, row-file}
 use Rattle.merge_laws.specs.ObjectContents as Contents
 use Rattle.merge_laws.specs.SymbolIds.{nameOf}
 use Rattle.merge_laws.specs.SymbolDuplicates.{Comes, stepsTo, tableTo, rowTo, steps-make, Begins}
@@ -92,19 +92,24 @@ module _ (o : Stages.Object) (s : Linked) (met : List (List ℕ)) (t : Linked) w
   abbrev pub nameBytes : ℕ → List ℕ
   nameBytes = Words.symbolName (o .headers) (o .entries) (o .contents) (o .file)
 
-  -- the row of an id has what the entry of the local symbol k says: type, value through the object's sections, its name's bytes
+  -- its name isn't missing
+  abbrev pub isNamed : ℕ → Bool
+  isNamed = Words.isNamed (o .headers) (o .entries) (o .contents) (o .file)
+
+  -- the row of an id has what the entry of the local symbol k says: type, value through the object's sections, its name's bytes, its file (IsFile, merge_laws)
   pub record LocalRow (k id : ℕ) : Type 0 where
     pub counted : id < t .table .link .symbols
     pub content : Contents.LocalContent (o .headers) (o .entries) (o .contents) (o .file) (s .table .link .sections) met symbols k (rowAt (t .table .symbols) id)
     pub named : callLeft (resolve (rowAt (t .table .symbols) id .name)) t ≡ resolved (nameBytes k) 0 0
+    pub filed : IsFile (store (t .table)) symbols (Words.Bears (o .headers) (o .entries) (o .contents) (o .file)) k (rowAt (t .table .symbols) id .file)
 
   pub data Stands (k id : ℕ) : Type 0 where
     -- "maps to id 0"
     first : Contents.IsNull (o .headers) (o .entries) (o .contents) (o .file) (s .table .link .sections) met symbols k → id ≡ 0 → Stands k id
     -- local: the row has what the symbol's entry says
-    own : entry symbols k .binding ≡ stbLocal → LocalRow k id → Stands k id
+    own : entry symbols k .binding ≡ stbLocal → isNamed k ≡ true → LocalRow k id → Stands k id
     -- else: the name has that id
-    shared : entry symbols k .binding ≢ stbLocal → NameHas (nameBytes k) t (record { 0 = id }) → Stands k id
+    shared : entry symbols k .binding ≢ stbLocal → isNamed k ≡ true → NameHas (nameBytes k) t (record { 0 = id }) → Stands k id
 
   abbrev pub AllStand : List ℕ → List ℕ → Type 0
   AllStand [] [] = Unit {0}
@@ -354,10 +359,17 @@ module _ (s : Linked) (met : List (List ℕ)) (g : Lasting s met) (ready : Ready
           (ap (λ (i : ℕ). callLeft (getGlobal (record { 0 = i })) last) q
           ∙ Within.looked t fit (lasting-within last _ lasting) n (Known (record { 0 = id })) (holder-known t n (last-issued .low) id k u low (eqb-false _ _ c))))
 
+      bears : Words.Bears (o .headers) (o .entries) (o .contents) (o .file) k x
+      bears = bears-own o a head-goes (sections-going o a whole) k low found
+
       name-own : x ≡ nameBytes o s met last k
-      name-own =
-          names-are o a head-goes (sections-going o a whole) k (field (Stops.object o a .entries) k 0) low
-          ∙ ap (λ (l : List ℕ). nameAt (Words.symbolNames (o .headers) (o .file) (sectionsIn (o .headers))) (field l k 0)) (symbols-are o a head-goes (sections-going o a whole))
+      name-own = sym (bears .bytes)
+
+      filed : IsFile (store (last .table)) (symbols o s met last) (Words.Bears (o .headers) (o .entries) (o .contents) (o .file)) k (r .file)
+      filed =
+          file-stays (store (merged .table)) (symbols o s met last) (Words.Bears (o .headers) (o .entries) (o .contents) (o .file)) k (r .file) (store (last .table))
+          (NamesStay.calls-stay ls merged (met ++ signatures (merge o work ids ∷ []) s) (lasting-on (merge o work ids ∷ []) s met g .marked))
+          (row-file o a met (g .marked) head-goes (sections-going o a whole) (groups-pass o a whole) (filter-passes o a ok) k low (comes .going))
 
       -- the symbol's entry
       abbrev binding : ℕ
@@ -367,12 +379,13 @@ module _ (s : Linked) (met : List (List ℕ)) (g : Lasting s met) (ready : Ready
       stands-local-row v =
           let c = Contents.local-content o a head-goes (sections-going o a whole) (groups-pass o a whole) met (g .marked) k low fine found added v in
           let (h, e) = local-stays v in
-          own (c .bound)
+          own (c .bound) (bears .found)
           (record {
             counted = h;
             content = subst (Contents.LocalContent (o .headers) (o .entries) (o .contents) (o .file) (s .table .link .sections) met (symbols o s met last) k) (sym e) c;
             named =
                 ap (λ (r : Row). callLeft (resolve (r .name)) last) e ∙ resolves ∙ ap (λ (b : List ℕ). resolved b 0 0) name-own;
+            filed = subst (λ (r : Row). IsFile (store (last .table)) (symbols o s met last) (Words.Bears (o .headers) (o .entries) (o .contents) (o .file)) k (r .file)) (sym e) filed;
           })
 
       pub answered-stands : Stands o s met last k id
@@ -381,6 +394,7 @@ module _ (s : Linked) (met : List (List ℕ)) (g : Lasting s met) (ready : Ready
           (λ v.
           let u = eqb-false _ _ v in
           shared (λ b. u (Contents.binding-local o a head-goes (sections-going o a whole) (groups-pass o a whole) met (g .marked) k low fine found added b))
+          (bears .found)
           (subst (λ (b : List ℕ). NameHas b last (record { 0 = id })) name-own (name-has u)))
 
   -- ---- any symbol that has an id

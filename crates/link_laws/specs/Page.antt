@@ -155,7 +155,8 @@ module _ (key : ℕ) (gabi : Bool) (bytes names symbols sections inputs lists : 
         → combined (entriesOf ks s0 [] (rows (x ∷ xs)) from) ≡ cond (isHidden (rowAt (end .table .symbols) (x .id))) stvHidden stvDefault
     visibility b x xs e from = Terms.gabi-visible key gabi bytes names symbols sections inputs lists new ks quiet (idOf b end .0) x xs e from
 
-    -- these are the entries of that name: its bytes are what the string table of an object or a library has for the symbol (AllBear, EntryNames.antt)
+    -- these are the entries of that name: its bytes are what the string table of an object or a library has for the symbol, whose name isn't missing (AllBear,
+    -- EntryNames.antt)
     pub named : (b : List ℕ) (x : Entry) (xs : List Entry) → adds b ks s0 ≡ x ∷ xs → (from : AllFrom ks s0 [] (rows (x ∷ xs)))
         → AllBear b (idOf b end .0) ks s0 [] (x ∷ xs) from
     named = Terms.adds-bear key gabi bytes names symbols sections inputs lists new ks quiet
@@ -290,7 +291,7 @@ module _ (key : ℕ) (gabi : Bool) (bytes names symbols sections inputs lists : 
         Terms.program-built key gabi bytes names symbols sections inputs lists new ks lent o work ids ok n unremoved ls spared
 
     -- and these ids stand for the object's symbols to the end: id 0 for a null first one; a local's row has its entry's type, its value through the object's sections, its
-    -- name; any other id is the one that the symbol's name has (Stands, GivenRows.antt)
+    -- name, its file; any other id is the one that the symbol's name has (Stands, GivenRows.antt)
     pub relocation-symbols : (o : Stages.Object) (work ids : List ℕ) (ok : callNumber (merge o work ids) end ≡ 0) (n : ℕ)
         → isRemoved (o .headers) (o .entries) (o .contents) (o .file) (signatures ks s0) (sectionsIn (o .headers)) n ≡ false → (ls : List Call)
         → SparesAll ls (callNext (merge o work ids) end) (sectionId o end n) → (kind : ℕ) (named : List ℕ)

@@ -11,7 +11,7 @@ use lib.Dec.{eqb, leb}
 use lib.ListN.{length}
 use borrow.Author.Tests.{eqb-true, eqb-false}
 use Rattle.cells.specs.Split.{by-test}
-use Rattle.gabi.specs.StringTable.{nameAt}
+use Rattle.gabi.specs.StringTable.{hasName, nameAt}
 use Rattle.gabi.specs.SymbolTable.{Sym, shnUndef}
 use Rattle.merge_plan.specs.Plan.{View}
 use Rattle.strings.specs.Lookup.{Looked, lookUp}
@@ -20,7 +20,8 @@ use Rattle.interner_laws.specs.Good.{Issued, find}
 use Rattle.symbol.specs.declared.Row.{Row}
 use Rattle.symbol.specs.declared.SymbolType.the-variants as Ty
 use Rattle.symbol.specs.declared.SymbolValue.the-variants as Val
-use Rattle.symbol.specs.Codes.{typeAt, visibilityAt, valueAt}
+use Rattle.symbol.specs.declared.SttFile.the-variants as File
+use Rattle.symbol.specs.Codes.{typeAt, visibilityAt, valueAt, fileAt}
 use Rattle.symbol_rows.specs.Decide.{refusalOf}
 use Rattle.symbol_rows.specs.Holder.{holderOf}
 use Rattle.upcoming_symbol.specs.Upcoming.{externalRowOf}
@@ -52,7 +53,7 @@ use Rattle.load_laws.specs.SymbolDuplicates.{symbolsTo, stepsTo, tableTo
 use Rattle.load_laws.specs.Accepted.{record-none, lists-none}
 
 -- the row of symbol i of the library: it is defined, whatever its section, type and value; weak and, in the old profile, hidden are its entry's; in the link that
--- the load leaves its name has the bytes of the symbol's
+-- the load leaves its name has the bytes of the symbol's; it has no file
 module _ (o : Input) (a : All) where
   pub record FromLibrary (r : Row) : Type 0 where
     pub number : ℕ
@@ -62,7 +63,9 @@ module _ (o : Input) (a : All) where
     pub type : typeAt (r .kind) ≡ Ty.NoType
     pub shown : visibilityAt (r .visibility) ≡ shows (sharedEntry (a .link .gabi) (entry (o .entries) number))
     pub value : valueAt (r .value) ≡ Val.ExternallyDefined
+    pub found : hasName (o .file) (entryName (o .entries) number) ≡ true
     pub named : Issued (store (tableIn (loadOf o a .cells))) (r .name .0) (nameAt (o .file) (entryName (o .entries) number))
+    pub filed : fileAt (r .file) ≡ File.None
 
 -- ---- one symbol's steps add its planned row, or none
 
@@ -185,7 +188,7 @@ module _ (o : Input) (a : All) where
         → (i : ℕ) → i < rowsIn entries → symbolsTo o a i .stage .number ≡ 0 → x entries file (symbolsTo o a i) i From .found ≡ true → eqb (field entries i 4) 0 ≡ false
         → refusalOf (p entries file (symbolsTo o a i) i From .decision) ≡ 0 → p entries file (symbolsTo o a i) i From .row .visibility ≢ 0
         → From (p entries file (symbolsTo o a i) i From .row)
-    unfolding planOf externalOf rowedOf externalRowOf typeAt valueAt
+    unfolding planOf externalOf rowedOf externalRowOf typeAt valueAt fileAt
     from-library head needed fits i h going found d z g =
         let s : State = staged (symbolsTo o a i) (goingOf (symbolsTo o a i .stage .link)) in
         let (admitted, visible) = planned-shows (view (adding s)) (lookUp file (field entries i 0) .name) (entry entries i) g z in
@@ -197,7 +200,9 @@ module _ (o : Input) (a : All) where
           type = refl;
           shown = visible ∙ ap (λ (gabi : Bool). shows (sharedEntry gabi (entry entries i))) (profile-to i);
           value = refl;
+          found = found;
           named = row-named met known head needed fits i h going found d z;
+          filed = refl;
         }
 
     rows-from : headIn o a .number ≡ 0 → want o a .needed ≡ true → Stops.fits entries file (o .needs) (linksIn a) (nameOf o) ≡ true

@@ -46,5 +46,6 @@ pub mod RowsBelow
 pub mod BuiltNames
 pub mod ObjectContents
 pub mod LogContents
+pub mod FileNames
 pub mod NamesOn
 pub mod SymbolNames

@@ -8,14 +8,13 @@ use mathlib.Core.Bool.{true, false}
 use mathlib.Core.List.{List, [], _∷_, _++_}
 use mathlib.Core.Logic.{_≢_}
 use lib.Dec.{eqb, ltb}
-use borrow.Author.Tests.{eqb-true, eqb-false, ne-eqb, ltb-false}
+use borrow.Author.Tests.{eqb-true, eqb-false, ne-eqb, ltb-false, le-ltb}
 use Rattle.cells.specs.Split.{by-test}
-use Rattle.gabi.specs.StringTable.{nameAt}
 use Rattle.interner_laws.specs.Good.{Issued}
 use Rattle.symbol.specs.declared.Row.{Row}
 use Rattle.symbol_rows.specs.declared.Decision.{Decision}
 use Rattle.symbol_rows.specs.Decide.{refusalOf}
-use Rattle.elf_object.specs.Rows.{rowsIn, field}
+use Rattle.elf_object.specs.Rows.{rowsIn}
 use Rattle.section_groups.specs.Group.{groupSectionOf}
 use Rattle.merge_plan.specs.Plan.{inputOf}
 use Rattle.merge_symbols.specs.Stage as Symbols
@@ -24,7 +23,7 @@ use Rattle.merge_stages.specs.Stages.{All, Object, symbolsIn, afterSymbols}
 use Rattle.merge_elf.specs.Merge.{headIn, mergeOf}
 use Rattle.symbol_laws.specs.Rank as Rank
 use Rattle.symbol_laws.specs.History.{store}
-use Rattle.symbol_laws.specs.ObjectWords.{sectionsIn, entriesIn}
+use Rattle.symbol_laws.specs.ObjectWords.{entriesIn}
 use Rattle.merge_laws.specs.MergeWords as Words
 use Rattle.merge_laws.specs.Steps.{others}
 use Rattle.merge_laws.specs.Loop.{loop, loopSteps, loop-next}
@@ -37,11 +36,12 @@ use Rattle.merge_laws.specs.SymbolStage.{numberOf, symbols-loop}
 use Rattle.merge_laws.specs.SymbolIds.{nameOf, planOf}
 use Rattle.merge_laws.specs.SymbolDuplicates.{rowTo, Comes}
 use Rattle.merge_laws.specs.SymbolNames.{row-named}
+use Rattle.merge_laws.specs.FileNames.{IsFile, row-file}
 use Rattle.merge_laws.specs.Whole.{tableIn}
 use Rattle.merge_laws.specs.Stops.{reserved, object, prepared, grouped, marked, symbolReader, symbolsTo, added, filtered}
 use Rattle.merge_laws.specs.FirstKept.{reader}
 use Rattle.merge_laws.specs.Accepted.{group-none, built-none}
-use Rattle.merge_laws.specs.WorkGroups.{symbols-are, names-are}
+use Rattle.merge_laws.specs.WorkGroups.{symbols-are, bears-own}
 use Rattle.merge_laws.specs.ObjectContents as Contents
 
 -- ---- lists of rows
@@ -81,15 +81,19 @@ module _ (o : Object) (a : All) (met : List (List ℕ)) where
   abbrev table : List ℕ
   table = Words.symbolsOf (o .headers) (o .entries) (o .contents) (o .file)
 
-  abbrev nameBytes : ℕ → List ℕ
-  nameBytes = Words.symbolName (o .headers) (o .entries) (o .contents) (o .file)
+  abbrev Bears : ℕ → List ℕ → Type 0
+  Bears = Words.Bears (o .headers) (o .entries) (o .contents) (o .file)
 
-  -- the row of symbol i of the loaded table: what its entry says; in the link that the merge leaves its name has the bytes of the symbol's
+  -- the row of symbol i of the loaded table: what its entry says; in the link that the merge leaves its name has the bytes that the symbol bears, and
+  -- its file's those of the last symbol of type 4 before it
   pub record FromSymbol (r : Row) : Type 0 where
     pub number : ℕ
     pub below : number < entriesIn table
     pub content : Contents.Content (o .headers) (o .entries) (o .contents) (o .file) (a .stage .link .sections) met table number r
-    pub named : Issued (store (tableIn (mergeOf o a .cells))) (r .name .0) (nameBytes number)
+    pub bytes : List ℕ
+    pub bears : Bears number bytes
+    pub named : Issued (store (tableIn (mergeOf o a .cells))) (r .name .0) bytes
+    pub filed : IsFile (store (tableIn (mergeOf o a .cells))) table Bears number (r .file)
 
   module _ (known : Marked (tableIn a) met) where
     abbrev first : Symbols.State
@@ -99,11 +103,6 @@ module _ (o : Object) (a : All) (met : List (List ℕ)) where
     next = symbolOf (symbolReader o a)
 
     module _ (head : headIn o a .number ≡ 0) (goes : reserved o a .reserved .number ≡ 0) (passes : grouped o a .stage .number ≡ 0) where
-      name-own : (i : ℕ) → i < rowsIn (object o a .entries) → nameOf (symbolReader o a) i .name ≡ nameBytes i
-      name-own i h =
-          names-are o a head goes i (field (object o a .entries) i 0) h
-          ∙ ap (λ (l : List ℕ). nameAt (Words.symbolNames (o .headers) (o .file) (sectionsIn (o .headers))) (field l i 0)) (symbols-are o a head goes)
-
       from-symbol : (i : ℕ) → Comes o a i → next (symbolsTo o a i) i .stage .number ≡ 0 → nameOf (symbolReader o a) i .found ≡ true
           → adds (inputOf (object o a .entries) (marked o a .work)) (nameOf (symbolReader o a) i .name) i ≡ true → rowTo o a i .visibility ≢ 0 → FromSymbol (rowTo o a i)
       from-symbol i c z f d g =
@@ -112,7 +111,10 @@ module _ (o : Object) (a : All) (met : List (List ℕ)) where
             number = i;
             below = subst (λ (l : List ℕ). i < rowsIn l) (symbols-are o a head goes) h;
             content = Contents.content o a head goes passes met known i h z f d g;
-            named = subst (Issued (store (tableIn (mergeOf o a .cells))) (rowTo o a i .name .0)) (name-own i h) (row-named o a met known i c z f d);
+            bytes = nameOf (symbolReader o a) i .name;
+            bears = bears-own o a head goes i h f;
+            named = row-named o a met known i c z f d;
+            filed = row-file o a met known head goes passes (le-ltb _ _ (c .filter)) i h (c .going);
           }
 
       -- the symbols from i on

@@ -2,11 +2,12 @@
 -- for statements: no function and no contract has them.
 -- Assumes nothing.
 use Prim.Native.Nat.{ℕ, zero, suc}
-use mathlib.Core.Bool.{Bool, false, cond, _&&_, _||_}
+use mathlib.Core.Path.{_≡_}
+use mathlib.Core.Bool.{Bool, true, false, cond, _&&_, _||_}
 use mathlib.Core.List.{List, [], _∷_, _++_}
 use lib.Dec.{eqb}
 use lib.ListN.{getD}
-use Rattle.gabi.specs.StringTable.{nameAt, among}
+use Rattle.gabi.specs.StringTable.{hasName, nameAt, among}
 use Rattle.symbol_laws.specs.ObjectWords.{partFrom, sectionsIn, program, uninitialized, symbolTable, stringTable, rel, rela, group, infoOf, firstOf, countOf, linkOf, loadedAs, stringsOf, entriesOf, entryName}
 
 module _ (headers : List ℕ) where
@@ -40,6 +41,11 @@ module _ (headers : List ℕ) where
   symbolNames file (suc t) =
       cond (loadedAs headers t symbolTable) (stringsOf headers file (loadedAs headers (linkOf headers t) stringTable) (linkOf headers t)) (symbolNames file t)
 
+  -- whether that is loaded: if not every name is missing
+  unfoldable pub hasNames : ℕ → Bool
+  hasNames zero = false
+  hasNames (suc t) = cond (loadedAs headers t symbolTable) (loadedAs headers (linkOf headers t) stringTable) (hasNames t)
+
 -- ---- groups
 
 module _ (headers entries contents file : List ℕ) where
@@ -49,6 +55,14 @@ module _ (headers entries contents file : List ℕ) where
 
   abbrev pub symbolName : ℕ → List ℕ
   symbolName i = nameAt (symbolNames headers file (sectionsIn headers)) (entryName symbolsOf i)
+
+  abbrev pub isNamed : ℕ → Bool
+  isNamed i = hasNames headers (sectionsIn headers) && hasName (symbolNames headers file (sectionsIn headers)) (entryName symbolsOf i)
+
+  -- symbol i bears the name b, which isn't missing
+  pub record Bears (i : ℕ) (b : List ℕ) : Type 0 where
+    pub found : isNamed i ≡ true
+    pub bytes : symbolName i ≡ b
 
   -- of the group at section g the name of its signature symbol, and the one section that it lists
   abbrev pub groupSignature : ℕ → List ℕ

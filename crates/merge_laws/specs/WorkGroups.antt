@@ -13,7 +13,7 @@ use lib.ListN.{getD, set, length, length-set}
 use lib.Seq.{getD-set-same, getD-set-other}
 use borrow.Author.Tests.{eqb-true, eqb-false, ltb-true, ltb-false, leb-false, ne-eqb, lt-ltb, le-ltb}
 use Rattle.cells.specs.Split.{by-test}
-use Rattle.gabi.specs.StringTable.{nameAt, among, name-empty}
+use Rattle.gabi.specs.StringTable.{hasName, nameAt, among, name-empty}
 use Rattle.link.specs.Judge.{changeOf}
 use Rattle.strings.specs.Lookup.{Looked}
 use Rattle.elf_object.specs.Rows as Elf
@@ -27,18 +27,19 @@ use Rattle.merge_build.specs.Relocations.{relocationsOf}
 use Rattle.merge_stages.specs.Stages.{All, Object}
 use Rattle.merge_elf.specs.Merge.{headIn, headOf, rowsRefusal, lent}
 use Rattle.symbol_laws.specs.ObjectWords.{loadedAs, symbolTable, stringTable, group, stringsOf, linkOf}
-use Rattle.merge_laws.specs.MergeWords.{rowedBelow, namedBy, entriesTo, symbolNames, symbolsOf, groupSignature, groupSection, ownSignatures, isRemoved}
+use Rattle.merge_laws.specs.MergeWords.{rowedBelow, namedBy, entriesTo, symbolNames, hasNames, symbolsOf, Bears, groupSignature, groupSection, ownSignatures, isRemoved}
 use Rattle.merge_laws.specs.Loop.{loop, loop-holds, loop-next}
 use Rattle.merge_laws.specs.MergeSteps.{groupFirst, reserveFirst}
 use Rattle.merge_laws.specs.WorkRows.{loaded-same, tableTo, NotedTo, reserve-noted}
 use Rattle.merge_laws.specs.WorkNotes.{done-cell, done-names, done-past, done-long}
 use Rattle.merge_laws.specs.GroupStage.{numberOf, groups-loop}
+use Rattle.merge_laws.specs.SymbolIds.{nameOf}
 use Rattle.merge_laws.specs.Marked.{Marked}
 use Rattle.merge_laws.specs.GroupMarks.{group-marks, mark-lent}
 use Rattle.merge_laws.specs.Accepted.{going, next-going, signaturesTo}
 use Rattle.merge_laws.specs.FirstKept.{reader, signature, listed, metTo, to-marked, met-group, met-other}
 use Rattle.merge_laws.specs.Whole.{tableIn, passed}
-use Rattle.merge_laws.specs.Stops.{reserved, object, prepared, grouped, marked, groupsTo}
+use Rattle.merge_laws.specs.Stops.{reserved, object, prepared, grouped, marked, symbolReader, groupsTo}
 
 -- ---- what a head that passes says of the object
 
@@ -99,6 +100,20 @@ table-names headers file (suc t) o u =
     by-test (loadedAs headers t symbolTable)
     (λ a. rw (a, ne-eqb (t + 1) 0 (λ q. omega arith), e) (name-same headers file (linkOf headers t) o))
     (λ a. rw a (table-names headers file t o (rw a at u)))
+
+found-same : (headers file : List ℕ) (n o : ℕ) → nameIn headers file n o .found ≡ loadedAs headers n stringTable && hasName (stringsOf headers file (loadedAs headers n stringTable) n) o
+unfolding nameIn stringsOf
+found-same headers file n o = rw (loaded-same headers n 4) (by-test (loadedAs headers n stringTable) (λ a. rw a) (λ a. rw a))
+
+table-found : (headers file : List ℕ) (k o : ℕ) → tableTo headers k ≢ 0
+    → nameIn headers file (linkAt headers (sectionOf (tableTo headers k))) o .found ≡ hasNames headers k && hasName (symbolNames headers file k) o
+unfolding sectionOf symbolNames hasNames
+table-found headers file zero o u = absurd (u refl)
+table-found headers file (suc t) o u =
+    let e : t + 1 - 1 ≡ t = omega arith in
+    by-test (loadedAs headers t symbolTable)
+    (λ a. rw (a, ne-eqb (t + 1) 0 (λ q. omega arith), e) (found-same headers file (linkOf headers t) o))
+    (λ a. rw a (table-found headers file t o (rw a at u)))
 
 no-entries : (headers entries : List ℕ) (k : ℕ) → tableTo headers k ≡ 0 → entriesTo headers entries k ≡ []
 unfolding entriesTo
@@ -275,13 +290,34 @@ module _ (o : Object) (a : All) (head : headIn o a .number ≡ 0) (goes : reserv
   pub symbols-are : object o a .entries ≡ symbolsOf headers (o .entries) (o .contents) (o .file)
   symbols-are = ap (tableEntries headers (o .entries)) (noted .table) ∙ table-entries headers (o .entries) rows
 
-  pub names-are : (i off : ℕ) → i < rowsIn (object o a .entries) → nameIn headers (o .file) (linkAt headers (object o a .table)) off .name ≡ nameAt (symbolNames headers (o .file) rows) off
-  names-are i off h =
-      ap (λ (t : ℕ). nameIn headers (o .file) (linkAt headers (sectionOf t)) off .name) (noted .table)
-      ∙ table-names headers (o .file) rows off (λ z. none (ap (λ (l : List ℕ). rowsIn l) (symbols-are ∙ no-entries headers (o .entries) rows z)))
+  tabled : (i : ℕ) → i < rowsIn (object o a .entries) → tableTo headers rows ≢ 0
+  tabled i h z = none (ap (λ (l : List ℕ). rowsIn l) (symbols-are ∙ no-entries headers (o .entries) rows z))
     where
       none : rowsIn (object o a .entries) ≡ 0 → ⊥
       none e = omega arith
+
+  pub names-are : (i off : ℕ) → i < rowsIn (object o a .entries) → nameIn headers (o .file) (linkAt headers (object o a .table)) off .name ≡ nameAt (symbolNames headers (o .file) rows) off
+  names-are i off h =
+      ap (λ (t : ℕ). nameIn headers (o .file) (linkAt headers (sectionOf t)) off .name) (noted .table)
+      ∙ table-names headers (o .file) rows off (tabled i h)
+
+  -- and which aren't missing
+  found-are : (i off : ℕ) → i < rowsIn (object o a .entries)
+      → nameIn headers (o .file) (linkAt headers (object o a .table)) off .found ≡ hasNames headers rows && hasName (symbolNames headers (o .file) rows) off
+  found-are i off h =
+      ap (λ (t : ℕ). nameIn headers (o .file) (linkAt headers (sectionOf t)) off .found) (noted .table) ∙ table-found headers (o .file) rows off (tabled i h)
+
+  -- of symbol i of the object's own table
+  pub bears-own : (i : ℕ) → i < rowsIn (object o a .entries) → nameOf (symbolReader o a) i .found ≡ true
+      → Bears headers (o .entries) (o .contents) (o .file) i (nameOf (symbolReader o a) i .name)
+  bears-own i h f =
+      let off : ℕ = field (object o a .entries) i 0 in
+      record {
+        found =
+            ap (λ (l : List ℕ). hasNames headers rows && hasName (symbolNames headers (o .file) rows) (field l i 0)) (sym symbols-are)
+            ∙ sym (found-are i off h) ∙ f;
+        bytes = ap (λ (l : List ℕ). nameAt (symbolNames headers (o .file) rows) (field l i 0)) (sym symbols-are) ∙ sym (names-are i off h);
+      }
 
   -- ---- rows
 

@@ -11,10 +11,11 @@ use lib.Dec.{eqb, leb}
 use lib.ListN.{getD}
 use mir.Syntax.{w64}
 use mir.Val.{SFits}
-use borrow.Author.Tests.{eqb-true, eqb-false, leb-true, leb-false}
+use borrow.Author.Tests.{eqb-true, eqb-false, leb-true, leb-false, lt-ltb, ne-eqb}
 use Rattle.cells.specs.Split.{by-test}
 use Rattle.gabi.specs.SymbolTable.{Sym, stbWeak, stvHidden, shnUndef, shnAbs}
 use Rattle.link.specs.declared.Interned.{Interned}
+use Rattle.link.specs.Bounds.{notLent}
 use Rattle.link.specs.Said.{numberIn}
 use Rattle.symbol.specs.declared.Row.{Row}
 use Rattle.symbol.specs.declared.SttFile.{SttFile}
@@ -23,7 +24,7 @@ use Rattle.symbol.specs.declared.SymbolType.the-variants as Ty
 use Rattle.symbol.specs.declared.SymbolVisibility.the-variants.{Global}
 use Rattle.symbol.specs.declared.SymbolValue.{SymbolValue}
 use Rattle.symbol.specs.declared.SymbolValue.the-variants as Val
-use Rattle.symbol.specs.Codes.{typeAt, visibilityAt, valueAt, wordsOf}
+use Rattle.symbol.specs.Codes.{typeAt, visibilityAt, valueAt, wordsOf, successor, fileAt, fileCell}
 use Rattle.symbol.specs.Offset.{offset-word}
 use Rattle.symbol_rows.specs.declared.Decision.{Decision}
 use Rattle.symbol_rows.specs.Decide.{refusalOf}
@@ -70,13 +71,23 @@ isUndefined (Val.Undefined default) = true
 abbrev pub symbolOf : ℕ → ℕ → ℕ → ℕ → ℕ → Sym
 symbolOf b t v s x = record { binding = b; type = t; visibility = v; section = s; value = x }
 
+-- an id of a file's name is a number of 64 bits that has a successor
+abbrev pub FileFits : SttFile → Type 0
+FileFits File.None = Unit {0}
+FileFits (File.Name id) = id .0 < notLent
+
+-- its name is the one given, and so is its file's; a kind of symbol that comes without a file has none
+pub record Labelled (r : Row) (name : Interned) (file : SttFile) : Type 0 where
+  pub named : r .name ≡ name
+  pub filed : FileFits file → fileAt (r .file) ≡ file
+
 -- gabi: the profile of the link that it is made on
 pub data FromAdd (gabi : Bool) (conversion : List ℕ) (empty : Bool) (r : Row) : UpcomingSymbol → Type 0 where
-  unknown : (name : Interned) → r .name ≡ name → typeAt (r .kind) ≡ Ty.NoType → visibilityAt (r .visibility) ≡ Global false false → valueAt (r .value) ≡ Val.Undefined false → FromAdd gabi conversion empty r (Up.GlobalUnknown name)
-  hidden : (name : Interned) (value : SymbolValue) → r .name ≡ name → typeAt (r .kind) ≡ Ty.NoType → visibilityAt (r .visibility) ≡ Global false true → (Fitting value → valueAt (r .value) ≡ value) → isUndefined (valueAt (r .value)) ≡ isUndefined value → FromAdd gabi conversion empty r (Up.GlobalHidden name value)
-  external : (name : Interned) (visibility binding : ℕ) → Admitted (symbolOf binding 0 visibility shnAbs 0) → r .name ≡ name → typeAt (r .kind) ≡ Ty.NoType → visibilityAt (r .visibility) ≡ shows (sharedEntry gabi (symbolOf binding 0 visibility shnAbs 0)) → valueAt (r .value) ≡ Val.ExternallyDefined
+  unknown : (name : Interned) → Labelled r name File.None → typeAt (r .kind) ≡ Ty.NoType → visibilityAt (r .visibility) ≡ Global false false → valueAt (r .value) ≡ Val.Undefined false → FromAdd gabi conversion empty r (Up.GlobalUnknown name)
+  hidden : (name : Interned) (value : SymbolValue) → Labelled r name File.None → typeAt (r .kind) ≡ Ty.NoType → visibilityAt (r .visibility) ≡ Global false true → (Fitting value → valueAt (r .value) ≡ value) → isUndefined (valueAt (r .value)) ≡ isUndefined value → FromAdd gabi conversion empty r (Up.GlobalHidden name value)
+  external : (name : Interned) (visibility binding : ℕ) → Admitted (symbolOf binding 0 visibility shnAbs 0) → Labelled r name File.None → typeAt (r .kind) ≡ Ty.NoType → visibilityAt (r .visibility) ≡ shows (sharedEntry gabi (symbolOf binding 0 visibility shnAbs 0)) → valueAt (r .value) ≡ Val.ExternallyDefined
       → FromAdd gabi conversion empty r (Up.ExternallyDefined name visibility binding)
-  elf : (e : ElfSymbol) (name : Interned) (file : SttFile) → Admitted (symbolOf (e .binding) (e .kind) (e .visibility) (e .section) (e .value)) → r .name ≡ name → IsType (e .kind) (typeAt (r .kind)) → visibilityAt (r .visibility) ≡ Global (eqb (e .binding) stbWeak) (eqb (e .visibility) stvHidden) → ElfValue conversion empty e (valueAt (r .value))
+  elf : (e : ElfSymbol) (name : Interned) (file : SttFile) → Admitted (symbolOf (e .binding) (e .kind) (e .visibility) (e .section) (e .value)) → Labelled r name file → IsType (e .kind) (typeAt (r .kind)) → visibilityAt (r .visibility) ≡ Global (eqb (e .binding) stbWeak) (eqb (e .visibility) stvHidden) → ElfValue conversion empty e (valueAt (r .value))
       → FromAdd gabi conversion empty r (Up.Elf e name file)
 
 -- ---- laws
@@ -104,6 +115,18 @@ undefined-back Val.SectionNotLoaded = refl
 undefined-back Val.ExternallyDefined = refl
 undefined-back (Val.Undefined true) = refl
 undefined-back (Val.Undefined false) = refl
+
+pub file-back : (file : SttFile) → FileFits file → fileAt (fileCell file) ≡ file
+unfolding fileAt successor
+file-back File.None h = refl
+file-back (File.Name id) h =
+    let p : id .0 + 1 ≢ 0 = λ z. omega arith in
+    let q : id .0 + 1 - 1 ≡ id .0 = omega arith in
+    rw (lt-ltb (id .0) 0xffffffffffffffff h, ne-eqb (id .0 + 1) 0 p, q)
+
+no-file : (r : Row) (name : Interned) → r .name ≡ name → r .file ≡ 0 → Labelled r name File.None
+unfolding fileAt
+no-file r name e z = record { named = e; filed = λ h. rw z }
 
 committed-passes : (t : Table) (r : Row) (d : Decision) → numberIn (committedOf t r File.None d .said) ≡ 0 → refusalOf d ≡ 0
 unfolding committedOf
@@ -168,11 +191,11 @@ module _ (t : Table) (gabi : Bool) (conversion : List ℕ) (empty : Bool) where
   unfolding externalRowOf elfRowOf typeAt valueAt visibilityAt
   from-add Up.Null z g = absurd (g refl)
   from-add (Up.Section s) z g = absurd (g refl)
-  from-add (Up.GlobalUnknown name) z g = unknown name refl refl refl refl
-  from-add (Up.GlobalHidden name value) z g = hidden name value refl refl refl (value-back value) (undefined-back value)
+  from-add (Up.GlobalUnknown name) z g = unknown name (no-file _ name refl refl) refl refl refl
+  from-add (Up.GlobalHidden name value) z g = hidden name value (no-file _ name refl refl) refl refl (value-back value) (undefined-back value)
   from-add (Up.ExternallyDefined name visibility binding) z g =
       let (p, q) = shared-is gabi (symbolOf binding 0 visibility shnAbs 0) g (row-passes t _ z .0) in
-      external name visibility binding p refl refl q refl
+      external name visibility binding p (no-file _ name refl refl) refl q refl
   from-add (Up.Elf e name file) z g =
       let (p, q) = row-passes t (rowOf gabi conversion (Up.Elf e name file) empty) z in
-      elf e name file (admitted-is (symbolOf (e .binding) (e .kind) (e .visibility) (e .section) (e .value)) g p) refl (type-is (e .kind)) (shown-is (e .binding) (e .visibility) g p) (elf-value conversion empty e q)
+      elf e name file (admitted-is (symbolOf (e .binding) (e .kind) (e .visibility) (e .section) (e .value)) g p) (record { named = refl; filed = file-back file }) (type-is (e .kind)) (shown-is (e .binding) (e .visibility) g p) (elf-value conversion empty e q)
