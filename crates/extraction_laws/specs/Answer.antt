@@ -32,7 +32,7 @@ use Rattle.object_requirement.specs.Matches.{admission, offeredIn, matchesOf, h
 use Rattle.extraction_laws.specs.Some.{some-same}
 use Rattle.extraction_laws.specs.Member.{admitting, memberOf, object-admits}
 use Rattle.extraction_laws.specs.MemberWords.{symbolsOf, member-is}
-use Rattle.extraction_laws.specs.Taken.{lists, takenIn, taken, taken-either, either-taken, taken-same, extracts-is, gabi-extracts}
+use Rattle.extraction_laws.specs.Taken.{lists, takenIn, taken, taken-either, taken-same, extracts-is, gabi-extracts}
 use Rattle.extraction_laws.specs.Chosen as Chosen
 
 -- the two answers
@@ -218,7 +218,7 @@ module _ (key : ℕ) (s l : List ℕ) (start : begunNumber (startOf key s l .sta
       by-gabi wanted weakly either =
           answer-old ∙ taken-either member (λ x. Strings.among x wanted) weakly (undefinedName t) either ∙ sym (admitted-is member wanted weakly)
 
-    -- the gABI's: a definition, global or weak, of a name that is undefined and strong at the pass; late: wanted names that the table has as weak
+    -- the gABI's: a definition, global or weak, of a name that is undefined and strong at the pass
     module _ (gabi : t .link .gabi ≡ true) (asks : link .gabi ≡ true) where
       abbrev strongly : List ℕ → Bool
       strongly x = undefinedName t x && strongName t x
@@ -228,10 +228,3 @@ module _ (key : ℕ) (s l : List ℕ) (start : begunNumber (startOf key s l .sta
 
       pub exactly-gabi : (wanted : List (List ℕ)) → ((x : List ℕ) → lists member x ≡ true → strongly x ≡ Strings.among x wanted) → answer ≡ extracts member wanted
       exactly-gabi wanted agree = answer-gabi ∙ gabi-extracts member strongly wanted agree
-
-      pub late-references : (wanted : List (List ℕ)) (late : List ℕ → Bool) → ((x : List ℕ) → lists member x ≡ true → Strings.among x wanted ≡ strongly x || late x)
-          → answer || takenIn true late member ≡ extracts member wanted
-      late-references wanted late either =
-          ap (λ (b : Bool). b || takenIn true late member) answer-gabi
-          ∙ sym (either-taken member true strongly late (λ x. Strings.among x wanted) either)
-          ∙ gabi-extracts member (λ x. Strings.among x wanted) wanted (λ x h. refl)

@@ -165,23 +165,23 @@ module _ (member : List Named) where
 
   -- ---- weak references pull members: what is taken for names referred to strongly or weakly is taken for the ones or for the others
 
-  module _ (gabi : Bool) (f g h : List ℕ → Bool) (either : (x : List ℕ) → lists member x ≡ true → h x ≡ f x || g x) where
+  module _ (f g h : List ℕ → Bool) (either : (x : List ℕ) → lists member x ≡ true → h x ≡ f x || g x) where
     abbrev takes : (List ℕ → Bool) → Named → Bool
-    takes u e = admitting gabi (e .symbol) && (u (e .name) && lists member (e .name))
+    takes u e = isGlobal (e .symbol) && (u (e .name) && lists member (e .name))
 
     takes-in : (u : List ℕ → Bool) (e : Named) → In e member → takes h e ≡ true → u (e .name) ≡ true → some (takes u) member ≡ true
     takes-in u e i q p =
         some-in (takes u) member e i
-        (and-in (admitting gabi (e .symbol)) (u (e .name) && lists member (e .name)) (and-left (admitting gabi (e .symbol)) (h (e .name) && lists member (e .name)) q)
+        (and-in (isGlobal (e .symbol)) (u (e .name) && lists member (e .name)) (and-left (isGlobal (e .symbol)) (h (e .name) && lists member (e .name)) q)
         (and-in (u (e .name)) (lists member (e .name)) p
-        (and-right (h (e .name)) (lists member (e .name)) (and-right (admitting gabi (e .symbol)) (h (e .name) && lists member (e .name)) q))))
+        (and-right (h (e .name)) (lists member (e .name)) (and-right (isGlobal (e .symbol)) (h (e .name) && lists member (e .name)) q))))
 
     apart : some (takes h) member ≡ true → some (takes f) member || some (takes g) member ≡ true
     apart p = go (some-out (takes h) member p)
       where
         go : ((e : Named) × In e member × (takes h e ≡ true)) → some (takes f) member || some (takes g) member ≡ true
         go (e, i, q) =
-            let rest = and-right (admitting gabi (e .symbol)) (h (e .name) && lists member (e .name)) q in
+            let rest = and-right (isGlobal (e .symbol)) (h (e .name) && lists member (e .name)) q in
             or-out (f (e .name)) (g (e .name))
             (sym (either (e .name) (and-right (h (e .name)) (lists member (e .name)) rest)) ∙ and-left (h (e .name)) (lists member (e .name)) rest)
             (λ a. or-left (some (takes f) member) (some (takes g) member) (takes-in f e i q a))
@@ -192,18 +192,15 @@ module _ (member : List Named) where
       where
         go : ((e : Named) × In e member × (takes u e ≡ true)) → some (takes h) member ≡ true
         go (e, i, q) =
-            let rest = and-right (admitting gabi (e .symbol)) (u (e .name) && lists member (e .name)) q in
+            let rest = and-right (isGlobal (e .symbol)) (u (e .name) && lists member (e .name)) q in
             some-in (takes h) member e i
-            (and-in (admitting gabi (e .symbol)) (h (e .name) && lists member (e .name)) (and-left (admitting gabi (e .symbol)) (u (e .name) && lists member (e .name)) q)
+            (and-in (isGlobal (e .symbol)) (h (e .name) && lists member (e .name)) (and-left (isGlobal (e .symbol)) (u (e .name) && lists member (e .name)) q)
             (and-in (h (e .name)) (lists member (e .name)) (w (e .name) (and-right (u (e .name)) (lists member (e .name)) rest) (and-left (u (e .name)) (lists member (e .name)) rest)) (and-right (u (e .name)) (lists member (e .name)) rest)))
 
-    pub either-taken : takenIn gabi h member ≡ takenIn gabi f member || takenIn gabi g member
-    either-taken =
+    pub taken-either : taken h member ≡ taken f member || taken g member
+    taken-either =
         both-ways (some (takes h) member) (some (takes f) member || some (takes g) member) apart
         (λ p. or-out (some (takes f) member) (some (takes g) member) p (together f (λ x l a. either x l ∙ or-left (f x) (g x) a)) (together g (λ x l a. either x l ∙ or-right (f x) (g x) a)))
-
-  pub taken-either : (f g h : List ℕ → Bool) → ((x : List ℕ) → lists member x ≡ true → h x ≡ f x || g x) → taken h member ≡ taken f member || taken g member
-  taken-either = either-taken false
 
 -- ---- the wanted names as a list: those that the member bears
 

@@ -19,7 +19,7 @@ use Rattle.archive_laws.specs.Walked.{inIndex, queueIn, Pass}
 use Rattle.archive_laws.specs.WalkLaws.{walked}
 use Rattle.object_requirement.specs.Matches.{hasGlobalSymbol}
 use Rattle.extraction_laws.specs.Member.{memberOf}
-use Rattle.extraction_laws.specs.Taken.{lists, takenIn, taken, weakOffers, taken-either, either-taken, extracts-is, takes-as-gabi, gabi-extracts, taken-same}
+use Rattle.extraction_laws.specs.Taken.{lists, takenIn, taken, weakOffers, taken-either, extracts-is, takes-as-gabi, gabi-extracts, taken-same}
 use Rattle.extraction_laws.specs.Chosen as Chosen
 
 or-swap : (a b c : Bool) → (a || b) || c ≡ (a || c) || b
@@ -99,11 +99,3 @@ module _ (key : ℕ) (s l : List ℕ) (start : begunNumber (startOf key s l .sta
       -- where just the gABI's wanted names are undefined and strong it is what the gABI extracts: neither known place is met
       pub exactly-gabi : (wanted : List (List ℕ)) → ((x : List ℕ) → lists member x ≡ true → strongly x ≡ Strings.among x wanted) → chosenIn true ≡ extracts member wanted
       exactly-gabi wanted agree = chosen-strongly ∙ gabi-extracts member strongly wanted agree
-
-      -- where some wanted names are not strong in the table, the gABI extracts beside it what is taken for those
-      pub late-references : (wanted : List (List ℕ)) (late : List ℕ → Bool) → ((x : List ℕ) → lists member x ≡ true → Strings.among x wanted ≡ strongly x || late x)
-          → chosenIn true || takenIn true late member ≡ extracts member wanted
-      late-references wanted late either =
-          ap (λ (b : Bool). b || takenIn true late member) chosen-strongly
-          ∙ sym (either-taken member true strongly late (λ x. Strings.among x wanted) either)
-          ∙ gabi-extracts member (λ x. Strings.among x wanted) wanted (λ x h. refl)

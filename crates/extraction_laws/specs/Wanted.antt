@@ -3,7 +3,7 @@
 use Prim.Native.Nat.{ℕ, _<_}
 use native.Mathlib.Omega.{arith}
 use mathlib.Core.Path.{_≡_, refl, sym, _∙_}
-use mathlib.Core.Bool.{Bool, true, false, not, _||_}
+use mathlib.Core.Bool.{Bool, true, false, not, _&&_, _||_, false≢true}
 use mathlib.Core.List.{List, [], _∷_}
 use lib.Dec.{eqb, leb}
 use borrow.Author.Tests.{lt-leb, ne-eqb, leb-false}
@@ -16,6 +16,7 @@ use Rattle.interner.specs.Names.{findOf}
 use Rattle.symbol.specs.declared.Row.{Row}
 use Rattle.symbol_rows.specs.Holder.{globalAt, heldBy, holderOf}
 use Rattle.symbols.specs.New.{newOf}
+use Rattle.symbol_laws.specs.Rank.{weak}
 use Rattle.symbol_laws.specs.Rows.{rowAt}
 use Rattle.symbol_laws.specs.History.{State, Entry, rows, Call, RemovesNothing}
 use Rattle.symbol_laws.specs.Demand.{Resolved}
@@ -34,25 +35,49 @@ isZeroValue zeroValue = true
 unfoldable pub weakOnly : List Sym → Bool
 weakOnly l = isZeroValue (resolve l)
 
+refers : (b w : Bool) → not (not b) && w ≡ true → b ≡ true
+refers true w q = refl
+refers false w q = q
+
 -- what agrees with the gABI's resolution is undefined just there
-pub row-undefined : (gabi : Bool) (c : Row) (cs : List Row) (g : Sym) (row : Row) (v : Resolution) → Agrees gabi c cs g row v → eqb (row .value .kind) 7 ≡ isUnresolved v || isZeroValue v
+pub row-undefined : (gabi : Bool) (c : Row) (cs : List Row) (g : Sym) (gs : List Sym) (row : Row) (v : Resolution) → Agrees gabi c cs g gs row v
+    → eqb (row .value .kind) 7 ≡ isUnresolved v || isZeroValue v
 unfolding isUnresolved
-row-undefined gabi c cs g row (defined k) a = back (eqb (row .value .kind) 7) (a .1)
+row-undefined gabi c cs g gs row (defined k) a = defined-not (eqb (row .value .kind) 7) (a .1)
   where
-    back : (b : Bool) → not b ≡ true → b ≡ false
-    back true q = sym q
-    back false q = refl
-row-undefined gabi c cs g row duplicate a = absurd a
-row-undefined gabi c cs g row unresolved a = back (eqb (row .value .kind) 7) (a .1)
+    defined-not : (b : Bool) → not b ≡ true → b ≡ false
+    defined-not true q = sym q
+    defined-not false q = refl
+row-undefined gabi c cs g gs row duplicate a = absurd a
+row-undefined false c cs g gs row unresolved a = undefined-is (eqb (row .value .kind) 7) (a .1)
   where
-    back : (b : Bool) → not b ≡ false → b ≡ true
-    back true q = refl
-    back false q = sym q
-row-undefined gabi c cs g row zeroValue a = back (eqb (row .value .kind) 7) (a .1)
+    undefined-is : (b : Bool) → not b ≡ false → b ≡ true
+    undefined-is true q = refl
+    undefined-is false q = sym q
+row-undefined true c cs g gs row unresolved a = refers (eqb (row .value .kind) 7) _ (a .1)
+row-undefined gabi c cs g gs row zeroValue a = refers (eqb (row .value .kind) 7) _ (a .1)
+
+-- and in the gABI profile undefined and strong just where the name is unresolved
+pub row-strong : (c : Row) (cs : List Row) (g : Sym) (gs : List Sym) (row : Row) (v : Resolution) → Agrees true c cs g gs row v
+    → eqb (row .value .kind) 7 && not (weak row) ≡ isUnresolved v
+unfolding isUnresolved
+row-strong c cs g gs row (defined k) a = defined-not (eqb (row .value .kind) 7) (not (weak row)) (a .1)
   where
-    back : (b : Bool) → not b ≡ false → b ≡ true
-    back true q = refl
-    back false q = sym q
+    defined-not : (b w : Bool) → not b ≡ true → b && w ≡ false
+    defined-not true w q = absurd (false≢true q)
+    defined-not false w q = refl
+row-strong c cs g gs row duplicate a = absurd a
+row-strong c cs g gs row unresolved a = refers-so (eqb (row .value .kind) 7) (weak row) (a .1)
+  where
+    refers-so : (b w : Bool) → not (not b) && not w ≡ true → b && not w ≡ true
+    refers-so true w q = q
+    refers-so false w q = q
+row-strong c cs g gs row zeroValue a = weak-not (eqb (row .value .kind) 7) (weak row) (a .1)
+  where
+    weak-not : (b w : Bool) → not (not b) && w ≡ true → b && not w ≡ false
+    weak-not true true q = refl
+    weak-not true false q = absurd (false≢true q)
+    weak-not false w q = refl
 
 -- the link and the rows that a pass is lent
 abbrev pub lentTable : State → Table
@@ -86,7 +111,7 @@ module _ (key : ℕ) (gabi : Bool) (bytes names symbols sections : List ℕ) (ne
   unfolding wants weakOnly
   undefined-wanted y ys e g gs m =
       undefined-held end x gabi y ys (Terms.demand-3a key gabi bytes names symbols sections new ks quiet (idOf end x) y ys e)
-      ∙ row-undefined gabi (y .row) (rows ys) g (rowAt (end .symbols) (y .id)) (resolve (g ∷ gs))
+      ∙ row-undefined gabi (y .row) (rows ys) g gs (rowAt (end .symbols) (y .id)) (resolve (g ∷ gs))
       (Terms.gabi-agrees-any key gabi bytes names symbols sections new ks quiet (idOf end x) y ys e g gs m)
 
   -- a name under which nothing was accepted isn't

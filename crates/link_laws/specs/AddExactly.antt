@@ -34,7 +34,7 @@ use Rattle.symbol_rows.specs.declared.Holder.the-variants.{Unissued, Nobody, Re
 use Rattle.symbol_rows.specs.declared.Decision.{Decision}
 use Rattle.symbol_rows.specs.declared.Decision.the-variants.{Refuse, Keep, Append, Replace}
 use Rattle.symbol_rows.specs.Holder.{holderOf}
-use Rattle.symbol_rows.specs.Decide.{weakOf, rankOf, typeRefusal, sectionCell, sectionRoom, roomOf, newOf, replaceOf, rankedOf, knownOf, namedOf, localOf, decideOf, refusalOf}
+use Rattle.symbol_rows.specs.Decide.{weakOf, referenceRank, rankOf, typeRefusal, sectionCell, sectionRoom, roomOf, newOf, replaceOf, rankedOf, knownOf, namedOf, localOf, decideOf, refusalOf}
 use Rattle.symbols.specs.Add.{judgeAddOf, fileOf, fileIssued, issuedOf, directHolderOf, unissuedFile, placeOf, decidedOf, committedOf, emptyAt, addRowOf, lent, addOf}
 use Rattle.symbol_laws.specs.Standing.{library-number, library-refused, library-local, library-weak}
 use Rattle.symbol_laws.specs.Duplicate.{kept-number}
@@ -218,23 +218,49 @@ weak-is : (v : ℕ) → weakOf v ≡ eqb v 3 || eqb v 4
 unfolding weakOf
 weak-is v = by-test (eqb v 3) (λ e. rw e) (λ e. rw e (by-test (eqb v 4) (λ f. rw f) (λ f. rw f)))
 
--- ranks: undefined 0, weak 2, strong 4
-ranks : (ru rk un wk : Bool) → ltb (cond ru 0 (cond rk 2 4)) (cond un 0 (cond wk 2 4)) ≡ not un && (ru || rk && not wk)
-ranks ru rk true wk = none (cond ru 0 (cond rk 2 4))
-  where
-    none : (n : ℕ) → ltb n 0 ≡ false
-    none n = le-ltb n 0 (omega arith)
-ranks true rk false true = refl
-ranks true rk false false = refl
-ranks false true false true = refl
-ranks false true false false = refl
-ranks false false false true = refl
-ranks false false false false = refl
+-- ranks: undefined 0, in the gABI profile a strong reference 1; a weak definition 2, a strong one 4
+ranks : (gabi ru rk un wk : Bool)
+    → ltb (cond ru (cond gabi (cond rk 0 1) 0) (cond rk 2 4)) (cond un (cond gabi (cond wk 0 1) 0) (cond wk 2 4))
+    ≡ not un && (ru || rk && not wk) || gabi && un && not wk && ru && rk
+ranks true true true true true = refl
+ranks true true true true false = refl
+ranks true true true false true = refl
+ranks true true true false false = refl
+ranks true true false true true = refl
+ranks true true false true false = refl
+ranks true true false false true = refl
+ranks true true false false false = refl
+ranks true false true true true = refl
+ranks true false true true false = refl
+ranks true false true false true = refl
+ranks true false true false false = refl
+ranks true false false true true = refl
+ranks true false false true false = refl
+ranks true false false false true = refl
+ranks true false false false false = refl
+ranks false true true true true = refl
+ranks false true true true false = refl
+ranks false true true false true = refl
+ranks false true true false false = refl
+ranks false true false true true = refl
+ranks false true false true false = refl
+ranks false true false false true = refl
+ranks false true false false false = refl
+ranks false false true true true = refl
+ranks false false true true false = refl
+ranks false false true false true = refl
+ranks false false true false false = refl
+ranks false false false true true = refl
+ranks false false false true false = refl
+ranks false false false false true = refl
+ranks false false false false false = refl
 
-strongest : (un wk : Bool) → eqb (cond un 0 (cond wk 2 4)) 4 ≡ not un && not wk
-strongest true wk = refl
-strongest false true = refl
-strongest false false = refl
+strongest : (gabi un wk : Bool) → eqb (cond un (cond gabi (cond wk 0 1) 0) (cond wk 2 4)) 4 ≡ not un && not wk
+strongest true true true = refl
+strongest true true false = refl
+strongest false true wk = refl
+strongest gabi false true = refl
+strongest gabi false false = refl
 
 pub least-below : (a b c : ℕ) → ltb c (lesser a b) ≡ ltb c a && ltb c b
 unfolding lesser
@@ -395,7 +421,7 @@ module _ (t : State) (r : Row) (a : Asked) (st : Stands r a) where
 
         known-number : isFresh t a ≡ false
             → refusalOf (decided held) ≡ cond (replaces t a) (typeRefusal (a .kind)) (cond (not (isUndefined (a .value)) && not (eqb (a .binding) 2)) 17 0)
-        unfolding knownOf rankedOf replaceOf rankOf
+        unfolding knownOf rankedOf replaceOf rankOf referenceRank
         known-number e =
             rw (
               decided-known e,
@@ -404,8 +430,8 @@ module _ (t : State) (r : Row) (a : Asked) (st : Stands r a) where
               v .undefined-value kept,
               weak,
               weak-is (getD (t .symbols) (row * 8 + 4) 0),
-              ranks (isUndefinedRow t row) (isWeakRow t row) (isUndefined (a .value)) (eqb (a .binding) 2),
-              strongest (isUndefined (a .value)) (eqb (a .binding) 2),
+              ranks (t .link .gabi) (isUndefinedRow t row) (isWeakRow t row) (isUndefined (a .value)) (eqb (a .binding) 2),
+              strongest (t .link .gabi) (isUndefined (a .value)) (eqb (a .binding) 2),
             )
             (known-tree (record { 0 = row }) (replaces t a) (not (isUndefined (a .value)) && not (eqb (a .binding) 2)) (typeRefusal (a .kind)) _
             (kept-number (t .link .gabi) (getD (t .symbols) (row * 8 + 4) 0) (r .visibility) (record { 0 = row })))

@@ -55,8 +55,8 @@ module _ (In : ℕ → Type 0) (in0 : In 0) (in2 : In 2) (in17 : In 17) (in21 : 
     known-numbers : (id : SymbolId) → Decided (knownOf (l .gabi) symbols r id)
     unfolding knownOf rankedOf replaceOf
     known-numbers id =
-        let old : ℕ = rankOf (visibilityCodeAt symbols (id .0)) (field symbols (id .0) 5) in
-        let new : ℕ = rankOf (r .visibility) (r .value .kind) in
+        let old : ℕ = rankOf (l .gabi) (visibilityCodeAt symbols (id .0)) (field symbols (id .0) 5) in
+        let new : ℕ = rankOf (l .gabi) (r .visibility) (r .value .kind) in
         pick Decided (leb 13 (r .value .kind)) _ _ (λ t. f .valued t)
         (λ t.
         pick Decided (ltb old new) _ _ (λ t. pick Decided (eqb (typeRefusal (r .kind)) 0) _ _ (λ t. in0) (λ t. f .typed))

@@ -16,10 +16,11 @@ use Rattle.archive_laws.specs.Walked.{inIndex, queueIn}
 use Rattle.elf_object.specs.Judge.{judgeOf}
 use Rattle.object_requirement.specs.declared.Admission.{Admission}
 use Rattle.object_requirement.specs.declared.Admission.the-variants.{Yes}
-use Rattle.symbol_laws.specs.History.{Entry, only}
+use Rattle.symbol_laws.specs.Rank.{firstOf}
+use Rattle.symbol_laws.specs.History.{Entry, only, rows}
 use Rattle.symbol_laws.specs.Held.{Inv}
 use Rattle.merge_laws.specs.Calls.{Linked}
-use Rattle.extraction_laws.specs.Taken.{lists, takenIn, wantedNames, wanted-names}
+use Rattle.extraction_laws.specs.Taken.{lists, wantedNames, wanted-names}
 use Rattle.extraction_laws.specs.MemberWords.{symbolsOf}
 use Rattle.extraction_laws.specs.Answer as Answer
 use Rattle.extraction_laws.specs.Answer.{says, admitted}
@@ -27,7 +28,7 @@ use Rattle.link_laws.specs.Calls.{matches, viewIn, callLeft}
 use Rattle.link_laws.specs.Walks.{nextIn, next-is}
 use Rattle.link_laws.specs.Undefined.{undefined-is}
 use Rattle.link_laws.specs.Ties.{OfName}
-use Rattle.link_laws.specs.Extraction.{wantedIn, weaklyIn, lateIn, strictIn, strictly, wanted-split}
+use Rattle.link_laws.specs.Extraction.{wantedIn, weaklyIn, strongly-wanted}
 
 -- what `matches` answers about entry e of a run, for an object; of the link its profile counts
 abbrev pub answerIn : List ℕ → List ℕ → List ℕ → List ℕ → List ℕ → Run → ℕ → Linked → Admission
@@ -89,31 +90,20 @@ module _ (s : Linked) (past : List Entry) (inv : Inv (s .table) past) (key : ℕ
         matches-later q us = answer-later on q us ∙ ap says by-gabi
 
       -- the gABI's profile
-      module _ (gabi : s .table .link .gabi ≡ true) (named : (n : ℕ) (x : Entry) (xs : List Entry) → only n past ≡ x ∷ xs → OfName (x .row)) (on : Linked)
-          (asks : on .table .link .gabi ≡ true) where
-        pub answered-gabi : answer on || takenIn true (lateIn s past inv) member ≡ extracts member wanted
-        answered-gabi =
-            Answer.late-references key index cells begun ts (viewIn (s .table)) passed e low new headers entries contents file ranged listed (on .table .link) gabi asks wanted
-            (lateIn s past inv) (λ x l. same x l ∙ wanted-split s past inv gabi named x)
+      module _ (gabi : s .table .link .gabi ≡ true) (named : (n : ℕ) (x : Entry) (xs : List Entry) → only n past ≡ x ∷ xs → OfName (firstOf true (x .row) (rows xs)))
+          (on : Linked) (asks : on .table .link .gabi ≡ true) where
+        exactly : answer on ≡ extracts member wanted
+        exactly =
+            Answer.exactly-gabi key index cells begun ts (viewIn (s .table)) passed e low new headers entries contents file ranged listed (on .table .link) gabi asks wanted
+            (λ x l. strongly-wanted s past inv gabi named x ∙ sym (same x l))
 
-    -- the gABI's profile, exactly: what the gABI extracts for those of its wanted names that tie
-    module _ (names : List (List ℕ)) (same : (x : List ℕ) → lists member x ≡ true → Strings.among x names ≡ strictIn s past inv x) (gabi : s .table .link .gabi ≡ true)
-        (named : (n : ℕ) (x : Entry) (xs : List Entry) → only n past ≡ x ∷ xs → OfName (x .row)) (on : Linked) (asks : on .table .link .gabi ≡ true) where
-      exactly : answer on ≡ extracts member names
-      exactly =
-          Answer.exactly-gabi key index cells begun ts (viewIn (s .table)) passed e low new headers entries contents file ranged listed (on .table .link) gabi asks names
-          (λ x l. strictly s past inv gabi named x ∙ sym (same x l))
+        pub matches-gabi : answerIn headers entries contents file index after e on ≡ says (extracts member wanted)
+        matches-gabi = answer-now on ∙ ap says exactly
 
-      pub matches-gabi : answerIn headers entries contents file index after e on ≡ says (extracts member names)
-      matches-gabi = answer-now on ∙ ap says exactly
-
-      pub matches-gabi-later : among index e (queueIn after) ≡ true → (us : List Table)
-          → answerIn headers entries contents file index (history index us after) e on ≡ says (extracts member names)
-      matches-gabi-later q us = answer-later on q us ∙ ap says exactly
+        pub matches-gabi-later : among index e (queueIn after) ≡ true → (us : List Table)
+            → answerIn headers entries contents file index (history index us after) e on ≡ says (extracts member wanted)
+        matches-gabi-later q us = answer-later on q us ∙ ap says exactly
 
     -- the wanted names that the member bears are such a list
     pub own-names : (x : List ℕ) → lists member x ≡ true → Strings.among x (wantedNames (wantedIn s past inv) member) ≡ wantedIn s past inv x
     own-names = wanted-names (wantedIn s past inv) member
-
-    pub strict-names : (x : List ℕ) → lists member x ≡ true → Strings.among x (wantedNames (strictIn s past inv) member) ≡ strictIn s past inv x
-    strict-names = wanted-names (strictIn s past inv) member

@@ -124,7 +124,7 @@ calls-logged (k ∷ ks) s met m =
 
 -- the content of a name is that of one of its accepted adds
 pub held-from : (ks : List Call) (s : Linked) (met : List (List ℕ)) → Marked (s .table) met → Inv (runCalls ks s .table) (logCalls ks s)
-    → (n : ℕ) (x : Entry) (xs : List Entry) → only n (logCalls ks s) ≡ x ∷ xs → FromCalls (firstOf (x .row) (rows xs)) ks s met
+    → (n : ℕ) (x : Entry) (xs : List Entry) → only n (logCalls ks s) ≡ x ∷ xs → FromCalls (firstOf (runCalls ks s .table .link .gabi) (x .row) (rows xs)) ks s met
 held-from ks s met m inv n x xs e =
     let h = resolved (runCalls ks s .table) (logCalls ks s) inv n x xs e .content in
     let all : Rank.All (λ r. FromCalls r ks s met) (rows (x ∷ xs)) = subst (λ (l : List Entry). Rank.All (λ r. FromCalls r ks s met) (rows l)) e (all-only (λ r. FromCalls r ks s met) n (logCalls ks s) (calls-logged ks s met m)) in

@@ -1,8 +1,8 @@
 -- What a walk over a link chooses of an archive, and what the gABI extracts.
 -- Assumes nothing.
 use Prim.Native.Nat.{ℕ, _+_, _<_}
-use mathlib.Core.Path.{_≡_, refl, sym, ap, _∙_, subst}
-use mathlib.Core.Bool.{Bool, true, false, not, _&&_, _||_}
+use mathlib.Core.Path.{_≡_, sym, ap, _∙_, subst}
+use mathlib.Core.Bool.{Bool, true, false, _&&_, _||_}
 use mathlib.Core.List.{List, _∷_}
 use Rattle.gabi.specs.StringTable as Strings
 use Rattle.gabi.specs.Archive.{Named, wants, extracts}
@@ -15,17 +15,18 @@ use Rattle.archive_laws.specs.Rounds.{among}
 use Rattle.archive_laws.specs.Runs.{Run, stepRun, history, startRun}
 use Rattle.archive_laws.specs.Walked.{inIndex, queueIn}
 use Rattle.object_requirement.specs.Matches.{hasGlobalSymbol}
-use Rattle.symbol_laws.specs.History.{Entry, only}
+use Rattle.symbol_laws.specs.Rank.{firstOf}
+use Rattle.symbol_laws.specs.History.{Entry, only, rows}
 use Rattle.symbol_laws.specs.Held.{Inv}
 use Rattle.merge_laws.specs.Calls.{Linked}
 use Rattle.extraction_laws.specs.Some.{or-none}
 use Rattle.extraction_laws.specs.Member.{memberOf}
-use Rattle.extraction_laws.specs.Taken.{lists, takenIn, taken, weakOffers, wantedNames, wanted-names}
+use Rattle.extraction_laws.specs.Taken.{lists, taken, weakOffers, wantedNames, wanted-names}
 use Rattle.extraction_laws.specs.Terms as Extraction
 use Rattle.link_laws.specs.Calls.{viewIn}
 use Rattle.link_laws.specs.Walks.{nextIn, next-is}
 use Rattle.link_laws.specs.Undefined.{symbolsUnder, weakReferences, undefined-is}
-use Rattle.link_laws.specs.Ties.{weakFirst, OfName, ties-is}
+use Rattle.link_laws.specs.Ties.{OfName, ties-is}
 
 -- the pass queues the member of entry e, and admission over its required names says yes to the object, in that profile
 abbrev pub chosenIn : Bool → List ℕ → Run → ℕ → List ℕ → List ℕ → List ℕ → Bool
@@ -40,29 +41,10 @@ module _ (s : Linked) (past : List Entry) (inv : Inv (s .table) past) where
   abbrev pub weaklyIn : List ℕ → Bool
   weaklyIn x = weakReferences (symbolsUnder (s .table) past x)
 
-  -- and what of it ties no member in the gABI's profile, since its first reference is weak
-  abbrev pub lateIn : List ℕ → Bool
-  lateIn x = wantedIn x && weakFirst (symbolsUnder (s .table) past x)
-
-  -- what of it ties
-  abbrev pub strictIn : List ℕ → Bool
-  strictIn x = wantedIn x && not (weakFirst (symbolsUnder (s .table) past x))
-
-  pub strictly : s .table .link .gabi ≡ true → ((n : ℕ) (x : Entry) (xs : List Entry) → only n past ≡ x ∷ xs → OfName (x .row)) → (x : List ℕ)
-      → undefinedName (viewIn (s .table)) x && strongName (viewIn (s .table)) x ≡ strictIn x
-  strictly gabi named x = sym (tied-gabi (viewIn (s .table)) x gabi) ∙ ties-is (s .table) past inv gabi x (named _)
-
-  -- wanted: undefined and strong, or late
-  pub wanted-split : s .table .link .gabi ≡ true → ((n : ℕ) (x : Entry) (xs : List Entry) → only n past ≡ x ∷ xs → OfName (x .row)) → (x : List ℕ)
-      → wantedIn x ≡ (undefinedName (viewIn (s .table)) x && strongName (viewIn (s .table)) x) || lateIn x
-  wanted-split gabi named x =
-      split (wantedIn x) (weakFirst (symbolsUnder (s .table) past x))
-      ∙ ap (λ (b : Bool). b || lateIn x) (sym (strictly gabi named x))
-    where
-      split : (w f : Bool) → w ≡ (w && not f) || (w && f)
-      split true true = refl
-      split true false = refl
-      split false f = refl
+  -- the names that tie in the gABI's profile
+  pub strongly-wanted : s .table .link .gabi ≡ true → ((n : ℕ) (x : Entry) (xs : List Entry) → only n past ≡ x ∷ xs → OfName (firstOf true (x .row) (rows xs))) → (x : List ℕ)
+      → undefinedName (viewIn (s .table)) x && strongName (viewIn (s .table)) x ≡ wantedIn x
+  strongly-wanted gabi named x = sym (tied-gabi (viewIn (s .table)) x gabi) ∙ ties-is (s .table) past inv gabi x (named _)
 
   module _ (key : ℕ) (index cells : List ℕ) (begun : begunNumber (startOf key index cells .started .begun) ≡ 0) (ts : List Table) where
     abbrev pub before : Run
@@ -95,18 +77,13 @@ module _ (s : Linked) (past : List Entry) (inv : Inv (s .table) past) where
             ∙ differences wanted same ∙ or-none (extracts member wanted) (taken weaklyIn member) r
 
       -- the gABI's profile
-      module _ (gabi : s .table .link .gabi ≡ true) (named : (n : ℕ) (x : Entry) (xs : List Entry) → only n past ≡ x ∷ xs → OfName (x .row)) where
-        pub differences-gabi : (wanted : List (List ℕ)) → ((x : List ℕ) → lists member x ≡ true → Strings.among x wanted ≡ wantedIn x)
-            → chosenIn true index after e headers entries file || takenIn true lateIn member ≡ extracts member wanted
-        differences-gabi wanted same =
-            ap (λ (r : Run). chosenIn true index r e headers entries file || takenIn true lateIn member) (next-is index before s)
-            ∙ Extraction.late-references key index cells begun ts (viewIn (s .table)) passed e low new headers entries file listed gabi wanted lateIn
-            (λ x l. same x l ∙ wanted-split gabi named x)
-
-        pub agrees-gabi : (wanted : List (List ℕ)) → ((x : List ℕ) → lists member x ≡ true → Strings.among x wanted ≡ wantedIn x)
-            → takenIn true lateIn member ≡ false → chosenIn true index after e headers entries file ≡ extracts member wanted
-        agrees-gabi wanted same d =
-            sym (or-none (chosenIn true index after e headers entries file) (takenIn true lateIn member) d) ∙ differences-gabi wanted same
+      pub agrees-gabi : s .table .link .gabi ≡ true → ((n : ℕ) (x : Entry) (xs : List Entry) → only n past ≡ x ∷ xs → OfName (firstOf true (x .row) (rows xs)))
+          → (wanted : List (List ℕ)) → ((x : List ℕ) → lists member x ≡ true → Strings.among x wanted ≡ wantedIn x)
+          → chosenIn true index after e headers entries file ≡ extracts member wanted
+      agrees-gabi gabi named wanted same =
+          ap (λ (r : Run). chosenIn true index r e headers entries file) (next-is index before s)
+          ∙ Extraction.exactly-gabi key index cells begun ts (viewIn (s .table)) passed e low new headers entries file listed gabi wanted
+          (λ x l. strongly-wanted gabi named x ∙ sym (same x l))
 
       -- the wanted names that the member bears are such a list
       pub own-names : (x : List ℕ) → lists member x ≡ true → Strings.among x (wantedNames wantedIn member) ≡ wantedIn x

@@ -183,9 +183,9 @@ module _ (l : Link) (symbols sections : List ℕ) (r : Row) where
   known-roomy id e =
       by-test (leb 13 (r .value .kind)) (λ a. unlike _ (rw a at e))
       (λ a.
-      by-test (ltb (Decide.rankOf (visibilityCodeAt symbols id) (field symbols id 5)) (Decide.rankOf (r .visibility) (r .value .kind)))
+      by-test (ltb (Decide.rankOf (l .gabi) (visibilityCodeAt symbols id) (field symbols id 5)) (Decide.rankOf (l .gabi) (r .visibility) (r .value .kind)))
       (λ b. by-test (eqb (typeRefusal (r .kind)) 0) (λ c. absurd (replaced-not (rw (a, b, c) at e))) (λ c. unlike _ (rw (a, b, c) at e)))
-      (λ b. by-test (eqb (Decide.rankOf (r .visibility) (r .value .kind)) 4) (λ c. unlike 17 (rw (a, b, c) at e))
+      (λ b. by-test (eqb (Decide.rankOf (l .gabi) (r .visibility) (r .value .kind)) 4) (λ c. unlike 17 (rw (a, b, c) at e))
       (λ c.
       by-test (passes (l .gabi) (r .visibility))
       (λ p.

@@ -280,7 +280,7 @@ module _ (s : Linked) (past : List Entry) (met : List (List ℕ)) (g : Reached s
 
   pub interned-row : (x : Entry) (xs : List Entry) → only idNow past ≡ x ∷ xs
       → callLeft (getGlobal (record { 0 = idNow })) (callNext (intern b) s)
-      ≡ Fd.Row (symbolOf (record { 0 = x .id }) (hiddenBy (callNext (intern b) s .table .link .gabi) (rows (x ∷ xs)) (firstOf (x .row) (rows xs))))
+      ≡ Fd.Row (symbolOf (record { 0 = x .id }) (hiddenBy (callNext (intern b) s .table .link .gabi) (rows (x ∷ xs)) (firstOf (callNext (intern b) s .table .link .gabi) (x .row) (rows xs))))
   interned-row x xs e =
       Within.lookup-row (callNext (intern b) s .table) (past ++ []) (interned .held) (reached-within (callNext (intern b) s) _ _ interned) idNow x xs
       (ap (only idNow) (append-nil past) ∙ e)

@@ -74,7 +74,7 @@ module _ (c : ℕ) where
   unfolding knownOf
   known-ided gabi symbols r id =
       pick Ided (leb 13 (r .value .kind)) _ _ (λ a. refused (r .value .kind) (λ z. let h = leb-true 13 (r .value .kind) a in omega arith))
-      (λ a. ranked-ided gabi (visibilityCodeAt symbols (id .0)) (Decide.rankOf (visibilityCodeAt symbols (id .0)) (field symbols (id .0) 5)) (Decide.rankOf (r .visibility) (r .value .kind)) r id)
+      (λ a. ranked-ided gabi (visibilityCodeAt symbols (id .0)) (Decide.rankOf gabi (visibilityCodeAt symbols (id .0)) (field symbols (id .0) 5)) (Decide.rankOf gabi (r .visibility) (r .value .kind)) r id)
 
   decide-ided : (l : Link) (symbols sections : List ℕ) (r : Row) (h : Holder) → Ided (decideOf l symbols sections r h)
   unfolding decideOf

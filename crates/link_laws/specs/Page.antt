@@ -141,12 +141,12 @@ module _ (key : ℕ) (gabi : Bool) (bytes names symbols sections inputs lists : 
     -- ---- 2. against the gABI
 
     -- the content of a name (demand-3a) is that of an entry of an object or a library, or of a direct add, in document 01's words (FromCalls, Contents.antt)
-    pub contents : (b : List ℕ) (x : Entry) (xs : List Entry) → adds b ks s0 ≡ x ∷ xs → FromCalls (firstOf (x .row) (rows xs)) ks s0 []
+    pub contents : (b : List ℕ) (x : Entry) (xs : List Entry) → adds b ks s0 ≡ x ∷ xs → FromCalls (firstOf gabi (x .row) (rows xs)) ks s0 []
     contents b = Terms.contents key gabi bytes names symbols sections inputs lists new ks quiet (idOf b end .0)
 
-    -- and has what the gABI resolves these entries to, known places apart (Agrees)
+    -- and has what the gABI resolves these entries to, known places of the old profile apart (Agrees)
     pub resolution : (b : List ℕ) (x : Entry) (xs : List Entry) → adds b ks s0 ≡ x ∷ xs → (from : AllFrom ks s0 [] (rows (x ∷ xs)))
-        → Agreement.Agrees gabi (x .row) (rows xs) (entryOf (x .row) ks s0 [] (from .0)) (rowAt (end .table .symbols) (x .id))
+        → Agreement.Agrees gabi (x .row) (rows xs) (entryOf (x .row) ks s0 [] (from .0)) (entriesOf ks s0 [] (rows xs) (from .1)) (rowAt (end .table .symbols) (x .id))
         (Resolution.resolve (entriesOf ks s0 [] (rows (x ∷ xs)) from))
     resolution b x xs e from = Terms.gabi-agrees-own key gabi bytes names symbols sections inputs lists new ks quiet (idOf b end .0) x xs e from
 
@@ -163,12 +163,12 @@ module _ (key : ℕ) (gabi : Bool) (bytes names symbols sections inputs lists : 
 
     -- ---- 3. "each global name has the id of its first accepted add and the content of its first accepted strong definition, else weak definition, else add"
 
-    -- in the gABI profile hidden apart
+    -- in the gABI profile "A name without a definition thus holds its first accepted strong reference, if there is one" (firstOf), and hidden is apart
     pub demand-3a : (b : List ℕ) (x : Entry) (xs : List Entry) → adds b ks s0 ≡ x ∷ xs
-        → lookup b end ≡ Row (symbolOf (record { 0 = x .id }) (hiddenBy gabi (rows (x ∷ xs)) (firstOf (x .row) (rows xs))))
+        → lookup b end ≡ Row (symbolOf (record { 0 = x .id }) (hiddenBy gabi (rows (x ∷ xs)) (firstOf gabi (x .row) (rows xs))))
     demand-3a b = Terms.lookup-row key gabi bytes names symbols sections inputs lists new ks quiet lent (idOf b end .0)
 
-    pub content-3a : (b : List ℕ) (x : Entry) (xs : List Entry) → adds b ks s0 ≡ x ∷ xs → SameButHidden (rowAt (end .table .symbols) (x .id)) (firstOf (x .row) (rows xs))
+    pub content-3a : (b : List ℕ) (x : Entry) (xs : List Entry) → adds b ks s0 ≡ x ∷ xs → SameButHidden (rowAt (end .table .symbols) (x .id)) (firstOf gabi (x .row) (rows xs))
     content-3a b = Terms.content-3a key gabi bytes names symbols sections inputs lists new ks quiet (idOf b end .0)
 
     -- which "is taken from all accepted object adds", direct ones among them; a direct add of `ExternallyDefined` is never hidden (contents: FromAdd, Contents.antt)
@@ -324,7 +324,7 @@ module _ (key : ℕ) (gabi : Bool) (bytes names symbols sections inputs lists : 
 
     pub grown-3a : (b : List ℕ) (x : Entry) (xs : List Entry)
         → Terms.grownAdds key gabi bytes names symbols sections inputs lists new ts calm lent (idOf b grownEnd .0) ≡ x ∷ xs
-        → lookup b grownEnd ≡ Row (symbolOf (record { 0 = x .id }) (hiddenBy gabi (rows (x ∷ xs)) (firstOf (x .row) (rows xs))))
+        → lookup b grownEnd ≡ Row (symbolOf (record { 0 = x .id }) (hiddenBy gabi (rows (x ∷ xs)) (firstOf gabi (x .row) (rows xs))))
     grown-3a b = Terms.grown-row key gabi bytes names symbols sections inputs lists new ts calm lent (idOf b grownEnd .0)
 
     pub grown-hidden : (b : List ℕ) (x : Entry) (xs : List Entry)

@@ -250,9 +250,17 @@ module _ (t : State) (a : Asked) where
   abbrev pub isFresh : Bool
   isFresh = isLocal || not (isKnown t (a .name))
 
-  -- "if the row is undefined, or weak under a strong add"; "an undefined add is accepted and changes nothing"
+  -- "if the row is undefined, or weak under a strong add"
+  abbrev pub displaces : Bool
+  displaces = not (isUndefined (a .value)) && (isUndefinedRow t (rowOf t (a .name)) || isWeakRow t (rowOf t (a .name)) && not (eqb (a .binding) 2))
+
+  -- "an undefined add is accepted and changes nothing"; 2026-07: "In the gABI profile a strong reference now turns a weak undefined row into a strong
+  -- undefined one"
+  abbrev pub strengthens : Bool
+  strengthens = t .link .gabi && isUndefined (a .value) && not (eqb (a .binding) 2) && isUndefinedRow t (rowOf t (a .name)) && isWeakRow t (rowOf t (a .name))
+
   abbrev pub replaces : Bool
-  replaces = not (isUndefined (a .value)) && (isUndefinedRow t (rowOf t (a .name)) || isWeakRow t (rowOf t (a .name)) && not (eqb (a .binding) 2))
+  replaces = displaces || strengthens
 
   -- "Add checks in this order": visibility, name, value, then the row; place is where, but for 21
   abbrev pub shownRules : ℕ → List Rule

@@ -67,7 +67,7 @@ use Rattle.gc_sections.specs.declared.Answer.{Answer}
 use Rattle.gc_sections.specs.declared.Answer.the-variants.{Dropped, Refused}
 use Rattle.gc_laws.specs.Demand as Collection
 use Rattle.gc_laws.specs.Reached as Roots
-use Rattle.symbol_laws.specs.Rank.{FirstOfGreatestRank, firstOf}
+use Rattle.symbol_laws.specs.Rank.{ranked, FirstOfGreatestRank, firstOf}
 use Rattle.symbol_laws.specs.Rows.{rowAt}
 use Rattle.symbol_laws.specs.History.{opened, Entry, only, rows, store, upcoming}
 use Rattle.symbol_laws.specs.Start.{new-inv}
@@ -179,7 +179,7 @@ use Rattle.link_laws.specs.Profile.{call-profile, calls-profile, calls-s
 use Rattle.link_laws.specs.Undefined as Undefined
 use Rattle.link_laws.specs.Undefined.{isUndefinedRow, weakReferences}
 use Rattle.link_laws.specs.Ties as Ties
-use Rattle.link_laws.specs.Ties.{weakFirst, OfName}
+use Rattle.link_laws.specs.Ties.{OfName}
 use Rattle.link_laws.specs.Extraction as Extraction
 use Rattle.link_laws.specs.BuiltSections.{SparesAll}
 use Rattle.link_laws.specs.ObjectSections as ObjectSections
@@ -778,19 +778,19 @@ module _ (key : ℕ) (gabi : Bool) (bytes names symbols sections inputs lists : 
         ∙ hidden-objects (grownAdds n) (only-shown n (logTurns ts start) (turns-shown ts start calm (new-profile key gabi bytes names symbols sections new ∙ g)))
 
     pub grown-row : (n : ℕ) (x : Entry) (xs : List Entry) → grownAdds n ≡ x ∷ xs
-        → callLeft (getGlobal (record { 0 = n })) grownEnd ≡ Fd.Row (symbolOf (record { 0 = x .id }) (hiddenBy gabi (rows (x ∷ xs)) (firstOf (x .row) (rows xs))))
+        → callLeft (getGlobal (record { 0 = n })) grownEnd ≡ Fd.Row (symbolOf (record { 0 = x .id }) (hiddenBy gabi (rows (x ∷ xs)) (firstOf gabi (x .row) (rows xs))))
     grown-row n x xs e =
         Within.lookup-row (grownEnd .table) _ (some .reached .held) (reached-within grownEnd _ _ (some .reached)) n x xs e
-        ∙ ap (λ (g : Bool). Fd.Row (symbolOf (record { 0 = x .id }) (hiddenBy g (rows (x ∷ xs)) (firstOf (x .row) (rows xs))))) grown-profile
+        ∙ ap (λ (g : Bool). Fd.Row (symbolOf (record { 0 = x .id }) (hiddenBy g (rows (x ∷ xs)) (firstOf g (x .row) (rows xs))))) grown-profile
 
     pub grown-none : (n : ℕ) → grownAdds n ≡ [] → callLeft (getGlobal (record { 0 = n })) grownEnd ≡ notFound 23 0
     grown-none = Within.lookup-none (grownEnd .table) _ (some .reached .held) (reached-within grownEnd _ _ (some .reached))
 
     -- the gABI's resolution
     pub grown-gabi : (n : ℕ) (x : Entry) (xs : List Entry) → grownAdds n ≡ x ∷ xs
-        → Agreement.Agrees gabi (x .row) (rows xs) (symOfRow (x .row)) (rowAt (grownEnd .table .symbols) (x .id)) (Resolution.resolve (symsOf (rows (x ∷ xs))))
+        → Agreement.Agrees gabi (x .row) (rows xs) (symOfRow (x .row)) (symsOf (rows xs)) (rowAt (grownEnd .table .symbols) (x .id)) (Resolution.resolve (symsOf (rows (x ∷ xs))))
     grown-gabi n x xs e =
-        subst (λ (g : Bool). Agreement.Agrees g (x .row) (rows xs) (symOfRow (x .row)) (rowAt (grownEnd .table .symbols) (x .id)) (Resolution.resolve (symsOf (rows (x ∷ xs))))) grown-profile
+        subst (λ (g : Bool). Agreement.Agrees g (x .row) (rows xs) (symOfRow (x .row)) (symsOf (rows xs)) (rowAt (grownEnd .table .symbols) (x .id)) (Resolution.resolve (symsOf (rows (x ∷ xs))))) grown-profile
         (Agreement.accepted (grownEnd .table) _ (some .reached .held) n x xs e _ _ (all-mean-own (rows (x ∷ xs))))
 
     -- demand 3b: Walked is over every sequence of tables, those of such a history too; no call of a walk over it is refused
@@ -838,10 +838,10 @@ module _ (key : ℕ) (gabi : Bool) (bytes names symbols sections inputs lists : 
     demand-3a n x xs e = subst (λ (g : Bool). Demand.Resolved g (end .table) n x xs) (profile ks) (Demand.resolved (end .table) _ held n x xs e)
 
     -- apart from hidden that is the row, in both profiles; in the old one it is the whole row
-    pub content-3a : (n : ℕ) (x : Entry) (xs : List Entry) → acceptedAdds n ≡ x ∷ xs → SameButHidden (rowAt (end .table .symbols) (x .id)) (firstOf (x .row) (rows xs))
+    pub content-3a : (n : ℕ) (x : Entry) (xs : List Entry) → acceptedAdds n ≡ x ∷ xs → SameButHidden (rowAt (end .table .symbols) (x .id)) (firstOf gabi (x .row) (rows xs))
     content-3a n x xs e = Demand.content-apart (end .table) n x xs gabi (demand-3a n x xs e)
 
-    pub content-old : (n : ℕ) (x : Entry) (xs : List Entry) → acceptedAdds n ≡ x ∷ xs → gabi ≡ false → FirstOfGreatestRank (rows (x ∷ xs)) (rowAt (end .table .symbols) (x .id))
+    pub content-old : (n : ℕ) (x : Entry) (xs : List Entry) → acceptedAdds n ≡ x ∷ xs → gabi ≡ false → FirstOfGreatestRank (ranked false) (rows (x ∷ xs)) (rowAt (end .table .symbols) (x .id))
     content-old n x xs e g = Demand.content-old (end .table) n x xs (subst (λ (g : Bool). Demand.Resolved g (end .table) n x xs) g (demand-3a n x xs e))
 
     -- in the gABI profile the row is hidden just if one of the adds is
@@ -875,16 +875,16 @@ module _ (key : ℕ) (gabi : Bool) (bytes names symbols sections inputs lists : 
 
     -- whichever symbols the rows mean
     pub gabi-agrees-any : (n : ℕ) (x : Entry) (xs : List Entry) → acceptedAdds n ≡ x ∷ xs → (s : Sym) (ss : List Sym) → AllMean (rows (x ∷ xs)) (s ∷ ss)
-        → Agreement.Agrees gabi (x .row) (rows xs) s (rowAt (end .table .symbols) (x .id)) (Resolution.resolve (s ∷ ss))
+        → Agreement.Agrees gabi (x .row) (rows xs) s ss (rowAt (end .table .symbols) (x .id)) (Resolution.resolve (s ∷ ss))
     gabi-agrees-any n x xs e s ss m =
-        subst (λ (g : Bool). Agreement.Agrees g (x .row) (rows xs) s (rowAt (end .table .symbols) (x .id)) (Resolution.resolve (s ∷ ss))) (profile ks)
+        subst (λ (g : Bool). Agreement.Agrees g (x .row) (rows xs) s ss (rowAt (end .table .symbols) (x .id)) (Resolution.resolve (s ∷ ss))) (profile ks)
         (Agreement.accepted (end .table) _ held n x xs e s ss m)
 
     -- of the symbols that are accepted under a name the gABI resolves to the one that the row has; undefined where it has none. As in document 01, the
     -- symbols of shared objects are among them like any other: the gABI itself, in its chapters on dynamic linking, lets a library's definition stand
     -- beside an executable's, and sees no duplicate in the two (docs/DIFFERENCES.md)
     pub gabi-agrees : (n : ℕ) (x : Entry) (xs : List Entry) → acceptedAdds n ≡ x ∷ xs
-        → Agreement.Agrees gabi (x .row) (rows xs) (symOfRow (x .row)) (rowAt (end .table .symbols) (x .id)) (Resolution.resolve (symsOf (rows (x ∷ xs))))
+        → Agreement.Agrees gabi (x .row) (rows xs) (symOfRow (x .row)) (symsOf (rows xs)) (rowAt (end .table .symbols) (x .id)) (Resolution.resolve (symsOf (rows (x ∷ xs))))
     gabi-agrees n x xs e = gabi-agrees-any n x xs e _ _ (all-mean-own (rows (x ∷ xs)))
 
     -- which makes no difference to the gABI
@@ -895,8 +895,10 @@ module _ (key : ℕ) (gabi : Bool) (bytes names symbols sections inputs lists : 
 
     -- the content of a name (demand-3a) is that of an entry of an object, of a library or of a direct add: its type, section, value, weak and hidden are what
     -- the entry says, in document 01's words (FromSymbol, FromLibrary, FromAdd); a library's is hidden in the old profile only
-    pub contents : (n : ℕ) (x : Entry) (xs : List Entry) → acceptedAdds n ≡ x ∷ xs → FromCalls (firstOf (x .row) (rows xs)) ks start []
-    contents = Contents.held-from ks start [] (new-marked key gabi bytes names symbols sections new) held
+    pub contents : (n : ℕ) (x : Entry) (xs : List Entry) → acceptedAdds n ≡ x ∷ xs → FromCalls (firstOf gabi (x .row) (rows xs)) ks start []
+    contents n x xs e =
+        subst (λ (g : Bool). FromCalls (firstOf g (x .row) (rows xs)) ks start []) (profile ks)
+        (Contents.held-from ks start [] (new-marked key gabi bytes names symbols sections new) held n x xs e)
 
     -- and so is each of its accepted adds
     pub adds-from : (n : ℕ) (x : Entry) (xs : List Entry) → acceptedAdds n ≡ x ∷ xs → AllFrom ks start [] (rows (x ∷ xs))
@@ -914,7 +916,7 @@ module _ (key : ℕ) (gabi : Bool) (bytes names symbols sections inputs lists : 
       ownEntries = entriesOf ks start [] (rows (x ∷ xs)) from
 
       -- the gABI's resolution of these entries
-      pub gabi-agrees-own : Agreement.Agrees gabi (x .row) (rows xs) (entryOf (x .row) ks start [] (from .0)) (rowAt (end .table .symbols) (x .id)) (Resolution.resolve ownEntries)
+      pub gabi-agrees-own : Agreement.Agrees gabi (x .row) (rows xs) (entryOf (x .row) ks start [] (from .0)) (entriesOf ks start [] (rows xs) (from .1)) (rowAt (end .table .symbols) (x .id)) (Resolution.resolve ownEntries)
       gabi-agrees-own = gabi-agrees-any n x xs e _ _ (all-mean ks start [] (rows (x ∷ xs)) from)
 
       -- the gABI's combined visibility of them: in the gABI profile the row's own; in the old one it is hidden just if the row is, or, "hidden isn't passed
@@ -1021,10 +1023,10 @@ module _ (key : ℕ) (gabi : Bool) (bytes names symbols sections inputs lists : 
     module _ (lent : length lists ≤ notLent) where
       -- what a lookup by the name then answers
       pub lookup-row : (n : ℕ) (x : Entry) (xs : List Entry) → acceptedAdds n ≡ x ∷ xs
-          → callLeft (getGlobal (record { 0 = n })) end ≡ Fd.Row (symbolOf (record { 0 = x .id }) (hiddenBy gabi (rows (x ∷ xs)) (firstOf (x .row) (rows xs))))
+          → callLeft (getGlobal (record { 0 = n })) end ≡ Fd.Row (symbolOf (record { 0 = x .id }) (hiddenBy gabi (rows (x ∷ xs)) (firstOf gabi (x .row) (rows xs))))
       lookup-row n x xs e =
           Within.lookup-row (end .table) _ held (within lent) n x xs e
-          ∙ ap (λ (g : Bool). Fd.Row (symbolOf (record { 0 = x .id }) (hiddenBy g (rows (x ∷ xs)) (firstOf (x .row) (rows xs))))) (profile ks)
+          ∙ ap (λ (g : Bool). Fd.Row (symbolOf (record { 0 = x .id }) (hiddenBy g (rows (x ∷ xs)) (firstOf g (x .row) (rows xs))))) (profile ks)
 
       pub lookup-none : (n : ℕ) → acceptedAdds n ≡ [] → callLeft (getGlobal (record { 0 = n })) end ≡ notFound 23 0
       lookup-none = Within.lookup-none (end .table) _ held (within lent)
@@ -1036,10 +1038,10 @@ module _ (key : ℕ) (gabi : Bool) (bytes names symbols sections inputs lists : 
 
         pub lookup-interned : (x : Entry) (xs : List Entry) → acceptedAdds idNow ≡ x ∷ xs
             → callLeft (getGlobal (record { 0 = idNow })) (callNext (intern b) end)
-            ≡ Fd.Row (symbolOf (record { 0 = x .id }) (hiddenBy gabi (rows (x ∷ xs)) (firstOf (x .row) (rows xs))))
+            ≡ Fd.Row (symbolOf (record { 0 = x .id }) (hiddenBy gabi (rows (x ∷ xs)) (firstOf gabi (x .row) (rows xs))))
         lookup-interned x xs e =
             LookedUp.interned-row end _ _ (reached lent) b x xs e
-            ∙ ap (λ (g : Bool). Fd.Row (symbolOf (record { 0 = x .id }) (hiddenBy g (rows (x ∷ xs)) (firstOf (x .row) (rows xs))))) (call-profile (intern b) end ∙ profile ks)
+            ∙ ap (λ (g : Bool). Fd.Row (symbolOf (record { 0 = x .id }) (hiddenBy g (rows (x ∷ xs)) (firstOf g (x .row) (rows xs))))) (call-profile (intern b) end ∙ profile ks)
 
         pub lookup-interned-none : acceptedAdds idNow ≡ [] → callLeft (getGlobal (record { 0 = idNow })) (callNext (intern b) end) ≡ notFound 23 0
         lookup-interned-none = LookedUp.interned-none end _ _ (reached lent) b
@@ -1087,8 +1089,9 @@ module _ (key : ℕ) (gabi : Bool) (bytes names symbols sections inputs lists : 
 
     -- a name is undefined in the link just if it has accepted adds, and the content that they give it is undefined
     pub undefined-name : (b : List ℕ) (x : Entry) (xs : List Entry) → acceptedAdds (find (store (end .table)) b) ≡ x ∷ xs
-        → undefinedName (viewIn (end .table)) b ≡ isUndefinedRow (firstOf (x .row) (rows xs))
-    undefined-name = Undefined.undefined-name (end .table) _ held
+        → undefinedName (viewIn (end .table)) b ≡ isUndefinedRow (firstOf gabi (x .row) (rows xs))
+    undefined-name b x xs e =
+        Undefined.undefined-name (end .table) _ held b x xs e ∙ ap (λ (g : Bool). isUndefinedRow (firstOf g (x .row) (rows xs))) (profile ks)
 
     pub undefined-none : (b : List ℕ) → acceptedAdds (find (store (end .table)) b) ≡ [] → undefinedName (viewIn (end .table)) b ≡ false
     undefined-none = Undefined.undefined-none (end .table) _ held
@@ -1107,22 +1110,23 @@ module _ (key : ℕ) (gabi : Bool) (bytes names symbols sections inputs lists : 
         → undefinedName (viewIn (end .table)) b ≡ wants (s ∷ ss) || weakOnly (s ∷ ss)
     undefined-wanted = Undefined.undefined-wanted (end .table) _ held
 
-    -- each accepted add is of a name: global or weak
-    of-name : (n : ℕ) (x : Entry) (xs : List Entry) → acceptedAdds n ≡ x ∷ xs → OfName (x .row)
-    of-name n x xs e = Ties.calls-of-name (x .row) ks start [] (adds-from n x xs e .0)
+    -- the content of a name is global or weak
+    of-name : gabi ≡ true → (n : ℕ) (x : Entry) (xs : List Entry) → acceptedAdds n ≡ x ∷ xs → OfName (firstOf true (x .row) (rows xs))
+    of-name p n x xs e =
+        subst (λ (g : Bool). OfName (firstOf g (x .row) (rows xs))) p (Ties.calls-of-name (firstOf gabi (x .row) (rows xs)) ks start [] (contents n x xs e))
 
     -- the names that tie members of an archive. In the old profile the undefined ones: "Weak references pull members"
     pub ties-old : gabi ≡ false → (b : List ℕ) → tiedName (viewIn (end .table)) b ≡ wants (symbolsUnder b) || weakReferences (symbolsUnder b)
     ties-old old b = tied-old (viewIn (end .table)) b (profile ks ∙ old) ∙ undefined-is b
 
-    -- in the gABI's those that the gABI wants, but for names whose first reference is weak: the one difference that stands until request 2026-07
-    pub ties-is : gabi ≡ true → (b : List ℕ) → tiedName (viewIn (end .table)) b ≡ wants (symbolsUnder b) && not (weakFirst (symbolsUnder b))
-    ties-is p b = Ties.ties-is (end .table) _ held (profile ks ∙ p) b (of-name _)
+    -- in the gABI's those that the gABI wants
+    pub ties-is : gabi ≡ true → (b : List ℕ) → tiedName (viewIn (end .table)) b ≡ wants (symbolsUnder b)
+    ties-is p b = Ties.ties-is (end .table) _ held (profile ks ∙ p) b (of-name p _)
 
     -- whichever symbols the rows mean
     pub ties-wanted : gabi ≡ true → (b : List ℕ) (x : Entry) (xs : List Entry) → acceptedAdds (find (store (end .table)) b) ≡ x ∷ xs
-        → (s : Sym) (ss : List Sym) → AllMean (rows (x ∷ xs)) (s ∷ ss) → tiedName (viewIn (end .table)) b ≡ wants (s ∷ ss) && not (weakFirst (s ∷ ss))
-    ties-wanted p b x xs e = Ties.ties-wanted (end .table) _ held (profile ks ∙ p) b x xs e (of-name _ x xs e)
+        → (s : Sym) (ss : List Sym) → AllMean (rows (x ∷ xs)) (s ∷ ss) → tiedName (viewIn (end .table)) b ≡ wants (s ∷ ss)
+    ties-wanted p b x xs e = Ties.ties-wanted (end .table) _ held (profile ks ∙ p) b x xs e (of-name p _ x xs e)
 
     module _ (walkKey : ℕ) (index cells : List ℕ) (begun : callNumber (archiveStart walkKey index cells) end ≡ 0) where
       -- its calls for the next member stand anywhere: the history goes on in parts, with such a call behind each (withWalk). "makes at most m + 1
@@ -1183,17 +1187,11 @@ module _ (key : ℕ) (gabi : Bool) (bytes names symbols sections inputs lists : 
                 ap (λ (g : Bool). Extraction.chosenIn g index stepped e headers entries file) old
                 ∙ Extraction.agrees end _ held walkKey index cells begun ts made e low unoffered headers entries file listed (profile ks ∙ old) wanted same d r
 
-            -- the gABI's profile: both places end. A member that is extracted is chosen, or defines a wanted name whose first reference is weak; exactly by name: matches-gabi
-            -- and let-in-queued
-            pub extraction-gabi : gabi ≡ true → chosen || takenIn true (λ x. wants (symbolsUnder x) && weakFirst (symbolsUnder x)) member ≡ extracts member wanted
+            -- the gABI's profile: just where the gABI extracts it
+            pub extraction-gabi : gabi ≡ true → chosen ≡ extracts member wanted
             extraction-gabi p =
-                ap (λ (g : Bool). Extraction.chosenIn g index stepped e headers entries file || takenIn true (λ x. wants (symbolsUnder x) && weakFirst (symbolsUnder x)) member) p
-                ∙ Extraction.differences-gabi end _ held walkKey index cells begun ts made e low unoffered headers entries file listed (profile ks ∙ p) of-name wanted same
-
-            pub extraction-gabi-agrees : gabi ≡ true → takenIn true (λ x. wants (symbolsUnder x) && weakFirst (symbolsUnder x)) member ≡ false → chosen ≡ extracts member wanted
-            extraction-gabi-agrees p d =
                 ap (λ (g : Bool). Extraction.chosenIn g index stepped e headers entries file) p
-                ∙ Extraction.agrees-gabi end _ held walkKey index cells begun ts made e low unoffered headers entries file listed (profile ks ∙ p) of-name wanted same d
+                ∙ Extraction.agrees-gabi end _ held walkKey index cells begun ts made e low unoffered headers entries file listed (profile ks ∙ p) (of-name p) wanted same
 
           pub wanted-names : (x : List ℕ) → Taken.lists member x ≡ true
               → Strings.among x (wantedNames (λ y. wants (symbolsUnder y)) member) ≡ wants (symbolsUnder x)
@@ -1217,24 +1215,17 @@ module _ (key : ℕ) (gabi : Bool) (bytes names symbols sections inputs lists : 
             matches-stays old q us on asks =
                 Admitted.matches-later end _ held walkKey index cells begun ts made e low unoffered headers entries contents file ranged listed wanted same (profile ks ∙ old) on (asks ∙ old) q us
 
-          -- the gABI's profile: the names that it wants and whose first reference isn't weak, as a list; strict-own has one for every member
-          module _ (strict : List (List ℕ))
-              (same : (x : List ℕ) → Taken.lists (symbolsOf headers entries file) x ≡ true → Strings.among x strict ≡ wants (symbolsUnder x) && not (weakFirst (symbolsUnder x))) where
+            -- the gABI's profile
             pub matches-gabi : gabi ≡ true → (on : Linked) → on .table .link .gabi ≡ gabi
-                → answerIn headers entries contents file index stepped e on ≡ says (extracts (symbolsOf headers entries file) strict)
+                → answerIn headers entries contents file index stepped e on ≡ says (extracts (symbolsOf headers entries file) wanted)
             matches-gabi p on asks =
-                Admitted.matches-gabi end _ held walkKey index cells begun ts made e low unoffered headers entries contents file ranged listed strict same (profile ks ∙ p) of-name on (asks ∙ p)
+                Admitted.matches-gabi end _ held walkKey index cells begun ts made e low unoffered headers entries contents file ranged listed wanted same (profile ks ∙ p) (of-name p) on (asks ∙ p)
 
             pub matches-gabi-stays : gabi ≡ true → among index e (queueIn stepped) ≡ true → (us : List Table) (on : Linked) → on .table .link .gabi ≡ gabi
-                → answerIn headers entries contents file index (history index us stepped) e on ≡ says (extracts (symbolsOf headers entries file) strict)
+                → answerIn headers entries contents file index (history index us stepped) e on ≡ says (extracts (symbolsOf headers entries file) wanted)
             matches-gabi-stays p q us on asks =
-                Admitted.matches-gabi-later end _ held walkKey index cells begun ts made e low unoffered headers entries contents file ranged listed strict same (profile ks ∙ p) of-name on (asks ∙ p)
-                q us
-
-          pub strict-own : (x : List ℕ) → Taken.lists (symbolsOf headers entries file) x ≡ true
-              → Strings.among x (wantedNames (λ y. wants (symbolsUnder y) && not (weakFirst (symbolsUnder y))) (symbolsOf headers entries file))
-              ≡ wants (symbolsUnder x) && not (weakFirst (symbolsUnder x))
-          strict-own = Admitted.strict-names end _ held walkKey index cells begun ts made e low unoffered headers entries contents file ranged listed
+                Admitted.matches-gabi-later end _ held walkKey index cells begun ts made e low unoffered headers entries contents file ranged listed wanted same (profile ks ∙ p) (of-name p) on
+                (asks ∙ p) q us
 
           -- a member that is let in was queued by the pass, so it is offered
           pub let-in-queued : (on : Linked) → answerIn headers entries contents file index stepped e on ≡ Yes → among index e (queueIn stepped) ≡ true

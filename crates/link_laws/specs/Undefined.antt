@@ -38,12 +38,12 @@ weakReferences (g ∷ gs) = weakOnly (g ∷ gs)
 
 module _ (s : State) (past : List Entry) (inv : Inv s past) (b : List ℕ) where
   -- whether a row is undefined is no matter of hidden
-  content : (x : Entry) (xs : List Entry) → only (find (store s) b) past ≡ x ∷ xs → isUndefinedRow (rowAt (s .symbols) (x .id)) ≡ isUndefinedRow (firstOf (x .row) (rows xs))
+  content : (x : Entry) (xs : List Entry) → only (find (store s) b) past ≡ x ∷ xs → isUndefinedRow (rowAt (s .symbols) (x .id)) ≡ isUndefinedRow (firstOf (s .link .gabi) (x .row) (rows xs))
   content x xs e =
       ap (λ (w : Words). eqb (w .kind) 7) (content-apart s (find (store s) b) x xs (s .link .gabi) (resolved s past inv (find (store s) b) x xs e) .value)
 
   pub undefined-name : (x : Entry) (xs : List Entry) → only (find (store s) b) past ≡ x ∷ xs
-      → undefinedName (viewIn s) b ≡ isUndefinedRow (firstOf (x .row) (rows xs))
+      → undefinedName (viewIn s) b ≡ isUndefinedRow (firstOf (s .link .gabi) (x .row) (rows xs))
   unfolding undefinedName nameHolder
   undefined-name x xs e =
       ap (isUndefined (s .symbols)) (holder-known s past inv (find (store s) b) x xs e)
@@ -60,7 +60,7 @@ module _ (s : State) (past : List Entry) (inv : Inv s past) (b : List ℕ) where
   unfolding undefinedName nameHolder wants weakOnly
   undefined-wanted x xs e g gs m =
       ap (isUndefined (s .symbols)) (holder-known s past inv (find (store s) b) x xs e)
-      ∙ row-undefined (s .link .gabi) (x .row) (rows xs) g (rowAt (s .symbols) (x .id)) (Resolution.resolve (g ∷ gs))
+      ∙ row-undefined (s .link .gabi) (x .row) (rows xs) g gs (rowAt (s .symbols) (x .id)) (Resolution.resolve (g ∷ gs))
       (Agreement.accepted s past inv (find (store s) b) x xs e g gs m)
 
   nothing-wanted : wants [] || weakReferences [] ≡ false

@@ -95,8 +95,8 @@ module _ (s : Linked) (past : List Entry) (met : List (List ℕ)) (r : Reached s
           Undefined.undefined-name (s .table) past (r .held) b x xs e
           ∙ sym
           (ap isUndefined (Within.lookup-row (s .table) past (r .held) (reached-within s past met r) n x xs e)
-          ∙ row-undefined (x .id) (hiddenBy (s .table .link .gabi) (rows (x ∷ xs)) (firstOf (x .row) (rows xs)))
-          ∙ ap (λ (w : Words). eqb (w .kind) 7) (same-by (s .table .link .gabi) (rows (x ∷ xs)) (firstOf (x .row) (rows xs)) .value))
+          ∙ row-undefined (x .id) (hiddenBy (s .table .link .gabi) (rows (x ∷ xs)) (firstOf (s .table .link .gabi) (x .row) (rows xs)))
+          ∙ ap (λ (w : Words). eqb (w .kind) 7) (same-by (s .table .link .gabi) (rows (x ∷ xs)) (firstOf (s .table .link .gabi) (x .row) (rows xs)) .value))
 
   strong-seen : (b : List ℕ) → strongName (viewIn (s .table)) b ≡ strong b s
   unfolding strongName nameHolder symbolOf
@@ -115,7 +115,7 @@ module _ (s : Linked) (past : List Entry) (met : List (List ℕ)) (r : Reached s
           ∙ sym (ap isStrong (Within.lookup-row (s .table) past (r .held) (reached-within s past met r) n x xs e) ∙ Need.strong-code (held .visibility) ∙ tree (eqb (held .visibility) 1) (eqb (held .visibility) 2))
         where
           held : Row
-          held = hiddenBy (s .table .link .gabi) (rows (x ∷ xs)) (firstOf (x .row) (rows xs))
+          held = hiddenBy (s .table .link .gabi) (rows (x ∷ xs)) (firstOf (s .table .link .gabi) (x .row) (rows xs))
 
           tree : (a b : Bool) → cond a true (cond b true false) ≡ a || b
           tree true b = refl

@@ -199,8 +199,8 @@ module _ (numbers : List ℕ) where
     known-decided : (id : SymbolId) → DecidedIn (knownOf (l .gabi) symbols r id)
     unfolding knownOf rankedOf replaceOf
     known-decided id =
-        let old : ℕ = rankOf (visibilityCodeAt symbols (id .0)) (field symbols (id .0) 5) in
-        let new : ℕ = rankOf (r .visibility) (r .value .kind) in
+        let old : ℕ = rankOf (l .gabi) (visibilityCodeAt symbols (id .0)) (field symbols (id .0) 5) in
+        let new : ℕ = rankOf (l .gabi) (r .visibility) (r .value .kind) in
         pick DecidedIn (leb 13 (r .value .kind)) _ _ (λ t. f .valued t)
         (λ t.
         pick DecidedIn (ltb old new) _ _ (λ t. pick DecidedIn (eqb (typeRefusal (r .kind)) 0) _ _ (λ t u w. absurd (u refl)) (λ t. f .typed))

@@ -138,10 +138,10 @@ module _ (key : ℕ) (gabi : Bool) (bytes names symbols sections inputs lists : 
       within = Lookups.calls-within ks start quiet (Within.new-within key gabi bytes names symbols sections new) (new-lists key gabi bytes names symbols sections lists) lent
 
       pub lookup-row : (n : ℕ) (x : Entry) (xs : List Entry) → acceptedAdds n ≡ x ∷ xs
-          → getGlobalOf (end .table .link) (end .table .names) (end .table .symbols) (record { 0 = n }) ≡ Fd.Row (symbolOf (record { 0 = x .id }) (hiddenBy gabi (rows (x ∷ xs)) (firstOf (x .row) (rows xs))))
+          → getGlobalOf (end .table .link) (end .table .names) (end .table .symbols) (record { 0 = n }) ≡ Fd.Row (symbolOf (record { 0 = x .id }) (hiddenBy gabi (rows (x ∷ xs)) (firstOf gabi (x .row) (rows xs))))
       lookup-row n x xs e =
           Within.lookup-row (end .table) _ kept within n x xs e
-          ∙ ap (λ (g : Bool). Fd.Row (symbolOf (record { 0 = x .id }) (hiddenBy g (rows (x ∷ xs)) (firstOf (x .row) (rows xs))))) profile
+          ∙ ap (λ (g : Bool). Fd.Row (symbolOf (record { 0 = x .id }) (hiddenBy g (rows (x ∷ xs)) (firstOf g (x .row) (rows xs))))) profile
 
       pub lookup-none : (n : ℕ) → acceptedAdds n ≡ [] → getGlobalOf (end .table .link) (end .table .names) (end .table .symbols) (record { 0 = n }) ≡ notFound 23 0
       lookup-none = Within.lookup-none (end .table) _ kept within
@@ -153,14 +153,14 @@ module _ (key : ℕ) (gabi : Bool) (bytes names symbols sections inputs lists : 
 
     -- whichever symbols the rows mean
     pub gabi-agrees-any : (n : ℕ) (x : Entry) (xs : List Entry) → acceptedAdds n ≡ x ∷ xs → (s : Sym) (ss : List Sym) → AllMean (rows (x ∷ xs)) (s ∷ ss)
-        → Agreement.Agrees gabi (x .row) (rows xs) s (rowAt (end .table .symbols) (x .id)) (resolve (s ∷ ss))
+        → Agreement.Agrees gabi (x .row) (rows xs) s ss (rowAt (end .table .symbols) (x .id)) (resolve (s ∷ ss))
     gabi-agrees-any n x xs e s ss m =
-        subst (λ (g : Bool). Agreement.Agrees g (x .row) (rows xs) s (rowAt (end .table .symbols) (x .id)) (resolve (s ∷ ss))) profile
+        subst (λ (g : Bool). Agreement.Agrees g (x .row) (rows xs) s ss (rowAt (end .table .symbols) (x .id)) (resolve (s ∷ ss))) profile
         (Agreement.accepted (end .table) _ kept n x xs e s ss m)
 
     -- of the symbols that are accepted under a name the gABI resolves to the one that the row has; undefined where it has none
     pub gabi-agrees : (n : ℕ) (x : Entry) (xs : List Entry) → acceptedAdds n ≡ x ∷ xs
-        → Agreement.Agrees gabi (x .row) (rows xs) (symOfRow (x .row)) (rowAt (end .table .symbols) (x .id)) (resolve (symsOf (rows (x ∷ xs))))
+        → Agreement.Agrees gabi (x .row) (rows xs) (symOfRow (x .row)) (symsOf (rows xs)) (rowAt (end .table .symbols) (x .id)) (resolve (symsOf (rows (x ∷ xs))))
     gabi-agrees n x xs e = gabi-agrees-any n x xs e _ _ (all-mean-own (rows (x ∷ xs)))
 
     -- one more merge

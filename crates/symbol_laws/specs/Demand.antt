@@ -12,7 +12,7 @@ use Rattle.symbol.specs.declared.Row.{Row}
 use Rattle.symbol.specs.Row.{stateAt}
 use Rattle.symbol_rows.specs.declared.Holder.the-variants.{Nobody, Known}
 use Rattle.symbol_rows.specs.Holder.{globalAt, heldBy, holderOf}
-use Rattle.symbol_laws.specs.Rank.{FirstOfGreatestRank, best-first, firstOf, best-terms}
+use Rattle.symbol_laws.specs.Rank.{ranked, FirstOfGreatestRank, best-first, firstOf, best-terms}
 use Rattle.symbol_laws.specs.Hidden.{isHidden, someHidden}
 use Rattle.symbol_laws.specs.Standing.{hiddenBy, rowAfter, hidden-by, SameButHidden, same-by}
 use Rattle.symbol_laws.specs.Rows.{rowAt}
@@ -28,24 +28,25 @@ pub record Resolved (gabi : Bool) (s : State) (n : ℕ) (x : Entry) (xs : List E
   pub counted : x .id < s .link .symbols
   pub present : stateAt (s .symbols) (x .id) ≡ 1
   pub bears : rowAt (s .symbols) (x .id) .name .0 ≡ n
-  -- "the content of its first accepted strong definition, else weak definition, else add"; in the gABI profile hidden if one of the adds is
-  pub terms : rowAt (s .symbols) (x .id) ≡ hiddenBy gabi (rows (x ∷ xs)) (firstOf (x .row) (rows xs))
+  -- "the content of its first accepted strong definition, else weak definition, else add"; in the gABI profile a strong reference comes before
+  -- other references, and the row is hidden if one of the adds is
+  pub terms : rowAt (s .symbols) (x .id) ≡ hiddenBy gabi (rows (x ∷ xs)) (firstOf gabi (x .row) (rows xs))
   -- which is the first accepted add of the greatest rank
-  pub content : FirstOfGreatestRank (rows (x ∷ xs)) (firstOf (x .row) (rows xs))
+  pub content : FirstOfGreatestRank (ranked gabi) (rows (x ∷ xs)) (firstOf gabi (x .row) (rows xs))
 
 module _ (s : State) (n : ℕ) (x : Entry) (xs : List Entry) where
-  -- apart from hidden the content is the same in both profiles
-  pub content-apart : (gabi : Bool) → Resolved gabi s n x xs → SameButHidden (rowAt (s .symbols) (x .id)) (firstOf (x .row) (rows xs))
-  content-apart gabi h = subst (λ (r : Row). SameButHidden r (firstOf (x .row) (rows xs))) (sym (h .terms)) (same-by gabi (rows (x ∷ xs)) _)
+  -- the content, apart from hidden
+  pub content-apart : (gabi : Bool) → Resolved gabi s n x xs → SameButHidden (rowAt (s .symbols) (x .id)) (firstOf gabi (x .row) (rows xs))
+  content-apart gabi h = subst (λ (r : Row). SameButHidden r (firstOf gabi (x .row) (rows xs))) (sym (h .terms)) (same-by gabi (rows (x ∷ xs)) _)
 
   -- "hidden is taken from all accepted object adds": a shared object's is never hidden (Standing.library-shown)
   pub hidden-gabi : Resolved true s n x xs → isHidden (rowAt (s .symbols) (x .id)) ≡ someHidden (rows (x ∷ xs))
   hidden-gabi h =
-      ap isHidden (h .terms ∙ ap (hiddenBy true (rows (x ∷ xs))) (sym (best-terms (x .row) (rows xs)))) ∙ hidden-by (x .row) (rows xs)
+      ap isHidden (h .terms ∙ ap (hiddenBy true (rows (x ∷ xs))) (sym (best-terms true (x .row) (rows xs)))) ∙ hidden-by (x .row) (rows xs)
 
   -- the old profile: hidden is part of the content
-  pub content-old : Resolved false s n x xs → FirstOfGreatestRank (rows (x ∷ xs)) (rowAt (s .symbols) (x .id))
-  content-old h = subst (FirstOfGreatestRank (rows (x ∷ xs))) (sym (h .terms)) (h .content)
+  pub content-old : Resolved false s n x xs → FirstOfGreatestRank (ranked false) (rows (x ∷ xs)) (rowAt (s .symbols) (x .id))
+  content-old h = subst (FirstOfGreatestRank (ranked false) (rows (x ∷ xs))) (sym (h .terms)) (h .content)
 
 module _ (s : State) (past : List Entry) (inv : Inv s past) (n : ℕ) where
   low : (x : Entry) (xs : List Entry) → only n past ≡ x ∷ xs → n < s .link .names
@@ -66,8 +67,8 @@ module _ (s : State) (past : List Entry) (inv : Inv s past) (n : ℕ) where
         counted = h .below;
         present = h .there;
         bears = ap (λ (r : Row). r .name .0) (h .content) ∙ h .named;
-        terms = h .content ∙ ap (hiddenBy (s .link .gabi) (rows (x ∷ xs))) (best-terms (x .row) (rows xs));
-        content = subst (FirstOfGreatestRank (rows (x ∷ xs))) (best-terms (x .row) (rows xs)) (best-first (x .row) (rows xs));
+        terms = h .content ∙ ap (hiddenBy (s .link .gabi) (rows (x ∷ xs))) (best-terms (s .link .gabi) (x .row) (rows xs));
+        content = subst (FirstOfGreatestRank (ranked (s .link .gabi)) (rows (x ∷ xs))) (best-terms (s .link .gabi) (x .row) (rows xs)) (best-first (ranked (s .link .gabi)) (x .row) (rows xs));
       }
 
   holder-held : (id : ℕ) → n < s .link .names → globalAt (s .names) n ≡ id → 1 ≤ id → id < s .link .symbols → stateAt (s .symbols) id ≡ 1

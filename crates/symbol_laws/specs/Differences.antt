@@ -35,21 +35,28 @@ row e = elfRowOf (To.Section (record { 0 = 1 })) e (record { 0 = 1 }) false 0
 -- "a strong reference after a weak one leaves the row weak": unresolved by the gABI, zero in the table, and weak
 pub weak-reference-stays :
     (resolve (symOf (elf 2 0 0) ∷ symOf (elf 1 0 0) ∷ []) ≡ unresolved)
-    × (valueAt (firstOf (row (elf 2 0 0)) (row (elf 1 0 0) ∷ []) .value) ≡ Undefined true)
-    × (visibilityAt (firstOf (row (elf 2 0 0)) (row (elf 1 0 0) ∷ []) .visibility) ≡ Global true false)
+    × (valueAt (firstOf false (row (elf 2 0 0)) (row (elf 1 0 0) ∷ []) .value) ≡ Undefined true)
+    × (visibilityAt (firstOf false (row (elf 2 0 0)) (row (elf 1 0 0) ∷ []) .visibility) ≡ Global true false)
 unfolding resolve has Gabi.count isGlobalDefinition isWeakDefinition isGlobalReference isGlobal isWeak isReference isDefinition visibilityAt valueAt weakOf shownOf hiddenOf judgeOf inSection convertedOf undefinedOf valueOf elfRowOf
 weak-reference-stays = (refl, refl, refl)
+
+-- in the gABI profile it turns the row strong (2026-07)
+pub strong-reference-taken :
+    (valueAt (firstOf true (row (elf 2 0 0)) (row (elf 1 0 0) ∷ []) .value) ≡ Undefined false)
+    × (visibilityAt (firstOf true (row (elf 2 0 0)) (row (elf 1 0 0) ∷ []) .visibility) ≡ Global false false)
+unfolding visibilityAt valueAt weakOf shownOf hiddenOf judgeOf inSection convertedOf undefinedOf valueOf elfRowOf
+strong-reference-taken = (refl, refl)
 
 -- "hidden isn't passed on to another holder": a hidden weak definition, then a strong one that isn't
 pub hidden-not-passed-on :
     (combined (symOf (elf 2 2 1) ∷ symOf (elf 1 0 1) ∷ []) ≡ stvHidden)
-    × (visibilityAt (firstOf (row (elf 2 2 1)) (row (elf 1 0 1) ∷ []) .visibility) ≡ Global false false)
+    × (visibilityAt (firstOf false (row (elf 2 2 1)) (row (elf 1 0 1) ∷ []) .visibility) ≡ Global false false)
 unfolding combined combine rank visibilityAt weakOf shownOf hiddenOf judgeOf inSection convertedOf undefinedOf valueOf elfRowOf
 hidden-not-passed-on = (refl, refl)
 
 -- in the gABI profile it is
 pub hidden-passed-on :
-    visibilityAt (hiddenBy true (row (elf 2 2 1) ∷ row (elf 1 0 1) ∷ []) (firstOf (row (elf 2 2 1)) (row (elf 1 0 1) ∷ [])) .visibility) ≡ Global false true
+    visibilityAt (hiddenBy true (row (elf 2 2 1) ∷ row (elf 1 0 1) ∷ []) (firstOf true (row (elf 2 2 1)) (row (elf 1 0 1) ∷ [])) .visibility) ≡ Global false true
 unfolding visibilityAt weakOf shownOf hiddenOf judgeOf inSection convertedOf undefinedOf valueOf elfRowOf hiddenCode hideCode hideIf
 hidden-passed-on = refl
 
@@ -61,7 +68,7 @@ libraryRow b = externalRowOf false (record { 0 = 1 }) b 0
 
 -- what is decided on the second row, where the first is held under id 1
 abbrev pub second : Row → Row → Decision
-second old new = rankedOf false (old .visibility) (ranked old) (ranked new) new (record { 0 = 1 })
+second old new = rankedOf false (old .visibility) (ranked false old) (ranked false new) new (record { 0 = 1 })
 
 -- beside an object's strong definition 17, in either order; an object's weak one it replaces. The gABI's chapters on dynamic linking, which gabi doesn't
 -- have, see no error, and find the object's in both
@@ -69,6 +76,6 @@ pub library-defines :
     (second (row (elf 1 0 1)) (libraryRow 1) ≡ Refuse 17)
     × (second (libraryRow 1) (row (elf 1 0 1)) ≡ Refuse 17)
     × (second (row (elf 2 0 1)) (libraryRow 1) ≡ Replace (record { 0 = 1 }))
-    × (firstOf (row (elf 2 0 1)) (libraryRow 1 ∷ []) ≡ libraryRow 1)
+    × (firstOf false (row (elf 2 0 1)) (libraryRow 1 ∷ []) ≡ libraryRow 1)
 unfolding weakOf rankOf typeRefusal replaceOf rankedOf shownOf hiddenOf judgeOf inSection convertedOf undefinedOf valueOf elfRowOf passes libraryCode externalRowOf
 library-defines = (refl, refl, refl, refl)

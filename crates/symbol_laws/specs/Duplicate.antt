@@ -50,7 +50,7 @@ kept-number gabi old new id = by-test (passes gabi new) (λ a. by-test (hiddenCo
 module _ (s : State) (past : List Entry) (inv : Inv s past) (r : Row) (x : Entry) (xs : List Entry) (e : only (r .name .0) past ≡ x ∷ xs)
     (global : r .visibility ≢ 0) (fine : leb 5 (r .visibility) ≡ false) (valued : leb 13 (r .value .kind) ≡ false) where
   abbrev old : Row
-  old = firstOf (x .row) (rows xs)
+  old = firstOf (s .link .gabi) (x .row) (rows xs)
 
   abbrev number : ℕ
   number = numberIn (putOf s r .said)
@@ -64,36 +64,36 @@ module _ (s : State) (past : List Entry) (inv : Inv s past) (r : Row) (x : Entry
 
   -- the decision by the rank of old: hidden doesn't enter it
   abbrev by-rank : Decision
-  by-rank = rankedOf (s .link .gabi) (visibilityCodeAt (s .symbols) (x .id)) (ranked old) (ranked r) r (record { 0 = x .id })
+  by-rank = rankedOf (s .link .gabi) (visibilityCodeAt (s .symbols) (x .id)) (ranked (s .link .gabi) old) (ranked (s .link .gabi) r) r (record { 0 = x .id })
 
   known : decided (table s) r ≡ by-rank
   unfolding decidedOf decideOf knownOf
   known =
       rw (fine, ne-eqb (r .visibility) 0 global, holder, valued)
-      (ap (λ (k : ℕ). rankedOf (s .link .gabi) (visibilityCodeAt (s .symbols) (x .id)) k (ranked r) r (record { 0 = x .id }))
-      (ap ranked (found .terms) ∙ rank-by (s .link .gabi) (rows (x ∷ xs)) old))
+      (ap (λ (k : ℕ). rankedOf (s .link .gabi) (visibilityCodeAt (s .symbols) (x .id)) k (ranked (s .link .gabi) r) r (record { 0 = x .id }))
+      (ap (ranked (s .link .gabi)) (found .terms) ∙ rank-by (s .link .gabi) (rows (x ∷ xs)) old))
 
   answered : number ≡ refusalOf by-rank
   answered = put-number s r ∙ ap (λ (d : Decision). refusalOf d) known
 
   pub second-strong : strongDefinition r ≡ true → strongDefinition old ≡ true → number ≡ 17
   unfolding rankedOf
-  second-strong a b = answered ∙ rw (strong-rank old b, strong-rank r a)
+  second-strong a b = answered ∙ rw (strong-rank old (s .link .gabi) b, strong-rank r (s .link .gabi) a)
 
   -- 17 has no other cause: type is judged after it, and only where the row yields
   pub seventeen : number ≡ 17 → (strongDefinition r ≡ true) × (strongDefinition old ≡ true)
   unfolding rankedOf replaceOf
   seventeen q =
       let w : refusalOf by-rank ≡ 17 = sym answered ∙ q in
-      by-test (ltb (ranked old) (ranked r))
+      by-test (ltb (ranked (s .link .gabi) old) (ranked (s .link .gabi) r))
       (λ y.
       by-test (eqb (typeRefusal (r .kind)) 0) (λ k. let z : _≡_ {A = ℕ} 0 17 = rw (y, k) at w in absurd (omega arith))
       (λ k. let z : typeRefusal (r .kind) ≡ 17 = rw (y, k) at w in absurd (omega (arith, z, type-small (r .kind)))))
       (λ y.
-      by-test (eqb (ranked r) 4)
+      by-test (eqb (ranked (s .link .gabi) r) 4)
       (λ k.
-      let a : ranked r ≡ 4 = eqb-true _ _ k in
-      (rank-strong r a, rank-strong old (omega (arith, a, ltb-false (ranked old) (ranked r) y, rank-most old))))
+      let a : ranked (s .link .gabi) r ≡ 4 = eqb-true _ _ k in
+      (rank-strong r (s .link .gabi) a, rank-strong old (s .link .gabi) (omega (arith, a, ltb-false (ranked (s .link .gabi) old) (ranked (s .link .gabi) r) y, rank-most old (s .link .gabi)))))
       (λ k. let z : _≡_ {A = ℕ} 0 17 = sym (kept-number _ _ _ _) ∙ (rw (y, k) at w) in absurd (omega arith)))
 
   -- ---- the same in the gABI's terms
@@ -157,4 +157,4 @@ module _ (s : State) (past : List Entry) (inv : Inv s past) (r : Row) (x : Entry
         rw (lt-ltb 1 (Gabi.count isGlobalDefinition more) (omega (arith, counted, one, some b)))
       where
         some : strongDefinition old ≡ true → 1 ≤ strongs
-        some b = best-counts (x .row) (rows xs) (ap strongDefinition (best-terms (x .row) (rows xs)) ∙ b)
+        some b = best-counts (s .link .gabi) (x .row) (rows xs) (ap strongDefinition (best-terms (s .link .gabi) (x .row) (rows xs)) ∙ b)

@@ -13,7 +13,7 @@ use Rattle.symbol.specs.declared.Row.{Row}
 use Rattle.symbol.specs.declared.SymbolVisibility.{SymbolVisibility}
 use Rattle.symbol.specs.declared.SymbolVisibility.the-variants.{Local, Global}
 use Rattle.symbol.specs.Codes.{visibilityAt}
-use Rattle.symbol_laws.specs.Rank.{FirstOfGreatestRank}
+use Rattle.symbol_laws.specs.Rank.{ranked, FirstOfGreatestRank}
 
 abbrev pub hides : SymbolVisibility → Bool
 hides Local = false
@@ -68,10 +68,10 @@ hidden-apart (x ∷ a) r b = ap (λ (t : Bool). isHidden x || t) (hidden-apart a
     swap false false z = refl
 
 -- "hidden isn't passed on to another holder": an add of the name other than its holder's is hidden
-abbrev pub notPassedOn : {rs : List Row} {r : Row} → FirstOfGreatestRank rs r → Bool
+abbrev pub notPassedOn : {rs : List Row} {r : Row} → FirstOfGreatestRank (ranked false) rs r → Bool
 notPassedOn f = someHidden (f .before ++ f .after)
 
-pub hidden-differs : (rs : List Row) (ss : List Sym) → AllShow rs ss → (r : Row) (f : FirstOfGreatestRank rs r)
+pub hidden-differs : (rs : List Row) (ss : List Sym) → AllShow rs ss → (r : Row) (f : FirstOfGreatestRank (ranked false) rs r)
     → combined ss ≡ cond (isHidden r || notPassedOn f) stvHidden stvDefault
 hidden-differs rs ss p r f =
     combined-is rs ss p ∙ ap (λ (l : List Row). cond (someHidden l) stvHidden stvDefault) (f .place)

@@ -3,7 +3,7 @@
 use Prim.Native.Nat.{ℕ, _+_, _*_, _≤_, _<_}
 use native.Mathlib.Omega.{arith}
 use mathlib.Core.Path.{_≡_, refl, sym, ap, _∙_, subst}
-use mathlib.Core.Bool.{true, false}
+use mathlib.Core.Bool.{Bool, true, false}
 use mathlib.Core.List.{List, [], _∷_, _++_, append-nil}
 use mathlib.Core.Logic.{_≢_}
 use lib.Dec.{eqb, ltb}
@@ -66,7 +66,7 @@ module _ (s : State) (past : List Entry) (inv : Inv s past) (r : Row) (from : So
 
     left-named : left .name .0 ≡ n
     left-named =
-        by-test (ltb (ranked now) (ranked r)) (λ t. rw t (ap (λ (i : Interned). i .0) (pass-rest (s .link .gabi) (now .visibility) r .name)))
+        by-test (ltb (ranked (s .link .gabi) now) (ranked (s .link .gabi) r)) (λ t. rw t (ap (λ (i : Interned). i .0) (pass-rest (s .link .gabi) (now .visibility) r .name)))
         (λ t.
         rw t
         (ap (λ (i : Interned). i .0) (pass-rest (s .link .gabi) (r .visibility) now .name) ∙ ap (λ (c : Row). c .name .0) content-now ∙ h .named))
@@ -113,8 +113,8 @@ module _ (s : State) (past : List Entry) (inv : Inv s past) (r : Row) (from : So
   strong-snoc : (l : List Entry) (x : Entry) → strong (l ++ (x ∷ [])) ≡ strong l + strong (x ∷ [])
   strong-snoc l x = ap (count strongDefinition) (rows-snoc l x) ∙ count-append strongDefinition (rows l) (x .row ∷ [])
 
-  strong-none : (id : ℕ) → ranked r ≢ 4 → strong (entry id ∷ []) ≡ 0
-  strong-none id z = by-test (strongDefinition r) (λ t. absurd (z (strong-rank r t))) (λ t. rw t)
+  strong-none : (id : ℕ) → ranked (s .link .gabi) r ≢ 4 → strong (entry id ∷ []) ≡ 0
+  strong-none id z = by-test (strongDefinition r) (λ t. absurd (z (strong-rank r (s .link .gabi) t))) (λ t. rw t)
 
   strong-one : (id : ℕ) → strong (entry id ∷ []) ≤ 1
   strong-one id = by-test (strongDefinition r) (λ t. rw t (omega arith)) (λ t. rw t (omega arith))
@@ -123,10 +123,11 @@ module _ (s : State) (past : List Entry) (inv : Inv s past) (r : Row) (from : So
   strong-before : (l : List Entry) → Held s n l → at ≢ 0 → yields (table s) r ≡ true → strong l ≡ 0
   strong-before [] h z o = refl
   strong-before (y ∷ ys) h z o =
-      let e : ranked now ≡ ranked (best (y .row) (rows ys)) =
-      ap ranked (content-now y ys h) ∙ rank-by (s .link .gabi) (y .row ∷ rows ys) (best (y .row) (rows ys)) in
-      let k : ranked (best (y .row) (rows ys)) < ranked r = omega (arith, e, ltb-true (ranked now) (ranked r) o) in
-      best-low (y .row) (rows ys) (omega (arith, k, rank-most r))
+      let g : Bool = s .link .gabi in
+      let c : Row = best (ranked g) (y .row) (rows ys) in
+      let e : ranked g now ≡ ranked g c = ap (ranked g) (content-now y ys h) ∙ rank-by g (y .row ∷ rows ys) c in
+      let k : ranked g c < ranked g r = omega (arith, e, ltb-true (ranked g now) (ranked g r) o) in
+      best-low g (y .row) (rows ys) (omega (arith, k, rank-most r g))
 
   once-more : (x : Entry) → x .name ≡ n → strong (only n past) + strong (x ∷ []) ≤ 1 → (m : ℕ) → strong (only m (past ++ (x ∷ []))) ≤ 1
   once-more x e h m =
@@ -136,7 +137,7 @@ module _ (s : State) (past : List Entry) (inv : Inv s past) (r : Row) (from : So
       rw (only-same m past x q, strong-snoc (only m past) x, ← k) h)
       (λ q. rw (only-other m past x q) (inv .once m))
 
-  on-kept : Named (table s) r → at ≢ 0 → left ≡ now → ranked r ≢ 4 → Inv s (past ++ (entry at ∷ []))
+  on-kept : Named (table s) r → at ≢ 0 → left ≡ now → ranked (s .link .gabi) r ≢ 4 → Inv s (past ++ (entry at ∷ []))
   on-kept k z o w =
       record {
         some = inv .some;
@@ -182,7 +183,7 @@ module _ (s : State) (past : List Entry) (inv : Inv s past) (r : Row) (from : So
       on-written (passHidden (s .link .gabi) (now .visibility) r) (rw o) k z
       (omega (arith, strong-before (only n past) (inv .held-by n (k .issued)) z o, strong-one at))
 
-  on-amended : Named (table s) r → at ≢ 0 → yields (table s) r ≡ false → ranked r ≢ 4
+  on-amended : Named (table s) r → at ≢ 0 → yields (table s) r ≡ false → ranked (s .link .gabi) r ≢ 4
       → Inv (withSymbols s (setRow (s .symbols) (record { 0 = at }) (passHidden (s .link .gabi) (r .visibility) now))) (past ++ (entry at ∷ []))
   on-amended k z o w =
       on-written (passHidden (s .link .gabi) (r .visibility) now) (rw o) k z (omega (arith, inv .once n, strong-none at w))

@@ -13,7 +13,7 @@ use Rattle.symbol.specs.declared.SymbolVisibility.{SymbolVisibility}
 use Rattle.symbol.specs.declared.SymbolVisibility.the-variants.{Local, Global}
 use Rattle.symbol.specs.Codes.{visibilityAt}
 use Rattle.symbol.specs.Hidden.{hiddenCode, hideCode, showCode, passes, withVisibility, hideIf, passHidden}
-use Rattle.symbol_rows.specs.Decide.{weakOf, rankOf}
+use Rattle.symbol_rows.specs.Decide.{weakOf, referenceRank, rankOf}
 use Rattle.upcoming_symbol.specs.Judge.{judgeOf}
 use Rattle.upcoming_symbol.specs.Upcoming.{libraryCode, externalRowOf}
 use Rattle.symbol_laws.specs.Rank.{ranked, best, best-first, best-snoc, weak}
@@ -77,10 +77,10 @@ unfolding hideIf
 hide-rest true r = record { name = refl; kind = refl; file = refl; weakness = weak-code (r .visibility); value = refl }
 hide-rest false r = record { name = refl; kind = refl; file = refl; weakness = refl; value = refl }
 
-rank-if : (h : Bool) (r : Row) → ranked (hideIf h r) ≡ ranked r
-unfolding hideIf rankOf
-rank-if true r = rw (weak-code (r .visibility))
-rank-if false r = refl
+rank-if : (gabi h : Bool) (r : Row) → ranked gabi (hideIf h r) ≡ ranked gabi r
+unfolding hideIf rankOf referenceRank
+rank-if gabi true r = rw (weak-code (r .visibility))
+rank-if gabi false r = refl
 
 -- ---- of a list of adds
 
@@ -107,26 +107,27 @@ any-append [] b = refl
 any-append (x ∷ a) b = rw (any-append a b, or-assoc (isHidden x) (someHidden a) (someHidden b))
 
 -- the row of the greatest rank is one of them
-any-best : (c : Row) (xs : List Row) → (someHidden (c ∷ xs) || isHidden (best c xs)) ≡ someHidden (c ∷ xs)
-any-best c xs =
-    let b = best-first c xs in
-    let e : someHidden (c ∷ xs) ≡ (someHidden (b .before) || (isHidden (best c xs) || someHidden (b .after))) =
-    ap someHidden (b .place) ∙ any-append (b .before) (best c xs ∷ b .after) in
-    ap (λ (h : Bool). h || isHidden (best c xs)) e ∙ or-again (someHidden (b .before)) (isHidden (best c xs)) (someHidden (b .after)) ∙ sym e
+any-best : (rank : Row → ℕ) (c : Row) (xs : List Row) → (someHidden (c ∷ xs) || isHidden (best rank c xs)) ≡ someHidden (c ∷ xs)
+any-best rank c xs =
+    let r : Row = best rank c xs in
+    let b = best-first rank c xs in
+    let e : someHidden (c ∷ xs) ≡ (someHidden (b .before) || (isHidden r || someHidden (b .after))) =
+    ap someHidden (b .place) ∙ any-append (b .before) (r ∷ b .after) in
+    ap (λ (h : Bool). h || isHidden r) e ∙ or-again (someHidden (b .before)) (isHidden r) (someHidden (b .after)) ∙ sym e
 
 -- ---- what stands after an accepted add
 
 -- of row c and add x the one of the greater rank, hidden passed to it from the other
 abbrev pub standing : Bool → Row → Row → Row
-standing gabi c x = cond (ltb (ranked c) (ranked x)) (passHidden gabi (c .visibility) x) (passHidden gabi (x .visibility) c)
+standing gabi c x = cond (ltb (ranked gabi c) (ranked gabi x)) (passHidden gabi (c .visibility) x) (passHidden gabi (x .visibility) c)
 
 -- and after all accepted adds of a name, c and then xs
 abbrev pub rowAfter : Bool → Row → List Row → Row
-rowAfter gabi c xs = hiddenBy gabi (c ∷ xs) (best c xs)
+rowAfter gabi c xs = hiddenBy gabi (c ∷ xs) (best (ranked gabi) c xs)
 
-pub rank-by : (gabi : Bool) (l : List Row) (r : Row) → ranked (hiddenBy gabi l r) ≡ ranked r
+pub rank-by : (gabi : Bool) (l : List Row) (r : Row) → ranked gabi (hiddenBy gabi l r) ≡ ranked gabi r
 rank-by false l r = refl
-rank-by true l r = rank-if (someHidden l) r
+rank-by true l r = rank-if true (someHidden l) r
 
 -- the first add
 pub after-first : (gabi : Bool) (r : Row) → rowAfter gabi r [] ≡ r
@@ -147,20 +148,20 @@ passed false false b = refl
 
 pub after-snoc : (gabi : Bool) (c : Row) (xs : List Row) (y : Row) → rowAfter gabi c (xs ++ (y ∷ [])) ≡ standing gabi (rowAfter gabi c xs) y
 unfolding passHidden passes
-after-snoc false c xs y = best-snoc c xs y ∙ sym (rw (hide-none y, hide-none (best c xs)))
+after-snoc false c xs y = best-snoc (ranked false) c xs y ∙ sym (rw (hide-none y, hide-none (best (ranked false) c xs)))
 after-snoc true c xs y =
     let a : Bool = someHidden (c ∷ xs) in
-    let b : Row = best c xs in
+    let b : Row = best (ranked true) c xs in
     let more : someHidden ((c ∷ xs) ++ (y ∷ [])) ≡ (a || isHidden y) = any-append (c ∷ xs) (y ∷ []) ∙ ap (_||_ a) (or-none (isHidden y)) in
-    let old : hiddenCode (hideIf a b .visibility) ≡ a = code-hides (hideIf a b .visibility) ∙ hidden-if a b ∙ any-best c xs in
-    rw (more, best-snoc c xs y, rank-if a b, old, code-hides (y .visibility))
-    (by-test (ltb (ranked b) (ranked y)) (λ t. rw t (taken a y)) (λ t. rw t (passed a (isHidden y) b)))
+    let old : hiddenCode (hideIf a b .visibility) ≡ a = code-hides (hideIf a b .visibility) ∙ hidden-if a b ∙ any-best (ranked true) c xs in
+    rw (more, best-snoc (ranked true) c xs y, rank-if true a b, old, code-hides (y .visibility))
+    (by-test (ltb (ranked true b) (ranked true y)) (λ t. rw t (taken a y)) (λ t. rw t (passed a (isHidden y) b)))
 
 -- ---- what the row is, by profile
 
 -- hidden exactly if some add of the name is
 pub hidden-by : (c : Row) (xs : List Row) → isHidden (rowAfter true c xs) ≡ someHidden (c ∷ xs)
-hidden-by c xs = hidden-if (someHidden (c ∷ xs)) (best c xs) ∙ any-best c xs
+hidden-by c xs = hidden-if (someHidden (c ∷ xs)) (best (ranked true) c xs) ∙ any-best (ranked true) c xs
 
 pub same-by : (gabi : Bool) (l : List Row) (r : Row) → SameButHidden (hiddenBy gabi l r) r
 same-by false l r = record { name = refl; kind = refl; file = refl; weakness = refl; value = refl }

@@ -81,7 +81,7 @@ module _ (key : ℕ) (gabi : Bool) (bytes names symbols sections : List ℕ) (ne
     demand-3a n x xs e = subst (λ (g : Bool). Demand.Resolved g end n x xs) profile (Demand.resolved end _ kept n x xs e)
 
     -- the row apart from hidden, in both
-    pub content-3a : (n : ℕ) (x : Entry) (xs : List Entry) → adds n ≡ x ∷ xs → SameButHidden (rowAt (end .symbols) (x .id)) (firstOf (x .row) (rows xs))
+    pub content-3a : (n : ℕ) (x : Entry) (xs : List Entry) → adds n ≡ x ∷ xs → SameButHidden (rowAt (end .symbols) (x .id)) (firstOf gabi (x .row) (rows xs))
     content-3a n x xs e = Demand.content-apart end n x xs gabi (demand-3a n x xs e)
 
     -- hidden in the gABI profile
@@ -90,10 +90,10 @@ module _ (key : ℕ) (gabi : Bool) (bytes names symbols sections : List ℕ) (ne
 
     -- what a lookup by the name then answers
     pub lookup-row : (n : ℕ) (x : Entry) (xs : List Entry) → adds n ≡ x ∷ xs
-        → getGlobalOf (end .link) (end .names) (end .symbols) (record { 0 = n }) ≡ Fd.Row (symbolOf (record { 0 = x .id }) (hiddenBy gabi (rows (x ∷ xs)) (firstOf (x .row) (rows xs))))
+        → getGlobalOf (end .link) (end .names) (end .symbols) (record { 0 = n }) ≡ Fd.Row (symbolOf (record { 0 = x .id }) (hiddenBy gabi (rows (x ∷ xs)) (firstOf gabi (x .row) (rows xs))))
     lookup-row n x xs e =
         Within.lookup-row end _ kept within n x xs e
-        ∙ ap (λ (g : Bool). Fd.Row (symbolOf (record { 0 = x .id }) (hiddenBy g (rows (x ∷ xs)) (firstOf (x .row) (rows xs))))) profile
+        ∙ ap (λ (g : Bool). Fd.Row (symbolOf (record { 0 = x .id }) (hiddenBy g (rows (x ∷ xs)) (firstOf g (x .row) (rows xs))))) profile
 
     -- a name without accepted global add has no row, issued or not
     pub no-row : (n : ℕ) → adds n ≡ [] → n < end .link .names → globalAt (end .names) n ≡ 0
@@ -115,14 +115,14 @@ module _ (key : ℕ) (gabi : Bool) (bytes names symbols sections : List ℕ) (ne
 
     -- whichever symbols the rows mean
     pub gabi-agrees-any : (n : ℕ) (x : Entry) (xs : List Entry) → adds n ≡ x ∷ xs → (s : Sym) (ss : List Sym) → AllMean (rows (x ∷ xs)) (s ∷ ss)
-        → Agreement.Agrees gabi (x .row) (rows xs) s (rowAt (end .symbols) (x .id)) (resolve (s ∷ ss))
+        → Agreement.Agrees gabi (x .row) (rows xs) s ss (rowAt (end .symbols) (x .id)) (resolve (s ∷ ss))
     gabi-agrees-any n x xs e s ss m =
-        subst (λ (g : Bool). Agreement.Agrees g (x .row) (rows xs) s (rowAt (end .symbols) (x .id)) (resolve (s ∷ ss))) profile
+        subst (λ (g : Bool). Agreement.Agrees g (x .row) (rows xs) s ss (rowAt (end .symbols) (x .id)) (resolve (s ∷ ss))) profile
         (Agreement.accepted end _ kept n x xs e s ss m)
 
     -- of the symbols that are accepted under a name the gABI resolves to the one that the row has; undefined where it has none
     pub gabi-agrees : (n : ℕ) (x : Entry) (xs : List Entry) → adds n ≡ x ∷ xs
-        → Agreement.Agrees gabi (x .row) (rows xs) (symOfRow (x .row)) (rowAt (end .symbols) (x .id)) (resolve (symsOf (rows (x ∷ xs))))
+        → Agreement.Agrees gabi (x .row) (rows xs) (symOfRow (x .row)) (symsOf (rows xs)) (rowAt (end .symbols) (x .id)) (resolve (symsOf (rows (x ∷ xs))))
     gabi-agrees n x xs e = gabi-agrees-any n x xs e _ _ (all-mean-own (rows (x ∷ xs)))
 
     -- and in the gABI profile the row's visibility is the one that the gABI gives to that symbol

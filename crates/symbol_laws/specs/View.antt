@@ -60,7 +60,7 @@ module _ (t : Table) (r : Row) where
   decided = decidedOf t r File.None
 
   abbrev pub yields : Bool
-  yields = ltb (ranked (rowAt (t .symbols) held)) (ranked r)
+  yields = ltb (ranked (t .link .gabi) (rowAt (t .symbols) held)) (ranked (t .link .gabi) r)
 
   -- a global add under an issued name
   pub record Named : Type 0 where
@@ -73,9 +73,9 @@ module _ (t : Table) (r : Row) where
 
   pub data View : Type 0 where
     refused : (n : ℕ) → decided ≡ Refuse n → n ≢ 0 → View
-    kept : decided ≡ Keep (record { 0 = held }) → Named → held ≢ 0 → yields ≡ false → ranked r ≢ 4
+    kept : decided ≡ Keep (record { 0 = held }) → Named → held ≢ 0 → yields ≡ false → ranked (t .link .gabi) r ≢ 4
         → passHidden (t .link .gabi) (r .visibility) (rowAt (t .symbols) held) ≡ rowAt (t .symbols) held → View
-    amended : decided ≡ Amend (record { 0 = held }) → Named → held ≢ 0 → yields ≡ false → ranked r ≢ 4 → View
+    amended : decided ≡ Amend (record { 0 = held }) → Named → held ≢ 0 → yields ≡ false → ranked (t .link .gabi) r ≢ 4 → View
     replaced : decided ≡ Replace (record { 0 = held }) → Named → held ≢ 0 → yields ≡ true → View
     appended : decided ≡ Append → Free → Named → (held ≢ 0 → t .link .symbols ≤ held) → View
     local : decided ≡ Append → Free → r .visibility ≡ 0 → View
@@ -104,7 +104,7 @@ module _ (t : Table) (r : Row) where
 
   -- a known name
   kept-view : decided ≡ keptOf (t .link .gabi) (rowAt (t .symbols) held .visibility) (r .visibility) (record { 0 = held }) → Named → held ≢ 0 → yields ≡ false
-      → ranked r ≢ 4 → View
+      → ranked (t .link .gabi) r ≢ 4 → View
   unfolding keptOf
   kept-view e n s y k =
       by-test (passes (t .link .gabi) (r .visibility))
@@ -124,7 +124,7 @@ module _ (t : Table) (r : Row) where
       by-test (eqb (typeRefusal (r .kind)) 0) (λ k. replaced (e ∙ rw (h, y, k)) n s y)
       (λ k. refused (typeRefusal (r .kind)) (e ∙ rw (h, y, k)) (eqb-false _ _ k)))
       (λ y.
-      by-test (eqb (ranked r) 4) (λ k. refused 17 (e ∙ rw (h, y, k)) (λ z. omega arith)) (λ k. kept-view (e ∙ rw (h, y, k)) n s y (eqb-false _ _ k))))
+      by-test (eqb (ranked (t .link .gabi) r) 4) (λ k. refused 17 (e ∙ rw (h, y, k)) (λ z. omega arith)) (λ k. kept-view (e ∙ rw (h, y, k)) n s y (eqb-false _ _ k))))
 
   holder-is : leb (t .link .names) (r .name .0) ≡ false → directHolderOf (t .link) (t .names) (t .symbols) (r .name) File.None ≡ heldBy (t .link .symbols) (t .symbols) held
   unfolding directHolderOf issuedOf holderOf

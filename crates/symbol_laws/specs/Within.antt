@@ -243,7 +243,7 @@ module _ (s : State) (f : Fits s) (w : Within (s .link) (s .names)) where
 
 module _ (s : State) (past : List Entry) (inv : Inv s past) (w : Within (s .link) (s .names)) where
   pub lookup-row : (n : ℕ) (x : Entry) (xs : List Entry) → only n past ≡ x ∷ xs
-      → getGlobalOf (s .link) (s .names) (s .symbols) (record { 0 = n }) ≡ Fd.Row (symbolOf (record { 0 = x .id }) (hiddenBy (s .link .gabi) (rows (x ∷ xs)) (firstOf (x .row) (rows xs))))
+      → getGlobalOf (s .link) (s .names) (s .symbols) (record { 0 = n }) ≡ Fd.Row (symbolOf (record { 0 = x .id }) (hiddenBy (s .link .gabi) (rows (x ∷ xs)) (firstOf (s .link .gabi) (x .row) (rows xs))))
   lookup-row n x xs e =
       looked s (inv-fits s past inv) w n (Known (record { 0 = x .id })) (holder-known s past inv n x xs e)
       ∙ ap Fd.Row (means (s .symbols) (record { 0 = x .id }) ∙ ap (symbolOf (record { 0 = x .id })) (resolved s past inv n x xs e .terms))

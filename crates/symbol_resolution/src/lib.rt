@@ -1,6 +1,6 @@
 // What an add decides on a row under its name's holder; nothing is written.
 ghost use mathlib.Core.Path.{_≡_};
-ghost use Rattle.symbol_rows.specs.Decide.{weakOf, rankOf, typeRefusal, roomOf, newOf, replaceOf, keptOf, knownOf, namedOf, localOf, decideOf};
+ghost use Rattle.symbol_rows.specs.Decide.{weakOf, referenceRank, rankOf, typeRefusal, roomOf, newOf, replaceOf, keptOf, knownOf, namedOf, localOf, decideOf};
 use link::Link;
 use link::SectionId;
 use link::SymbolId;
@@ -20,12 +20,25 @@ fn is_weak(visibility: u64) -> bool
     false
 }
 
-// Undefined 0, a weak definition 2, a strong one 4: a row yields to an add of a greater rank.
-fn rank(visibility: u64, value: u64) -> u64
-    ensures { λ r. ⌜ r ≡ rankOf visibility value ⌝ }
+// In the gABI profile a strong reference stands above a weak one.
+fn reference_rank(gabi: bool, visibility: u64) -> u64
+    ensures { λ r. ⌜ r ≡ referenceRank gabi visibility ⌝ }
+{
+    if gabi {
+        if is_weak(visibility) {
+            return 0;
+        }
+        return 1;
+    }
+    0
+}
+
+// A reference 0 or 1, a weak definition 2, a strong one 4: a row yields to an add of a greater rank.
+fn rank(gabi: bool, visibility: u64, value: u64) -> u64
+    ensures { λ r. ⌜ r ≡ rankOf gabi visibility value ⌝ }
 {
     if value == 7 {
-        return 0;
+        return reference_rank(gabi, visibility);
     }
     if is_weak(visibility) {
         return 2;
@@ -114,9 +127,9 @@ fn decide_known(gabi: bool, symbols: &[u64], row: Row, id: SymbolId) -> Decision
     if 13 <= v.kind {
         return Decision::Refuse { number: v.kind };
     }
-    let new = rank(row.visibility, v.kind);
+    let new = rank(gabi, row.visibility, v.kind);
     let shown = cells::row_get(symbols, id.0, 4);
-    let old = rank(shown, cells::row_get(symbols, id.0, 5));
+    let old = rank(gabi, shown, cells::row_get(symbols, id.0, 5));
     if old < new {
         return decide_replace(row, id);
     }

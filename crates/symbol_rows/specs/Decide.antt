@@ -19,9 +19,13 @@ use Rattle.symbol_rows.specs.declared.Decision.the-variants.{Refuse, Not
 unfoldable pub weakOf : ℕ → Bool
 weakOf v = cond (eqb v 3) true (cond (eqb v 4) true false)
 
--- "A definition is any value but `Undefined`": undefined 0, a weak definition 2, a strong one 4
-unfoldable pub rankOf : ℕ → ℕ → ℕ
-rankOf visibility value = cond (eqb value 7) 0 (cond (weakOf visibility) 2 4)
+-- a reference: 0; in the gABI profile a strong one 1, so that it "turns a weak undefined row into a strong undefined one" (2026-07)
+unfoldable pub referenceRank : Bool → ℕ → ℕ
+referenceRank gabi visibility = cond gabi (cond (weakOf visibility) 0 1) 0
+
+-- "A definition is any value but `Undefined`": a reference, then a weak definition 2, a strong one 4
+unfoldable pub rankOf : Bool → ℕ → ℕ → ℕ
+rankOf gabi visibility value = cond (eqb value 7) (referenceRank gabi visibility) (cond (weakOf visibility) 2 4)
 
 -- type 4 in add: 15; above: 16
 unfoldable pub typeRefusal : ℕ → ℕ
@@ -62,8 +66,8 @@ rankedOf gabi v old new r id = cond (ltb old new) (replaceOf r id) (cond (eqb ne
 unfoldable pub knownOf : Bool → List ℕ → Row → SymbolId → Decision
 knownOf gabi symbols r id =
     cond (leb 13 (r .value .kind)) (Refuse (r .value .kind))
-    (rankedOf gabi (visibilityCodeAt symbols (id .0)) (rankOf (visibilityCodeAt symbols (id .0)) (field symbols (id .0) 5))
-    (rankOf (r .visibility) (r .value .kind)) r id)
+    (rankedOf gabi (visibilityCodeAt symbols (id .0)) (rankOf gabi (visibilityCodeAt symbols (id .0)) (field symbols (id .0) 5))
+    (rankOf gabi (r .visibility) (r .value .kind)) r id)
 
 -- "a name id never issued, or a global or weak name whose row was removed, gives 21"
 abbrev pub namedOf : Link → List ℕ → List ℕ → Row → Holder → Decision

@@ -21,7 +21,7 @@ use Rattle.symbol_rows.specs.declared.Holder.the-variants.{Nobody, Remov
 use Rattle.symbol_rows.specs.declared.Decision.{Decision}
 use Rattle.symbol_rows.specs.declared.Decision.the-variants.{Refuse, Keep, Append, Replace, Amend}
 use Rattle.symbol_rows.specs.Holder.{globalAt, heldBy, holderOf}
-use Rattle.symbol_rows.specs.Decide.{weakOf, rankOf, typeRefusal, sectionCell, sectionRoom, roomOf, newOf, replaceOf, keptOf, rankedOf, knownOf, namedOf, localOf, decideOf, idOf}
+use Rattle.symbol_rows.specs.Decide.{weakOf, referenceRank, rankOf, typeRefusal, sectionCell, sectionRoom, roomOf, newOf, replaceOf, keptOf, rankedOf, knownOf, namedOf, localOf, decideOf, idOf}
 
 module _ (l : Link) (names symbols : List ℕ) (name : Interned) (t : Holder) where
   pub holder-new : l .names ≤ name .0 → t ≡ Nobody → t ≡ holderOf l names symbols name
@@ -61,17 +61,30 @@ module _ (v : ℕ) (t : Bool) where
   unfolding weakOf
   weak-not n m q = simp (q, ne-eqb _ _ n, ne-eqb _ _ m)
 
-module _ (visibility value t : ℕ) where
-  pub rank-undefined : value ≡ 7 → t ≡ 0 → t ≡ rankOf visibility value
+module _ (gabi : Bool) (visibility value t : ℕ) where
+  pub reference-old : gabi ≡ false → t ≡ 0 → t ≡ referenceRank gabi visibility
+  unfolding referenceRank
+  reference-old e q = simp (q, e)
+
+  module _ (weak : Bool) where
+    pub reference-weak : gabi ≡ true → weak ≡ weakOf visibility → weak ≡ true → t ≡ 0 → t ≡ referenceRank gabi visibility
+    unfolding referenceRank
+    reference-weak e f h q = simp (q, e, ← f, h)
+
+    pub reference-strong : gabi ≡ true → weak ≡ weakOf visibility → weak ≡ false → t ≡ 1 → t ≡ referenceRank gabi visibility
+    unfolding referenceRank
+    reference-strong e f h q = simp (q, e, ← f, h)
+
+  pub rank-undefined : value ≡ 7 → t ≡ referenceRank gabi visibility → t ≡ rankOf gabi visibility value
   unfolding rankOf
   rank-undefined e q = simp (q, eq-eqb _ _ e)
 
   module _ (weak : Bool) where
-    pub rank-weak : (value ≡ 7 → ⊥) → weak ≡ weakOf visibility → weak ≡ true → t ≡ 2 → t ≡ rankOf visibility value
+    pub rank-weak : (value ≡ 7 → ⊥) → weak ≡ weakOf visibility → weak ≡ true → t ≡ 2 → t ≡ rankOf gabi visibility value
     unfolding rankOf
     rank-weak n e f q = simp (q, ne-eqb _ _ n, ← e, f)
 
-    pub rank-strong : (value ≡ 7 → ⊥) → weak ≡ weakOf visibility → weak ≡ false → t ≡ 4 → t ≡ rankOf visibility value
+    pub rank-strong : (value ≡ 7 → ⊥) → weak ≡ weakOf visibility → weak ≡ false → t ≡ 4 → t ≡ rankOf gabi visibility value
     unfolding rankOf
     rank-strong n e f q = simp (q, ne-eqb _ _ n, ← e, f)
 
@@ -181,18 +194,18 @@ module _ (gabi : Bool) (symbols : List ℕ) (r : Row) (id : SymbolId) (t : Decis
 
   -- the row's visibility and kind of value, and both ranks
   module _ (v k old new : ℕ) where
-    pub known-yields : r .value .kind < 13 → new ≡ rankOf (r .visibility) (r .value .kind) → v ≡ visibilityCodeAt symbols (id .0) → k ≡ field symbols (id .0) 5
-        → old ≡ rankOf v k → old < new → t ≡ replaceOf r id → t ≡ knownOf gabi symbols r id
+    pub known-yields : r .value .kind < 13 → new ≡ rankOf gabi (r .visibility) (r .value .kind) → v ≡ visibilityCodeAt symbols (id .0) → k ≡ field symbols (id .0) 5
+        → old ≡ rankOf gabi v k → old < new → t ≡ replaceOf r id → t ≡ knownOf gabi symbols r id
     unfolding knownOf rankedOf
     known-yields h e a b f g q = simp (q, lt-leb _ _ h, ← e, ← a, ← b, ← f, lt-ltb _ _ g)
 
-    pub known-twice : r .value .kind < 13 → new ≡ rankOf (r .visibility) (r .value .kind) → v ≡ visibilityCodeAt symbols (id .0) → k ≡ field symbols (id .0) 5
-        → old ≡ rankOf v k → new ≤ old → new ≡ 4 → t ≡ Refuse 17 → t ≡ knownOf gabi symbols r id
+    pub known-twice : r .value .kind < 13 → new ≡ rankOf gabi (r .visibility) (r .value .kind) → v ≡ visibilityCodeAt symbols (id .0) → k ≡ field symbols (id .0) 5
+        → old ≡ rankOf gabi v k → new ≤ old → new ≡ 4 → t ≡ Refuse 17 → t ≡ knownOf gabi symbols r id
     unfolding knownOf rankedOf
     known-twice h e a b f g i q = simp (q, lt-leb _ _ h, ← e, ← a, ← b, ← f, le-ltb _ _ g, eq-eqb _ _ i)
 
-    pub known-kept : r .value .kind < 13 → new ≡ rankOf (r .visibility) (r .value .kind) → v ≡ visibilityCodeAt symbols (id .0) → k ≡ field symbols (id .0) 5
-        → old ≡ rankOf v k → new ≤ old → (new ≡ 4 → ⊥) → t ≡ keptOf gabi v (r .visibility) id → t ≡ knownOf gabi symbols r id
+    pub known-kept : r .value .kind < 13 → new ≡ rankOf gabi (r .visibility) (r .value .kind) → v ≡ visibilityCodeAt symbols (id .0) → k ≡ field symbols (id .0) 5
+        → old ≡ rankOf gabi v k → new ≤ old → (new ≡ 4 → ⊥) → t ≡ keptOf gabi v (r .visibility) id → t ≡ knownOf gabi symbols r id
     unfolding knownOf rankedOf
     known-kept h e a b f g n q = simp (q, lt-leb _ _ h, ← e, ← a, ← b, ← f, le-ltb _ _ g, ne-eqb _ _ n)
 

@@ -163,13 +163,23 @@ cases =
     -- P6: local hidden
     ∷ both 4 (line 1 0 2 0 1 0 ∷ []) (refused 11 ∷ []) (null ∷ [])
     -- P7: weak then strong reference: weak
-    ∷ both 4 (line 1 2 0 0 0 0 ∷ line 1 1 0 0 0 0 ∷ []) (accepted 1 ∷ accepted 1 ∷ []) (null ∷ symbol 1 1 Ty.NoType weak (Val.Undefined true) ∷ [])
+    ∷ adds old 4 (line 1 2 0 0 0 0 ∷ line 1 1 0 0 0 0 ∷ []) (accepted 1 ∷ accepted 1 ∷ []) (null ∷ symbol 1 1 Ty.NoType weak (Val.Undefined true) ∷ [])
+    -- 2026-07: strong, with all of its content; a further weak reference, or a strong one, changes nothing
+    ∷ adds gabi 4 (line 1 2 0 0 0 0 ∷ line 1 1 0 2 0 0 ∷ line 1 2 0 0 0 0 ∷ line 1 1 0 1 0 0 ∷ []) (accepted 1 ∷ accepted 1 ∷ accepted 1 ∷ accepted 1 ∷ [])
+    (null ∷ symbol 1 1 Ty.Function strong (Val.Undefined false) ∷ [])
+    -- the add's hidden with it
+    ∷ adds gabi 4 (line 1 2 0 0 0 0 ∷ line 1 1 2 0 0 0 ∷ []) (accepted 1 ∷ accepted 1 ∷ []) (null ∷ symbol 1 1 Ty.NoType hidden (Val.Undefined false) ∷ [])
+    -- a weak definition stays
+    ∷ both 4 (line 1 2 0 2 1 0 ∷ line 1 1 0 0 0 0 ∷ []) (accepted 1 ∷ accepted 1 ∷ []) (null ∷ symbol 1 1 Ty.Function weak (relative 1 0) ∷ [])
     -- P8: non-COMDAT, zero sections: 4; COMDAT: 5
     ∷ group Groups.p8
     ∷ group Groups.p8Comdat
     -- P9: undefined of type 4 under a known name is accepted; new: 15
     ∷ both 4 (line 1 1 0 2 1 0 ∷ line 1 1 0 4 0 0 ∷ line 2 1 0 4 0 0 ∷ []) (accepted 1 ∷ accepted 1 ∷ refused 15 ∷ [])
     (null ∷ symbol 1 1 Ty.Function strong (relative 1 0) ∷ [])
+    -- but for "a strong type 4 reference to a weak undefined name, which gets 15" in the gABI profile; above 4: 16
+    ∷ adds old 4 (line 1 2 0 0 0 0 ∷ line 1 1 0 4 0 0 ∷ line 1 1 0 10 0 0 ∷ []) (accepted 1 ∷ accepted 1 ∷ accepted 1 ∷ []) (null ∷ symbol 1 1 Ty.NoType weak (Val.Undefined true) ∷ [])
+    ∷ adds gabi 4 (line 1 2 0 0 0 0 ∷ line 1 1 0 4 0 0 ∷ line 1 1 0 10 0 0 ∷ []) (accepted 1 ∷ refused 15 ∷ refused 16 ∷ []) (null ∷ symbol 1 1 Ty.NoType weak (Val.Undefined true) ∷ [])
     -- P10: one name to A and B, undefined: both are offered
     ∷ walk Walks.p10
     ∷ walk (Walks.p10In true)
@@ -216,6 +226,6 @@ All P [] = Unit {0}
 All P (x ∷ xs) = P x × All P xs
 
 pub promises : All Right cases
-unfolding start putRow same copied lesser Judge.judgeSections Judge.judgeNames Judge.judgeLists Judge.afterSymbols Judge.afterSections Judge.judgeOf Judge.changeOf wordAt Keyed.folded Keyed.mixed Keyed.hashFrom Keyed.pointOf Keyed.hashOf spread headCell Names.chase Names.seekOf Names.findFrom Names.findOf Names.roomOf Names.fitsOf Names.linked Names.keepOf Interns.issueOf Interns.internOf Interns.clearHeads Interns.newOf offsetOf wordOf typeAt successor fileAt visibilityAt valueAt symbolAt setRow Fields.sectionInRange Fields.elfInRange Fields.externalInRange Fields.shownOf Fields.hiddenOf Fields.judgeOf inSection conversionFrom convertedOf undefinedOf valueOf elfRowOf libraryCode externalRowOf heldBy holderOf Decide.weakOf Decide.rankOf Decide.typeRefusal Decide.sectionCell Decide.sectionRoom Decide.roomOf Decide.newOf Decide.replaceOf hiddenCode hideCode showCode passes hideIf passHidden Decide.keptOf Decide.rankedOf Decide.knownOf Decide.decideOf noteName setSectionSymbol noteSection appendOf replacedIn amendedIn applyOf clearSymbols nullOf newOf judgeAddOf issuedOf directHolderOf placeOf decidedOf committedOf addRowOf addOf foundAt getOf
+unfolding start putRow same copied lesser Judge.judgeSections Judge.judgeNames Judge.judgeLists Judge.afterSymbols Judge.afterSections Judge.judgeOf Judge.changeOf wordAt Keyed.folded Keyed.mixed Keyed.hashFrom Keyed.pointOf Keyed.hashOf spread headCell Names.chase Names.seekOf Names.findFrom Names.findOf Names.roomOf Names.fitsOf Names.linked Names.keepOf Interns.issueOf Interns.internOf Interns.clearHeads Interns.newOf offsetOf wordOf typeAt successor fileAt visibilityAt valueAt symbolAt setRow Fields.sectionInRange Fields.elfInRange Fields.externalInRange Fields.shownOf Fields.hiddenOf Fields.judgeOf inSection conversionFrom convertedOf undefinedOf valueOf elfRowOf libraryCode externalRowOf heldBy holderOf Decide.weakOf Decide.referenceRank Decide.rankOf Decide.typeRefusal Decide.sectionCell Decide.sectionRoom Decide.roomOf Decide.newOf Decide.replaceOf hiddenCode hideCode showCode passes hideIf passHidden Decide.keptOf Decide.rankedOf Decide.knownOf Decide.decideOf noteName setSectionSymbol noteSection appendOf replacedIn amendedIn applyOf clearSymbols nullOf newOf judgeAddOf issuedOf directHolderOf placeOf decidedOf committedOf addRowOf addOf foundAt getOf
 promises =
-    (((refl, refl, refl), (refl, refl, refl)), (((refl, refl, refl), (refl, refl, refl)), (refl, (refl, (((refl, refl, refl), (refl, refl, refl)), (((refl, refl, refl), (refl, refl, refl)), (((refl, refl, refl), (refl, refl, refl)), (Groups.p8-right, (Groups.p8-comdat-right, (((refl, refl, refl), (refl, refl, refl)), (Walks.p10-right, (Walks.p10-gabi-right, (Walks.p11-right, (Walks.p11-gabi-right, (Walks.weak-ties-right, (Walks.weak-ties-none-right, (Collections.p12-right, (((refl, refl, refl), (refl, refl, refl)), ((refl, refl, refl), ((refl, refl, refl), (((refl, refl, refl), (refl, refl, refl)), (((refl, refl, refl), (refl, refl, refl)), (((refl, refl, refl), (refl, refl, refl)), ((refl, refl, refl), ((refl, refl, refl), ((refl, refl, refl), ((refl, refl, refl), ((refl, refl, refl), ((refl, refl, refl), ((refl, refl, refl), ((refl, refl, refl), (((refl, refl, refl), (refl, refl, refl)), tt))))))))))))))))))))))))))))))))
+    (((refl, refl, refl), (refl, refl, refl)), (((refl, refl, refl), (refl, refl, refl)), (refl, (refl, (((refl, refl, refl), (refl, refl, refl)), (((refl, refl, refl), (refl, refl, refl)), ((refl, refl, refl), ((refl, refl, refl), ((refl, refl, refl), (((refl, refl, refl), (refl, refl, refl)), (Groups.p8-right, (Groups.p8-comdat-right, (((refl, refl, refl), (refl, refl, refl)), ((refl, refl, refl), ((refl, refl, refl), (Walks.p10-right, (Walks.p10-gabi-right, (Walks.p11-right, (Walks.p11-gabi-right, (Walks.weak-ties-right, (Walks.weak-ties-none-right, (Collections.p12-right, (((refl, refl, refl), (refl, refl, refl)), ((refl, refl, refl), ((refl, refl, refl), (((refl, refl, refl), (refl, refl, refl)), (((refl, refl, refl), (refl, refl, refl)), (((refl, refl, refl), (refl, refl, refl)), ((refl, refl, refl), ((refl, refl, refl), ((refl, refl, refl), ((refl, refl, refl), ((refl, refl, refl), ((refl, refl, refl), ((refl, refl, refl), ((refl, refl, refl), (((refl, refl, refl), (refl, refl, refl)), tt)))))))))))))))))))))))))))))))))))))

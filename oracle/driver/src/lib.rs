@@ -58,6 +58,10 @@ pub fn run_command() {
             Some(list) => print(&list),
             None => Err(format!("no list {kind}")),
         },
+        ["tried", kind, seed, count] => match histories(kind, number(seed), number(count)) {
+            Some((_, seen)) => print(&seen.lines()),
+            None => Err(format!("no list {kind}")),
+        },
         ["sheet"] => read_all().and_then(|text| print(&sheet::answer(&text)?)),
         ["reading"] => read_all().and_then(|text| print(&reading(&text)?)),
         ["differences"] => print(&differences::show()),

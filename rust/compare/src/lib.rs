@@ -165,6 +165,25 @@ mod tests {
         assert_eq!([3, 8, 13, 18].map(hidden), [false, true, true, false]);
     }
 
+    /// The row is strong in the gABI profile alone, and there a type that doesn't pass is refused.
+    #[test]
+    fn a_strong_reference_after_a_weak_one() {
+        let lines = [
+            "add elf a 2 1 0 0 0 0 -",
+            "add elf a 1 4 0 0 0 0 -",
+            "add elf a 1 2 0 0 0 0 -",
+            "global a",
+        ];
+        let links = ["link", "link gabi"];
+        let lines: Vec<_> = links.iter().flat_map(|link| [&[*link], &lines[..]].concat()).collect();
+        assert!(run(&lines).iter().all(|outcome| matches!(outcome, Outcome::Same)));
+        let mut ours = Ours::new();
+        let answers: Vec<_> = lines.iter().flat_map(|line| ours.line(line)).collect();
+        assert_eq!(answers[..4], ["id 1", "id 1", "id 1", "symbol 1 a weak 0 1 0 - undef 1"]);
+        let gabi = ["id 1", "refused 15 0", "id 1", "symbol 1 a global 0 2 0 - undef 0"];
+        assert_eq!(answers[4..], gabi);
+    }
+
     #[test]
     fn a_panic_is_an_answer() {
         assert_eq!(Ours::new().line("next"), ["panicked: a walk"]);

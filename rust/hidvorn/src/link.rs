@@ -54,12 +54,13 @@ impl Default for Capacity {
 pub enum Profile {
     /// The old profile, cuddld's answers: an undefined name pulls archive members though its
     /// reference is weak; a symbol of binding 1, defined or not, admits a member; a row is hidden
-    /// if the symbol that holds it is.
+    /// if the symbol that holds it is; without a definition the first reference holds the name's row.
     #[default]
     Old,
     /// By the gABI's letter: a weak reference pulls no member; a global or weak definition, and
     /// nothing else, admits one; a hidden symbol of any object hides its name's row, whoever holds
-    /// it. A shared object's symbol hides none.
+    /// it. A shared object's symbol hides none. A strong reference takes the row of a weak one, if
+    /// its type passes, so that the name pulls members and makes a library needed.
     Gabi,
 }
 

@@ -7,6 +7,7 @@ pub rank-spec : {M : Type 1} → statement M
 rank-spec =
     tie.close
     (tie.spec
+    (λ c κs. search needs)
     (λ c. search rank-undefined)
     (λ c κs. search needs)
     (λ c. search rank-weak)

@@ -1,4 +1,5 @@
 //! Direct adds, removes and lookups.
+use super::references;
 use super::script::Script;
 use crate::form;
 
@@ -61,6 +62,38 @@ const SECTIONS: [&str; 9] = [
     "remove 3",
 ];
 
+/// References to a name, weak and strong, with what may hold it instead. For the gABI profile.
+const REFERENCES: [&str; 14] = [
+    "add elf a 2 1 0 0 0 1 w",
+    "add elf a 2 0 2 0 0 0 -",
+    "add elf a 1 2 0 0 5 1 s",
+    "add elf a 1 3 2 0 0 0 -",
+    "add elf a 1 4 0 0 0 0 -",
+    "add elf a 1 4 2 0 0 0 -",
+    "add elf a 1 10 0 0 0 0 -",
+    "add unknown a",
+    "add hidden a undef 0",
+    "add hidden a undef 1",
+    "add elf a 2 0 0 65521 3 0 -",
+    "add elf a 1 0 0 65521 4 0 -",
+    "add external a 2 0",
+    "remove 1",
+];
+
+/// Whether the name ties a member, and whether it makes a library needed.
+const WANTED: [&str; 10] = [
+    "global a",
+    "archive 1 1",
+    "entry 8 a",
+    "index 00000001000000086100",
+    "start",
+    "next",
+    "library 1 0 - 1 l 1 0",
+    "strings 006100",
+    "symbol 1 1 0 0 1 0",
+    "load",
+];
+
 /// Every short word over small alphabets; the seed and the count play no part.
 pub(crate) fn short(script: &mut Script, _: u64) {
     script.say(CONVERSION);
@@ -79,6 +112,20 @@ pub(crate) fn short(script: &mut Script, _: u64) {
         script.say("sectionsymbol 1");
         script.say("global -");
     }
+    if script.random.gabi {
+        short_references(script);
+    }
+}
+
+fn short_references(script: &mut Script) {
+    for word in words(REFERENCES.len(), 3) {
+        script.link();
+        let word = word.iter().map(|letter| REFERENCES[*letter]);
+        for line in word.chain(WANTED) {
+            script.say(line);
+        }
+        script.say("global a");
+    }
 }
 
 /// All words of a length over so many letters.
@@ -95,7 +142,7 @@ fn words(letters: usize, length: usize) -> Vec<Vec<usize>> {
     out
 }
 
-const NAMES: [&str; 8] = ["a", "b", "c", "d", "mute", "clear", "-", "a.long.name_with$signs"];
+const NAMES: [&str; 8] = ["a", "b", "c", "d", "mute", "clear", "", "a.long.name_with$signs"];
 
 pub(crate) fn random(script: &mut Script, count: u64) {
     for _ in 0..count {
@@ -103,6 +150,9 @@ pub(crate) fn random(script: &mut Script, count: u64) {
         script.link();
         let length = script.random.between(4, 30);
         for _ in 0..length {
+            if script.random.gabi && script.random.chance(8) {
+                references::directly(script, &NAMES);
+            }
             match script.random.below(100) {
                 0..70 => {
                     let line = add(script);
@@ -117,7 +167,7 @@ pub(crate) fn random(script: &mut Script, count: u64) {
                     script.say(format!("get {id}"));
                 }
                 86..93 => {
-                    let name = script.random.pick(&NAMES);
+                    let name = form::name(script.random.pick(&NAMES));
                     script.say(format!("global {name}"));
                 }
                 _ => {
@@ -156,7 +206,7 @@ fn some_id(script: &mut Script) -> u64 {
 /// A direct add of any variant.
 pub(crate) fn add(script: &mut Script) -> String {
     let random = &mut script.random;
-    let name = random.pick(&NAMES);
+    let name = form::name(random.pick(&NAMES));
     match random.below(20) {
         0 => "add null".into(),
         1 | 2 => format!("add section {}", random.below(7)),

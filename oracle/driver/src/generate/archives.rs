@@ -2,6 +2,7 @@
 use super::merges::{self, refused};
 use super::objects::{Plan, object, offset};
 use super::random::Random;
+use super::references;
 use super::script::Script;
 use crate::form;
 use crate::rows::{ABSOLUTE, COMMON, ObjectRows, SectionRow, SymbolRow};
@@ -78,7 +79,7 @@ fn member<'a>(random: &mut Random, names: &[&'a str], strong: &mut Vec<&'a str>)
         if random.chance(8) {
             continue;
         }
-        if random.hides && random.chance(10) {
+        if random.gabi && random.chance(10) {
             // What defines a name in no section of the member, and a binding that admits none.
             symbol(name, random.pick(&[1, 2, 3]), random.pick(&[1, ABSOLUTE, COMMON]));
             continue;
@@ -100,6 +101,13 @@ fn member<'a>(random: &mut Random, names: &[&'a str], strong: &mut Vec<&'a str>)
         symbol(random.pick(&NAMES), random.pick(&[1, 1, 2]), 0);
     }
     let mut rows = one_section(random, &symbols);
+    if random.gabi && random.chance(6) {
+        // A reference of a type that no row may have.
+        let references = |row: &&mut SymbolRow| (row.binding, row.section) == (1, 0);
+        if let Some(row) = rows.symbols.iter_mut().find(references) {
+            row.kind = references::kind(random, 100);
+        }
+    }
     // At times `matches` looks where a merge doesn't, or finds no strings.
     match random.below(25) {
         0 => rows.sections[2].kind = 10,
@@ -112,7 +120,7 @@ fn member<'a>(random: &mut Random, names: &[&'a str], strong: &mut Vec<&'a str>)
 }
 
 /// An object of one program section, and symbols given by name, binding and section.
-fn one_section(random: &mut Random, wanted: &[(&str, u64, u64)]) -> ObjectRows {
+pub(super) fn one_section(random: &mut Random, wanted: &[(&str, u64, u64)]) -> ObjectRows {
     let mut strings = vec![0];
     let mut symbols = vec![SymbolRow::default()];
     for (name, binding, section) in wanted {
@@ -157,7 +165,7 @@ pub(super) fn describe(script: &mut Script, made: &Made) {
 pub(super) fn references(script: &mut Script) {
     for _ in 0..script.random.between(1, 3) {
         let (name, binding) = (script.random.pick(&NAMES), script.random.pick(&[1, 1, 2]));
-        if script.random.hides && script.random.chance(20) {
+        if script.random.gabi && script.random.chance(20) {
             // Strong, though it may be zero by default.
             let zero = script.random.below(2);
             script.say(format!("add hidden {name} undef {zero}"));
@@ -168,9 +176,18 @@ pub(super) fn references(script: &mut Script) {
     }
 }
 
+/// In some links of the gABI profile. Answers whether the link is broken.
+fn weak_then_strong(script: &mut Script) -> bool {
+    script.random.gabi && script.random.chance(30) && references::weak_then_strong(script, &NAMES)
+}
+
 pub(crate) fn steps(script: &mut Script, count: u64) {
     for _ in 0..count {
         script.link();
+        if weak_then_strong(script) {
+            script.say("dump");
+            continue;
+        }
         references(script);
         let made = archive(&mut script.random);
         describe(script, &made);
@@ -236,6 +253,9 @@ pub(super) fn walk_in_steps(script: &mut Script, made: &Made) -> bool {
 /// Calls between two steps: a name defined since, a new reference, a removal.
 fn between(script: &mut Script) {
     let name = script.random.pick(&NAMES);
+    if script.random.gabi && script.random.chance(50) {
+        return references::direct(script, name);
+    }
     match script.random.below(5) {
         0 | 1 => {
             let visibility = script.random.hidden();
@@ -252,6 +272,10 @@ fn between(script: &mut Script) {
 pub(crate) fn walks(script: &mut Script, count: u64) {
     for _ in 0..count {
         script.link();
+        if weak_then_strong(script) {
+            script.say("dump");
+            continue;
+        }
         references(script);
         if script.random.chance(8) {
             let id = script.random.below(script.symbol_count());

@@ -2,6 +2,7 @@
 use super::merges::{self, refused};
 use super::objects::{object, offset};
 use super::random::Random;
+use super::references;
 use super::script::Script;
 use crate::form;
 use crate::rows::{ABSOLUTE, COMMON, LibraryRows, SymbolRow};
@@ -36,6 +37,12 @@ pub(crate) fn links(script: &mut Script, count: u64) {
         }
         for _ in 0..script.random.between(1, 6) {
             let mut rows = library(&mut script.random);
+            if script.random.gabi && script.random.chance(25) {
+                // Names that it may be needed for.
+                if references::weak_then_strong(script, &NAMES) {
+                    break;
+                }
+            }
             if script.random.chance(25) {
                 damage(&mut script.random, &mut rows);
             }
@@ -51,7 +58,7 @@ pub(crate) fn links(script: &mut Script, count: u64) {
                     break;
                 }
             }
-            if script.random.hides && script.random.chance(40) {
+            if script.random.gabi && script.random.chance(40) {
                 // A row that the library holds may be hidden by a reference.
                 let name = form::name(script.random.pick(&NAMES));
                 let (binding, visibility) = (script.random.between(1, 2), script.random.hidden());

@@ -2,6 +2,7 @@
 use super::adds;
 use super::damage;
 use super::objects::{Plan, object};
+use super::references;
 use super::script::Script;
 
 /// For the direct adds between merges.
@@ -50,6 +51,12 @@ pub(crate) fn histories(script: &mut Script, count: u64) {
                 }
             }
             direct_calls(script);
+            if script.random.gabi
+                && script.random.chance(15)
+                && references::weak_then_strong(script, &["a", "mute", "clear", "a3", "b3"])
+            {
+                break;
+            }
         }
         end(script);
     }

@@ -7,6 +7,7 @@ use super::front;
 use super::libraries;
 use super::merges::{self, refused};
 use super::objects::object;
+use super::references;
 use super::script::Script;
 
 pub(crate) fn links(script: &mut Script, count: u64) {
@@ -31,6 +32,9 @@ pub(crate) fn links(script: &mut Script, count: u64) {
 
 /// Answers whether the step broke the link.
 fn step(script: &mut Script, place: u64) -> bool {
+    if script.random.gabi && script.random.chance(10) {
+        return references::weak_then_strong(script, &["a", "b", "c", "mute", "clear"]);
+    }
     match script.random.below(12) {
         0..4 => merge(script, place),
         4..6 => {

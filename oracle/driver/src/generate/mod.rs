@@ -9,6 +9,7 @@ mod merges;
 mod mixed;
 mod objects;
 mod random;
+mod references;
 mod script;
 mod sheets;
 

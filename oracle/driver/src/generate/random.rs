@@ -2,27 +2,28 @@
 
 pub struct Random {
     state: u64,
-    /// Hidden symbols are to be frequent: for links of the gABI profile.
-    pub(crate) hides: bool,
+    /// For links of the gABI profile: hidden symbols are to be frequent, and strong references after
+    /// weak ones.
+    pub(crate) gabi: bool,
 }
 
 impl Random {
     pub fn new(seed: u64) -> Self {
-        Random { state: seed, hides: false }
+        Random { state: seed, gabi: false }
     }
 
-    pub(crate) fn hiding(seed: u64) -> Self {
-        Random { state: seed, hides: true }
+    pub(crate) fn gabi(seed: u64) -> Self {
+        Random { state: seed, gabi: true }
     }
 
     /// The visibility of a symbol that is to be accepted: default, or often hidden.
     pub(crate) fn hidden(&mut self) -> u64 {
-        if self.hides && self.chance(40) { 2 } else { 0 }
+        if self.gabi && self.chance(40) { 2 } else { 0 }
     }
 
     /// One of these visibilities, or often hidden.
     pub(crate) fn visibility(&mut self, usual: &[u64]) -> u64 {
-        if self.hides && self.chance(30) { 2 } else { self.pick(usual) }
+        if self.gabi && self.chance(30) { 2 } else { self.pick(usual) }
     }
 
     pub(crate) fn next(&mut self) -> u64 {

@@ -29,7 +29,7 @@ impl Script {
 
     /// Its links are of the gABI profile, with many hidden symbols.
     pub(crate) fn gabi(seed: u64) -> Self {
-        Script { random: Random::hiding(seed), gabi: true, ..Script::new(seed) }
+        Script { random: Random::gabi(seed), gabi: true, ..Script::new(seed) }
     }
 
     pub(crate) fn said(self) -> (Vec<Said>, Seen) {

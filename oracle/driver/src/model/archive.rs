@@ -49,15 +49,17 @@ impl Walk {
             if table.gabi && row.is_weak() {
                 weak = true;
             } else {
-                tied.push((*offset, name.clone()));
+                tied.push((*offset, name.clone(), row.strengthened));
             }
         }
         table.see(|seen| seen.passes_tied_less += weak as u64);
         self.passes += 1;
-        for (offset, _) in &tied {
+        for (offset, ..) in &tied {
             if self.offered.insert(*offset) {
-                let names = tied.iter().filter(|(other, _)| other == offset);
-                self.queue.push_back((*offset, names.map(|(_, name)| name.clone()).collect()));
+                let names = tied.iter().filter(|(other, ..)| other == offset);
+                let strengthened = names.clone().all(|(.., strengthened)| *strengthened);
+                table.see(|seen| seen.strengthened_offers += strengthened as u64);
+                self.queue.push_back((*offset, names.map(|(_, name, _)| name.clone()).collect()));
             }
         }
         Ok(())

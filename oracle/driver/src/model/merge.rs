@@ -155,7 +155,10 @@ impl Model {
                 let row = SymbolRow { section, ..symbol.clone() };
                 let item =
                     Item::of_row(&row, name, file.clone(), |section| object.conversion(section));
-                let id = self.table.add(item).map_err(|refused| match refused {
+                let before = self.table.seen.get();
+                let added = self.table.add(item);
+                self.table.see(|seen| seen.of_object(&before, object.is_removed(symbol)));
+                let id = added.map_err(|refused| match refused {
                     21 => Refused(21, None),
                     other => at(other, number),
                 })?;

@@ -2,8 +2,8 @@
 //! beside the Rust on every list, so that a difference between the two is seen before anything is
 //! proved from the reading. Capacities, and so refusal 2, aren't in it.
 //!
-//! It also has the gABI profile of document 02's request 2026-02, which the Rust doesn't: there it
-//! is what this port is compared with.
+//! It also has the gABI profile of document 02's requests 2026-02 and 2026-07, which the Rust
+//! doesn't: there it is what this port is compared with.
 mod archive;
 mod collection;
 mod merge;
@@ -63,9 +63,63 @@ pub struct Seen {
     pub admitted_more: u64,
     pub admitted_less: u64,
     pub admitted_alike: u64,
+    /// 2026-07: a strong reference replaced a weak undefined row; by an object's symbol; by one that
+    /// the group filter made undefined.
+    pub strengthened: u64,
+    pub strengthened_merged: u64,
+    pub strengthened_filtered: u64,
+    /// Of them such that hid the row, and such that aren't hidden in a row that stayed so.
+    pub strengthened_hid: u64,
+    pub strengthened_stayed_hidden: u64,
+    /// It was refused for its type; with 16 in an object, so that the link is broken.
+    pub strengthened_15: u64,
+    pub strengthened_16: u64,
+    pub strengthened_16_merged: u64,
+    /// Members offered for nothing but such names, and libraries needed for nothing else.
+    pub strengthened_offers: u64,
+    pub strengthened_needs: u64,
 }
 
 impl Seen {
+    /// Where the gABI profile and the old one differ on the table as it stood: nothing without such
+    /// links.
+    pub fn lines(&self) -> String {
+        let counts = [
+            (self.links, "links in which hidden went otherwise than in the old profile, by"),
+            (self.kept_row_hidden, "rows hidden by a later add that doesn't hold them"),
+            (self.stayed_hidden, "rows that stayed hidden under a holder that isn't"),
+            (self.library_unhid, "rows that a library's hidden symbol made or took, not hidden"),
+            (self.refused_hid_not, "refused hidden adds that left a row unhidden (as there)"),
+            (self.passes_tied_less, "passes that tied less, for weak references"),
+            (self.admitted_more, "members admitted by a weak definition alone"),
+            (self.admitted_less, "members not admitted by a reference"),
+            (self.admitted_alike, "admissions alike in both profiles"),
+            (self.strengthened, "weak references replaced by a strong one, of them"),
+            (self.strengthened_merged, "  by an object's symbol"),
+            (self.strengthened_filtered, "  by one of a removed group"),
+            (self.strengthened_hid, "  that hid the row"),
+            (self.strengthened_stayed_hidden, "  that aren't hidden, in a row that stayed so"),
+            (self.strengthened_15, "strong references to a weak undefined name refused with 15"),
+            (self.strengthened_16, "such references refused with 16, of them"),
+            (self.strengthened_16_merged, "  in an object"),
+            (self.strengthened_offers, "members offered for names that became strong so, alone"),
+            (self.strengthened_needs, "libraries needed for names that became strong so, alone"),
+        ];
+        if counts.iter().all(|(times, _)| *times == 0) {
+            return String::new();
+        }
+        let line = |(times, what): &(u64, &str)| format!("{times:>9} {what}\n");
+        "beside the old profile:\n".to_string() + &counts.iter().map(line).collect::<String>()
+    }
+
+    /// An add since then was of an object's symbol, which the group filter made undefined or not.
+    fn of_object(&mut self, before: &Seen, filtered: bool) {
+        let replaced = self.strengthened - before.strengthened;
+        self.strengthened_merged += replaced;
+        self.strengthened_filtered += replaced * filtered as u64;
+        self.strengthened_16_merged += self.strengthened_16 - before.strengthened_16;
+    }
+
     pub fn and(self, other: Seen) -> Seen {
         Seen {
             links: self.links + other.links,
@@ -77,6 +131,17 @@ impl Seen {
             admitted_more: self.admitted_more + other.admitted_more,
             admitted_less: self.admitted_less + other.admitted_less,
             admitted_alike: self.admitted_alike + other.admitted_alike,
+            strengthened: self.strengthened + other.strengthened,
+            strengthened_merged: self.strengthened_merged + other.strengthened_merged,
+            strengthened_filtered: self.strengthened_filtered + other.strengthened_filtered,
+            strengthened_hid: self.strengthened_hid + other.strengthened_hid,
+            strengthened_stayed_hidden: self.strengthened_stayed_hidden
+                + other.strengthened_stayed_hidden,
+            strengthened_15: self.strengthened_15 + other.strengthened_15,
+            strengthened_16: self.strengthened_16 + other.strengthened_16,
+            strengthened_16_merged: self.strengthened_16_merged + other.strengthened_16_merged,
+            strengthened_offers: self.strengthened_offers + other.strengthened_offers,
+            strengthened_needs: self.strengthened_needs + other.strengthened_needs,
         }
     }
 }

@@ -1,5 +1,5 @@
 //! 01 "Shared objects".
-use super::table::{Item, Value, class};
+use super::table::{Item, Row, Value, class};
 use super::{Input, Model, Refused, name_at};
 use crate::rows::LibraryRows;
 
@@ -8,9 +8,11 @@ impl Model {
         let Some(library) = rows.soname.clone().or(rows.file.clone()) else {
             return Err(Refused(25, Some(0)));
         };
-        if rows.as_needed && !self.is_needed(rows, &library) {
+        if rows.as_needed && !self.is_needed(rows, &library, |_| true) {
             return Ok("notneeded".into());
         }
+        let otherwise = !rows.as_needed || self.is_needed(rows, &library, |row| !row.strengthened);
+        self.table.see(|seen| seen.strengthened_needs += !otherwise as u64);
         let mut undefined = Vec::new();
         for (number, symbol) in rows.symbols.iter().enumerate() {
             let number = number as u64;
@@ -36,21 +38,24 @@ impl Model {
         Ok("loaded".into())
     }
 
-    fn is_needed(&self, rows: &LibraryRows, library: &String) -> bool {
+    /// Of the names undefined and strong in the table, those count whose rows do.
+    fn is_needed(&self, rows: &LibraryRows, library: &String, counts: fn(&Row) -> bool) -> bool {
         rows.symbols.iter().any(|symbol| {
             let provides = (symbol.binding == 1 || symbol.binding == 2) && symbol.section != 0;
             match name_at(&rows.strings, symbol.name) {
                 Some(name) if provides => {
-                    self.wants_strongly(&name) || self.library_wants(&name, library)
+                    self.wants_strongly(&name).is_some_and(counts)
+                        || self.library_wants(&name, library)
                 }
                 _ => false,
             }
         })
     }
 
-    fn wants_strongly(&self, name: &str) -> bool {
+    /// The name's row if it is undefined and strong.
+    fn wants_strongly(&self, name: &str) -> Option<&Row> {
         let row = self.table.names.get(name).and_then(|id| self.table.present(*id));
-        row.is_some_and(|row| row.value.is_undefined() && !row.is_weak())
+        row.filter(|row| row.value.is_undefined() && !row.is_weak())
     }
 
     fn library_wants(&self, wanted: &String, library: &String) -> bool {

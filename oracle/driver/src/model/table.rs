@@ -28,6 +28,8 @@ pub(super) struct Row {
     kind: u64,
     file: Option<String>,
     pub(super) value: Value,
+    /// A strong reference took it from a weak one (2026-07). For `Seen` alone.
+    pub(super) strengthened: bool,
 }
 
 #[derive(Clone, PartialEq)]
@@ -167,6 +169,7 @@ impl Table {
             kind: 0,
             file: None,
             value: Value::Null,
+            strengthened: false,
         });
         table
     }
@@ -197,6 +200,7 @@ impl Table {
             kind,
             file: item.file.clone(),
             value: value.clone(),
+            strengthened: false,
         };
 
         let Some(id) = known else {
@@ -211,8 +215,11 @@ impl Table {
             return Ok(id);
         };
 
-        // Who yields to whom: undefined 0, weak definition 2, strong definition 4.
+        // Who yields to whom: undefined 0, weak definition 2, strong definition 4. 2026-07: "In the
+        // gABI profile a strong reference now turns a weak undefined row into a strong undefined one".
+        let gabi = self.gabi;
         let rank = |value: &Value, weak: bool| match (value.is_undefined(), weak) {
+            (true, false) if gabi => 1,
             (true, _) => 0,
             (false, true) => 2,
             (false, false) => 4,
@@ -226,12 +233,18 @@ impl Table {
             () if new == 4 => Err(17),
             () => Ok(item.kind),
         };
+        let strengthened = new == 1 && old == 0;
         self.see(|seen| {
             seen.refused_hid_not += (judged.is_err() && is_hidden(global) && !was_hidden) as u64;
+            match judged {
+                Ok(_) => seen.strengthened += strengthened as u64,
+                Err(15) => seen.strengthened_15 += strengthened as u64,
+                Err(_) => seen.strengthened_16 += strengthened as u64,
+            }
         });
         let kind = judged?;
         if new > old {
-            self.rows[id as usize] = row(kind);
+            self.rows[id as usize] = Row { strengthened, ..row(kind) };
         }
         if self.gabi {
             // "hidden on any accepted add from an object passes to the name's row, whoever holds it"
@@ -239,6 +252,9 @@ impl Table {
             let holder = &mut self.rows[id as usize].global;
             *holder = holder.map(|(weak, _)| (weak, hidden));
             self.see(|seen| match (new > old, judged_hidden) {
+                // The old profile keeps the row.
+                (true, true) if strengthened => seen.strengthened_hid += !was_hidden as u64,
+                (true, false) if strengthened => seen.strengthened_stayed_hidden += hidden as u64,
                 (false, _) => seen.kept_row_hidden += (hidden && !was_hidden) as u64,
                 (true, false) => seen.stayed_hidden += hidden as u64,
                 (true, true) => seen.library_unhid += !hidden as u64,

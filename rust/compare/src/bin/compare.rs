@@ -186,24 +186,5 @@ fn print(counts: &Counts, seconds: f64) {
     for (number, times) in &counts.refusals {
         println!("{times:>9} refused {number}");
     }
-    print_seen(&counts.seen);
-}
-
-/// Where the gABI profile and the old one differ on the table as it stood: nothing without such links.
-fn print_seen(seen: &Seen) {
-    let counts = [
-        (seen.links, "links in which hidden went otherwise than in the old profile, by"),
-        (seen.kept_row_hidden, "rows hidden by a later add that doesn't hold them"),
-        (seen.stayed_hidden, "rows that stayed hidden under a holder that isn't"),
-        (seen.library_unhid, "rows that a library's hidden symbol made or took, not hidden"),
-        (seen.refused_hid_not, "refused hidden adds that left a row unhidden (as there)"),
-        (seen.passes_tied_less, "passes that tied less, for weak references"),
-        (seen.admitted_more, "members admitted by a weak definition alone"),
-        (seen.admitted_less, "members not admitted by a reference"),
-        (seen.admitted_alike, "admissions alike in both profiles"),
-    ];
-    if counts.iter().any(|(times, _)| *times > 0) {
-        println!("beside the old profile:");
-        counts.iter().for_each(|(times, what)| println!("{times:>9} {what}"));
-    }
+    print!("{}", counts.seen.lines());
 }

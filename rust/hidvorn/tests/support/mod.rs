@@ -23,6 +23,14 @@ pub fn strings(names: &[&str]) -> (Vec<u8>, Vec<usize>) {
 
 /// An object of one program section, number 1, and the symbols: binding, section, visibility.
 pub fn object(symbols: &[(&str, u64, usize, u64)]) -> Object<'static> {
+    let row = |&(name, binding, section, visibility)| {
+        (name, ElfSymbol { binding, section, visibility, ..Default::default() })
+    };
+    object_of(&symbols.iter().map(row).collect::<Vec<_>>())
+}
+
+/// The same by the symbols' names and rows; where a name starts is set here.
+pub fn object_of(symbols: &[(&str, ElfSymbol)]) -> Object<'static> {
     let names: Vec<_> = symbols.iter().map(|(name, ..)| *name).collect();
     let (bytes, places) = strings(&[&[".text"], names.as_slice()].concat());
     let len = bytes.len();
@@ -34,14 +42,8 @@ pub fn object(symbols: &[(&str, u64, usize, u64)]) -> Object<'static> {
     object.push_section(header(SectionContent::StringTable { first: 0, len }));
     object.set_section_names(2);
     object.push_symbol(ElfSymbol::default());
-    for ((_, binding, section, visibility), name) in symbols.iter().zip(&places[1..]) {
-        object.push_symbol(ElfSymbol {
-            name: *name,
-            binding: *binding,
-            section: *section,
-            visibility: *visibility,
-            ..Default::default()
-        });
+    for ((_, symbol), name) in symbols.iter().zip(&places[1..]) {
+        object.push_symbol(ElfSymbol { name: *name, ..*symbol });
     }
     let count = symbols.len() + 1;
     object.push_section(header(SectionContent::SymbolTable { strings: 2, first: 0, count }));
