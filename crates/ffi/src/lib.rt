@@ -11,7 +11,7 @@ ghost use Rattle.ffi_load.specs.Contract as Load;
 ghost use Rattle.ffi_load.specs.Contract.{libraryIn, LoadMeets};
 ghost use Rattle.ffi_archive.specs.Contract as Archive;
 ghost use Rattle.ffi_collect.specs.Calls.{entryOf};
-ghost use Rattle.ffi_collect.specs.Contract.{runExit, listsIn, RunMeets};
+ghost use Rattle.ffi_collect.specs.Contract.{runExit, listsIn, RunMeets, PlainMeets};
 
 #[no_mangle]
 pub extern "C" fn hidvorn_new(
@@ -294,6 +294,35 @@ pub extern "C" fn hidvorn_gc_run(
     ensures { λ r. ⌜ RunMeets (before header) (listsIn bytes names lists marks) (before symbols) (before sections) (entryOf entered entry) (before work) (runExit r header symbols sections work) ⌝ }
 {
     ffi_collect::gc_run(
+        header,
+        bytes,
+        names,
+        symbols,
+        sections,
+        lists,
+        marks,
+        entered,
+        entry,
+        work,
+    )
+}
+
+#[no_mangle]
+pub extern "C" fn hidvorn_plain_run(
+    header: &mut [u64],
+    bytes: &[u8],
+    names: &[u64],
+    symbols: &mut [u64],
+    sections: &mut [u64],
+    lists: &[u64],
+    marks: &[u8],
+    entered: bool,
+    entry: usize,
+    work: &mut [u64],
+) -> u64
+    ensures { λ r. ⌜ PlainMeets (before header) (listsIn bytes names lists marks) (before symbols) (before sections) (entryOf entered entry) (before work) (runExit r header symbols sections work) ⌝ }
+{
+    ffi_collect::plain_run(
         header,
         bytes,
         names,

@@ -6,6 +6,7 @@ use mathlib.Core.List.{List}
 use Rattle.gc_sections.specs.declared.EntryPoint.{EntryPoint}
 use Rattle.gc_sections.specs.declared.EntryPoint.the-variants as Entry
 use Rattle.gc_sections.specs.Run.{Said, Left, Lists, runOf}
+use Rattle.plain_collector.specs.Run.{plainOf}
 use Rattle.ffi_header.specs.declared.Reply.{Reply}
 use Rattle.ffi_header.specs.Header.{isShort, linkIn, Told, told, tellOf}
 
@@ -30,3 +31,6 @@ runTold h w = runLeft (tellOf h (w .link) (collectedReply (w .said))) (w .symbol
 
 unfoldable pub runCall : List ℕ → Lists → List ℕ → List ℕ → EntryPoint → List ℕ → RunLeft
 runCall h lists s x entry w = cond (isShort h) (runLeft (told 1 h) s x w) (runTold h (runOf (linkIn h) lists s x entry w))
+
+unfoldable pub plainCall : List ℕ → Lists → List ℕ → List ℕ → EntryPoint → List ℕ → RunLeft
+plainCall h lists s x entry w = cond (isShort h) (runLeft (told 1 h) s x w) (runTold h (plainOf (linkIn h) lists s x entry w))

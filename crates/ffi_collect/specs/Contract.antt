@@ -1,4 +1,4 @@
--- The contracts of the exported collection: what a caller in another language sees of a call, the number returned, its header and every cell lent to be
+-- The contracts of the exported collections: what a caller in another language sees of a call, the number returned, its header and every cell lent to be
 -- written, against the call's definition.
 -- Assumes nothing.
 use Prim.Native.Nat.{ℕ}
@@ -8,7 +8,7 @@ use Rattle.cells.specs.Slice.{Slice, before, after}
 use Rattle.gc_sections.specs.declared.EntryPoint.{EntryPoint}
 use Rattle.gc_sections.specs.Run.{Lists, listsOf}
 use Rattle.ffi_header.specs.Header.{told}
-use Rattle.ffi_collect.specs.Calls.{runLeft, runCall}
+use Rattle.ffi_collect.specs.Calls.{runLeft, runCall, plainCall}
 
 pub record RunExit : Type 0 where
   pub number : ℕ
@@ -28,3 +28,7 @@ listsIn bytes names lists marks = listsOf (before bytes) (before names) (before 
 abbrev pub RunMeets : List ℕ → Lists → List ℕ → List ℕ → EntryPoint → List ℕ → RunExit → Type 0
 RunMeets h x symbols sections entry work e =
     runLeft (told (e .number) (e .header)) (e .symbols) (e .sections) (e .work) ≡ runCall h x symbols sections entry work
+
+abbrev pub PlainMeets : List ℕ → Lists → List ℕ → List ℕ → EntryPoint → List ℕ → RunExit → Type 0
+PlainMeets h x symbols sections entry work e =
+    runLeft (told (e .number) (e .header)) (e .symbols) (e .sections) (e .work) ≡ plainCall h x symbols sections entry work

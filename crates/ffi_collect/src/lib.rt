@@ -1,10 +1,10 @@
-// Collection, for another language: the link and the answer lie in a header (ffi_header). A header of fewer than 24 cells gives 1, and nothing is
+// Both collections, for another language: the link and the answer lie in a header (ffi_header). A header of fewer than 24 cells gives 1, and nothing is
 // read or written.
 ghost use mathlib.Core.Path.{_≡_};
 ghost use Rattle.cells.specs.Slice.{before};
 ghost use Rattle.gc_sections.specs.Run.{saidOf};
 ghost use Rattle.ffi_collect.specs.Calls.{collectedReply, entryOf};
-ghost use Rattle.ffi_collect.specs.Contract.{runExit, listsIn, RunMeets};
+ghost use Rattle.ffi_collect.specs.Contract.{runExit, listsIn, RunMeets, PlainMeets};
 use ffi_header::Reply;
 use gc_sections::Answer;
 use gc_sections::EntryPoint;
@@ -53,6 +53,42 @@ pub fn gc_run(
     let l = ffi_header::link_in(header);
     let point = entry_of(entered, entry);
     let o = gc_sections::run(
+        l,
+        bytes,
+        names,
+        symbols,
+        sections,
+        lists,
+        marks,
+        point,
+        work,
+    );
+    let left = o.link;
+    let a = o.answer;
+    ffi_header::tell(header, left, collected(a))
+}
+
+// The same, by the plain collector.
+pub fn plain_run(
+    header: &mut [u64],
+    bytes: &[u8],
+    names: &[u64],
+    symbols: &mut [u64],
+    sections: &mut [u64],
+    lists: &[u64],
+    marks: &[u8],
+    entered: bool,
+    entry: usize,
+    work: &mut [u64],
+) -> u64
+    ensures { λ r. ⌜ PlainMeets (before header) (listsIn bytes names lists marks) (before symbols) (before sections) (entryOf entered entry) (before work) (runExit r header symbols sections work) ⌝ }
+{
+    if header.len() < ffi_header::HEADER_CELLS {
+        return 1;
+    }
+    let l = ffi_header::link_in(header);
+    let point = entry_of(entered, entry);
+    let o = plain_collector::run(
         l,
         bytes,
         names,

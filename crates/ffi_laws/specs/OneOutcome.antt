@@ -120,3 +120,8 @@ module _ (h walk : List ℕ) (x y : Archive.WalkExit) where
 pub run-one-outcome : (h : List ℕ) (c : Lists) (symbols sections : List ℕ) (entry : EntryPoint) (work : List ℕ) (x y : Collect.RunExit) → Collect.RunMeets h c symbols sections entry work x
     → Collect.RunMeets h c symbols sections entry work y → x ≡ y
 run-one-outcome h c symbols sections entry work x y e f = ap {B = Collect.RunExit} (λ (o : CollectCalls.RunLeft). record { number = o .told .number; header = o .told .header; symbols = o .symbols; sections = o .sections; work = o .work }) (e ∙ sym f)
+
+-- a plain collection
+pub plain-one-outcome : (h : List ℕ) (c : Lists) (symbols sections : List ℕ) (entry : EntryPoint) (work : List ℕ) (x y : Collect.RunExit) → Collect.PlainMeets h c symbols sections entry work x
+    → Collect.PlainMeets h c symbols sections entry work y → x ≡ y
+plain-one-outcome h c symbols sections entry work x y e f = ap {B = Collect.RunExit} (λ (o : CollectCalls.RunLeft). record { number = o .told .number; header = o .told .header; symbols = o .symbols; sections = o .sections; work = o .work }) (e ∙ sym f)

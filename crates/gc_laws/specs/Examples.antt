@@ -24,24 +24,24 @@ use Rattle.gc_sections.specs.Sweep.{dropUnreached, droppedNow, purgeSymbol, swe
 use Rattle.gc_sections.specs.Run.{Left, Lists, listsOf, judgeCells, judgeOf, purgeOf, sweepOf, finished, collectOf, runOf}
 
 -- counts: one name of no bytes; so many symbols, sections and list cells
-abbrev counts : ℕ → ℕ → ℕ → Link
+abbrev pub counts : ℕ → ℕ → ℕ → Link
 counts symbols sections lists = record { names = 1; bytes = 0; symbols = symbols; sections = sections; inputs = 0; lists = lists; chains = 1; slots = sections; key = 0; gabi = false; broken = false }
 
 -- the null symbol, and one that lies in section s: local, `Section`
-abbrev null : List ℕ
+abbrev pub null : List ℕ
 null = 1 ∷ 0 ∷ 0 ∷ 0 ∷ 0 ∷ 0 ∷ 0 ∷ 0 ∷ []
 
-abbrev inSection : ℕ → List ℕ
+abbrev pub inSection : ℕ → List ℕ
 inSection s = 1 ∷ 0 ∷ 3 ∷ 0 ∷ 0 ∷ 2 ∷ s ∷ 0 ∷ []
 
 -- a built program section: read or not, with one relocation at a place of the lists
-abbrev section : ℕ → ℕ → List ℕ
+abbrev pub section : ℕ → ℕ → List ℕ
 section read first = 2 ∷ 0 ∷ 1 ∷ 0 ∷ read ∷ first ∷ 1 ∷ 0 ∷ []
 
-abbrev reserved : List ℕ
+abbrev pub reserved : List ℕ
 reserved = 1 ∷ 0 ∷ 0 ∷ 0 ∷ 0 ∷ 0 ∷ 0 ∷ 0 ∷ []
 
-abbrev lent : List ℕ → List ℕ → Lists
+abbrev pub lent : List ℕ → List ℕ → Lists
 lent lists marks = listsOf [] (replicate {A = ℕ} 9 0) lists marks
 
 -- a collection without entry symbol: what it is given; its answer, and the states of the sections and of the symbols after it

@@ -29,7 +29,7 @@ built-below sections n y e = by-test (leb n y) (λ t. absurd (apart (rw t at e))
 -- ---- the lowest of two
 
 module _ (id : SectionId) where
-  lowered : (u : Unbuilt) (Q : ℕ → Type 0) → ((k : SectionId) → u ≡ Lowest k → Q (k .0)) → Q (id .0) → (k : SectionId) → lowerOf u id ≡ Lowest k → Q (k .0)
+  pub lowered : (u : Unbuilt) (Q : ℕ → Type 0) → ((k : SectionId) → u ≡ Lowest k → Q (k .0)) → Q (id .0) → (k : SectionId) → lowerOf u id ≡ Lowest k → Q (k .0)
   lowered None Q f q k e = let z : id ≡ k = cc in subst (λ (m : SectionId). Q (m .0)) z q
   lowered (Lowest j) Q f q k e = go (ltb (id .0) (j .0)) e
     where
@@ -37,7 +37,7 @@ module _ (id : SectionId) where
       go true d = let z : id ≡ k = cc in subst (λ (m : SectionId). Q (m .0)) z q
       go false d = f k d
 
-  lower-new : (u : Unbuilt) → (k : SectionId) × (lowerOf u id ≡ Lowest k) × (k .0 ≤ id .0)
+  pub lower-new : (u : Unbuilt) → (k : SectionId) × (lowerOf u id ≡ Lowest k) × (k .0 ≤ id .0)
   lower-new None = (id, refl, omega arith)
   lower-new (Lowest j) = go (ltb (id .0) (j .0)) refl
     where
@@ -45,7 +45,7 @@ module _ (id : SectionId) where
       go true t = (id, refl, omega arith)
       go false t = (j, refl, ltb-false _ _ t)
 
-  lower-old : (u : Unbuilt) (j : SectionId) → u ≡ Lowest j → (k : SectionId) × (lowerOf u id ≡ Lowest k) × (k .0 ≤ j .0)
+  pub lower-old : (u : Unbuilt) (j : SectionId) → u ≡ Lowest j → (k : SectionId) × (lowerOf u id ≡ Lowest k) × (k .0 ≤ j .0)
   lower-old None j e = absurd (let z : _≡_ {A = ℕ} 0 1 = cc in omega arith)
   lower-old (Lowest i) j e = go (ltb (id .0) (i .0)) refl
     where

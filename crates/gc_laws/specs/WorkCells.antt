@@ -21,7 +21,7 @@ use Rattle.gc_laws.specs.Swept.{stateCell, symbolCell, gone, freed}
 use Rattle.gc_laws.specs.BySection.{gone-same, freed-same}
 use Rattle.gc_laws.specs.Collected as C
 
-picked-same : (p q : ℕ → Bool) → ((i : ℕ) → p i ≡ q i) → (k i : ℕ) → picked p k i ≡ picked q k i
+pub picked-same : (p q : ℕ → Bool) → ((i : ℕ) → p i ≡ q i) → (k i : ℕ) → picked p k i ≡ picked q k i
 unfolding picked
 picked-same p q f zero i = refl
 picked-same p q f (suc k) i = rw (f i, picked-same p q f k (i + 1))

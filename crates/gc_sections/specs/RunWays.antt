@@ -164,6 +164,3 @@ module _ (l : Link) (n : Lent) (marks work : ℕ) (head : Refusal) (e : head ≡
 
   pub few-sections : l .sections ≤ 65535
   few-sections = omega (arith, counts-lent .0, lesser-left 65535 (l .slots))
-
-  pub few-symbols : l .symbols ≤ 65535
-  few-symbols = omega (arith, counts-lent .2, lesser-left 65535 (n .symbols / 8))

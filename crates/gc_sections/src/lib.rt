@@ -1,6 +1,6 @@
 // Section collection: what no relocation reaches from the roots is dropped, and its symbols are removed.
 ghost use mathlib.Core.Path.{_≡_};
-ghost use Prim.Native.Nat.{_+_, _≤_};
+ghost use Prim.Native.Nat.{_+_, _<_, _≤_};
 ghost use Rattle.cells.specs.Slice.{before};
 ghost use Rattle.symbols.specs.Remove.{rowsOf};
 ghost use Rattle.gc_sections.specs.Each.{each};
@@ -70,7 +70,7 @@ fn value_lead(kind: u64, a: u64) -> Lead
     }
 }
 
-fn lead_of(symbols: &[u64], count: usize, id: SymbolId) -> Lead
+pub fn lead_of(symbols: &[u64], count: usize, id: SymbolId) -> Lead
     ensures { λ r. ⌜ r ≡ leadOf (now (symbols .entry)) count id ⌝ }
 {
     let i = id.0;
@@ -119,7 +119,7 @@ fn rooted(bytes: &[u8], names: &[u64], sections: &[u64], i: usize) -> bool
     true
 }
 
-fn is_root(bytes: &[u8], names: &[u64], sections: &[u64], n: usize, i: usize) -> bool
+pub fn is_root(bytes: &[u8], names: &[u64], sections: &[u64], n: usize, i: usize) -> bool
     ensures { λ r. ⌜ r ≡ isRoot (now (bytes .entry)) (now (names .entry)) (now (sections .entry)) n i ⌝ }
 {
     if sections::is_built(sections, n, SectionId(i)) {
@@ -151,7 +151,7 @@ fn save(work: &mut [u64], n: usize, v: Visitor, id: SectionId) -> Visitor
     v
 }
 
-fn lower(u: Unbuilt, id: SectionId) -> Unbuilt
+pub fn lower(u: Unbuilt, id: SectionId) -> Unbuilt
     ensures { λ r. ⌜ r ≡ lowerOf u id ⌝ }
 {
     match u {
@@ -318,7 +318,7 @@ fn roots(
 // ---- relocations
 
 // Where the list of a section's relocations ends: never past the lists in use.
-fn end_of(lists: usize, first: usize, count: usize) -> usize
+pub fn end_of(lists: usize, first: usize, count: usize) -> usize
     ensures { λ r. ⌜ r ≡ endOf lists first count ⌝ }
 {
     if lists <= first {
@@ -421,7 +421,7 @@ fn clear_cell(work: &mut [u64], i: usize)
 }
 
 // No section was reached yet.
-fn clear(work: &mut [u64], n: usize)
+pub fn clear(work: &mut [u64], n: usize)
     ensures { λ _. ⌜ now (work .exit) ≡ each clearCell n 0 (now (work .entry)) ⌝ }
 {
     let mut i = 0;
@@ -464,7 +464,7 @@ fn walk(
 
 // A section that is built and was not reached is dropped; its work cell becomes 2.
 fn drop_unreached(sections: &mut [u64], work: &mut [u64], n: usize, i: usize, count: usize) -> usize
-    requires { ⌜ count ≤ 65535 ⌝ }
+    requires { ⌜ count < n ⌝ }
     ensures { λ r. ⌜ sweptOf (now (sections .exit)) (now (work .exit)) r ≡ dropUnreached n i (sweptOf (now (sections .entry)) (now (work .entry)) count) ⌝ }
     ensures few { λ r. ⌜ r ≤ count + 1 ⌝ }
 {
@@ -479,7 +479,6 @@ fn drop_unreached(sections: &mut [u64], work: &mut [u64], n: usize, i: usize, co
 }
 
 fn sweep_sections(sections: &mut [u64], work: &mut [u64], n: usize) -> usize
-    requires { ⌜ n ≤ 65535 ⌝ }
     ensures { λ r. ⌜ sweptOf (now (sections .exit)) (now (work .exit)) r ≡ sweepSections n (now (sections .entry)) (now (work .entry)) ⌝ }
 {
     let mut count = 0;
@@ -510,7 +509,7 @@ fn purge_symbol(
     i: usize,
     count: usize,
 ) -> usize
-    requires { ⌜ count ≤ 65535 ⌝ }
+    requires { ⌜ count < l .symbols ⌝ }
     ensures { λ r. ⌜ purgedOf (rowsOf (now (symbols .exit)) (now (sections .exit))) r ≡ purgeSymbol l (now (work .entry)) i (purgedOf (rowsOf (now (symbols .entry)) (now (sections .entry))) count) ⌝ }
     ensures few { λ r. ⌜ r ≤ count + 1 ⌝ }
 {
@@ -528,7 +527,6 @@ fn purge_symbol(
 }
 
 fn purge_symbols(l: Link, symbols: &mut [u64], sections: &mut [u64], work: &[u64]) -> usize
-    requires { ⌜ l .symbols ≤ 65535 ⌝ }
     ensures { λ r. ⌜ purgedOf (rowsOf (now (symbols .exit)) (now (sections .exit))) r ≡ purgeSymbols l (now (work .entry)) (rowsOf (now (symbols .entry)) (now (sections .entry))) ⌝ }
 {
     let mut count = 0;
@@ -541,8 +539,6 @@ fn purge_symbols(l: Link, symbols: &mut [u64], sections: &mut [u64], work: &[u64
 }
 
 fn sweep(l: Link, symbols: &mut [u64], sections: &mut [u64], work: &mut [u64]) -> Outcome
-    requires { ⌜ l .sections ≤ 65535 ⌝ }
-    requires { ⌜ l .symbols ≤ 65535 ⌝ }
     ensures { λ r. ⌜ outcome (now (symbols .exit)) (now (sections .exit)) (now (work .exit)) r ≡ sweepOf l (now (symbols .entry)) (now (sections .entry)) (now (work .entry)) ⌝ }
 {
     let dropped = sweep_sections(sections, work, l.sections);
@@ -580,7 +576,7 @@ fn judge_cells(l: Link, marks: usize, work: usize) -> Refusal
     }
 }
 
-fn judge(l: Link, lent: Lent, marks: usize, work: usize) -> Refusal
+pub fn judge(l: Link, lent: Lent, marks: usize, work: usize) -> Refusal
     ensures { λ r. ⌜ r ≡ judgeOf l lent marks work ⌝ }
 {
     let head = link_judge::judge_change(l, lent);
@@ -590,7 +586,7 @@ fn judge(l: Link, lent: Lent, marks: usize, work: usize) -> Refusal
     judge_cells(l, marks, work)
 }
 
-fn lent_of(bytes: usize, names: usize, symbols: usize, sections: usize, lists: usize) -> Lent
+pub fn lent_of(bytes: usize, names: usize, symbols: usize, sections: usize, lists: usize) -> Lent
     ensures { λ r. ⌜ r ≡ lentOf bytes names symbols sections lists ⌝ }
 {
     Lent {
@@ -603,15 +599,13 @@ fn lent_of(bytes: usize, names: usize, symbols: usize, sections: usize, lists: u
     }
 }
 
-fn finish(
+pub fn finish(
     l: Link,
     symbols: &mut [u64],
     sections: &mut [u64],
     work: &mut [u64],
     unbuilt: Unbuilt,
 ) -> Outcome
-    requires { ⌜ l .sections ≤ 65535 ⌝ }
-    requires { ⌜ l .symbols ≤ 65535 ⌝ }
     ensures { λ r. ⌜ outcome (now (symbols .exit)) (now (sections .exit)) (now (work .exit)) r ≡ finishOf l (now (symbols .entry)) (now (sections .entry)) (now (work .entry)) unbuilt ⌝ }
 {
     match unbuilt {

@@ -8,4 +8,5 @@ pub mod BuildStage
 pub mod Merge
 pub mod Load
 pub mod SectionCalls
+pub mod PlainReads
 pub mod NewTables

@@ -92,7 +92,7 @@ matches-same k l headers entries contents file s rows w e = refl
 -- ---- a collection
 
 -- past the head every row that is counted is lent
-judged-built : (l : Link) (x : Run.Lists) (symbols sections work : List ℕ) → Run.judged l x symbols sections work .number ≡ 0 → Named l sections
+pub judged-built : (l : Link) (x : Run.Lists) (symbols sections work : List ℕ) → Run.judged l x symbols sections work .number ≡ 0 → Named l sections
     → (i : ℕ) → isBuilt sections (l .sections) i ≡ true → nameIdAt sections i < l .chains
 unfolding judgeOf isBuilt
 judged-built l x symbols sections work z named i b =
@@ -109,7 +109,7 @@ judged-built l x symbols sections work z named i b =
     by-test (eqb (stateAt sections i) 2) (λ d. named i h (omega arith) (omega arith) (eqb-true _ _ d)) (λ d. absurd (false≢true (rw (c, d) at b)))))
     (λ a. absurd (eqb-false _ _ a (rw a at z)))
 
-each-same : {S : Type 0} (f g : ℕ → S → S) → ((i : ℕ) (s : S) → f i s ≡ g i s) → (n i : ℕ) (s : S) → each f n i s ≡ each g n i s
+pub each-same : {S : Type 0} (f g : ℕ → S → S) → ((i : ℕ) (s : S) → f i s ≡ g i s) → (n i : ℕ) (s : S) → each f n i s ≡ each g n i s
 unfolding each
 each-same f g q zero i s = refl
 each-same f g q (suc n) i s = ap (each f n (i + 1)) (q i s) ∙ each-same f g q n (i + 1) (g i s)
@@ -151,7 +151,7 @@ module _ (k : ℕ) (l : Link) where
   purge-keyed work rows =
       each-same (purgeSymbol (keyed k l) work) (purgeSymbol l work) (λ i s. purge-lead-keyed work i (leadOf (s .rows .symbols) (l .symbols) (symbolId i)) s) _ _ _
 
-  finish-keyed : (symbols sections work : List ℕ) (x : Unbuilt) → finishOf (keyed k l) symbols sections work x ≡ collectUnder k (finishOf l symbols sections work x)
+  pub finish-keyed : (symbols sections work : List ℕ) (x : Unbuilt) → finishOf (keyed k l) symbols sections work x ≡ collectUnder k (finishOf l symbols sections work x)
   unfolding sweepOf purgeOf
   finish-keyed symbols sections work Unbuilts.None =
       let s : Swept = sweepSections (l .sections) sections work in
@@ -168,7 +168,7 @@ module _ (k : ℕ) (s : Store) (n : List ℕ) (e : Rekeyed k s n) (symbols secti
   l = s .link
 
   module _ (named : (i : ℕ) → isBuilt sections (l .sections) i ≡ true → nameIdAt sections i < l .chains) where
-    is-root-same : (i : ℕ) → isRoot (s .bytes) n sections (l .sections) i ≡ isRoot (s .bytes) (s .names) sections (l .sections) i
+    pub is-root-same : (i : ℕ) → isRoot (s .bytes) n sections (l .sections) i ≡ isRoot (s .bytes) (s .names) sections (l .sections) i
     unfolding isRoot rooted nameIs
     is-root-same i =
         by-test (isBuilt sections (l .sections) i)
@@ -191,7 +191,7 @@ module _ (k : ℕ) (s : Store) (n : List ℕ) (e : Rekeyed k s n) (symbols secti
         rw (a, b, c)
         (each-same (visit (keyed k l) symbols sections lists) (visit l symbols sections lists) (visit-keyed k l symbols sections lists) (l .sections) 0 _)
 
-  judged-same : (work : List ℕ) → Run.judged (keyed k l) (listsOf (s .bytes) n lists marks) symbols sections work
+  pub judged-same : (work : List ℕ) → Run.judged (keyed k l) (listsOf (s .bytes) n lists marks) symbols sections work
       ≡ Run.judged l (listsOf (s .bytes) (s .names) lists marks) symbols sections work
   unfolding judgeOf judgeCells
   judged-same work =

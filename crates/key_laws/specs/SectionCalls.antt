@@ -228,7 +228,7 @@ module _ (l : Link) where
   unfolding purgeSymbol
   purge-named work i s h = lead-named work i (leadOf (s .rows .symbols) (l .symbols) (symbolId i)) s h
 
-  finish-named : (symbols sections work : List ℕ) (x : Unbuilt) → Named l sections → Named l (finishOf l symbols sections work x .sections)
+  pub finish-named : (symbols sections work : List ℕ) (x : Unbuilt) → Named l sections → Named l (finishOf l symbols sections work x .sections)
   unfolding sweepOf purgeOf sweepSections purgeSymbols
   finish-named symbols sections work Unbuilts.None h =
       let s : Swept = sweepSections (l .sections) sections work in

@@ -1,7 +1,7 @@
 -- "changing call on a broken link": 22 at place 0, first of all.
 -- Assumes nothing.
 use Prim.Native.Nat.{ℕ}
-use mathlib.Core.Path.{_≡_, ap}
+use mathlib.Core.Path.{_≡_, ap, _∙_}
 use mathlib.Core.Bool.{Bool, true, false, cond}
 use mathlib.Core.List.{List}
 use lib.ListN.{length}
@@ -34,7 +34,8 @@ use Rattle.gc_sections.specs.Run.{runOf}
 use Rattle.symbol_laws.specs.History.{store, table}
 use Rattle.merge_laws.specs.ByNumber as ByNumber
 use Rattle.merge_laws.specs.Calls.{Linked, allIn}
-use Rattle.link_laws.specs.Calls.{Call, intern, resolve, add, remove, get, getGlobal, sectionSymbol, addGroup, merge, load, archiveStart, archiveNext, matches, collect, groupIn, callRefusal}
+use Rattle.link_laws.specs.Calls.{Call, intern, resolve, add, remove, get, getGlobal, sectionSymbol, addGroup, merge, load, archiveStart, archiveNext, matches, collect, plainCollect, groupIn, listsIn, callRefusal}
+use Rattle.link_laws.specs.PlainCalls.{Compared, alike, many, compared}
 
 -- the calls that may change a link
 abbrev pub changes : Call → Bool
@@ -52,6 +53,7 @@ changes (archiveStart key index cells) = false
 changes (archiveNext index cells w) = false
 changes (matches headers entries contents file index cells w e) = false
 changes (collect marks entry work) = true
+changes (plainCollect marks entry work) = true
 
 change-broken : (l : Link) (n : Lent) → l .broken ≡ true → changeOf l n ≡ refused 22 0
 unfolding changeOf
@@ -87,6 +89,13 @@ module _ (s : Linked) (b : s .table .link .broken ≡ true) where
       (change-broken l
       (lentOf (length (s .table .names)) (length (s .table .bytes)) (length (s .table .symbols)) (length (s .table .sections)) (length (s .inputs)) (length (s .lists))) b)
 
+  head-broken : (marks work : List ℕ) → Collection.judged l (listsIn s marks) (s .table .symbols) (s .table .sections) work .number ≡ 22
+  unfolding Collection.judgeOf
+  head-broken marks work =
+      simp
+      (change-broken l
+      (Collection.lentOf (length (s .table .bytes)) (length (s .table .names)) (length (s .table .symbols)) (length (s .table .sections)) (length (s .lists))) b)
+
   collect-broken : (marks : List ℕ) (entry : EntryPoint) (work : List ℕ) → callRefusal (collect marks entry work) s ≡ refused 22 0
   unfolding runOf Collection.judgeOf
   collect-broken marks entry work =
@@ -109,3 +118,8 @@ module _ (s : Linked) (b : s .table .link .broken ≡ true) where
   broken-refused (archiveNext index cells w) c = absurd (apart c)
   broken-refused (matches headers entries contents file index cells w e) c = absurd (apart c)
   broken-refused (collect marks entry work) c = collect-broken marks entry work
+  broken-refused (plainCollect marks entry work) c = go (compared marks entry work s)
+    where
+      go : Compared marks entry work s → callRefusal (plainCollect marks entry work) s ≡ refused 22 0
+      go (alike r t a) = r ∙ collect-broken marks entry work
+      go (many m u v e) = absurd (u (head-broken marks work))

@@ -26,7 +26,9 @@ use Rattle.merge_laws.specs.BuiltRow.{BuiltAs, part-same}
 use Rattle.merge_laws.specs.RowsBelow.{merge-same}
 use Rattle.merge_laws.specs.Calls.{Linked, allIn}
 use Rattle.load_laws.specs.Sections.{load-sections}
-use Rattle.link_laws.specs.Calls.{Call, intern, resolve, add, remove, get, getGlobal, sectionSymbol, addGroup, merge, load, archiveStart, archiveNext, matches, collect, libraryIn, listsIn, callLeft, callNext, runCalls, Drops}
+use Rattle.link_laws.specs.Calls.{Call, intern, resolve, add, remove, get, getGlobal, sectionSymbol, addGroup, merge, load, archiveStart, archiveNext, matches, collect, plainCollect, libraryIn, listsIn, callLeft, callNext, runCalls, Drops}
+use Rattle.link_laws.specs.PlainCalls.{Compared, alike, many, compared}
+use Rattle.gc_sections.specs.Run.{Left}
 use Rattle.link_laws.specs.CallSteps.{callSteps, Leads, made, cleared, call-leads}
 use Rattle.link_laws.specs.Lists.{call-listed}
 use Rattle.link_laws.specs.Idle.{drops-nothing}
@@ -58,6 +60,7 @@ Spares (archiveStart key index cells) s r = Unit {0}
 Spares (archiveNext index cells w) s r = Unit {0}
 Spares (matches headers entries contents file index cells w e) s r = Unit {0}
 Spares (collect marks entry work) s r = (a b : ℕ) → callLeft (collect marks entry work) s .answer ≡ Dropped a b → ReachedIn s marks entry r
+Spares (plainCollect marks entry work) s r = (a b : ℕ) → callLeft (plainCollect marks entry work) s .answer ≡ Dropped a b → ReachedIn s marks entry r
 
 abbrev pub SparesAll : List Call → Linked → ℕ → Type 0
 SparesAll [] s r = Unit {0}
@@ -96,6 +99,13 @@ module _ (s : Linked) (below : Below (s .table)) (rows-in : s .table .link .sect
   row-cell (archiveNext index cells w) q = refl
   row-cell (matches headers entries contents file index cells w e) q = refl
   row-cell (collect marks entry work) q = collected marks entry work q (callLeft (collect marks entry work) s .answer) refl
+  row-cell (plainCollect marks entry work) q = go (compared marks entry work s)
+    where
+      go : Compared marks entry work s → Same (plainCollect marks entry work)
+      go (alike x t a) =
+          ap (λ (t : Linked). field (t .table .sections) r f) t
+          ∙ collected marks entry work (λ b c e. q b c (a ∙ e)) (callLeft (collect marks entry work) s .answer) refl
+      go (many m u v e) = ap (λ (o : Left). field (o .sections) r f) e
 
 -- no call counts fewer
 more-rows : (k : Call) (s : Linked) → s .table .link .sections ≤ callNext k s .table .link .sections

@@ -3,7 +3,9 @@
 use Rattle.symbol_laws.specs.Below.{Below}
 use Rattle.merge_laws.specs.Past.{TablePast, makes-past}
 use Rattle.merge_laws.specs.Calls.{Linked}
-use Rattle.link_laws.specs.Calls.{Call, intern, resolve, add, remove, get, getGlobal, sectionSymbol, addGroup, merge, load, archiveStart, archiveNext, matches, collect, listsIn, callNext, Removes}
+use Rattle.link_laws.specs.Calls.{Call, intern, resolve, add, remove, get, getGlobal, sectionSymbol, addGroup, merge, load, archiveStart, archiveNext, matches, collect, plainCollect, listsIn, callNext, Removes}
+use Rattle.link_laws.specs.PlainCalls.{Compared, alike, many, compared, many-drops}
+use mathlib.Core.Path.{sym, subst}
 use Rattle.link_laws.specs.CallSteps.{callSteps, call-makes}
 use Rattle.link_laws.specs.CollectPast.{collect-past, remove-past}
 
@@ -29,3 +31,8 @@ module _ (s : Linked) (b : Below (s .table)) where
   call-past (archiveNext index cells w) = quiet-past (archiveNext index cells w) (λ (e : ⊥). e)
   call-past (matches headers entries contents file index cells w e) = quiet-past (matches headers entries contents file index cells w e) (λ (e : ⊥). e)
   call-past (collect marks entry work) = collect-past (s .table) (listsIn s marks) entry work
+  call-past (plainCollect marks entry work) = go (compared marks entry work s)
+    where
+      go : Compared marks entry work s → Past (plainCollect marks entry work)
+      go (alike r t a) = subst (λ (x : Linked). TablePast (s .table) (x .table)) (sym t) (collect-past (s .table) (listsIn s marks) entry work)
+      go (many m u v e) = quiet-past (plainCollect marks entry work) (λ d. many-drops marks entry work s e d)

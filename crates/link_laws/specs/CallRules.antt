@@ -4,14 +4,14 @@ use Prim.Native.Nat.{_/_}
 use mathlib.Core.List.{List, [], _++_}
 use lib.ListN.{length}
 use Rattle.merge_laws.specs.Calls.{Linked, allIn}
-use Rattle.link_laws.specs.Calls.{Call, intern, resolve, add, remove, get, getGlobal, sectionSymbol, addGroup, merge, load, archiveStart, archiveNext, matches, collect, libraryIn}
+use Rattle.link_laws.specs.Calls.{Call, intern, resolve, add, remove, get, getGlobal, sectionSymbol, addGroup, merge, load, archiveStart, archiveNext, matches, collect, plainCollect, libraryIn}
 use Rattle.link_laws.specs.Rules.{Rule}
 use Rattle.link_laws.specs.TableRules.{getHead, presentRules, getGlobalHead, globalRules, removeHead, absentRules, internHead, roomRules, resolveHead, issuedAlone, addHead, addRules}
 use Rattle.link_laws.specs.GroupRules.{alone, groupHead, ownGroupRules}
 use Rattle.link_laws.specs.MergeRules.{mergeRules}
 use Rattle.link_laws.specs.LoadRules.{loadRules}
 use Rattle.link_laws.specs.ArchiveRules.{startRules, nextRules, matchesRules}
-use Rattle.link_laws.specs.CollectRules.{collectRules}
+use Rattle.link_laws.specs.CollectRules.{collectRules, plainRules}
 
 abbrev pub rules : Call → Linked → List Rule
 rules (intern x) s = internHead (s .table) ++ roomRules (s .table) x
@@ -29,3 +29,4 @@ rules (archiveStart key index cells) s = startRules index cells
 rules (archiveNext index cells w) s = nextRules index cells w (s .table)
 rules (matches headers entries contents file index cells w e) s = matchesRules headers entries contents file index cells w e
 rules (collect marks entry work) s = collectRules (s .table) (s .lists) marks entry work
+rules (plainCollect marks entry work) s = plainRules (s .table) (s .lists) marks entry work

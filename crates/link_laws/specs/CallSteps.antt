@@ -42,8 +42,9 @@ use Rattle.merge_laws.specs.Whole.{merge-makes}
 use Rattle.merge_laws.specs.Calls.{Linked, allIn}
 use Rattle.load_laws.specs.LoadSteps.{loadSteps}
 use Rattle.load_laws.specs.Whole.{load-makes}
-use Rattle.link_laws.specs.Calls.{Call, intern, resolve, add, remove, get, getGlobal, sectionSymbol, addGroup, merge, load, archiveStart, archiveNext, matches, collect, groupIn, libraryIn, listsIn, callNext, callNotes, Removes}
-use Rattle.link_laws.specs.Idle.{drops-nothing}
+use Rattle.link_laws.specs.Calls.{Call, intern, resolve, add, remove, get, getGlobal, sectionSymbol, addGroup, merge, load, archiveStart, archiveNext, matches, collect, plainCollect, groupIn, libraryIn, listsIn, callLeft, callNext, callNotes, Removes}
+use Rattle.link_laws.specs.PlainCalls.{plain-link}
+use Rattle.link_laws.specs.Idle.{drops-nothing, plain-drops-nothing}
 use Rattle.link_laws.specs.CollectPast.{run-past}
 
 -- ---- direct calls
@@ -198,6 +199,7 @@ callSteps (archiveStart key index cells) s = []
 callSteps (archiveNext index cells w) s = []
 callSteps (matches headers entries contents file index cells w e) s = []
 callSteps (collect marks entry work) s = []
+callSteps (plainCollect marks entry work) s = []
 
 pub call-makes : (k : Call) (s : Linked) → (Removes k s → ⊥) → Makes (s .table) (callSteps k s) (callNext k s .table)
 call-makes (intern x) s q = direct-makes (History.intern x) (s .table) q
@@ -215,6 +217,8 @@ call-makes (archiveNext index cells w) s q = makes-none (s .table)
 call-makes (matches headers entries contents file index cells w e) s q = makes-none (s .table)
 call-makes (collect marks entry work) s q =
     subst (λ (t : Linked). Makes (s .table) [] (t .table)) (sym (drops-nothing marks entry work s q)) (makes-none (s .table))
+call-makes (plainCollect marks entry work) s q =
+    subst (λ (t : Linked). Makes (s .table) [] (t .table)) (sym (plain-drops-nothing marks entry work s q)) (makes-none (s .table))
 
 pub call-log : (k : Call) (s : Linked) → (Removes k s → ⊥) → callNotes k s ≡ logSteps (callSteps k s) (s .table)
 call-log (intern x) s q = direct-log (History.intern x) (s .table) q
@@ -231,6 +235,7 @@ call-log (archiveStart key index cells) s q = refl
 call-log (archiveNext index cells w) s q = refl
 call-log (matches headers entries contents file index cells w e) s q = refl
 call-log (collect marks entry work) s q = refl
+call-log (plainCollect marks entry work) s q = refl
 
 -- ---- every call, removing ones too
 
@@ -260,3 +265,6 @@ call-leads (collect marks entry work) s =
     let r : Collection.Left = runOf (s .table .link) (listsIn s marks) (s .table .symbols) (s .table .sections) entry work in
     cleared (rowsOf (r .symbols) (r .sections)) refl
     (ap (withRows (s .table) (rowsOf (r .symbols) (r .sections))) (run-past (s .table .link) (s .table .symbols) (s .table .sections) (listsIn s marks) entry work .link))
+call-leads (plainCollect marks entry work) s =
+    let r : Collection.Left = callLeft (plainCollect marks entry work) s in
+    cleared (rowsOf (r .symbols) (r .sections)) refl (ap (withRows (s .table) (rowsOf (r .symbols) (r .sections))) (plain-link marks entry work s))

@@ -42,6 +42,7 @@ use Rattle.gc_sections.specs.declared.Answer.{Answer}
 use Rattle.gc_sections.specs.declared.Answer.the-variants.{Dropped, Refused}
 use Rattle.gc_sections.specs.Run as Collection
 use Rattle.gc_sections.specs.Run.{listsOf, runOf}
+use Rattle.plain_collector.specs.Run.{plainOf}
 use Rattle.symbol_laws.specs.History as History
 use Rattle.symbol_laws.specs.History.{State, Entry, table, store, withTable, withStore, withRows, run, log, noted, upcoming}
 use Rattle.merge_laws.specs.Steps.{logSteps}
@@ -74,6 +75,8 @@ pub data Call : Type 0 where
   matches : List ℕ → List ℕ → List ℕ → List ℕ → List ℕ → List ℕ → Walk → ℕ → Call
   -- marks of symbols, the entry symbol, work cells
   collect : List ℕ → EntryPoint → List ℕ → Call
+  -- the same, for the plain collector
+  plainCollect : List ℕ → EntryPoint → List ℕ → Call
 
 -- ---- what each call leaves and answers
 
@@ -108,6 +111,7 @@ LeftBy (archiveStart key index cells) = Archive.Start
 LeftBy (archiveNext index cells w) = Archive.Step
 LeftBy (matches headers entries contents file index cells w e) = Admission
 LeftBy (collect marks entry work) = Collection.Left
+LeftBy (plainCollect marks entry work) = Collection.Left
 
 -- its contract: the outcome is this
 abbrev pub callLeft : (k : Call) → Linked → LeftBy k
@@ -125,6 +129,7 @@ callLeft (archiveStart key index cells) s = startOf key index cells
 callLeft (archiveNext index cells w) s = nextOf index cells w (viewIn (s .table))
 callLeft (matches headers entries contents file index cells w e) s = matchesOf (s .table .link) headers entries contents file index cells w e
 callLeft (collect marks entry work) s = runOf (s .table .link) (listsIn s marks) (s .table .symbols) (s .table .sections) entry work
+callLeft (plainCollect marks entry work) s = plainOf (s .table .link) (listsIn s marks) (s .table .symbols) (s .table .sections) entry work
 
 -- ---- number and place, as each call's own definition has them
 
@@ -150,6 +155,7 @@ refusalIn (archiveStart key index cells) o = refusalWith (Archive.begunSaid (o .
 refusalIn (archiveNext index cells w) o = refusalWith (Archive.offerSaid (o .moved .offer))
 refusalIn (matches headers entries contents file index cells w e) o = refusalWith (Matches.said o)
 refusalIn (collect marks entry work) o = refused (o .said .number) (o .said .place)
+refusalIn (plainCollect marks entry work) o = refused (o .said .number) (o .said .place)
 
 abbrev pub callRefusal : Call → Linked → Refusal
 callRefusal k s = refusalIn k (callLeft k s)
@@ -177,6 +183,7 @@ nextBy (archiveStart key index cells) s o = s
 nextBy (archiveNext index cells w) s o = s
 nextBy (matches headers entries contents file index cells w e) s o = s
 nextBy (collect marks entry work) s o = tabled s (withRows (s .table) (rowsOf (o .symbols) (o .sections)) (o .link))
+nextBy (plainCollect marks entry work) s o = tabled s (withRows (s .table) (rowsOf (o .symbols) (o .sections)) (o .link))
 
 abbrev pub callNext : Call → Linked → Linked
 callNext k s = nextBy k s (callLeft k s)
@@ -198,6 +205,7 @@ callNotes (archiveStart key index cells) s = []
 callNotes (archiveNext index cells w) s = []
 callNotes (matches headers entries contents file index cells w e) s = []
 callNotes (collect marks entry work) s = []
+callNotes (plainCollect marks entry work) s = []
 
 -- ---- "any sequence of calls"
 
@@ -230,6 +238,7 @@ Removes (archiveStart key index cells) s = ⊥
 Removes (archiveNext index cells w) s = ⊥
 Removes (matches headers entries contents file index cells w e) s = ⊥
 Removes (collect marks entry work) s = Drops (callLeft (collect marks entry work) s .answer)
+Removes (plainCollect marks entry work) s = Drops (callLeft (plainCollect marks entry work) s .answer)
 
 abbrev pub RemovesNothing : List Call → Linked → Type 0
 RemovesNothing [] s = Unit {0}

@@ -362,7 +362,7 @@ module _ (marks : List ℕ) (entry : EntryPoint) (work : List ℕ) (s : Linked) 
       go Unbuilts.None = refl
       go (Unbuilts.Lowest id) = refl
 
-  head-exactly : head ≡ firstOf (collectHead table (s .lists) marks work)
+  pub head-exactly : head ≡ firstOf (collectHead table (s .lists) marks work)
   unfolding Run.judgeOf judgeCells
   head-exactly =
       headed ((ltb (length marks) (table .link .symbols) gives 1 at length marks) ∷ (ltb (length work / 2) (table .link .sections) gives 2 at 0) ∷ []) (λ (r : Refusal). r)

@@ -10,6 +10,7 @@ use Rattle.link.specs.Bounds.{notLent}
 use Rattle.gc_sections.specs.declared.EntryPoint.{EntryPoint}
 use Rattle.gc_sections.specs.declared.EntryPoint.the-variants as Entry
 use Rattle.symbol_laws.specs.History.{State}
+use Rattle.plain_laws.specs.Plain.{howMany}
 use Rattle.link_laws.specs.Rules.{Rule, _gives_at_, some, lentRows, headRules}
 use Rattle.link_laws.specs.TableRules.{bytesOf, isRemoved}
 use Rattle.link_laws.specs.ObjectRules.{cellAt}
@@ -103,3 +104,16 @@ reachedRules t lists marks entry = (isSome (unbuilt t lists marks entry) gives 2
 
 abbrev pub collectRules : State → List ℕ → List ℕ → EntryPoint → List ℕ → List Rule
 collectRules t lists marks entry work = collectHead t lists marks work ++ reachedRules t lists marks entry
+
+-- ---- request 2026-12: "more such sections than that, after 1, place 0", where such are built and not dropped
+
+abbrev pub plainHead : State → List ℕ → List ℕ → List ℕ → List Rule
+plainHead t lists marks work =
+    headRules (t .link) (lentRows (length (t .names) / 9) (length (t .bytes)) (length (t .symbols)) (length (t .sections) / 9) notLent (length lists))
+    ++ ((ltb (length marks) (t .link .symbols) gives 1 at length marks)
+    ∷ (ltb 256 (howMany (λ y. eqb (cellAt (t .sections) y 0) 2) (t .link .sections)) gives 30 at 0)
+    ∷ (ltb (length work / 2) (t .link .sections) gives 2 at 0)
+    ∷ [])
+
+abbrev pub plainRules : State → List ℕ → List ℕ → EntryPoint → List ℕ → List Rule
+plainRules t lists marks entry work = plainHead t lists marks work ++ reachedRules t lists marks entry

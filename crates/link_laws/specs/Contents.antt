@@ -30,7 +30,7 @@ use Rattle.merge_laws.specs.Calls.{Linked, allIn}
 use Rattle.load_laws.specs.LoadSteps.{loadSteps}
 use Rattle.load_laws.specs.Whole.{load-makes}
 use Rattle.load_laws.specs.LibraryContents.{FromLibrary, load-logged}
-use Rattle.link_laws.specs.Calls.{Call, intern, resolve, add, remove, get, getGlobal, sectionSymbol, addGroup, merge, load, archiveStart, archiveNext, matches, collect, libraryIn, callLeft, callNext, callNotes, runCalls, logCalls}
+use Rattle.link_laws.specs.Calls.{Call, intern, resolve, add, remove, get, getGlobal, sectionSymbol, addGroup, merge, load, archiveStart, archiveNext, matches, collect, plainCollect, libraryIn, callLeft, callNext, callNotes, runCalls, logCalls}
 use Rattle.link_laws.specs.Kept.{signatures, calls-marked}
 
 -- ---- the words
@@ -51,6 +51,7 @@ FromCall (archiveStart key index cells) s met r = ⊥
 FromCall (archiveNext index cells w) s met r = ⊥
 FromCall (matches headers entries contents file index cells w e) s met r = ⊥
 FromCall (collect marks entry work) s met r = ⊥
+FromCall (plainCollect marks entry work) s met r = ⊥
 
 -- of one of these calls, made one after the other
 pub data FromCalls (r : Row) : List Call → Linked → List (List ℕ) → Type 0 where
@@ -110,6 +111,7 @@ call-logged (archiveStart key index cells) s met m = tt
 call-logged (archiveNext index cells w) s met m = tt
 call-logged (matches headers entries contents file index cells w e) s met m = tt
 call-logged (collect marks entry work) s met m = tt
+call-logged (plainCollect marks entry work) s met m = tt
 
 -- ---- any calls
 

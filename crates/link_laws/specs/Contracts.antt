@@ -45,7 +45,8 @@ use Rattle.gc_sections.specs.Contract as Collects
 use Rattle.gc_sections.specs.Contract.{RunMeets}
 use Rattle.symbol_laws.specs.History.{table, store}
 use Rattle.merge_laws.specs.Calls.{Linked}
-use Rattle.link_laws.specs.Calls.{Call, intern, resolve, add, remove, get, getGlobal, sectionSymbol, addGroup, merge, load, archiveStart, archiveNext, matches, collect, LeftBy, callLeft, viewIn, groupIn, listsIn}
+use Rattle.link_laws.specs.Calls.{Call, intern, resolve, add, remove, get, getGlobal, sectionSymbol, addGroup, merge, load, archiveStart, archiveNext, matches, collect, plainCollect, LeftBy, callLeft, viewIn, groupIn, listsIn}
+use Rattle.plain_collector.specs.Contract.{PlainMeets}
 use Rattle.link_laws.specs.OneOutcome.{names-answer, symbols-answer}
 
 -- ---- what a caller sees: the lent cells at exit, and the result
@@ -73,6 +74,7 @@ Exit (archiveStart key index cells) = StartExit
 Exit (archiveNext index cells w) = NextExit
 Exit (matches headers entries contents file index cells w e) = Admission
 Exit (collect marks entry work) = Collects.Exit
+Exit (plainCollect marks entry work) = Collects.Exit
 
 -- ---- the contracts
 
@@ -106,6 +108,7 @@ Meets (archiveStart key index cells) s e = StartMeets key index cells e
 Meets (archiveNext index cells w) s e = NextMeets index cells w (viewIn (s .table)) e
 Meets (matches headers entries contents file index cells w i) s e = MatchesMeets (s .table .link) headers entries contents file index cells w i e
 Meets (collect marks entry work) s e = RunMeets (s .table .link) (listsIn s marks) (s .table .symbols) (s .table .sections) entry work e
+Meets (plainCollect marks entry work) s e = PlainMeets (s .table .link) (listsIn s marks) (s .table .symbols) (s .table .sections) entry work e
 
 -- the left side of the contract: what the exit is in the terms of the call's definition
 abbrev pub seen : (k : Call) → Exit k → LeftBy k
@@ -127,6 +130,7 @@ seen (archiveStart key index cells) e = Archive.startLeft (e .cells) (e .result)
 seen (archiveNext index cells w) e = Archive.stepMoved (e .cells) (e .result)
 seen (matches headers entries contents file index cells w i) e = e
 seen (collect marks entry work) e = Collecting.outcome (e .symbols) (e .sections) (e .work) (e .result)
+seen (plainCollect marks entry work) e = Collecting.outcome (e .symbols) (e .sections) (e .work) (e .result)
 
 -- so all that is proved of `callLeft` is proved of every exit that meets the contract
 pub meets-left : (k : Call) (s : Linked) (e : Exit k) → Meets k s e → seen k e ≡ callLeft k s
@@ -144,6 +148,7 @@ meets-left (archiveStart key index cells) s e h = h
 meets-left (archiveNext index cells w) s e h = h
 meets-left (matches headers entries contents file index cells w i) s e h = h
 meets-left (collect marks entry work) s e h = h
+meets-left (plainCollect marks entry work) s e h = h
 
 -- ---- no second outcome
 
@@ -297,6 +302,7 @@ seen-one (archiveStart key index cells) x y e = start-one x y e
 seen-one (archiveNext index cells w) x y e = next-one x y e
 seen-one (matches headers entries contents file index cells w i) x y e = e
 seen-one (collect marks entry work) x y e = collect-one x y e
+seen-one (plainCollect marks entry work) x y e = collect-one x y e
 
 -- of every call on a link
 pub one-outcome : (k : Call) (s : Linked) (x y : Exit k) → Meets k s x → Meets k s y → x ≡ y

@@ -26,7 +26,7 @@ use Rattle.merge_laws.specs.MergeSteps.{mergeSteps}
 use Rattle.merge_laws.specs.Marked.{Marked}
 use Rattle.merge_laws.specs.Calls.{Linked, allIn}
 use Rattle.load_laws.specs.LoadSteps.{loadSteps}
-use Rattle.link_laws.specs.Calls.{Call, intern, resolve, add, remove, get, getGlobal, sectionSymbol, addGroup, merge, load, archiveStart, archiveNext, matches, collect, libraryIn, callNext, callNotes, runCalls, logCalls}
+use Rattle.link_laws.specs.Calls.{Call, intern, resolve, add, remove, get, getGlobal, sectionSymbol, addGroup, merge, load, archiveStart, archiveNext, matches, collect, plainCollect, libraryIn, callNext, callNotes, runCalls, logCalls}
 use Rattle.link_laws.specs.Kept.{signatures, calls-marked}
 use Rattle.link_laws.specs.NamesStay.{calls-stay}
 use Rattle.link_laws.specs.Contents.{FromCall, FromCalls, here, later}
@@ -50,6 +50,7 @@ CallBears b n (archiveStart key index cells) s met r p = ⊥
 CallBears b n (archiveNext index cells w) s met r p = ⊥
 CallBears b n (matches headers entries contents file index cells w e) s met r p = ⊥
 CallBears b n (collect marks entry work) s met r p = ⊥
+CallBears b n (plainCollect marks entry work) s met r p = ⊥
 
 abbrev pub Bears : List ℕ → ℕ → (r : Row) (ks : List Call) (s : Linked) (met : List (List ℕ)) → FromCalls r ks s met → Type 0
 Bears b n r (k ∷ ks) s met (here p) = CallBears b n k s met r p
@@ -81,6 +82,7 @@ module _ (b : List ℕ) (n : ℕ) (r : Row) (e : r .name .0 ≡ n) where
   call-bears (archiveNext index cells w) s t met p f = p
   call-bears (matches headers entries contents file index cells w e) s t met p f = p
   call-bears (collect marks entry work) s t met p f = p
+  call-bears (plainCollect marks entry work) s t met p f = p
 
   pub bears : (ks : List Call) (s : Linked) (met : List (List ℕ)) → Marked (s .table) met → Issued (store (runCalls ks s .table)) n b → (p : FromCalls r ks s met)
       → Bears b n r ks s met p
@@ -128,6 +130,7 @@ call-own (archiveStart key index cells) s = tt
 call-own (archiveNext index cells w) s = tt
 call-own (matches headers entries contents file index cells w e) s = tt
 call-own (collect marks entry work) s = tt
+call-own (plainCollect marks entry work) s = tt
 
 calls-own : (ks : List Call) (s : Linked) → Own (logCalls ks s)
 calls-own [] s = tt

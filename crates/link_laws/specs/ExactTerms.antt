@@ -16,7 +16,7 @@ use Rattle.archive_laws.specs.Runs.{Run, history, startRun}
 use Rattle.symbol_laws.specs.History.{opened}
 use Rattle.merge_laws.specs.Marked.{Marked, new-marked}
 use Rattle.merge_laws.specs.Calls.{Linked, linked, allIn}
-use Rattle.link_laws.specs.Calls.{Call, intern, resolve, add, remove, get, getGlobal, sectionSymbol, addGroup, merge, load, archiveStart, archiveNext, matches, collect, libraryIn, callRefusal, callNumber, runCalls}
+use Rattle.link_laws.specs.Calls.{Call, intern, resolve, add, remove, get, getGlobal, sectionSymbol, addGroup, merge, load, archiveStart, archiveNext, matches, collect, plainCollect, libraryIn, callRefusal, callNumber, runCalls}
 use Rattle.link_laws.specs.Kept.{signatures, calls-marked}
 use Rattle.link_laws.specs.Rules.{firstOf, numbered, numbered-both, someHolds, none-holds}
 use Rattle.link_laws.specs.GroupRules.{alone, groupHead, ownGroupRules}
@@ -32,6 +32,7 @@ use Rattle.link_laws.specs.ArchiveRules.{indexedRules}
 use Rattle.link_laws.specs.ArchiveIndexed.{next-indexed}
 use Rattle.link_laws.specs.ArchiveExactly.{start-exactly, start-numbered, next-exactly, next-numbered, matches-exactly, matches-numbered}
 use Rattle.link_laws.specs.CollectExactly.{collect-exactly}
+use Rattle.link_laws.specs.PlainExactly.{plain-exactly}
 
 -- over a link whose names are as every link has them
 pub call-exactly : (k : Call) (s : Linked) (met : List (List ℕ)) → Marked (s .table) met → callRefusal k s ≡ firstOf (rules k s)
@@ -49,6 +50,7 @@ call-exactly (archiveStart key index cells) s met m = start-exactly key index ce
 call-exactly (archiveNext index cells w) s met m = next-exactly index cells w s (m .good .chained)
 call-exactly (matches headers entries contents file index cells w e) s met m = matches-exactly headers entries contents file index cells w e s
 call-exactly (collect marks entry work) s met m = collect-exactly marks entry work s
+call-exactly (plainCollect marks entry work) s met m = plain-exactly marks entry work s
 
 -- no rule has the number of a result
 pub rules-numbered : (k : Call) (s : Linked) → numbered (rules k s) ≡ true
@@ -67,6 +69,7 @@ rules-numbered (archiveStart key index cells) s = start-numbered index cells
 rules-numbered (archiveNext index cells w) s = next-numbered index cells w (s .table)
 rules-numbered (matches headers entries contents file index cells w e) s = matches-numbered headers entries contents file index cells w e
 rules-numbered (collect marks entry work) s = refl
+rules-numbered (plainCollect marks entry work) s = refl
 
 module _ (key : ℕ) (gabi : Bool) (bytes names symbols sections inputs lists : List ℕ) (new : numberIn (newOf key gabi bytes names symbols sections .said) ≡ 0) (ks : List Call) where
   abbrev pub start : Linked

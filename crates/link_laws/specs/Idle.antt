@@ -3,7 +3,7 @@
 use Prim.Native.Nat.{ℕ, zero, suc, _+_, _≤_}
 use native.Mathlib.Omega.{arith}
 use native.Mathlib.Decide.{ℕ-discrete}
-use mathlib.Core.Path.{_≡_, refl, sym, ap, _∙_}
+use mathlib.Core.Path.{_≡_, refl, sym, ap, _∙_, subst}
 use mathlib.Core.List.{List}
 use mathlib.Core.Logic.{_≢_}
 use lib.Dec.{eqb}
@@ -27,7 +27,8 @@ use Rattle.gc_sections.specs.declared.Answer.the-variants.{Dropped, Refused}
 use Rattle.gc_sections.specs.Run.{Left, Lists, numberOf, judged, purgeOf, sweepOf, finishOf, finished, collectOf, runOf}
 use Rattle.symbol_laws.specs.History.{withRows}
 use Rattle.merge_laws.specs.Calls.{Linked, linked}
-use Rattle.link_laws.specs.Calls.{Drops, collect, listsIn, callNext, Removes}
+use Rattle.link_laws.specs.Calls.{Drops, collect, plainCollect, listsIn, callLeft, callNext, Removes}
+use Rattle.link_laws.specs.PlainCalls.{Compared, alike, many, compared, many-next}
 
 -- ---- a loop whose turns either leave all or count one more
 
@@ -152,3 +153,11 @@ drops-nothing marks entry work s q =
     ap (λ (y : List ℕ). linked (withRows (s .table) (rowsOf y (r .sections)) (r .link)) (s .inputs) (s .lists)) a
     ∙ ap (λ (y : List ℕ). linked (withRows (s .table) (rowsOf (s .table .symbols) y) (r .link)) (s .inputs) (s .lists)) b
     ∙ ap (λ (l : Link). linked (withRows (s .table) (rowsOf (s .table .symbols) (s .table .sections)) l) (s .inputs) (s .lists)) c
+
+pub plain-drops-nothing : (marks : List ℕ) (entry : EntryPoint) (work : List ℕ) (s : Linked) → (Removes (plainCollect marks entry work) s → ⊥)
+    → callNext (plainCollect marks entry work) s ≡ s
+plain-drops-nothing marks entry work s q = go (compared marks entry work s)
+  where
+    go : Compared marks entry work s → callNext (plainCollect marks entry work) s ≡ s
+    go (alike r t a) = t ∙ drops-nothing marks entry work s (λ (d : Drops (callLeft (collect marks entry work) s .answer)). q (subst Drops (sym a) d))
+    go (many m u v e) = many-next marks entry work s e

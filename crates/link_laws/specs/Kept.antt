@@ -23,7 +23,7 @@ use Rattle.load_laws.specs.LoadSteps.{loadSteps}
 use Rattle.load_laws.specs.Unmarked.{load-markless}
 use Rattle.merge_laws.specs.Lookups.{CountedIn, steps-counted, within}
 use Rattle.merge_laws.specs.Calls.{Linked}
-use Rattle.link_laws.specs.Calls.{Call, intern, resolve, add, remove, get, getGlobal, sectionSymbol, addGroup, merge, load, archiveStart, archiveNext, matches, collect, libraryIn, callNumber, callNext, callNotes, runCalls, logCalls, Removes, RemovesNothing}
+use Rattle.link_laws.specs.Calls.{Call, intern, resolve, add, remove, get, getGlobal, sectionSymbol, addGroup, merge, load, archiveStart, archiveNext, matches, collect, plainCollect, libraryIn, callNumber, callNext, callNotes, runCalls, logCalls, Removes, RemovesNothing}
 use Rattle.link_laws.specs.CallSteps.{callSteps, call-makes, call-log, Leads, made, cleared, call-leads}
 use Rattle.link_laws.specs.Lists.{call-listed}
 use Rattle.merge_laws.specs.Lists.{ListsPast, lists-none, lists-both}
@@ -66,6 +66,7 @@ meetsGroups (archiveStart key index cells) = false
 meetsGroups (archiveNext index cells w) = false
 meetsGroups (matches headers entries contents file index cells w e) = false
 meetsGroups (collect marks entry work) = false
+meetsGroups (plainCollect marks entry work) = false
 
 pub no-signatures : (k : Call) (s : Linked) → meetsGroups k ≡ false → signatures (k ∷ []) s ≡ []
 no-signatures (intern x) s q = by-test (eqb (callNumber (intern x) s) 0) (λ a. rw a) (λ a. rw a)
@@ -82,6 +83,7 @@ no-signatures (archiveStart key index cells) s q = refl
 no-signatures (archiveNext index cells w) s q = refl
 no-signatures (matches headers entries contents file index cells w e) s q = refl
 no-signatures (collect marks entry work) s q = refl
+no-signatures (plainCollect marks entry work) s q = refl
 
 -- names, marks and counts are as a state's whose other rows differ
 rows-marked : (s : State) (x : Rows) (met : List (List ℕ)) → Marked s met → Marked (withRows s x (s .link)) met

@@ -34,7 +34,9 @@ use Rattle.key_laws.specs.Merge.{merge-moved}
 use Rattle.key_laws.specs.Load.{load-moved}
 use Rattle.key_laws.specs.SectionCalls.{intern-named, add-named, remove-named, group-named, merge-named, load-named, collect-named}
 use Rattle.key_laws.specs.NewTables.{new-said, new-moved, new-named}
-use Rattle.link_laws.specs.Calls.{Call, intern, resolve, add, remove, get, getGlobal, sectionSymbol, addGroup, merge, load, archiveStart, archiveNext, matches, collect, LeftBy, callLeft, refusalIn, refusalBy, callRefusal, callNext, runCalls, groupIn, libraryIn, listsIn, viewIn}
+use Rattle.link_laws.specs.Calls.{Call, intern, resolve, add, remove, get, getGlobal, sectionSymbol, addGroup, merge, load, archiveStart, archiveNext, matches, collect, plainCollect, LeftBy, callLeft, refusalIn, refusalBy, callRefusal, callNext, runCalls, groupIn, libraryIn, listsIn, viewIn}
+use Rattle.link_laws.specs.PlainCalls.{plain-link}
+use Rattle.key_laws.specs.PlainReads.{plain-same, plain-named}
 
 -- ---- two links
 
@@ -70,6 +72,7 @@ AnswerBy (archiveStart walkKey index cells) = Archive.Start
 AnswerBy (archiveNext index cells w) = Archive.Step
 AnswerBy (matches headers entries contents file index cells w e) = Admission
 AnswerBy (collect marks entry work) = List ℕ × Collection.Said
+AnswerBy (plainCollect marks entry work) = List ℕ × Collection.Said
 
 abbrev pub answerIn : (k : Call) → LeftBy k → AnswerBy k
 answerIn (intern x) o = o .said
@@ -86,6 +89,7 @@ answerIn (archiveStart walkKey index cells) o = o
 answerIn (archiveNext index cells w) o = o
 answerIn (matches headers entries contents file index cells w e) o = o
 answerIn (collect marks entry work) o = (o .work, o .said)
+answerIn (plainCollect marks entry work) o = (o .work, o .said)
 
 abbrev pub callAnswer : (k : Call) → Linked → AnswerBy k
 callAnswer k s = answerIn k (callLeft k s)
@@ -215,6 +219,21 @@ module _ (key : ℕ) (s : Linked) (n : List ℕ) (e : Rekeyed key (store (s .tab
           is = ap (λ (o : Collection.Left). linked (withRows (t .table) (rowsOf (o .symbols) (o .sections)) (o .link)) (s .inputs) (s .lists)) q;
           rows = subst (λ (m : Link). Rekeyed key (storeOf (s .table .bytes) (s .table .names) m) n) (sym same) e;
           named = subst (λ (m : Link). Named m (callLeft (collect marks entry work) s .sections)) (sym same) g;
+        };
+      }
+  under-same (plainCollect marks entry work) =
+      let l : Link = s .table .link in
+      let q = plain-same key (store (s .table)) n e (s .table .symbols) (s .table .sections) (s .lists) marks h entry work in
+      let g = plain-named l (listsIn s marks) (s .table .symbols) (s .table .sections) entry work h in
+      let same = plain-link marks entry work s in
+      record {
+        answer = ap (λ (o : Collection.Left). (o .work, o .said)) q;
+        refusal = ap (refusalIn (plainCollect marks entry work)) q;
+        next = record {
+          names = n;
+          is = ap (λ (o : Collection.Left). linked (withRows (t .table) (rowsOf (o .symbols) (o .sections)) (o .link)) (s .inputs) (s .lists)) q;
+          rows = subst (λ (m : Link). Rekeyed key (storeOf (s .table .bytes) (s .table .names) m) n) (sym same) e;
+          named = subst (λ (m : Link). Named m (callLeft (plainCollect marks entry work) s .sections)) (sym same) g;
         };
       }
 

@@ -10,6 +10,7 @@ use borrow.Author.Tests.{eqb-true, eqb-false}
 use Rattle.cells.specs.Split.{by-test}
 use Rattle.byte_slices.specs.Ways.{pick, apart}
 use Rattle.link.specs.Said.{numberIn}
+use Rattle.link.specs.declared.Refusal.{Refusal}
 use Rattle.link.specs.declared.Stage.{Stage}
 use Rattle.section_groups.specs.Group as Group
 use Rattle.section_groups.specs.Group.{groupOf, groupSectionOf, go}
@@ -30,7 +31,8 @@ use Rattle.merge_laws.specs.Refusals.{group-left}
 use Rattle.merge_laws.specs.Calls.{Linked, linked, allIn, linkIn}
 use Rattle.load_laws.specs.Whole as Loads
 use Rattle.shared_laws.specs.Unneeded as Unneeded
-use Rattle.link_laws.specs.Calls.{Call, intern, resolve, add, remove, get, getGlobal, sectionSymbol, addGroup, merge, load, archiveStart, archiveNext, matches, collect, groupIn, libraryIn, listsIn, callLeft, callNumber, callNext}
+use Rattle.link_laws.specs.Calls.{Call, intern, resolve, add, remove, get, getGlobal, sectionSymbol, addGroup, merge, load, archiveStart, archiveNext, matches, collect, plainCollect, groupIn, libraryIn, listsIn, callLeft, callNumber, callNext}
+use Rattle.link_laws.specs.PlainCalls.{Compared, alike, many, compared, many-next}
 use Rattle.link_laws.specs.Idle.{drops-nothing, refused-drops}
 use Rattle.link_laws.specs.CallSteps.{grouped, head-loaded, section-is, answered-is}
 
@@ -52,6 +54,7 @@ byElements (archiveStart key index cells) = false
 byElements (archiveNext index cells w) = false
 byElements (matches headers entries contents file index cells w e) = false
 byElements (collect marks entry work) = false
+byElements (plainCollect marks entry work) = false
 
 direct-leaves : (k : History.Call) (s : Linked) → History.callNumber k (s .table) ≢ 0 → linked (History.callNext k (s .table)) (s .inputs) (s .lists) ≡ s
 direct-leaves k s u = ap (λ (t : State). linked t (s .inputs) (s .lists)) (call-refused k (s .table) u)
@@ -100,6 +103,14 @@ refused-leaves (archiveNext index cells w) s g u = refl
 refused-leaves (matches headers entries contents file index cells w e) s g u = refl
 refused-leaves (collect marks entry work) s g u =
     drops-nothing marks entry work s (refused-drops (s .table .link) (s .table .symbols) (s .table .sections) (listsIn s marks) entry work u)
+refused-leaves (plainCollect marks entry work) s g u = go (compared marks entry work s)
+  where
+    go : Compared marks entry work s → callNext (plainCollect marks entry work) s ≡ s
+    go (alike r t a) =
+        t
+        ∙ drops-nothing marks entry work s
+        (refused-drops (s .table .link) (s .table .symbols) (s .table .sections) (listsIn s marks) entry work (λ z. u (ap (λ (x : Refusal). x .number) r ∙ z)))
+    go (many m v w e) = many-next marks entry work s e
 
 -- ---- merges and loads
 

@@ -19,6 +19,8 @@ pub mod LoadWhole
 pub mod CollectRules
 pub mod CollectRounds
 pub mod CollectExactly
+pub mod PlainCalls
+pub mod PlainExactly
 pub mod ArchiveRules
 pub mod ArchiveExactly
 pub mod ArchiveIndexed

@@ -25,7 +25,8 @@ use Rattle.symbol_laws.specs.History as History
 use Rattle.symbol_laws.specs.Refused.{remove-link}
 use Rattle.merge_laws.specs.Lists.{keep-inputs}
 use Rattle.merge_laws.specs.Calls.{Linked, allIn}
-use Rattle.link_laws.specs.Calls.{Call, intern, resolve, add, remove, get, getGlobal, sectionSymbol, addGroup, merge, load, archiveStart, archiveNext, matches, collect, libraryIn, listsIn, callLeft, callNext, runCalls}
+use Rattle.link_laws.specs.Calls.{Call, intern, resolve, add, remove, get, getGlobal, sectionSymbol, addGroup, merge, load, archiveStart, archiveNext, matches, collect, plainCollect, libraryIn, listsIn, callLeft, callNext, runCalls}
+use Rattle.link_laws.specs.PlainCalls.{plain-link}
 use Rattle.link_laws.specs.Leaves.{byElements}
 use Rattle.link_laws.specs.Lists.{direct-count, call-listed}
 use Rattle.link_laws.specs.CollectPast.{run-past}
@@ -60,6 +61,7 @@ other-count (archiveNext index cells w) s e = refl
 other-count (matches headers entries contents file index cells w i) s e = refl
 other-count (collect marks entry work) s e =
     ap count (run-past (s .table .link) (s .table .symbols) (s .table .sections) (listsIn s marks) entry work .link)
+other-count (plainCollect marks entry work) s e = ap count (plain-link marks entry work s)
 
 -- the history ks, begun with link s, has a load that was answered "loaded" and took input k
 pub record LoadedAt (k : ℕ) (ks : List Call) (s : Linked) : Type 0 where
@@ -131,6 +133,7 @@ module _ (k : ℕ) (cs : List Call) (s : Linked) (fresh : inputs s ≤ k) where
       element (archiveNext index cells w) t n h e = absurd (false≢true t)
       element (matches headers entries contents file index cells w i) t n h e = absurd (false≢true t)
       element (collect marks entry work) t n h e = absurd (false≢true t)
+      element (plainCollect marks entry work) t n h e = absurd (false≢true t)
 
 -- a lent list has fewer than 2^64 cells
 pub from-loads : (ks : List Call) (s : Linked) → length (s .lists) ≤ notLent → (k : ℕ) → inputs s ≤ k → k < inputs (runCalls ks s)

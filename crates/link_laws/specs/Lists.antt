@@ -25,7 +25,8 @@ use Rattle.merge_laws.specs.SymbolStage.{applied-count}
 use Rattle.merge_laws.specs.Lists.{Listed, listed-none, keep-lists, keep-inputs, merge-left}
 use Rattle.merge_laws.specs.Calls.{Linked, linked, allIn}
 use Rattle.load_laws.specs.Lists.{load-listed}
-use Rattle.link_laws.specs.Calls.{Call, intern, resolve, add, remove, get, getGlobal, sectionSymbol, addGroup, merge, load, archiveStart, archiveNext, matches, collect, libraryIn, listsIn, callNext}
+use Rattle.link_laws.specs.Calls.{Call, intern, resolve, add, remove, get, getGlobal, sectionSymbol, addGroup, merge, load, archiveStart, archiveNext, matches, collect, plainCollect, libraryIn, listsIn, callNext}
+use Rattle.link_laws.specs.PlainCalls.{plain-link}
 use Rattle.link_laws.specs.CollectPast.{run-past}
 use Rattle.link_laws.specs.CallSteps.{group-count}
 
@@ -86,3 +87,4 @@ call-listed (matches headers entries contents file index cells w e) s h = none-l
 call-listed (collect marks entry work) s h =
     same-listed s (callNext (collect marks entry work) s .table)
     (run-past (s .table .link) (s .table .symbols) (s .table .sections) (listsIn s marks) entry work .link)
+call-listed (plainCollect marks entry work) s h = same-listed s (callNext (plainCollect marks entry work) s .table) (plain-link marks entry work s)

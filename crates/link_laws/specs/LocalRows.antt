@@ -51,7 +51,8 @@ use Rattle.symbol_laws.specs.History.{State, table, store, withTable, withStore
 use Rattle.merge_laws.specs.Steps.{Step, part, mark, others, rowsFrom, countsFrom, stepNext, runSteps, Goes, AllGo}
 use Rattle.merge_laws.specs.Past.{rows-all, rows-long}
 use Rattle.merge_laws.specs.Calls.{Linked}
-use Rattle.link_laws.specs.Calls.{Call, intern, resolve, add, remove, get, getGlobal, sectionSymbol, addGroup, merge, load, archiveStart, archiveNext, matches, collect, listsIn, Drops, callLeft, callNext, runCalls, Removes, RemovesNothing}
+use Rattle.link_laws.specs.Calls.{Call, intern, resolve, add, remove, get, getGlobal, sectionSymbol, addGroup, merge, load, archiveStart, archiveNext, matches, collect, plainCollect, listsIn, Drops, callLeft, callNext, runCalls, Removes, RemovesNothing}
+use Rattle.link_laws.specs.PlainCalls.{Compared, alike, many, compared, many-drops}
 use Rattle.link_laws.specs.CallSteps.{callSteps, call-makes}
 use Rattle.link_laws.specs.Removal.{Ready, steps-onward}
 use Rattle.link_laws.specs.LookedUp.{call-onward, calls-later}
@@ -719,6 +720,10 @@ call-stay k s g w = go k
     quiet : (k : Call) → (Removes k s → ⊥) → Stay (s .table) (callNext k s .table)
     quiet k q = onto-stay (s .table) (callNext k s .table) (call-onto k s q g w)
 
+    plain-stay : (marks : List ℕ) (entry : EntryPoint) (work : List ℕ) → Compared marks entry work s → Stay (s .table) (callNext (plainCollect marks entry work) s .table)
+    plain-stay marks entry work (alike r t a) = subst (λ (x : Linked). Stay (s .table) (x .table)) (sym t) (collect-stay s w marks entry work)
+    plain-stay marks entry work (many m u v e) = quiet (plainCollect marks entry work) (λ d. many-drops marks entry work s e d)
+
     go : (k : Call) → Stay (s .table) (callNext k s .table)
     go (intern x) = quiet (intern x) (λ (e : ⊥). e)
     go (resolve id) = quiet (resolve id) (λ (e : ⊥). e)
@@ -734,6 +739,7 @@ call-stay k s g w = go k
     go (archiveNext index cells w) = quiet (archiveNext index cells w) (λ (e : ⊥). e)
     go (matches headers entries contents file index cells w e) = quiet (matches headers entries contents file index cells w e) (λ (e : ⊥). e)
     go (collect marks entry work) = collect-stay s w marks entry work
+    go (plainCollect marks entry work) = plain-stay marks entry work (compared marks entry work s)
 
 pub calls-stay : (ks : List Call) (s : Linked) → Ready (s .table) → Shown (s .table) → Stay (s .table) (runCalls ks s .table)
 calls-stay [] s g w = record { shown = w; more = le-refl _; stands = λ i h. same refl }

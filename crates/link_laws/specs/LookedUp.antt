@@ -46,7 +46,8 @@ use Rattle.symbol_laws.specs.Refused.{remove-link}
 use Rattle.symbol_laws.specs.Within as Within
 use Rattle.merge_laws.specs.Steps.{Step, Makes, runSteps}
 use Rattle.merge_laws.specs.Calls.{Linked}
-use Rattle.link_laws.specs.Calls.{Call, intern, resolve, add, remove, get, getGlobal, sectionSymbol, addGroup, merge, load, archiveStart, archiveNext, matches, collect, listsIn, Drops, callLeft, callNumber, callNext, runCalls, Removes, RemovesNothing}
+use Rattle.link_laws.specs.Calls.{Call, intern, resolve, add, remove, get, getGlobal, sectionSymbol, addGroup, merge, load, archiveStart, archiveNext, matches, collect, plainCollect, listsIn, Drops, callLeft, callNumber, callNext, runCalls, Removes, RemovesNothing}
+use Rattle.link_laws.specs.PlainCalls.{Compared, alike, many, compared, many-next}
 use Rattle.link_laws.specs.CallSteps.{callSteps, call-makes}
 use Rattle.link_laws.specs.CollectPast.{run-past, remove-past}
 use Rattle.link_laws.specs.Idle.{drops-nothing}
@@ -203,6 +204,11 @@ call-later (archiveStart key index cells) s g = later-none (s .table) g
 call-later (archiveNext index cells w) s g = later-none (s .table) g
 call-later (matches headers entries contents file index cells w e) s g = later-none (s .table) g
 call-later (collect marks entry work) s g = collect-later s g marks entry work
+call-later (plainCollect marks entry work) s g = go (compared marks entry work s)
+  where
+    go : Compared marks entry work s → Later (s .table) (callNext (plainCollect marks entry work) s .table)
+    go (alike r t a) = subst (λ (x : Linked). Later (s .table) (x .table)) (sym t) (collect-later s g marks entry work)
+    go (many m u v e) = subst (λ (x : Linked). Later (s .table) (x .table)) (sym (many-next marks entry work s e)) (later-none (s .table) g)
 
 pub calls-later : (ks : List Call) (s : Linked) → Ready (s .table) → Later (s .table) (runCalls ks s .table)
 calls-later [] s g = later-none (s .table) g

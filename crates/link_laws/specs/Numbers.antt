@@ -1,7 +1,7 @@
 -- Every call answers a result or one of the refusals that document 01 gives it.
 -- Assumes nothing.
 use Prim.Native.Nat.{ℕ, _/_}
-use mathlib.Core.Path.{_≡_, refl, subst}
+use mathlib.Core.Path.{_≡_, refl, ap, subst, _∙_}
 use mathlib.Core.Bool.{Bool, true, cond}
 use mathlib.Core.List.{List, [], _∷_}
 use mathlib.Core.Logic.{_≢_}
@@ -53,7 +53,8 @@ use Rattle.gc_sections.specs.Run.{judgeCells, judged, purgeOf, sweepOf, finishO
 use Rattle.symbol_laws.specs.History.{store, table}
 use Rattle.merge_laws.specs.Refusals.{oneOf}
 use Rattle.merge_laws.specs.Calls.{Linked, allIn}
-use Rattle.link_laws.specs.Calls.{Call, intern, resolve, add, remove, get, getGlobal, sectionSymbol, addGroup, merge, load, archiveStart, archiveNext, matches, collect, viewIn, libraryIn, listsIn, callNumber}
+use Rattle.link_laws.specs.Calls.{Call, intern, resolve, add, remove, get, getGlobal, sectionSymbol, addGroup, merge, load, archiveStart, archiveNext, matches, collect, plainCollect, viewIn, libraryIn, listsIn, callNumber}
+use Rattle.link_laws.specs.PlainCalls.{Compared, alike, many, compared, many-refusal}
 use Rattle.link_laws.specs.Table.{refusals, callNumbers, within}
 use Rattle.link_laws.specs.AddNumbers as AddNumbers
 use Rattle.merge_laws.specs.ByNumber.{changed}
@@ -189,6 +190,19 @@ collect-numbers l x symbols sections entry work =
     go Unbuilts.None = refl
     go (Unbuilts.Lowest id) = refl
 
+plain-numbers : (marks : List ℕ) (entry : EntryPoint) (work : List ℕ) (s : Linked)
+    → oneOf (callNumber (plainCollect marks entry work) s) (0 ∷ callNumbers (plainCollect marks entry work)) ≡ true
+plain-numbers marks entry work s = go (compared marks entry work s)
+  where
+    first : oneOf (callNumber (collect marks entry work) s) (0 ∷ 22 ∷ 1 ∷ 2 ∷ 21 ∷ []) ≡ true
+    first = collect-numbers (s .table .link) (listsIn s marks) (s .table .symbols) (s .table .sections) entry work
+
+    go : Compared marks entry work s → oneOf (callNumber (plainCollect marks entry work) s) (0 ∷ 22 ∷ 1 ∷ 30 ∷ 2 ∷ 21 ∷ []) ≡ true
+    go (alike r t a) =
+        ap (λ (x : Refusal). oneOf (x .number) (0 ∷ 22 ∷ 1 ∷ 30 ∷ 2 ∷ 21 ∷ [])) r
+        ∙ one-within (callNumber (collect marks entry work) s) (0 ∷ 22 ∷ 1 ∷ 2 ∷ 21 ∷ []) (0 ∷ 22 ∷ 1 ∷ 30 ∷ 2 ∷ 21 ∷ []) refl first
+    go (many m u v e) = ap (λ (x : Refusal). oneOf (x .number) (0 ∷ 22 ∷ 1 ∷ 30 ∷ 2 ∷ 21 ∷ [])) (many-refusal marks entry work s e)
+
 -- ---- every call
 
 pub numbers : (k : Call) (s : Linked) → oneOf (callNumber k s) (0 ∷ callNumbers k) ≡ true
@@ -206,6 +220,7 @@ numbers (archiveStart key index cells) s = start-numbers key index cells
 numbers (archiveNext index cells w) s = next-numbers index cells w (viewIn (s .table))
 numbers (matches headers entries contents file index cells w e) s = matches-numbers (s .table .link) headers entries contents file index cells w e
 numbers (collect marks entry work) s = collect-numbers (s .table .link) (listsIn s marks) (s .table .symbols) (s .table .sections) entry work
+numbers (plainCollect marks entry work) s = plain-numbers marks entry work s
 
 -- all of the refusal table
 pub in-table : (k : Call) → within (callNumbers k) refusals ≡ true
@@ -223,6 +238,7 @@ in-table (archiveStart key index cells) = refl
 in-table (archiveNext index cells w) = refl
 in-table (matches headers entries contents file index cells w e) = refl
 in-table (collect marks entry work) = refl
+in-table (plainCollect marks entry work) = refl
 
 pub refusals-only : (k : Call) (s : Linked) → callNumber k s ≢ 0 → oneOf (callNumber k s) refusals ≡ true
 refusals-only k s u =

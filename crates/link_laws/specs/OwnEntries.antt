@@ -34,7 +34,7 @@ use Rattle.merge_laws.specs.LogContents.{FromSymbol}
 use Rattle.merge_laws.specs.Calls.{Linked, allIn}
 use Rattle.shared_objects.specs.Load as Shared
 use Rattle.load_laws.specs.LibraryContents.{FromLibrary}
-use Rattle.link_laws.specs.Calls.{Call, intern, resolve, add, remove, get, getGlobal, sectionSymbol, addGroup, merge, load, archiveStart, archiveNext, matches, collect, libraryIn, callNext}
+use Rattle.link_laws.specs.Calls.{Call, intern, resolve, add, remove, get, getGlobal, sectionSymbol, addGroup, merge, load, archiveStart, archiveNext, matches, collect, plainCollect, libraryIn, callNext}
 use Rattle.link_laws.specs.Kept.{signatures}
 use Rattle.link_laws.specs.Contents.{FromCall, FromCalls, here, later}
 
@@ -201,6 +201,7 @@ callEntry (archiveStart key index cells) s met r p = absurd p
 callEntry (archiveNext index cells w) s met r p = absurd p
 callEntry (matches headers entries contents file index cells w e) s met r p = absurd p
 callEntry (collect marks entry work) s met r p = absurd p
+callEntry (plainCollect marks entry work) s met r p = absurd p
 
 call-stands : (k : Call) (s : Linked) (met : List (List ℕ)) (r : Row) (p : FromCall k s met r) → Stands r (callEntry k s met r p)
 call-stands (intern x) s met r p = absurd p
@@ -217,6 +218,7 @@ call-stands (archiveStart key index cells) s met r p = absurd p
 call-stands (archiveNext index cells w) s met r p = absurd p
 call-stands (matches headers entries contents file index cells w e) s met r p = absurd p
 call-stands (collect marks entry work) s met r p = absurd p
+call-stands (plainCollect marks entry work) s met r p = absurd p
 
 -- the entry that a row is from
 abbrev pub entryOf : (r : Row) (ks : List Call) (s : Linked) (met : List (List ℕ)) → FromCalls r ks s met → Sym

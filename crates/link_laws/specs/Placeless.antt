@@ -55,7 +55,8 @@ use Rattle.merge_laws.specs.Refusals.{oneOf}
 use Rattle.merge_laws.specs.ByNumber as ByNumber
 use Rattle.merge_laws.specs.ByNumber.{disjoint, changed, elf-gives}
 use Rattle.merge_laws.specs.Calls.{Linked, allIn}
-use Rattle.link_laws.specs.Calls.{Call, intern, resolve, add, remove, get, getGlobal, sectionSymbol, addGroup, merge, load, archiveStart, archiveNext, matches, collect, libraryIn, listsIn, groupIn, callRefusal, callNumber}
+use Rattle.link_laws.specs.Calls.{Call, intern, resolve, add, remove, get, getGlobal, sectionSymbol, addGroup, merge, load, archiveStart, archiveNext, matches, collect, plainCollect, libraryIn, listsIn, groupIn, callRefusal, callNumber}
+use Rattle.link_laws.specs.PlainCalls.{Compared, alike, many, compared, many-refusal}
 use Rattle.link_laws.specs.Table.{starred, placeless, callNumbers, within}
 use Rattle.link_laws.specs.Among.{one-within}
 use Rattle.link_laws.specs.AddNumbers as AddNumbers
@@ -246,6 +247,12 @@ broken-only (archiveNext index cells w) s e = never (archiveNext index cells w) 
 broken-only (matches headers entries contents file index cells w x) s e = never (matches headers entries contents file index cells w x) s 22 refl e
 broken-only (collect marks entry work) s e =
     (refl, collect-only (s .table .link) (listsIn s marks) (s .table .symbols) (s .table .sections) entry work e)
+broken-only (plainCollect marks entry work) s e = go (compared marks entry work s)
+  where
+    go : Compared marks entry work s → (changes (plainCollect marks entry work) ≡ true) × (s .table .link .broken ≡ true)
+    go (alike r t a) =
+        (refl, collect-only (s .table .link) (listsIn s marks) (s .table .symbols) (s .table .sections) entry work (sym (ap (λ (x : Refusal). x .number) r) ∙ e))
+    go (many m u v q) = differ 30 22 refl (sym (ap (λ (x : Refusal). x .number) (many-refusal marks entry work s q)) ∙ e)
 
 -- ---- 20, 22, 23, 25 at 0
 
@@ -296,6 +303,12 @@ zero-places (archiveStart key index cells) s p = start-place key index cells s (
 zero-places (archiveNext index cells w) s p = none-of (archiveNext index cells w) s refl p
 zero-places (matches headers entries contents file index cells w e) s p = none-of (matches headers entries contents file index cells w e) s refl p
 zero-places (collect marks entry work) s p = only-22 (collect marks entry work) s (0 ∷ 1 ∷ 2 ∷ 21 ∷ []) refl refl p
+zero-places (plainCollect marks entry work) s p = go (compared marks entry work s)
+  where
+    go : Compared marks entry work s → callRefusal (plainCollect marks entry work) s .place ≡ 0
+    go (alike r t a) =
+        ap (λ (x : Refusal). x .place) r ∙ only-22 (collect marks entry work) s (0 ∷ 1 ∷ 2 ∷ 21 ∷ []) refl refl (sym (ap (λ (x : Refusal). oneOf (x .number) placeless) r) ∙ p)
+    go (many m u v e) = ap (λ (x : Refusal). x .place) (many-refusal marks entry work s e)
 
 -- ---- 2 of a head at 0: no element is met
 
@@ -333,3 +346,4 @@ head-two-place (archiveStart key index cells) s e = differ 0 2 refl e
 head-two-place (archiveNext index cells w) s e = differ 0 2 refl e
 head-two-place (matches headers entries contents file index cells w x) s e = differ 0 2 refl e
 head-two-place (collect marks entry work) s e = differ 0 2 refl e
+head-two-place (plainCollect marks entry work) s e = differ 0 2 refl e

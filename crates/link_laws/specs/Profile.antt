@@ -13,7 +13,7 @@ use Rattle.merge_laws.specs.Profile.{makes-profile}
 use Rattle.merge_laws.specs.Calls.{Linked, allIn}
 use Rattle.merge_laws.specs.Origin.{AllShown, LogShown, log-both, log-shown, group-shown, merge-shown}
 use Rattle.load_laws.specs.Origin.{load-shown}
-use Rattle.link_laws.specs.Calls.{Call, intern, resolve, add, remove, get, getGlobal, sectionSymbol, addGroup, merge, load, archiveStart, archiveNext, matches, collect, libraryIn, callNext, callNotes, runCalls, logCalls, RemovesNothing}
+use Rattle.link_laws.specs.Calls.{Call, intern, resolve, add, remove, get, getGlobal, sectionSymbol, addGroup, merge, load, archiveStart, archiveNext, matches, collect, plainCollect, libraryIn, callNext, callNotes, runCalls, logCalls, RemovesNothing}
 use Rattle.link_laws.specs.Growth.{Turn, turnNext, turnNotes, grow, runTurns, logTurns, Quiet}
 use Rattle.link_laws.specs.CallSteps.{callSteps, call-log, Leads, made, cleared, call-leads, headNumber, direct-shown}
 
@@ -50,6 +50,7 @@ call-shown (archiveStart key index cells) s g = tt
 call-shown (archiveNext index cells w) s g = tt
 call-shown (matches headers entries contents file index cells w e) s g = tt
 call-shown (collect marks entry work) s g = tt
+call-shown (plainCollect marks entry work) s g = tt
 
 pub calls-shown : (ks : List Call) (s : Linked) → RemovesNothing ks s → s .table .link .gabi ≡ true → LogShown (logCalls ks s)
 calls-shown [] s q g = tt

@@ -51,7 +51,8 @@ use Rattle.merge_laws.specs.ByNumber as ByNumber
 use Rattle.merge_laws.specs.ByNumber.{Between, allLeft, nameStays}
 use Rattle.merge_laws.specs.Calls.{Linked, allIn}
 use Rattle.load_laws.specs.Stops as Loading
-use Rattle.link_laws.specs.Calls.{Call, intern, resolve, add, remove, get, getGlobal, sectionSymbol, addGroup, merge, load, archiveStart, archiveNext, matches, collect, libraryIn, listsIn, callRefusal, callNumber, callNext, runCalls}
+use Rattle.link_laws.specs.Calls.{Call, intern, resolve, add, remove, get, getGlobal, sectionSymbol, addGroup, merge, load, archiveStart, archiveNext, matches, collect, plainCollect, libraryIn, listsIn, callRefusal, callNumber, callNext, runCalls}
+use Rattle.link_laws.specs.PlainCalls.{plain-link}
 use Rattle.link_laws.specs.Table.{unstarred, starred, within}
 use Rattle.link_laws.specs.Among.{one-within}
 use Rattle.link_laws.specs.CallSteps.{group-count}
@@ -113,6 +114,7 @@ headRefusal (archiveStart key index cells) s = none
 headRefusal (archiveNext index cells w) s = none
 headRefusal (matches headers entries contents file index cells w e) s = none
 headRefusal (collect marks entry work) s = none
+headRefusal (plainCollect marks entry work) s = none
 
 pub data Stopped (k : Call) (s : Linked) : Type 0 where
   at-head : callRefusal k s ≡ headRefusal k s → oneOf (callNumber k s) (2 ∷ unstarred) ≡ true → callNext k s ≡ s → Stopped k s
@@ -150,6 +152,7 @@ stopped (archiveStart key index cells) s g u = absurd (apart g)
 stopped (archiveNext index cells w) s g u = absurd (apart g)
 stopped (matches headers entries contents file index cells w e) s g u = absurd (apart g)
 stopped (collect marks entry work) s g u = absurd (apart g)
+stopped (plainCollect marks entry work) s g u = absurd (apart g)
 
 -- ---- by number
 
@@ -258,6 +261,7 @@ direct-same (archiveNext index cells w) s g = refl
 direct-same (matches headers entries contents file index cells w e) s g = refl
 direct-same (collect marks entry work) s g =
     ap (λ (l : Link). l .broken) (collect-same (s .table .link) (listsIn s marks) (s .table .symbols) (s .table .sections) entry work)
+direct-same (plainCollect marks entry work) s g = ap (λ (l : Link). l .broken) (plain-link marks entry work s)
 
 -- an accepted merge or load leaves a whole link whole
 merge-whole : (o : Stages.Object) (work ids : List ℕ) (s : Linked) → Merges o work ids s → s .table .link .broken ≡ false → callNumber (merge o work ids) s ≡ 0
@@ -288,6 +292,7 @@ accepted-whole (archiveStart key index cells) s w z = w
 accepted-whole (archiveNext index cells x) s w z = w
 accepted-whole (matches headers entries contents file index cells x e) s w z = w
 accepted-whole (collect marks entry work) s w z = direct-same (collect marks entry work) s refl ∙ w
+accepted-whole (plainCollect marks entry work) s w z = direct-same (plainCollect marks entry work) s refl ∙ w
 
 pub breaks-only : (k : Call) (s : Linked) → s .table .link .broken ≡ false → callNext k s .table .link .broken ≡ true
     → (byElements k ≡ true) × (oneOf (callNumber k s) (2 ∷ starred) ≡ true)
@@ -323,6 +328,7 @@ broken-leaves k s b =
     idle (archiveNext index cells w) s c = refl
     idle (matches headers entries contents file index cells w e) s c = refl
     idle (collect marks entry work) s c = absurd (apart (sym c))
+    idle (plainCollect marks entry work) s c = absurd (apart (sym c))
 
 pub broken-stays : (ks : List Call) (s : Linked) → s .table .link .broken ≡ true → runCalls ks s ≡ s
 broken-stays [] s b = refl

@@ -5,16 +5,16 @@ use Prim.Native.Nat.{ℕ}
 use mathlib.Core.Bool.{Bool, true, false, cond}
 use mathlib.Core.List.{List, [], _∷_}
 use Rattle.merge_laws.specs.Refusals.{oneOf}
-use Rattle.link_laws.specs.Calls.{Call, intern, resolve, add, remove, get, getGlobal, sectionSymbol, addGroup, merge, load, archiveStart, archiveNext, matches, collect}
+use Rattle.link_laws.specs.Calls.{Call, intern, resolve, add, remove, get, getGlobal, sectionSymbol, addGroup, merge, load, archiveStart, archiveNext, matches, collect, plainCollect}
 
--- "one of the refusals 1 to 25 of its table"
+-- "one of the refusals 1 to 25 of its table", and those of document 02's requests
 abbrev pub refusals : List ℕ
 refusals =
-    1 ∷ 2 ∷ 3 ∷ 4 ∷ 5 ∷ 6 ∷ 7 ∷ 8 ∷ 9 ∷ 10 ∷ 11 ∷ 12 ∷ 13 ∷ 14 ∷ 15 ∷ 16 ∷ 17 ∷ 18 ∷ 19 ∷ 20 ∷ 21 ∷ 22 ∷ 23 ∷ 24 ∷ 25 ∷ []
+    1 ∷ 2 ∷ 3 ∷ 4 ∷ 5 ∷ 6 ∷ 7 ∷ 8 ∷ 9 ∷ 10 ∷ 11 ∷ 12 ∷ 13 ∷ 14 ∷ 15 ∷ 16 ∷ 17 ∷ 18 ∷ 19 ∷ 20 ∷ 21 ∷ 22 ∷ 23 ∷ 24 ∷ 25 ∷ 30 ∷ []
 
 -- those not marked *; each leaves "all"
 abbrev pub unstarred : List ℕ
-unstarred = 1 ∷ 15 ∷ 20 ∷ 22 ∷ 23 ∷ 25 ∷ []
+unstarred = 1 ∷ 15 ∷ 20 ∷ 22 ∷ 23 ∷ 25 ∷ 30 ∷ []
 
 -- "Those marked *" that an element gives alone; 2, marked too, comes also where the cells for a call's own work are too few
 abbrev pub starred : List ℕ
@@ -22,7 +22,7 @@ starred = 3 ∷ 4 ∷ 5 ∷ 6 ∷ 7 ∷ 8 ∷ 9 ∷ 10 ∷ 11 ∷ 12 ∷ 13 ∷ 
 
 -- those that the column "Returned" has at 0
 abbrev pub placeless : List ℕ
-placeless = 20 ∷ 22 ∷ 23 ∷ 25 ∷ []
+placeless = 20 ∷ 22 ∷ 23 ∷ 25 ∷ 30 ∷ []
 
 abbrev pub callNumbers : Call → List ℕ
 -- "22 comes first, then 1", as for every call that changes the link
@@ -48,6 +48,7 @@ callNumbers (archiveStart key index cells) = 20 ∷ 1 ∷ 2 ∷ []
 callNumbers (archiveNext index cells w) = 1 ∷ 21 ∷ []
 callNumbers (matches headers entries contents file index cells w e) = 1 ∷ []
 callNumbers (collect marks entry work) = 22 ∷ 1 ∷ 2 ∷ 21 ∷ []
+callNumbers (plainCollect marks entry work) = 22 ∷ 1 ∷ 30 ∷ 2 ∷ 21 ∷ []
 
 -- every number of xs is one of ys
 abbrev pub within : List ℕ → List ℕ → Bool

@@ -114,7 +114,10 @@ use Rattle.merge_laws.specs.Past as Past
 use Rattle.merge_laws.specs.Calls.{Linked, linked, allIn}
 use Rattle.merge_laws.specs.SymbolDuplicates as InMerge
 use Rattle.load_laws.specs.SymbolDuplicates as InLoad
-use Rattle.link_laws.specs.Calls.{Call, intern, resolve, add, remove, get, getGlobal, sectionSymbol, addGroup, merge, load, archiveStart, archiveNext, matches, collect, viewIn, groupIn, libraryIn, listsIn, LeftBy, callLeft, refusalBy, callRefusal, callNumber, callNext, callNotes, runCalls, logCalls, Removes, RemovesNothing}
+use Rattle.plain_laws.specs.Agrees.{Agrees}
+use Rattle.plain_laws.specs.Plain as Plain
+use Rattle.plain_laws.specs.Plain.{builtRows}
+use Rattle.link_laws.specs.Calls.{Call, intern, resolve, add, remove, get, getGlobal, sectionSymbol, addGroup, merge, load, archiveStart, archiveNext, matches, collect, plainCollect, viewIn, groupIn, libraryIn, listsIn, LeftBy, callLeft, refusalBy, callRefusal, callNumber, callNext, callNotes, runCalls, logCalls, Removes, RemovesNothing}
 use Rattle.link_laws.specs.Table.{refusals, callNumbers}
 use Rattle.link_laws.specs.Rules as Rules
 use Rattle.link_laws.specs.CallRules.{rules}
@@ -209,8 +212,8 @@ new-answers = Numbers.new-numbers
 pub add-place : (conversion : List ℕ) (u : UpcomingSymbol) (s : Linked) → callNumber (add conversion u) s ≢ 21 → callRefusal (add conversion u) s .place ≡ 0
 add-place = Places.add-place
 
--- the table's column "Returned": 20, 22, 23 and 25 at 0
-pub zero-places : (k : Call) (s : Linked) → oneOf (callNumber k s) (20 ∷ 22 ∷ 23 ∷ 25 ∷ []) ≡ true → callRefusal k s .place ≡ 0
+-- the table's column "Returned": 20, 22, 23 and 25 at 0; so is document 02's 30
+pub zero-places : (k : Call) (s : Linked) → oneOf (callNumber k s) (20 ∷ 22 ∷ 23 ∷ 25 ∷ 30 ∷ []) ≡ true → callRefusal k s .place ≡ 0
 zero-places = Placeless.zero-places
 
 -- 2 at 0 where no element is met: an intern, a start over an index, a collection, a merge's work cells, a load's marks; a new
@@ -335,7 +338,7 @@ pub walk-leaves : (index cells : List ℕ) (w : Walk) (s : Linked) → callNumbe
 walk-leaves index cells w s = ArchiveLeaves.walk-leaves index cells w _
 
 -- 1, 15, 20, 22, 23 and 25 leave "all", whichever call gives them
-pub leaves-all : (k : Call) (s : Linked) → oneOf (callNumber k s) (1 ∷ 15 ∷ 20 ∷ 22 ∷ 23 ∷ 25 ∷ []) ≡ true → callNext k s ≡ s
+pub leaves-all : (k : Call) (s : Linked) → oneOf (callNumber k s) (1 ∷ 15 ∷ 20 ∷ 22 ∷ 23 ∷ 25 ∷ 30 ∷ []) ≡ true → callNext k s ≡ s
 leaves-all = Starred.leaves-all
 
 -- a merge or a load that is refused at its head leaves all: 22, 1, 25, missing work cells or marks
@@ -1266,3 +1269,8 @@ module _ (key : ℕ) (gabi : Bool) (bytes names symbols sections inputs lists : 
       pub refuses : (k : ℕ) → answer ≡ Refused (refused 21 k)
           → Collection.Lowest (end .table .link) (listsIn end marks) (end .table .symbols) (end .table .sections) entry work k
       refuses = Collection.refuses (end .table .link) (listsIn end marks) (end .table .symbols) (end .table .sections) entry work
+
+      -- request 2026-12: the plain collection keeps "the same sections and rows as the first, or refuses with the same number and place"
+      pub plain-agrees : builtRows (end .table .link) (end .table .sections) ≤ 256
+          → Agrees (end .table .link .sections) (callLeft (plainCollect marks entry work) end) (callLeft (collect marks entry work) end)
+      plain-agrees = Plain.plain-agrees (end .table .link) (listsIn end marks) (end .table .symbols) (end .table .sections) entry work

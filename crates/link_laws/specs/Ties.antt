@@ -34,7 +34,7 @@ use Rattle.symbol_laws.specs.DirectContents.{FromAdd}
 use Rattle.upcoming_symbol.specs.declared.UpcomingSymbol.{UpcomingSymbol}
 use Rattle.merge_laws.specs.Calls.{Linked}
 use Rattle.extraction_laws.specs.Wanted.{row-strong}
-use Rattle.link_laws.specs.Calls.{Call, intern, resolve, add, remove, get, getGlobal, sectionSymbol, addGroup, merge, load, archiveStart, archiveNext, matches, collect, viewIn, callNext}
+use Rattle.link_laws.specs.Calls.{Call, intern, resolve, add, remove, get, getGlobal, sectionSymbol, addGroup, merge, load, archiveStart, archiveNext, matches, collect, plainCollect, viewIn, callNext}
 use Rattle.link_laws.specs.Contents.{FromCall, FromCalls, here, later}
 use Rattle.link_laws.specs.Undefined.{isUndefinedRow, symbolsUnder, undefined-none}
 
@@ -68,6 +68,7 @@ call-of-name (archiveStart key index cells) s met r p = absurd p
 call-of-name (archiveNext index cells w) s met r p = absurd p
 call-of-name (matches headers entries contents file index cells w e) s met r p = absurd p
 call-of-name (collect marks entry work) s met r p = absurd p
+call-of-name (plainCollect marks entry work) s met r p = absurd p
 
 pub calls-of-name : (r : Row) (ks : List Call) (s : Linked) (met : List (List ℕ)) → FromCalls r ks s met → OfName r
 calls-of-name r (k ∷ ks) s met (here p) = call-of-name k s met r p

@@ -43,6 +43,7 @@ use Rattle.symbols.specs.Add.{judgeAddOf, issuedOf, directHolderOf, placeOf, de
 use Rattle.symbols.specs.Lookup.{foundAt, getOf}
 use Rattle.archive_laws.specs.Examples as Walks
 use Rattle.gc_laws.specs.Examples as Collections
+use Rattle.plain_laws.specs.Examples as PlainCollections
 use Rattle.worked_examples.specs.Groups as Groups
 use Rattle.symbol_laws.specs.History.{State, withTable, opened, callNext, intern, addTo}
 
@@ -114,6 +115,7 @@ pub data Case : Type 0 where
   group : Groups.Example → Case
   walk : Walks.Example → Case
   collection : Collections.Example → Case
+  plainCollection : Collections.Example → Case
 
 abbrev pub Adds : Bool → ℕ → List UpcomingSymbol → List Said → List Symbol → Type 0
 Adds profile n us said table =
@@ -126,6 +128,7 @@ Right (offset v z) = offsetOf v ≡ z
 Right (group e) = Groups.Right e
 Right (walk e) = Walks.Right e
 Right (collection e) = Collections.Right e
+Right (plainCollection e) = PlainCollections.Right e
 
 abbrev pub symbol : ℕ → ℕ → SymbolType → SymbolVisibility → SymbolValue → Symbol
 symbol i n k w v = record { id = record { 0 = i }; name = record { 0 = n }; kind = k; file = File.None; visibility = w; value = v }
@@ -191,6 +194,8 @@ cases =
     ∷ walk Walks.weakTiesNone
     -- P12: two unrooted sections naming each other: both dropped
     ∷ collection Collections.p12
+    -- and by the plain collector
+    ∷ plainCollection Collections.p12
     -- the add sheet
     ∷ both 4 (line 1 2 0 2 1 16 ∷ line 1 1 0 2 2 0 ∷ line 1 1 0 2 0 0 ∷ line 2 2 0 0 0 0 ∷ line 1 1 0 2 3 0 ∷ [])
     (accepted 1 ∷ accepted 1 ∷ accepted 1 ∷ accepted 2 ∷ refused 17 ∷ [])
@@ -228,4 +233,4 @@ All P (x ∷ xs) = P x × All P xs
 pub promises : All Right cases
 unfolding start putRow same copied lesser Judge.judgeSections Judge.judgeNames Judge.judgeLists Judge.afterSymbols Judge.afterSections Judge.judgeOf Judge.changeOf wordAt Keyed.folded Keyed.mixed Keyed.hashFrom Keyed.pointOf Keyed.hashOf spread headCell Names.chase Names.seekOf Names.findFrom Names.findOf Names.roomOf Names.fitsOf Names.linked Names.keepOf Interns.issueOf Interns.internOf Interns.clearHeads Interns.newOf offsetOf wordOf typeAt successor fileAt visibilityAt valueAt symbolAt setRow Fields.sectionInRange Fields.elfInRange Fields.externalInRange Fields.shownOf Fields.hiddenOf Fields.judgeOf inSection conversionFrom convertedOf undefinedOf valueOf elfRowOf libraryCode externalRowOf heldBy holderOf Decide.weakOf Decide.referenceRank Decide.rankOf Decide.typeRefusal Decide.sectionCell Decide.sectionRoom Decide.roomOf Decide.newOf Decide.replaceOf hiddenCode hideCode showCode passes hideIf passHidden Decide.keptOf Decide.rankedOf Decide.knownOf Decide.decideOf noteName setSectionSymbol noteSection appendOf replacedIn amendedIn applyOf clearSymbols nullOf newOf judgeAddOf issuedOf directHolderOf placeOf decidedOf committedOf addRowOf addOf foundAt getOf
 promises =
-    (((refl, refl, refl), (refl, refl, refl)), (((refl, refl, refl), (refl, refl, refl)), (refl, (refl, (((refl, refl, refl), (refl, refl, refl)), (((refl, refl, refl), (refl, refl, refl)), ((refl, refl, refl), ((refl, refl, refl), ((refl, refl, refl), (((refl, refl, refl), (refl, refl, refl)), (Groups.p8-right, (Groups.p8-comdat-right, (((refl, refl, refl), (refl, refl, refl)), ((refl, refl, refl), ((refl, refl, refl), (Walks.p10-right, (Walks.p10-gabi-right, (Walks.p11-right, (Walks.p11-gabi-right, (Walks.weak-ties-right, (Walks.weak-ties-none-right, (Collections.p12-right, (((refl, refl, refl), (refl, refl, refl)), ((refl, refl, refl), ((refl, refl, refl), (((refl, refl, refl), (refl, refl, refl)), (((refl, refl, refl), (refl, refl, refl)), (((refl, refl, refl), (refl, refl, refl)), ((refl, refl, refl), ((refl, refl, refl), ((refl, refl, refl), ((refl, refl, refl), ((refl, refl, refl), ((refl, refl, refl), ((refl, refl, refl), ((refl, refl, refl), (((refl, refl, refl), (refl, refl, refl)), tt)))))))))))))))))))))))))))))))))))))
+    (((refl, refl, refl), (refl, refl, refl)), (((refl, refl, refl), (refl, refl, refl)), (refl, (refl, (((refl, refl, refl), (refl, refl, refl)), (((refl, refl, refl), (refl, refl, refl)), ((refl, refl, refl), ((refl, refl, refl), ((refl, refl, refl), (((refl, refl, refl), (refl, refl, refl)), (Groups.p8-right, (Groups.p8-comdat-right, (((refl, refl, refl), (refl, refl, refl)), ((refl, refl, refl), ((refl, refl, refl), (Walks.p10-right, (Walks.p10-gabi-right, (Walks.p11-right, (Walks.p11-gabi-right, (Walks.weak-ties-right, (Walks.weak-ties-none-right, (Collections.p12-right, (PlainCollections.p12-right, (((refl, refl, refl), (refl, refl, refl)), ((refl, refl, refl), ((refl, refl, refl), (((refl, refl, refl), (refl, refl, refl)), (((refl, refl, refl), (refl, refl, refl)), (((refl, refl, refl), (refl, refl, refl)), ((refl, refl, refl), ((refl, refl, refl), ((refl, refl, refl), ((refl, refl, refl), ((refl, refl, refl), ((refl, refl, refl), ((refl, refl, refl), ((refl, refl, refl), (((refl, refl, refl), (refl, refl, refl)), tt))))))))))))))))))))))))))))))))))))))

@@ -291,6 +291,27 @@ unsafe extern "C" {
         work: *mut u64,
         work_len: usize,
     ) -> u64;
+
+    fn hidvorn_plain_run(
+        header: *mut u64,
+        header_len: usize,
+        bytes: *const u8,
+        bytes_len: usize,
+        names: *const u64,
+        names_len: usize,
+        symbols: *mut u64,
+        symbols_len: usize,
+        sections: *mut u64,
+        sections_len: usize,
+        lists: *const u64,
+        lists_len: usize,
+        marks: *const u8,
+        marks_len: usize,
+        entered: bool,
+        entry: usize,
+        work: *mut u64,
+        work_len: usize,
+    ) -> u64;
 }
 
 pub(crate) fn new(
@@ -753,6 +774,45 @@ pub(crate) fn gc_run(
     // SAFETY: see the module.
     unsafe {
         hidvorn_gc_run(
+            header.as_mut_ptr(),
+            header.len(),
+            bytes.as_ptr(),
+            bytes.len(),
+            names.as_ptr(),
+            names.len(),
+            symbols.as_mut_ptr(),
+            symbols.len(),
+            sections.as_mut_ptr(),
+            sections.len(),
+            lists.as_ptr(),
+            lists.len(),
+            marks.as_ptr(),
+            marks.len(),
+            entered,
+            entry,
+            work.as_mut_ptr(),
+            work.len(),
+        );
+    }
+    answer(header)
+}
+
+#[allow(clippy::too_many_arguments)]
+pub(crate) fn plain_run(
+    header: &mut Header,
+    bytes: &[u8],
+    names: &[u64],
+    symbols: &mut [u64],
+    sections: &mut [u64],
+    lists: &[u64],
+    marks: &[u8],
+    entered: bool,
+    entry: usize,
+    work: &mut [u64],
+) -> Result<(), Refusal> {
+    // SAFETY: see the module.
+    unsafe {
+        hidvorn_plain_run(
             header.as_mut_ptr(),
             header.len(),
             bytes.as_ptr(),

@@ -364,10 +364,39 @@ impl Link {
             entry.map_or(0, SymbolId::number),
             &mut self.work,
         )?;
+        Ok(self.collected())
+    }
+
+    /// The same by a second collector, which visits sections by recursion and fits a page. It is
+    /// proved to keep and drop what [`Link::gc_sections`] does and to be refused where that is,
+    /// with the same number and place. More than 256 sections that are built and not dropped give
+    /// 30, after 22 and 1, and leave everything.
+    pub fn gc_sections_plain(
+        &mut self,
+        marks: &[u8],
+        entry: Option<SymbolId>,
+    ) -> Result<Collected, Refusal> {
+        ffi::plain_run(
+            &mut self.header,
+            &self.bytes,
+            &self.names,
+            &mut self.symbols,
+            &mut self.sections,
+            &self.lists,
+            marks,
+            entry.is_some(),
+            entry.map_or(0, SymbolId::number),
+            &mut self.work,
+        )?;
+        Ok(self.collected())
+    }
+
+    /// The answer of a collection: a dropped section's work cell is 2.
+    fn collected(&self) -> Collected {
         let reached = &self.work[..self.section_count()];
         let mut sections = Vec::with_capacity(self.header[VALUE] as usize);
         sections.extend((0..reached.len()).filter(|id| reached[*id] == 2).map(SectionId));
-        Ok(Collected { sections, symbols: self.header[VALUE + 1] as usize })
+        Collected { sections, symbols: self.header[VALUE + 1] as usize }
     }
 
     /// Room for so many more ids in the lists.

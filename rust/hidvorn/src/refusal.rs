@@ -3,8 +3,8 @@ use std::fmt;
 
 macro_rules! causes {
     ($($(#[$doc:meta])* $name:ident = $number:literal: $words:literal,)*) => {
-        /// The causes of document 01's table. As a number each is the table's; `Display` tells its
-        /// words.
+        /// The causes of document 01's table, and those that document 02's requests add. As a number
+        /// each is the table's; `Display` tells its words.
         #[derive(Clone, Copy, Debug, PartialEq, Eq, PartialOrd, Ord, Hash)]
         #[repr(u8)]
         pub enum Cause {
@@ -13,7 +13,7 @@ macro_rules! causes {
 
         impl Cause {
             /// Every cause, by ascending number.
-            pub const ALL: [Cause; 25] = [$(Cause::$name),*];
+            pub const ALL: [Cause; 26] = [$(Cause::$name),*];
 
             fn words(self) -> &'static str {
                 match self {
@@ -76,10 +76,12 @@ causes! {
     SecondSymbolTable = 24: "second symbol table",
     /// 25: a library inside an archive that has no soname.
     ArchivedLibraryWithoutSoname = 25: "archived library without soname",
+    /// 30, of document 02: more built sections than the plain collector takes.
+    TooManySections = 30: "more built sections than the plain collector takes",
 }
 
 impl Cause {
-    /// The number in the table, 1 to 25.
+    /// The number in the table: 1 to 25, and 30.
     pub const fn number(self) -> u64 {
         self as u64
     }
@@ -94,7 +96,12 @@ impl Cause {
         use Cause::*;
         !matches!(
             self,
-            FileSymbol | NoIndex | BrokenLink | UnknownGlobalName | ArchivedLibraryWithoutSoname
+            FileSymbol
+                | NoIndex
+                | BrokenLink
+                | UnknownGlobalName
+                | ArchivedLibraryWithoutSoname
+                | TooManySections
         )
     }
 }
@@ -134,7 +141,7 @@ pub struct Refusal {
 }
 
 impl Refusal {
-    /// The cause's number in the table, 1 to 25.
+    /// The cause's number in the table: 1 to 25, and 30.
     pub const fn number(&self) -> u64 {
         self.cause.number()
     }

@@ -103,6 +103,7 @@ fn a_broken_link() {
     let library = SharedObject::new(vec![0], LibraryName::Known(b"l"));
     assert_eq!(refused(link.load_shared_object(&library)), (22, 0));
     assert_eq!(refused(link.gc_sections(&[], None)), (22, 0));
+    assert_eq!(refused(link.gc_sections_plain(&[], None)), (22, 0));
     assert_eq!(refused(link.add_group(&mut GroupMarks::new(&twice, 3), 0)), (22, 0));
 
     let bar = link.get(SymbolId::new(2)).unwrap();
@@ -451,10 +452,11 @@ fn refusals_are_told_in_words() {
     assert_eq!(told(duplicate, 0), "duplicate strong definition, place 0 (refusal 17)");
     assert_eq!(told(Cause::BrokenLink, 0), "changing call on a broken link (refusal 22)");
     assert_eq!(Cause::DuplicateStrong.to_string(), "duplicate strong definition");
-    assert!((1..=25).eq(Cause::ALL.map(Cause::number)));
-    for number in 0..=26 {
+    let known = |number: &u64| (1..=25).contains(number) || *number == 30;
+    assert!((1..=30).filter(known).eq(Cause::ALL.map(Cause::number)));
+    for number in 0..=31 {
         let cause = Cause::of_number(number);
-        assert_eq!(cause.map(Cause::number), (1..=25).contains(&number).then_some(number));
+        assert_eq!(cause.map(Cause::number), known(&number).then_some(number));
     }
 }
 

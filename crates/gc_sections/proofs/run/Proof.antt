@@ -1,5 +1,5 @@
 use borrow.Author.Needs.{needs}
-use Rattle.gc_sections.specs.RunWays.{run-refused, run-done, few-sections, few-symbols}
+use Rattle.gc_sections.specs.RunWays.{run-refused, run-done, few-sections}
 use Rattle.gc_sections.proofs.run.Statement.{statement}
 use Rattle.gc_sections.proofs.run.Tie as tie
 
@@ -11,7 +11,7 @@ run-spec =
     (λ c κs. search needs)
     (λ c. search run-refused)
     (λ c κs. search (needs, few-sections))
-    (λ c κs. search (needs, few-sections, few-symbols))
+    (λ c κs. search needs)
     (λ c. search needs)
     (λ c. search needs)
     (λ c. search needs)

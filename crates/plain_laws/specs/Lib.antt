@@ -1,0 +1,4 @@
+pub mod Visits
+pub mod Agrees
+pub mod Plain
+pub mod Examples
