@@ -7,6 +7,7 @@ ghost use Rattle.ffi_names.specs.Contract as Names;
 ghost use Rattle.ffi_symbols.specs.Contract as Symbols;
 ghost use Rattle.ffi_lookup.specs.Contract as Lookup;
 ghost use Rattle.ffi_merge.specs.Contract as Merge;
+ghost use Rattle.ffi_file.specs.Contract as File;
 ghost use Rattle.ffi_load.specs.Contract as Load;
 ghost use Rattle.ffi_load.specs.Contract.{libraryIn, LoadMeets};
 ghost use Rattle.ffi_archive.specs.Contract as Archive;
@@ -179,6 +180,44 @@ pub extern "C" fn hidvorn_merge_elf(
         contents,
         file,
         strings,
+    )
+}
+
+#[no_mangle]
+pub extern "C" fn hidvorn_read_file(answer: &mut [u64], rows: &mut [u64], file: &[u8]) -> u64
+    ensures { λ r. ⌜ File.ReadMeets (before answer) (before file) (before rows) (File.readExit r answer rows) ⌝ }
+{
+    ffi_file::read_file(answer, rows, file)
+}
+
+#[no_mangle]
+pub extern "C" fn hidvorn_merge_file(
+    header: &mut [u64],
+    bytes: &mut [u8],
+    names: &mut [u64],
+    symbols: &mut [u64],
+    sections: &mut [u64],
+    inputs: &mut [u64],
+    lists: &mut [u64],
+    work: &mut [u64],
+    ids: &mut [u64],
+    rows: &mut [u64],
+    file: &[u8],
+) -> u64
+    ensures { λ r. ⌜ File.FileMeets (before header) (before file) (File.lentRows bytes names symbols sections inputs lists work ids rows) (toldExit r header) ⌝ }
+{
+    ffi_file::merge_file(
+        header,
+        bytes,
+        names,
+        symbols,
+        sections,
+        inputs,
+        lists,
+        work,
+        ids,
+        rows,
+        file,
     )
 }
 

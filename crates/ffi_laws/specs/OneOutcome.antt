@@ -21,6 +21,8 @@ use Rattle.ffi_lookup.specs.Calls as LookupCalls
 use Rattle.ffi_lookup.specs.Contract as Lookup
 use Rattle.ffi_merge.specs.Calls as MergeCalls
 use Rattle.ffi_merge.specs.Contract as Merge
+use Rattle.ffi_file.specs.Calls as FileCalls
+use Rattle.ffi_file.specs.Contract as File
 use Rattle.ffi_load.specs.Calls as LoadCalls
 use Rattle.ffi_load.specs.Contract as Load
 use Rattle.ffi_archive.specs.Calls as ArchiveCalls
@@ -93,6 +95,20 @@ mergeRows c e = record { entry = c; exit = e .rows }
 
 pub merge-one-outcome : (h : List ℕ) (o : Stages.Object) (c : MergeCalls.Rows) (x y : MergeExit) → Merge.MergeMeets h o (mergeRows c x) (x .told) → Merge.MergeMeets h o (mergeRows c y) (y .told) → x ≡ y
 merge-one-outcome h o c x y e f = ap {B = MergeExit} (λ (o : MergeCalls.MergeLeft). record { told = record { number = o .told .number; header = o .told .header }; rows = o .rows }) (e ∙ sym f)
+
+-- read_file and merge_file
+pub read-one-outcome : (a file rows : List ℕ) (x y : File.ReadExit) → File.ReadMeets a file rows x → File.ReadMeets a file rows y → x ≡ y
+read-one-outcome a file rows x y e f = ap {B = File.ReadExit} (λ (o : FileCalls.ReadLeft). record { number = o .number; answer = o .answer; rows = o .rows }) (e ∙ sym f)
+
+pub record FileExit : Type 0 where
+  pub told : ToldExit
+  pub lent : FileCalls.Lent
+
+abbrev pub fileLent : FileCalls.Lent → FileExit → Both FileCalls.Lent FileCalls.Lent
+fileLent c e = record { entry = c; exit = e .lent }
+
+pub file-one-outcome : (h file : List ℕ) (c : FileCalls.Lent) (x y : FileExit) → File.FileMeets h file (fileLent c x) (x .told) → File.FileMeets h file (fileLent c y) (y .told) → x ≡ y
+file-one-outcome h file c x y e f = ap {B = FileExit} (λ (o : FileCalls.FileLeft). record { told = record { number = o .told .number; header = o .told .header }; lent = o .lent }) (e ∙ sym f)
 
 -- load_shared_object
 pub record LoadExit : Type 0 where

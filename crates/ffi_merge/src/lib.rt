@@ -54,7 +54,7 @@ pub fn add_group(
     ffi_header::tell(header, left, grouped(a))
 }
 
-fn merged(a: merge_elf::Answer) -> Reply
+pub fn merged(a: merge_elf::Answer) -> Reply
     ensures { λ r. ⌜ r ≡ refusedOf (Merge.refusalOf a) ⌝ }
 {
     match a {

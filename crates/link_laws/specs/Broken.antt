@@ -34,8 +34,9 @@ use Rattle.gc_sections.specs.Run.{runOf}
 use Rattle.symbol_laws.specs.History.{store, table}
 use Rattle.merge_laws.specs.ByNumber as ByNumber
 use Rattle.merge_laws.specs.Calls.{Linked, allIn}
-use Rattle.link_laws.specs.Calls.{Call, intern, resolve, add, remove, get, getGlobal, sectionSymbol, addGroup, merge, load, archiveStart, archiveNext, matches, collect, plainCollect, groupIn, listsIn, callRefusal}
+use Rattle.link_laws.specs.Calls.{Call, intern, resolve, add, remove, get, getGlobal, sectionSymbol, addGroup, merge, mergeFile, load, archiveStart, archiveNext, matches, collect, plainCollect, groupIn, listsIn, callRefusal}
 use Rattle.link_laws.specs.PlainCalls.{Compared, alike, many, compared}
+use Rattle.merge_file.specs.MergeFile.{fileHeadOf, mergeFileOf}
 
 -- the calls that may change a link
 abbrev pub changes : Call → Bool
@@ -48,6 +49,7 @@ changes (getGlobal name) = false
 changes (sectionSymbol section) = false
 changes (addGroup o work n) = true
 changes (merge o work ids) = true
+changes (mergeFile file cells work ids) = true
 changes (load o marks) = true
 changes (archiveStart key index cells) = false
 changes (archiveNext index cells w) = false
@@ -82,6 +84,10 @@ module _ (s : Linked) (b : s .table .link .broken ≡ true) where
   merge-broken : (o : Stages.Object) (work ids : List ℕ) → callRefusal (merge o work ids) s ≡ refused 22 0
   merge-broken o work ids = ap (λ (x : Merge.Left). x .said) (ByNumber.broken-refused o (allIn s work ids) b)
 
+  file-broken : (file cells work ids : List ℕ) → callRefusal (mergeFile file cells work ids) s ≡ refused 22 0
+  unfolding mergeFileOf fileHeadOf
+  file-broken file cells work ids = rw b
+
   load-broken : (o : Shared.Input) (marks : List ℕ) → callRefusal (load o marks) s ≡ refused 22 0
   unfolding loadOf Head.headOf
   load-broken o marks =
@@ -113,6 +119,7 @@ module _ (s : Linked) (b : s .table .link .broken ≡ true) where
   broken-refused (sectionSymbol section) c = absurd (apart c)
   broken-refused (addGroup o work n) c = group-broken o work n
   broken-refused (merge o work ids) c = merge-broken o work ids
+  broken-refused (mergeFile file cells work ids) c = file-broken file cells work ids
   broken-refused (load o marks) c = load-broken o marks
   broken-refused (archiveStart key index cells) c = absurd (apart c)
   broken-refused (archiveNext index cells w) c = absurd (apart c)

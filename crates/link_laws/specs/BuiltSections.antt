@@ -26,9 +26,11 @@ use Rattle.merge_laws.specs.BuiltRow.{BuiltAs, part-same}
 use Rattle.merge_laws.specs.RowsBelow.{merge-same}
 use Rattle.merge_laws.specs.Calls.{Linked, allIn}
 use Rattle.load_laws.specs.Sections.{load-sections}
-use Rattle.link_laws.specs.Calls.{Call, intern, resolve, add, remove, get, getGlobal, sectionSymbol, addGroup, merge, load, archiveStart, archiveNext, matches, collect, plainCollect, libraryIn, listsIn, callLeft, callNext, runCalls, Drops}
+use Rattle.link_laws.specs.Calls.{Call, intern, resolve, add, remove, get, getGlobal, sectionSymbol, addGroup, merge, mergeFile, load, archiveStart, archiveNext, matches, collect, plainCollect, libraryIn, listsIn, callLeft, callNext, runCalls, Drops}
 use Rattle.link_laws.specs.PlainCalls.{Compared, alike, many, compared}
 use Rattle.gc_sections.specs.Run.{Left}
+use Rattle.elf_laws.specs.Object as ElfFile
+use Rattle.link_laws.specs.FileCall.{by-file}
 use Rattle.link_laws.specs.CallSteps.{callSteps, Leads, made, cleared, call-leads}
 use Rattle.link_laws.specs.Lists.{call-listed}
 use Rattle.link_laws.specs.Idle.{drops-nothing}
@@ -55,6 +57,7 @@ Spares (getGlobal name) s r = Unit {0}
 Spares (sectionSymbol section) s r = Unit {0}
 Spares (addGroup o work n) s r = Unit {0}
 Spares (merge o work ids) s r = Unit {0}
+Spares (mergeFile file cells work ids) s r = Unit {0}
 Spares (load o marks) s r = Unit {0}
 Spares (archiveStart key index cells) s r = Unit {0}
 Spares (archiveNext index cells w) s r = Unit {0}
@@ -94,6 +97,9 @@ module _ (s : Linked) (below : Below (s .table)) (rows-in : s .table .link .sect
   row-cell (sectionSymbol section) q = refl
   row-cell (addGroup o work n) q = refl
   row-cell (merge o work ids) q = merge-same o (allIn s work ids) r f low small
+  row-cell (mergeFile file cells work ids) q =
+      by-file file cells work ids s (λ (t : Linked). field (t .table .sections) r f ≡ field (s .table .sections) r f)
+      (merge-same (ElfFile.rowsOf file) (allIn s work ids) r f low small) refl
   row-cell (load o marks) q = ap (λ (l : List ℕ). field l r f) (load-sections o (libraryIn s marks))
   row-cell (archiveStart key index cells) q = refl
   row-cell (archiveNext index cells w) q = refl

@@ -3,7 +3,7 @@
 use Rattle.symbol_laws.specs.Below.{Below}
 use Rattle.merge_laws.specs.Past.{TablePast, makes-past}
 use Rattle.merge_laws.specs.Calls.{Linked}
-use Rattle.link_laws.specs.Calls.{Call, intern, resolve, add, remove, get, getGlobal, sectionSymbol, addGroup, merge, load, archiveStart, archiveNext, matches, collect, plainCollect, listsIn, callNext, Removes}
+use Rattle.link_laws.specs.Calls.{Call, intern, resolve, add, remove, get, getGlobal, sectionSymbol, addGroup, merge, mergeFile, load, archiveStart, archiveNext, matches, collect, plainCollect, listsIn, callNext, Removes}
 use Rattle.link_laws.specs.PlainCalls.{Compared, alike, many, compared, many-drops}
 use mathlib.Core.Path.{sym, subst}
 use Rattle.link_laws.specs.CallSteps.{callSteps, call-makes}
@@ -26,6 +26,7 @@ module _ (s : Linked) (b : Below (s .table)) where
   call-past (sectionSymbol section) = quiet-past (sectionSymbol section) (λ (e : ⊥). e)
   call-past (addGroup o work n) = quiet-past (addGroup o work n) (λ (e : ⊥). e)
   call-past (merge o work ids) = quiet-past (merge o work ids) (λ (e : ⊥). e)
+  call-past (mergeFile file cells work ids) = quiet-past (mergeFile file cells work ids) (λ (e : ⊥). e)
   call-past (load o marks) = quiet-past (load o marks) (λ (e : ⊥). e)
   call-past (archiveStart key index cells) = quiet-past (archiveStart key index cells) (λ (e : ⊥). e)
   call-past (archiveNext index cells w) = quiet-past (archiveNext index cells w) (λ (e : ⊥). e)

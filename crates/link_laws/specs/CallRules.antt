@@ -4,11 +4,13 @@ use Prim.Native.Nat.{_/_}
 use mathlib.Core.List.{List, [], _++_}
 use lib.ListN.{length}
 use Rattle.merge_laws.specs.Calls.{Linked, allIn}
-use Rattle.link_laws.specs.Calls.{Call, intern, resolve, add, remove, get, getGlobal, sectionSymbol, addGroup, merge, load, archiveStart, archiveNext, matches, collect, plainCollect, libraryIn}
+use Rattle.link_laws.specs.Calls.{Call, intern, resolve, add, remove, get, getGlobal, sectionSymbol, addGroup, merge, mergeFile, load, archiveStart, archiveNext, matches, collect, plainCollect, libraryIn}
+use Rattle.elf_laws.specs.Object as ElfFile
 use Rattle.link_laws.specs.Rules.{Rule}
 use Rattle.link_laws.specs.TableRules.{getHead, presentRules, getGlobalHead, globalRules, removeHead, absentRules, internHead, roomRules, resolveHead, issuedAlone, addHead, addRules}
 use Rattle.link_laws.specs.GroupRules.{alone, groupHead, ownGroupRules}
 use Rattle.link_laws.specs.MergeRules.{mergeRules}
+use Rattle.link_laws.specs.FileRules.{fileRules}
 use Rattle.link_laws.specs.LoadRules.{loadRules}
 use Rattle.link_laws.specs.ArchiveRules.{startRules, nextRules, matchesRules}
 use Rattle.link_laws.specs.CollectRules.{collectRules, plainRules}
@@ -24,6 +26,8 @@ rules (getGlobal name) s = getGlobalHead (s .table) ++ globalRules (s .table) (n
 rules (sectionSymbol id) s = []
 rules (addGroup o work n) s = groupHead o n (s .table) (length work / 8) ++ ownGroupRules (alone o) n (s .table) (length work / 8)
 rules (merge o work ids) s = mergeRules o (allIn s work ids)
+-- "then" its rows' own
+rules (mergeFile file cells work ids) s = fileRules (s .table .link .broken) file (length cells) ++ mergeRules (ElfFile.rowsOf file) (allIn s work ids)
 rules (load o marks) s = loadRules o (libraryIn s marks)
 rules (archiveStart key index cells) s = startRules index cells
 rules (archiveNext index cells w) s = nextRules index cells w (s .table)

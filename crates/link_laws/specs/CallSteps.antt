@@ -42,7 +42,9 @@ use Rattle.merge_laws.specs.Whole.{merge-makes}
 use Rattle.merge_laws.specs.Calls.{Linked, allIn}
 use Rattle.load_laws.specs.LoadSteps.{loadSteps}
 use Rattle.load_laws.specs.Whole.{load-makes}
-use Rattle.link_laws.specs.Calls.{Call, intern, resolve, add, remove, get, getGlobal, sectionSymbol, addGroup, merge, load, archiveStart, archiveNext, matches, collect, plainCollect, groupIn, libraryIn, listsIn, callLeft, callNext, callNotes, Removes}
+use Rattle.link_laws.specs.Calls.{Call, intern, resolve, add, remove, get, getGlobal, sectionSymbol, addGroup, merge, mergeFile, load, archiveStart, archiveNext, matches, collect, plainCollect, groupIn, libraryIn, listsIn, callLeft, callNext, callNotes, Removes, isRead, fileSteps}
+use Rattle.elf_laws.specs.Object as ElfFile
+use Rattle.link_laws.specs.FileCall.{next-read, next-unread}
 use Rattle.link_laws.specs.PlainCalls.{plain-link}
 use Rattle.link_laws.specs.Idle.{drops-nothing, plain-drops-nothing}
 use Rattle.link_laws.specs.CollectPast.{run-past}
@@ -194,12 +196,19 @@ callSteps (getGlobal name) s = []
 callSteps (sectionSymbol section) s = []
 callSteps (addGroup o work n) s = groupSteps o (s .table) work n
 callSteps (merge o work ids) s = mergeSteps o (allIn s work ids)
+callSteps (mergeFile file cells work ids) s = fileSteps file cells work ids s
 callSteps (load o marks) s = loadSteps o (libraryIn s marks)
 callSteps (archiveStart key index cells) s = []
 callSteps (archiveNext index cells w) s = []
 callSteps (matches headers entries contents file index cells w e) s = []
 callSteps (collect marks entry work) s = []
 callSteps (plainCollect marks entry work) s = []
+
+file-makes : (file cells work ids : List ℕ) (s : Linked) → Makes (s .table) (fileSteps file cells work ids s) (callNext (mergeFile file cells work ids) s .table)
+file-makes file cells work ids s =
+    by-test (isRead file cells s)
+    (λ t. rw t (subst (λ (u : Linked). Makes (s .table) (mergeSteps (ElfFile.rowsOf file) (allIn s work ids)) (u .table)) (sym (next-read file cells work ids s t)) (merge-makes (ElfFile.rowsOf file) (allIn s work ids))))
+    (λ t. rw t (subst (λ (u : Linked). Makes (s .table) [] (u .table)) (sym (next-unread file cells work ids s t)) (makes-none (s .table))))
 
 pub call-makes : (k : Call) (s : Linked) → (Removes k s → ⊥) → Makes (s .table) (callSteps k s) (callNext k s .table)
 call-makes (intern x) s q = direct-makes (History.intern x) (s .table) q
@@ -211,6 +220,7 @@ call-makes (getGlobal name) s q = makes-none (s .table)
 call-makes (sectionSymbol section) s q = makes-none (s .table)
 call-makes (addGroup o work n) s q = group-makes o (s .table) work n
 call-makes (merge o work ids) s q = merge-makes o (allIn s work ids)
+call-makes (mergeFile file cells work ids) s q = file-makes file cells work ids s
 call-makes (load o marks) s q = load-makes o (libraryIn s marks)
 call-makes (archiveStart key index cells) s q = makes-none (s .table)
 call-makes (archiveNext index cells w) s q = makes-none (s .table)
@@ -230,6 +240,7 @@ call-log (getGlobal name) s q = refl
 call-log (sectionSymbol section) s q = refl
 call-log (addGroup o work n) s q = group-log o (s .table) work n
 call-log (merge o work ids) s q = refl
+call-log (mergeFile file cells work ids) s q = refl
 call-log (load o marks) s q = refl
 call-log (archiveStart key index cells) s q = refl
 call-log (archiveNext index cells w) s q = refl
@@ -257,6 +268,7 @@ call-leads (getGlobal name) s = made (makes-none (s .table))
 call-leads (sectionSymbol section) s = made (makes-none (s .table))
 call-leads (addGroup o work n) s = made (group-makes o (s .table) work n)
 call-leads (merge o work ids) s = made (merge-makes o (allIn s work ids))
+call-leads (mergeFile file cells work ids) s = made (file-makes file cells work ids s)
 call-leads (load o marks) s = made (load-makes o (libraryIn s marks))
 call-leads (archiveStart key index cells) s = made (makes-none (s .table))
 call-leads (archiveNext index cells w) s = made (makes-none (s .table))

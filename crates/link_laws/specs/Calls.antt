@@ -3,8 +3,11 @@
 -- Assumes nothing.
 use Prim.Native.Nat.{ℕ, _+_}
 use mathlib.Core.Path.{_≡_}
+use mathlib.Core.Bool.{Bool, cond}
 use mathlib.Core.List.{List, [], _∷_}
 use mathlib.Core.Logic.{_≢_}
+use lib.Dec.{eqb}
+use lib.ListN.{length}
 use Rattle.link.specs.declared.Interned.{Interned}
 use Rattle.link.specs.declared.SymbolId.{SymbolId}
 use Rattle.link.specs.declared.SectionId.{SectionId}
@@ -28,6 +31,8 @@ use Rattle.add_group.specs.AddGroup.{stateOf, addGroupOf}
 use Rattle.merge_stages.specs.Stages as Stages
 use Rattle.merge_elf.specs.Merge as Merge
 use Rattle.merge_elf.specs.Merge.{mergeOf}
+use Rattle.elf_laws.specs.Object as ElfFile
+use Rattle.merge_file.specs.MergeFile.{FileLeft, fileHeadOf, mergeFileOf}
 use Rattle.shared_objects.specs.Load as Shared
 use Rattle.shared_objects.specs.Load.{loadOf}
 use Rattle.archive_walk.specs.declared.Walk.{Walk}
@@ -45,7 +50,7 @@ use Rattle.gc_sections.specs.Run.{listsOf, runOf}
 use Rattle.plain_collector.specs.Run.{plainOf}
 use Rattle.symbol_laws.specs.History as History
 use Rattle.symbol_laws.specs.History.{State, Entry, table, store, withTable, withStore, withRows, run, log, noted, upcoming}
-use Rattle.merge_laws.specs.Steps.{logSteps}
+use Rattle.merge_laws.specs.Steps.{Step, logSteps}
 use Rattle.merge_laws.specs.MergeSteps.{mergeSteps}
 use Rattle.merge_laws.specs.Calls.{Linked, linked, allIn, linkIn}
 use Rattle.load_laws.specs.LoadSteps.{loadSteps}
@@ -66,6 +71,8 @@ pub data Call : Type 0 where
   addGroup : Group.Object → List ℕ → ℕ → Call
   -- the object, cells for its sections' work rows and for its symbols' ids
   merge : Stages.Object → List ℕ → List ℕ → Call
+  -- the file; cells for its rows, for its sections' work rows and for its symbols' ids
+  mergeFile : List ℕ → List ℕ → List ℕ → List ℕ → Call
   -- the library, cells for the marks that as-needed takes
   load : Shared.Input → List ℕ → Call
   -- the index, and cells for its entries
@@ -106,6 +113,7 @@ LeftBy (getGlobal name) = Found
 LeftBy (sectionSymbol section) = SectionSymbol
 LeftBy (addGroup o work n) = AddGroup.Left
 LeftBy (merge o work ids) = Merge.Left
+LeftBy (mergeFile file cells work ids) = FileLeft
 LeftBy (load o marks) = Shared.Left
 LeftBy (archiveStart key index cells) = Archive.Start
 LeftBy (archiveNext index cells w) = Archive.Step
@@ -124,6 +132,7 @@ callLeft (getGlobal name) s = getGlobalOf (s .table .link) (s .table .names) (s 
 callLeft (sectionSymbol section) s = sectionSymbolOf (s .table .link) (s .table .sections) section
 callLeft (addGroup o work n) s = addGroupOf o (groupIn (s .table) work) n
 callLeft (merge o work ids) s = mergeOf o (allIn s work ids)
+callLeft (mergeFile file cells work ids) s = mergeFileOf file cells (allIn s work ids)
 callLeft (load o marks) s = loadOf o (libraryIn s marks)
 callLeft (archiveStart key index cells) s = startOf key index cells
 callLeft (archiveNext index cells w) s = nextOf index cells w (viewIn (s .table))
@@ -150,6 +159,7 @@ refusalIn (getGlobal name) o = refusalWith (Lookup.said o)
 refusalIn (sectionSymbol section) o = refusalWith (Lookup.sectionSymbolSaid o)
 refusalIn (addGroup o work n) x = x .said
 refusalIn (merge o work ids) x = x .said
+refusalIn (mergeFile file cells work ids) x = x .merged .said
 refusalIn (load o marks) x = refusalBy (x .said)
 refusalIn (archiveStart key index cells) o = refusalWith (Archive.begunSaid (o .started .begun))
 refusalIn (archiveNext index cells w) o = refusalWith (Archive.offerSaid (o .moved .offer))
@@ -178,6 +188,7 @@ nextBy (getGlobal name) s o = s
 nextBy (sectionSymbol section) s o = s
 nextBy (addGroup o work n) s x = tabled s (withStore (s .table) (storeOf (x .bytes) (x .names) (x .outcome .link)))
 nextBy (merge o work ids) s x = linkIn (x .cells)
+nextBy (mergeFile file cells work ids) s x = linkIn (x .merged .cells)
 nextBy (load o marks) s x = linked (Loads.tableIn (x .cells)) (x .cells .inputs) (x .cells .lists)
 nextBy (archiveStart key index cells) s o = s
 nextBy (archiveNext index cells w) s o = s
@@ -187,6 +198,17 @@ nextBy (plainCollect marks entry work) s o = tabled s (withRows (s .table) (rows
 
 abbrev pub callNext : Call → Linked → Linked
 callNext k s = nextBy k s (callLeft k s)
+
+-- the refusal of a file that isn't read: 22, 26, 27, 2
+abbrev pub fileHead : List ℕ → List ℕ → Linked → Refusal
+fileHead file cells s = fileHeadOf (s .table .link .broken) file (length cells)
+
+abbrev pub isRead : List ℕ → List ℕ → Linked → Bool
+isRead file cells s = eqb (fileHead file cells s .number) 0
+
+-- what the merge of a file writes: its rows' merge, where it is read
+abbrev pub fileSteps : List ℕ → List ℕ → List ℕ → List ℕ → Linked → List Step
+fileSteps file cells work ids s = cond (isRead file cells s) (mergeSteps (ElfFile.rowsOf file) (allIn s work ids)) []
 
 -- the accepted adds that aren't local: a direct one, those of an object, those of a library; a refused merge or load counts "with what it had
 -- accepted"
@@ -200,6 +222,7 @@ callNotes (getGlobal name) s = []
 callNotes (sectionSymbol section) s = []
 callNotes (addGroup o work n) s = []
 callNotes (merge o work ids) s = logSteps (mergeSteps o (allIn s work ids)) (s .table)
+callNotes (mergeFile file cells work ids) s = logSteps (fileSteps file cells work ids s) (s .table)
 callNotes (load o marks) s = logSteps (loadSteps o (libraryIn s marks)) (s .table)
 callNotes (archiveStart key index cells) s = []
 callNotes (archiveNext index cells w) s = []
@@ -233,6 +256,7 @@ Removes (getGlobal name) s = ⊥
 Removes (sectionSymbol section) s = ⊥
 Removes (addGroup o work n) s = ⊥
 Removes (merge o work ids) s = ⊥
+Removes (mergeFile file cells work ids) s = ⊥
 Removes (load o marks) s = ⊥
 Removes (archiveStart key index cells) s = ⊥
 Removes (archiveNext index cells w) s = ⊥

@@ -2,6 +2,7 @@
 -- Assumes nothing.
 use Prim.Native.Nat.{ℕ}
 use mathlib.Core.Path.{_≡_, refl, sym, ap, _∙_, subst}
+use mathlib.Core.Bool.{true}
 use mathlib.Core.List.{List, [], _∷_, _++_}
 use lib.Dec.{eqb}
 use borrow.Author.Tests.{eqb-true, eqb-false}
@@ -30,7 +31,10 @@ use Rattle.merge_laws.specs.Calls.{Linked, allIn}
 use Rattle.load_laws.specs.LoadSteps.{loadSteps}
 use Rattle.load_laws.specs.Whole.{load-makes}
 use Rattle.load_laws.specs.LibraryContents.{FromLibrary, load-logged}
-use Rattle.link_laws.specs.Calls.{Call, intern, resolve, add, remove, get, getGlobal, sectionSymbol, addGroup, merge, load, archiveStart, archiveNext, matches, collect, plainCollect, libraryIn, callLeft, callNext, callNotes, runCalls, logCalls}
+use Rattle.link_laws.specs.Calls.{Call, intern, resolve, add, remove, get, getGlobal, sectionSymbol, addGroup, merge, mergeFile, load, archiveStart, archiveNext, matches, collect, plainCollect, libraryIn, callLeft, callNext, callNotes, runCalls, logCalls, isRead}
+use Rattle.merge_stages.specs.Stages as Stages
+use Rattle.elf_laws.specs.Object as ElfFile
+use Rattle.link_laws.specs.FileCall.{notes-read, notes-unread}
 use Rattle.link_laws.specs.Kept.{signatures, calls-marked}
 
 -- ---- the words
@@ -46,6 +50,8 @@ FromCall (getGlobal name) s met r = ⊥
 FromCall (sectionSymbol section) s met r = ⊥
 FromCall (addGroup o work n) s met r = ⊥
 FromCall (merge o work ids) s met r = FromSymbol o (allIn s work ids) met r
+-- the file is read, and the row is that of one of its symbols
+FromCall (mergeFile file cells work ids) s met r = (isRead file cells s ≡ true) × FromSymbol (ElfFile.rowsOf file) (allIn s work ids) met r
 FromCall (load o marks) s met r = FromLibrary o (libraryIn s marks) r
 FromCall (archiveStart key index cells) s met r = ⊥
 FromCall (archiveNext index cells w) s met r = ⊥
@@ -92,6 +98,12 @@ add-logged conversion u s x e =
     rw (a, b) (from-add (table (s .table)) (s .table .link .gabi) conversion (emptyAt (s .table .names) (nameOf u)) u w (eqb-false _ _ a), tt))
     (λ b. rw (a, b) tt))
 
+object-logged : (o : Stages.Object) (work ids : List ℕ) (s : Linked) (met : List (List ℕ)) → Marked (s .table) met
+    → Rank.All (FromSymbol o (allIn s work ids) met) (rows (callNotes (merge o work ids) s))
+object-logged o work ids s met m =
+    subst (Rank.All (FromSymbol o (allIn s work ids) met))
+    (sym (log-rows (mergeSteps o (allIn s work ids)) (s .table) (merge-makes o (allIn s work ids) .accepted))) (merge-logged o (allIn s work ids) met m)
+
 call-logged : (k : Call) (s : Linked) (met : List (List ℕ)) → Marked (s .table) met → Rank.All (FromCall k s met) (rows (callNotes k s))
 call-logged (intern x) s met m = tt
 call-logged (resolve id) s met m = tt
@@ -101,9 +113,14 @@ call-logged (get id) s met m = tt
 call-logged (getGlobal name) s met m = tt
 call-logged (sectionSymbol section) s met m = tt
 call-logged (addGroup o work n) s met m = tt
-call-logged (merge o work ids) s met m =
-    subst (Rank.All (FromSymbol o (allIn s work ids) met))
-    (sym (log-rows (mergeSteps o (allIn s work ids)) (s .table) (merge-makes o (allIn s work ids) .accepted))) (merge-logged o (allIn s work ids) met m)
+call-logged (merge o work ids) s met m = object-logged o work ids s met m
+call-logged (mergeFile file cells work ids) s met m =
+    by-test (isRead file cells s)
+    (λ t.
+    subst (λ (l : List Entry). Rank.All (FromCall (mergeFile file cells work ids) s met) (rows l)) (sym (notes-read file cells work ids s t))
+    (all-map (FromSymbol (ElfFile.rowsOf file) (allIn s work ids) met) (FromCall (mergeFile file cells work ids) s met) (λ r p. (t, p)) (rows (callNotes (merge (ElfFile.rowsOf file) work ids) s))
+    (object-logged (ElfFile.rowsOf file) work ids s met m)))
+    (λ t. subst (λ (l : List Entry). Rank.All (FromCall (mergeFile file cells work ids) s met) (rows l)) (sym (notes-unread file cells work ids s t)) tt)
 call-logged (load o marks) s met m =
     subst (Rank.All (FromLibrary o (libraryIn s marks)))
     (sym (log-rows (loadSteps o (libraryIn s marks)) (s .table) (load-makes o (libraryIn s marks) .accepted))) (load-logged o (libraryIn s marks) met m)

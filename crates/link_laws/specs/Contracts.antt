@@ -31,6 +31,8 @@ use Rattle.merge_elf.specs.declared.Outcome as Merge
 use Rattle.merge_elf.specs.Merge as Merging
 use Rattle.merge_elf.specs.Contract as Merges
 use Rattle.merge_elf.specs.Contract.{MergeMeets}
+use Rattle.merge_file.specs.MergeFile.{FileLeft, fileLeft}
+use Rattle.merge_file.specs.Contract.{MergeFileMeets}
 use Rattle.shared_objects.specs.declared.Outcome as Shared
 use Rattle.shared_objects.specs.Load as Loading
 use Rattle.shared_objects.specs.Contract as Loads
@@ -45,7 +47,7 @@ use Rattle.gc_sections.specs.Contract as Collects
 use Rattle.gc_sections.specs.Contract.{RunMeets}
 use Rattle.symbol_laws.specs.History.{table, store}
 use Rattle.merge_laws.specs.Calls.{Linked}
-use Rattle.link_laws.specs.Calls.{Call, intern, resolve, add, remove, get, getGlobal, sectionSymbol, addGroup, merge, load, archiveStart, archiveNext, matches, collect, plainCollect, LeftBy, callLeft, viewIn, groupIn, listsIn}
+use Rattle.link_laws.specs.Calls.{Call, intern, resolve, add, remove, get, getGlobal, sectionSymbol, addGroup, merge, mergeFile, load, archiveStart, archiveNext, matches, collect, plainCollect, LeftBy, callLeft, viewIn, groupIn, listsIn}
 use Rattle.plain_collector.specs.Contract.{PlainMeets}
 use Rattle.link_laws.specs.OneOutcome.{names-answer, symbols-answer}
 
@@ -54,6 +56,11 @@ use Rattle.link_laws.specs.OneOutcome.{names-answer, symbols-answer}
 pub record MergeExit : Type 0 where
   pub cells : Merges.Cells
   pub result : Merge.Outcome
+
+-- and the cells for a file's rows
+pub record FileExit : Type 0 where
+  pub rows : List ℕ
+  pub merged : MergeExit
 
 pub record LoadExit : Type 0 where
   pub cells : Loads.Cells
@@ -69,6 +76,7 @@ Exit (getGlobal name) = Found
 Exit (sectionSymbol section) = SectionSymbol
 Exit (addGroup o work n) = Grouping.Exit
 Exit (merge o work ids) = MergeExit
+Exit (mergeFile file cells work ids) = FileExit
 Exit (load o marks) = LoadExit
 Exit (archiveStart key index cells) = StartExit
 Exit (archiveNext index cells w) = NextExit
@@ -103,6 +111,7 @@ Meets (getGlobal name) s e = GetGlobalMeets (s .table .link) (s .table .names) (
 Meets (sectionSymbol section) s e = SectionSymbolMeets (s .table .link) (s .table .sections) section e
 Meets (addGroup o work n) s e = GroupMeets o (groupIn (s .table) work) n e
 Meets (merge o work ids) s e = MergeMeets o (mergeCells s work ids (e .cells)) (s .table .link) (e .result)
+Meets (mergeFile file cells work ids) s e = MergeFileMeets file cells (e .rows) (mergeCells s work ids (e .merged .cells)) (s .table .link) (e .merged .result)
 Meets (load o marks) s e = LoadMeets o (loadCells s marks (e .cells)) (s .table .link) (e .result)
 Meets (archiveStart key index cells) s e = StartMeets key index cells e
 Meets (archiveNext index cells w) s e = NextMeets index cells w (viewIn (s .table)) e
@@ -123,6 +132,10 @@ seen (addGroup o work n) e = AddGroup.leftOf (e .bytes) (e .names) (e .work) (e 
 seen (merge o work ids) e =
     Merging.outcome (e .cells .bytes) (e .cells .names) (e .cells .symbols) (e .cells .sections) (e .cells .inputs) (e .cells .lists) (e .cells .work)
     (e .cells .ids) (e .result)
+seen (mergeFile file cells work ids) e =
+    fileLeft (e .rows)
+    (Merging.outcome (e .merged .cells .bytes) (e .merged .cells .names) (e .merged .cells .symbols) (e .merged .cells .sections) (e .merged .cells .inputs)
+    (e .merged .cells .lists) (e .merged .cells .work) (e .merged .cells .ids) (e .merged .result))
 seen (load o marks) e =
     Loading.outcome (e .cells .bytes) (e .cells .names) (e .cells .symbols) (e .cells .sections) (e .cells .inputs) (e .cells .lists) (e .cells .marks)
     (e .result)
@@ -143,6 +156,7 @@ meets-left (getGlobal name) s e h = h
 meets-left (sectionSymbol section) s e h = h
 meets-left (addGroup o work n) s e h = h
 meets-left (merge o work ids) s e h = h
+meets-left (mergeFile file cells work ids) s e h = h
 meets-left (load o marks) s e h = h
 meets-left (archiveStart key index cells) s e h = h
 meets-left (archiveNext index cells w) s e h = h
@@ -228,6 +242,11 @@ merge-one x y e =
     let same : mergeExit (x .cells .bytes) (x .cells .names) (x .cells .symbols) (x .cells .sections) (x .cells .inputs) (x .cells .lists) (x .cells .work) (x .cells .ids) (x .result) ≡ mergeExit (y .cells .bytes) (y .cells .names) (y .cells .symbols) (y .cells .sections) (y .cells .inputs) (y .cells .lists) (y .cells .work) (y .cells .ids) (y .result) = cc in
     same
 
+file-one : (file cells work ids : List ℕ) (x y : FileExit) → seen (mergeFile file cells work ids) x ≡ seen (mergeFile file cells work ids) y → x ≡ y
+file-one file cells work ids x y e =
+    ap {B = FileExit} (λ (l : List ℕ). record { rows = l; merged = x .merged }) (ap (λ (o : FileLeft). o .rows) e)
+    ∙ ap {B = FileExit} (λ (m : MergeExit). record { rows = y .rows; merged = m }) (merge-one (x .merged) (y .merged) (ap (λ (o : FileLeft). o .merged) e))
+
 abbrev loadExit : List ℕ → List ℕ → List ℕ → List ℕ → List ℕ → List ℕ → List ℕ → Shared.Outcome → LoadExit
 loadExit a b c d e f g r = record { cells = Loads.cellsOf a b c d e f g; result = r }
 
@@ -297,6 +316,7 @@ seen-one (getGlobal name) x y e = e
 seen-one (sectionSymbol section) x y e = e
 seen-one (addGroup o work n) x y e = group-one x y e
 seen-one (merge o work ids) x y e = merge-one x y e
+seen-one (mergeFile file cells work ids) x y e = file-one file cells work ids x y e
 seen-one (load o marks) x y e = load-one x y e
 seen-one (archiveStart key index cells) x y e = start-one x y e
 seen-one (archiveNext index cells w) x y e = next-one x y e

@@ -26,7 +26,9 @@ use Rattle.merge_laws.specs.MergeSteps.{mergeSteps}
 use Rattle.merge_laws.specs.Marked.{Marked}
 use Rattle.merge_laws.specs.Calls.{Linked, allIn}
 use Rattle.load_laws.specs.LoadSteps.{loadSteps}
-use Rattle.link_laws.specs.Calls.{Call, intern, resolve, add, remove, get, getGlobal, sectionSymbol, addGroup, merge, load, archiveStart, archiveNext, matches, collect, plainCollect, libraryIn, callNext, callNotes, runCalls, logCalls}
+use Rattle.link_laws.specs.Calls.{Call, intern, resolve, add, remove, get, getGlobal, sectionSymbol, addGroup, merge, mergeFile, load, archiveStart, archiveNext, matches, collect, plainCollect, libraryIn, callNext, callNotes, runCalls, logCalls, fileSteps}
+use Rattle.elf_laws.specs.Object as ElfFile
+use Rattle.link_laws.specs.FileCall.{next-read}
 use Rattle.link_laws.specs.Kept.{signatures, calls-marked}
 use Rattle.link_laws.specs.NamesStay.{calls-stay}
 use Rattle.link_laws.specs.Contents.{FromCall, FromCalls, here, later}
@@ -45,6 +47,8 @@ CallBears b n (getGlobal name) s met r p = ⊥
 CallBears b n (sectionSymbol section) s met r p = ⊥
 CallBears b n (addGroup o work i) s met r p = ⊥
 CallBears b n (merge o work ids) s met r p = Words.Bears (o .headers) (o .entries) (o .contents) (o .file) (p .number) b
+CallBears b n (mergeFile file cells work ids) s met r p =
+    Words.Bears (ElfFile.rowsOf file .headers) (ElfFile.rowsOf file .entries) (ElfFile.rowsOf file .contents) (ElfFile.rowsOf file .file) (p .1 .number) b
 CallBears b n (load o marks) s met r p = (hasName (o .file) (entryName (o .entries) (p .number)) ≡ true) × (nameAt (o .file) (entryName (o .entries) (p .number)) ≡ b)
 CallBears b n (archiveStart key index cells) s met r p = ⊥
 CallBears b n (archiveNext index cells w) s met r p = ⊥
@@ -77,6 +81,12 @@ module _ (b : List ℕ) (n : ℕ) (r : Row) (e : r .name .0 ≡ n) where
   call-bears (sectionSymbol section) s t met p f = p
   call-bears (addGroup o work i) s t met p f = p
   call-bears (merge o work ids) s t met p f = record { found = p .bears .found; bytes = p .bears .bytes ∙ f _ (p .named) }
+  call-bears (mergeFile file cells work ids) s t met p f =
+      let x = p .1 .bytes in
+      record {
+        found = p .1 .bears .found;
+        bytes = p .1 .bears .bytes ∙ f x (subst (λ (u : Linked). Issued (store (u .table)) (r .name .0) x) (sym (next-read file cells work ids s (p .0))) (p .1 .named));
+      }
   call-bears (load o marks) s t met p f = (p .found, f _ (p .named))
   call-bears (archiveStart key index cells) s t met p f = p
   call-bears (archiveNext index cells w) s t met p f = p
@@ -125,6 +135,7 @@ call-own (getGlobal name) s = tt
 call-own (sectionSymbol section) s = tt
 call-own (addGroup o work i) s = tt
 call-own (merge o work ids) s = steps-own (mergeSteps o (allIn s work ids)) (s .table)
+call-own (mergeFile file cells work ids) s = steps-own (fileSteps file cells work ids s) (s .table)
 call-own (load o marks) s = steps-own (loadSteps o (libraryIn s marks)) (s .table)
 call-own (archiveStart key index cells) s = tt
 call-own (archiveNext index cells w) s = tt

@@ -16,7 +16,8 @@ use Rattle.archive_laws.specs.Runs.{Run, history, startRun}
 use Rattle.symbol_laws.specs.History.{opened}
 use Rattle.merge_laws.specs.Marked.{Marked, new-marked}
 use Rattle.merge_laws.specs.Calls.{Linked, linked, allIn}
-use Rattle.link_laws.specs.Calls.{Call, intern, resolve, add, remove, get, getGlobal, sectionSymbol, addGroup, merge, load, archiveStart, archiveNext, matches, collect, plainCollect, libraryIn, callRefusal, callNumber, runCalls}
+use Rattle.link_laws.specs.Calls.{Call, intern, resolve, add, remove, get, getGlobal, sectionSymbol, addGroup, merge, mergeFile, load, archiveStart, archiveNext, matches, collect, plainCollect, libraryIn, callRefusal, callNumber, runCalls}
+use Rattle.elf_laws.specs.Object as ElfFile
 use Rattle.link_laws.specs.Kept.{signatures, calls-marked}
 use Rattle.link_laws.specs.Rules.{firstOf, numbered, numbered-both, someHolds, none-holds}
 use Rattle.link_laws.specs.GroupRules.{alone, groupHead, ownGroupRules}
@@ -27,6 +28,9 @@ use Rattle.link_laws.specs.AddExactly.{add-exactly}
 use Rattle.link_laws.specs.GroupExactly as GroupExactly
 use Rattle.link_laws.specs.GroupExactly.{add-group-exactly}
 use Rattle.link_laws.specs.MergeWhole.{merge-exactly, merge-numbered}
+use Rattle.link_laws.specs.MergeRules.{mergeRules}
+use Rattle.link_laws.specs.FileRules.{fileRules}
+use Rattle.link_laws.specs.FileExactly.{file-exactly, file-numbered}
 use Rattle.link_laws.specs.LoadWhole.{load-exactly, load-numbered}
 use Rattle.link_laws.specs.ArchiveRules.{indexedRules}
 use Rattle.link_laws.specs.ArchiveIndexed.{next-indexed}
@@ -45,6 +49,7 @@ call-exactly (getGlobal name) s met m = global-exactly s name
 call-exactly (sectionSymbol id) s met m = refl
 call-exactly (addGroup o work n) s met m = add-group-exactly o work n s (m .good .chained)
 call-exactly (merge o work ids) s met m = merge-exactly o (allIn s work ids) met m
+call-exactly (mergeFile file cells work ids) s met m = file-exactly file cells work ids s met m
 call-exactly (load o marks) s met m = load-exactly o (libraryIn s marks) (m .good)
 call-exactly (archiveStart key index cells) s met m = start-exactly key index cells s
 call-exactly (archiveNext index cells w) s met m = next-exactly index cells w s (m .good .chained)
@@ -64,6 +69,9 @@ rules-numbered (sectionSymbol id) s = refl
 rules-numbered (addGroup o work n) s =
     numbered-both (groupHead o n (s .table) (length work / 8)) (ownGroupRules (alone o) n (s .table) (length work / 8)) (GroupExactly.head-numbered o work n s) refl
 rules-numbered (merge o work ids) s = merge-numbered o (allIn s work ids)
+rules-numbered (mergeFile file cells work ids) s =
+    numbered-both (fileRules (s .table .link .broken) file (length cells)) (mergeRules (ElfFile.rowsOf file) (allIn s work ids))
+    (file-numbered (s .table .link .broken) file (length cells)) (merge-numbered (ElfFile.rowsOf file) (allIn s work ids))
 rules-numbered (load o marks) s = load-numbered o (libraryIn s marks)
 rules-numbered (archiveStart key index cells) s = start-numbered index cells
 rules-numbered (archiveNext index cells w) s = next-numbered index cells w (s .table)

@@ -23,7 +23,7 @@ use Rattle.load_laws.specs.LoadSteps.{loadSteps}
 use Rattle.load_laws.specs.Unmarked.{load-markless}
 use Rattle.merge_laws.specs.Lookups.{CountedIn, steps-counted, within}
 use Rattle.merge_laws.specs.Calls.{Linked}
-use Rattle.link_laws.specs.Calls.{Call, intern, resolve, add, remove, get, getGlobal, sectionSymbol, addGroup, merge, load, archiveStart, archiveNext, matches, collect, plainCollect, libraryIn, callNumber, callNext, callNotes, runCalls, logCalls, Removes, RemovesNothing}
+use Rattle.link_laws.specs.Calls.{Call, intern, resolve, add, remove, get, getGlobal, sectionSymbol, addGroup, merge, mergeFile, load, archiveStart, archiveNext, matches, collect, plainCollect, libraryIn, callNumber, callNext, callNotes, runCalls, logCalls, Removes, RemovesNothing}
 use Rattle.link_laws.specs.CallSteps.{callSteps, call-makes, call-log, Leads, made, cleared, call-leads}
 use Rattle.link_laws.specs.Lists.{call-listed}
 use Rattle.merge_laws.specs.Lists.{ListsPast, lists-none, lists-both}
@@ -61,6 +61,7 @@ meetsGroups (getGlobal name) = false
 meetsGroups (sectionSymbol section) = false
 meetsGroups (addGroup o work n) = true
 meetsGroups (merge o work ids) = true
+meetsGroups (mergeFile file cells work ids) = true
 meetsGroups (load o marks) = false
 meetsGroups (archiveStart key index cells) = false
 meetsGroups (archiveNext index cells w) = false
@@ -78,6 +79,7 @@ no-signatures (getGlobal name) s q = refl
 no-signatures (sectionSymbol section) s q = refl
 no-signatures (addGroup o work n) s q = absurd (false≢true (sym q))
 no-signatures (merge o work ids) s q = absurd (false≢true (sym q))
+no-signatures (mergeFile file cells work ids) s q = absurd (false≢true (sym q))
 no-signatures (load o marks) s q = append-nil _ ∙ marks-none (loadSteps o (libraryIn s marks)) (s .table) (load-markless o (libraryIn s marks))
 no-signatures (archiveStart key index cells) s q = refl
 no-signatures (archiveNext index cells w) s q = refl

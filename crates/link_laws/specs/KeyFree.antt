@@ -2,9 +2,10 @@
 -- answer is the same, and so is every list and count of the links but the names' hash chains.
 -- Assumes nothing.
 use Prim.Native.Nat.{ℕ}
-use mathlib.Core.Path.{_≡_, refl, ap, sym, subst}
-use mathlib.Core.Bool.{Bool}
+use mathlib.Core.Path.{_≡_, refl, ap, sym, _∙_, subst}
+use mathlib.Core.Bool.{Bool, true, false}
 use mathlib.Core.List.{List, [], _∷_}
+use Rattle.cells.specs.Split.{by-test}
 use Rattle.link.specs.declared.Link.{Link}
 use Rattle.link.specs.declared.Refusal.{Refusal}
 use Rattle.link.specs.Said.{Said, numberIn}
@@ -17,6 +18,7 @@ use Rattle.symbols.specs.New.{NewLeft, newOf}
 use Rattle.symbols.specs.Remove.{Rows, RemoveLeft, rowsOf, removeOf}
 use Rattle.symbols.specs.Lookup as Lookup
 use Rattle.add_group.specs.AddGroup as AddGroup
+use Rattle.merge_stages.specs.Stages as Stages
 use Rattle.merge_elf.specs.Merge as Merge
 use Rattle.shared_objects.specs.Load as Shared
 use Rattle.archive_walk.specs.Walk as Archive
@@ -34,9 +36,11 @@ use Rattle.key_laws.specs.Merge.{merge-moved}
 use Rattle.key_laws.specs.Load.{load-moved}
 use Rattle.key_laws.specs.SectionCalls.{intern-named, add-named, remove-named, group-named, merge-named, load-named, collect-named}
 use Rattle.key_laws.specs.NewTables.{new-said, new-moved, new-named}
-use Rattle.link_laws.specs.Calls.{Call, intern, resolve, add, remove, get, getGlobal, sectionSymbol, addGroup, merge, load, archiveStart, archiveNext, matches, collect, plainCollect, LeftBy, callLeft, refusalIn, refusalBy, callRefusal, callNext, runCalls, groupIn, libraryIn, listsIn, viewIn}
+use Rattle.link_laws.specs.Calls.{Call, intern, resolve, add, remove, get, getGlobal, sectionSymbol, addGroup, merge, mergeFile, load, archiveStart, archiveNext, matches, collect, plainCollect, LeftBy, callLeft, refusalIn, refusalBy, callRefusal, callNext, runCalls, groupIn, libraryIn, listsIn, viewIn, isRead}
 use Rattle.link_laws.specs.PlainCalls.{plain-link}
 use Rattle.key_laws.specs.PlainReads.{plain-same, plain-named}
+use Rattle.elf_laws.specs.Object as ElfFile
+use Rattle.link_laws.specs.FileCall.{left-read, left-unread, next-read, next-unread, refusal-read, refusal-unread}
 
 -- ---- two links
 
@@ -67,6 +71,7 @@ AnswerBy (getGlobal name) = Found
 AnswerBy (sectionSymbol section) = SectionSymbol
 AnswerBy (addGroup o work n) = List ℕ × Refusal
 AnswerBy (merge o work ids) = List ℕ × List ℕ × Refusal
+AnswerBy (mergeFile file cells work ids) = List ℕ × List ℕ × List ℕ × Refusal
 AnswerBy (load o marks) = List ℕ × Said
 AnswerBy (archiveStart walkKey index cells) = Archive.Start
 AnswerBy (archiveNext index cells w) = Archive.Step
@@ -84,6 +89,7 @@ answerIn (getGlobal name) o = o
 answerIn (sectionSymbol section) o = o
 answerIn (addGroup o work n) x = (x .work, x .said)
 answerIn (merge o work ids) x = (x .cells .work, x .cells .ids, x .said)
+answerIn (mergeFile file cells work ids) x = (x .rows, x .merged .cells .work, x .merged .cells .ids, x .merged .said)
 answerIn (load o marks) x = (x .cells .marks, x .said)
 answerIn (archiveStart walkKey index cells) o = o
 answerIn (archiveNext index cells w) o = o
@@ -112,6 +118,44 @@ module _ (key : ℕ) (s : Linked) (n : List ℕ) (e : Rekeyed key (store (s .tab
 
   stays : Alike key s t
   stays = record { names = n; is = refl; rows = e; named = h }
+
+  object-same : (o : Stages.Object) (work ids : List ℕ) → Same key (merge o work ids) s t
+  object-same o work ids =
+      let m = merge-moved key o (allIn s work ids) n e in
+      record {
+        answer = ap (λ (x : Merge.Left). (x .cells .work, x .cells .ids, x .said)) (m .is);
+        refusal = ap (λ (x : Merge.Left). x .said) (m .is);
+        next = record {
+          names = m .names;
+          is = ap (λ (x : Merge.Left). linkIn (x .cells)) (m .is);
+          rows = m .alike;
+          named = merge-named key o (allIn s work ids) n e h;
+        };
+      }
+
+  -- a file that is read, and one that isn't: neither the head nor the rows depend on the key
+  file-read : (file cells work ids : List ℕ) → isRead file cells s ≡ true → Same key (mergeFile file cells work ids) s t
+  file-read file cells work ids b =
+      let m = merge-moved key (ElfFile.rowsOf file) (allIn s work ids) n e in
+      let g = object-same (ElfFile.rowsOf file) work ids in
+      record {
+        answer = ap (answerIn (mergeFile file cells work ids)) (left-read file cells work ids t b)
+            ∙ ap (λ (x : Merge.Left). (ElfFile.laid (ElfFile.rowsOf file) cells, x .cells .work, x .cells .ids, x .said)) (m .is)
+            ∙ sym (ap (answerIn (mergeFile file cells work ids)) (left-read file cells work ids s b));
+        refusal = refusal-read file cells work ids t b ∙ g .refusal ∙ sym (refusal-read file cells work ids s b);
+        next = subst (λ (u : Linked). Alike key u (callNext (mergeFile file cells work ids) t)) (sym (next-read file cells work ids s b))
+            (subst (λ (u : Linked). Alike key (callNext (merge (ElfFile.rowsOf file) work ids) s) u) (sym (next-read file cells work ids t b)) (g .next));
+      }
+
+  file-unread : (file cells work ids : List ℕ) → isRead file cells s ≡ false → Same key (mergeFile file cells work ids) s t
+  file-unread file cells work ids b =
+      record {
+        answer = ap (answerIn (mergeFile file cells work ids)) (left-unread file cells work ids t b)
+            ∙ sym (ap (answerIn (mergeFile file cells work ids)) (left-unread file cells work ids s b));
+        refusal = refusal-unread file cells work ids t b ∙ sym (refusal-unread file cells work ids s b);
+        next = subst (λ (u : Linked). Alike key u (callNext (mergeFile file cells work ids) t)) (sym (next-unread file cells work ids s b))
+            (subst (λ (u : Linked). Alike key s u) (sym (next-unread file cells work ids t b)) stays);
+      }
 
   under-same : (k : Call) → Same key k s t
   under-same (intern x) =
@@ -175,18 +219,8 @@ module _ (key : ℕ) (s : Linked) (n : List ℕ) (e : Rekeyed key (store (s .tab
           named = group-named o (groupIn (s .table) work) i (s .table .sections) h;
         };
       }
-  under-same (merge o work ids) =
-      let m = merge-moved key o (allIn s work ids) n e in
-      record {
-        answer = ap (λ (x : Merge.Left). (x .cells .work, x .cells .ids, x .said)) (m .is);
-        refusal = ap (λ (x : Merge.Left). x .said) (m .is);
-        next = record {
-          names = m .names;
-          is = ap (λ (x : Merge.Left). linkIn (x .cells)) (m .is);
-          rows = m .alike;
-          named = merge-named key o (allIn s work ids) n e h;
-        };
-      }
+  under-same (merge o work ids) = object-same o work ids
+  under-same (mergeFile file cells work ids) = by-test (isRead file cells s) (λ b. file-read file cells work ids b) (λ b. file-unread file cells work ids b)
   under-same (load o marks) =
       let m = load-moved key (libraryIn s marks) n e o in
       record {

@@ -31,7 +31,7 @@ use Rattle.merge_laws.specs.Refusals.{group-left}
 use Rattle.merge_laws.specs.Calls.{Linked, linked, allIn, linkIn}
 use Rattle.load_laws.specs.Whole as Loads
 use Rattle.shared_laws.specs.Unneeded as Unneeded
-use Rattle.link_laws.specs.Calls.{Call, intern, resolve, add, remove, get, getGlobal, sectionSymbol, addGroup, merge, load, archiveStart, archiveNext, matches, collect, plainCollect, groupIn, libraryIn, listsIn, callLeft, callNumber, callNext}
+use Rattle.link_laws.specs.Calls.{Call, intern, resolve, add, remove, get, getGlobal, sectionSymbol, addGroup, merge, mergeFile, load, archiveStart, archiveNext, matches, collect, plainCollect, groupIn, libraryIn, listsIn, callLeft, callNumber, callNext}
 use Rattle.link_laws.specs.PlainCalls.{Compared, alike, many, compared, many-next}
 use Rattle.link_laws.specs.Idle.{drops-nothing, refused-drops}
 use Rattle.link_laws.specs.CallSteps.{grouped, head-loaded, section-is, answered-is}
@@ -49,6 +49,7 @@ byElements (getGlobal name) = false
 byElements (sectionSymbol section) = false
 byElements (addGroup o work n) = false
 byElements (merge o work ids) = true
+byElements (mergeFile file cells work ids) = true
 byElements (load o marks) = true
 byElements (archiveStart key index cells) = false
 byElements (archiveNext index cells w) = false
@@ -97,6 +98,7 @@ refused-leaves (getGlobal name) s g u = refl
 refused-leaves (sectionSymbol section) s g u = refl
 refused-leaves (addGroup o work n) s g u = ap (λ (t : State). linked t (s .inputs) (s .lists)) (group-refused o (s .table) work n u .0)
 refused-leaves (merge o work ids) s g u = absurd (apart (sym g))
+refused-leaves (mergeFile file cells work ids) s g u = absurd (apart (sym g))
 refused-leaves (load o marks) s g u = absurd (apart (sym g))
 refused-leaves (archiveStart key index cells) s g u = refl
 refused-leaves (archiveNext index cells w) s g u = refl

@@ -31,10 +31,13 @@ pub mod MergeIds
 pub mod MergeObject
 pub mod MergeSame
 pub mod MergeWhole
+pub mod FileRules
+pub mod FileExactly
 pub mod CallRules
 pub mod ExactTerms
 pub mod Terms
 pub mod Calls
+pub mod FileCall
 pub mod Profile
 pub mod Idle
 pub mod CallSteps

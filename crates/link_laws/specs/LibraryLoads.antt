@@ -3,7 +3,7 @@
 use Prim.Native.Nat.{ℕ, _+_, _*_, _<_, _≤_}
 use native.Mathlib.Omega.{arith}
 use native.Mathlib.Nat.{not-suc-le-zero}
-use mathlib.Core.Path.{_≡_, refl, sym, ap, _∙_}
+use mathlib.Core.Path.{_≡_, refl, sym, ap, _∙_, subst}
 use mathlib.Core.Bool.{Bool, true, false, false≢true}
 use mathlib.Core.List.{List, [], _∷_, _++_}
 use lib.Dec.{eqb, ltb}
@@ -25,8 +25,10 @@ use Rattle.symbol_laws.specs.History as History
 use Rattle.symbol_laws.specs.Refused.{remove-link}
 use Rattle.merge_laws.specs.Lists.{keep-inputs}
 use Rattle.merge_laws.specs.Calls.{Linked, allIn}
-use Rattle.link_laws.specs.Calls.{Call, intern, resolve, add, remove, get, getGlobal, sectionSymbol, addGroup, merge, load, archiveStart, archiveNext, matches, collect, plainCollect, libraryIn, listsIn, callLeft, callNext, runCalls}
+use Rattle.link_laws.specs.Calls.{Call, intern, resolve, add, remove, get, getGlobal, sectionSymbol, addGroup, merge, mergeFile, load, archiveStart, archiveNext, matches, collect, plainCollect, libraryIn, listsIn, callLeft, callNext, runCalls, isRead}
 use Rattle.link_laws.specs.PlainCalls.{plain-link}
+use Rattle.elf_laws.specs.Object as ElfFile
+use Rattle.link_laws.specs.FileCall.{next-read, next-unread}
 use Rattle.link_laws.specs.Leaves.{byElements}
 use Rattle.link_laws.specs.Lists.{direct-count, call-listed}
 use Rattle.link_laws.specs.CollectPast.{run-past}
@@ -55,6 +57,7 @@ other-count (getGlobal name) s e = refl
 other-count (sectionSymbol section) s e = refl
 other-count (addGroup o work n) s e = group-count o (s .table) work n count keep-inputs
 other-count (merge o work ids) s e = absurd (false≢true (sym e))
+other-count (mergeFile file cells work ids) s e = absurd (false≢true (sym e))
 other-count (load o marks) s e = absurd (false≢true (sym e))
 other-count (archiveStart key index cells) s e = refl
 other-count (archiveNext index cells w) s e = refl
@@ -105,6 +108,16 @@ module _ (k : ℕ) (cs : List Call) (s : Linked) (fresh : inputs s ≤ k) where
           let r : getD (t .inputs) (k * 8 + 0) 0 ≡ 1 = rw p g in
           omega arith
 
+  by-file-object : (file cells work ids : List ℕ) → length (callNext (mergeFile file cells work ids) s .lists) ≤ notLent
+      → k < inputs (callNext (mergeFile file cells work ids) s) → inputKindAt (runCalls cs (callNext (mergeFile file cells work ids) s) .inputs) k ≡ libraryKind → ⊥
+  by-file-object file cells work ids n h e =
+      by-test (isRead file cells s)
+      (λ t.
+      let q = next-read file cells work ids s t in
+      by-object (ElfFile.rowsOf file) work ids (subst (λ (u : Linked). length (u .lists) ≤ notLent) q n) (subst (λ (u : Linked). k < inputs u) q h)
+      (subst (λ (u : Linked). inputKindAt (runCalls cs u .inputs) k ≡ libraryKind) q e))
+      (λ t. unchanged (mergeFile file cells work ids) (ap inputs (next-unread file cells work ids s t)) h)
+
   by-load : (o : Shared.Input) (marks : List ℕ) → k < inputs (callNext (load o marks) s) → LoadedAt k (load o marks ∷ cs) s
   by-load o marks h = go (load-took o (libraryIn s marks))
     where
@@ -128,6 +141,7 @@ module _ (k : ℕ) (cs : List Call) (s : Linked) (fresh : inputs s ≤ k) where
       element (sectionSymbol section) t n h e = absurd (false≢true t)
       element (addGroup o work m) t n h e = absurd (false≢true t)
       element (merge o work ids) t n h e = absurd (by-object o work ids n h e)
+      element (mergeFile file cells work ids) t n h e = absurd (by-file-object file cells work ids n h e)
       element (load o marks) t n h e = by-load o marks h
       element (archiveStart key index cells) t n h e = absurd (false≢true t)
       element (archiveNext index cells w) t n h e = absurd (false≢true t)

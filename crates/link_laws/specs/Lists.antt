@@ -25,8 +25,10 @@ use Rattle.merge_laws.specs.SymbolStage.{applied-count}
 use Rattle.merge_laws.specs.Lists.{Listed, listed-none, keep-lists, keep-inputs, merge-left}
 use Rattle.merge_laws.specs.Calls.{Linked, linked, allIn}
 use Rattle.load_laws.specs.Lists.{load-listed}
-use Rattle.link_laws.specs.Calls.{Call, intern, resolve, add, remove, get, getGlobal, sectionSymbol, addGroup, merge, load, archiveStart, archiveNext, matches, collect, plainCollect, libraryIn, listsIn, callNext}
+use Rattle.link_laws.specs.Calls.{Call, intern, resolve, add, remove, get, getGlobal, sectionSymbol, addGroup, merge, mergeFile, load, archiveStart, archiveNext, matches, collect, plainCollect, libraryIn, listsIn, callNext}
 use Rattle.link_laws.specs.PlainCalls.{plain-link}
+use Rattle.elf_laws.specs.Object as ElfFile
+use Rattle.link_laws.specs.FileCall.{by-file}
 use Rattle.link_laws.specs.CollectPast.{run-past}
 use Rattle.link_laws.specs.CallSteps.{group-count}
 
@@ -80,6 +82,7 @@ call-listed (addGroup o work n) s h =
     listed-none (s .inputs) (s .lists) (s .table .link) (callNext (addGroup o work n) s .table .link)
     (group-count o (s .table) work n (λ (l : Link). l .lists) keep-lists) (group-count o (s .table) work n (λ (l : Link). l .inputs) keep-inputs)
 call-listed (merge o work ids) s h = merge-left o (allIn s work ids)
+call-listed (mergeFile file cells work ids) s h = by-file file cells work ids s (ListsLeft s) (merge-left (ElfFile.rowsOf file) (allIn s work ids)) (none-listed s)
 call-listed (load o marks) s h = load-listed o (libraryIn s marks) h
 call-listed (archiveStart key index cells) s h = none-listed s
 call-listed (archiveNext index cells w) s h = none-listed s

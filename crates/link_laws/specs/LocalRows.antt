@@ -51,7 +51,7 @@ use Rattle.symbol_laws.specs.History.{State, table, store, withTable, withStore
 use Rattle.merge_laws.specs.Steps.{Step, part, mark, others, rowsFrom, countsFrom, stepNext, runSteps, Goes, AllGo}
 use Rattle.merge_laws.specs.Past.{rows-all, rows-long}
 use Rattle.merge_laws.specs.Calls.{Linked}
-use Rattle.link_laws.specs.Calls.{Call, intern, resolve, add, remove, get, getGlobal, sectionSymbol, addGroup, merge, load, archiveStart, archiveNext, matches, collect, plainCollect, listsIn, Drops, callLeft, callNext, runCalls, Removes, RemovesNothing}
+use Rattle.link_laws.specs.Calls.{Call, intern, resolve, add, remove, get, getGlobal, sectionSymbol, addGroup, merge, mergeFile, load, archiveStart, archiveNext, matches, collect, plainCollect, listsIn, Drops, callLeft, callNext, runCalls, Removes, RemovesNothing}
 use Rattle.link_laws.specs.PlainCalls.{Compared, alike, many, compared, many-drops}
 use Rattle.link_laws.specs.CallSteps.{callSteps, call-makes}
 use Rattle.link_laws.specs.Removal.{Ready, steps-onward}
@@ -734,6 +734,7 @@ call-stay k s g w = go k
     go (sectionSymbol section) = quiet (sectionSymbol section) (λ (e : ⊥). e)
     go (addGroup o work n) = quiet (addGroup o work n) (λ (e : ⊥). e)
     go (merge o work ids) = quiet (merge o work ids) (λ (e : ⊥). e)
+    go (mergeFile file cells work ids) = quiet (mergeFile file cells work ids) (λ (e : ⊥). e)
     go (load o marks) = quiet (load o marks) (λ (e : ⊥). e)
     go (archiveStart key index cells) = quiet (archiveStart key index cells) (λ (e : ⊥). e)
     go (archiveNext index cells w) = quiet (archiveNext index cells w) (λ (e : ⊥). e)

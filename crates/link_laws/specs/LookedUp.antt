@@ -46,7 +46,7 @@ use Rattle.symbol_laws.specs.Refused.{remove-link}
 use Rattle.symbol_laws.specs.Within as Within
 use Rattle.merge_laws.specs.Steps.{Step, Makes, runSteps}
 use Rattle.merge_laws.specs.Calls.{Linked}
-use Rattle.link_laws.specs.Calls.{Call, intern, resolve, add, remove, get, getGlobal, sectionSymbol, addGroup, merge, load, archiveStart, archiveNext, matches, collect, plainCollect, listsIn, Drops, callLeft, callNumber, callNext, runCalls, Removes, RemovesNothing}
+use Rattle.link_laws.specs.Calls.{Call, intern, resolve, add, remove, get, getGlobal, sectionSymbol, addGroup, merge, mergeFile, load, archiveStart, archiveNext, matches, collect, plainCollect, listsIn, Drops, callLeft, callNumber, callNext, runCalls, Removes, RemovesNothing}
 use Rattle.link_laws.specs.PlainCalls.{Compared, alike, many, compared, many-next}
 use Rattle.link_laws.specs.CallSteps.{callSteps, call-makes}
 use Rattle.link_laws.specs.CollectPast.{run-past, remove-past}
@@ -199,6 +199,7 @@ call-later (getGlobal name) s g = later-none (s .table) g
 call-later (sectionSymbol section) s g = later-none (s .table) g
 call-later (addGroup o work n) s g = quiet-later (addGroup o work n) s (λ (e : ⊥). e) g
 call-later (merge o work ids) s g = quiet-later (merge o work ids) s (λ (e : ⊥). e) g
+call-later (mergeFile file cells work ids) s g = quiet-later (mergeFile file cells work ids) s (λ (e : ⊥). e) g
 call-later (load o marks) s g = quiet-later (load o marks) s (λ (e : ⊥). e) g
 call-later (archiveStart key index cells) s g = later-none (s .table) g
 call-later (archiveNext index cells w) s g = later-none (s .table) g

@@ -1,13 +1,14 @@
 -- Every call answers a result or one of the refusals that document 01 gives it.
 -- Assumes nothing.
 use Prim.Native.Nat.{ℕ, _/_}
-use mathlib.Core.Path.{_≡_, refl, ap, subst, _∙_}
+use mathlib.Core.Path.{_≡_, refl, sym, ap, subst, _∙_}
 use mathlib.Core.Bool.{Bool, true, cond}
 use mathlib.Core.List.{List, [], _∷_}
 use mathlib.Core.Logic.{_≢_}
 use borrow.Author.Tests.{ne-eqb}
 use lib.Dec.{eqb, ltb, leb}
 use lib.ListN.{length}
+use Rattle.cells.specs.Split.{by-test}
 use Rattle.byte_slices.specs.Ways.{pick}
 use Rattle.link.specs.declared.Link.{Link}
 use Rattle.link.specs.declared.Lent.{Lent}
@@ -53,8 +54,10 @@ use Rattle.gc_sections.specs.Run.{judgeCells, judged, purgeOf, sweepOf, finishO
 use Rattle.symbol_laws.specs.History.{store, table}
 use Rattle.merge_laws.specs.Refusals.{oneOf}
 use Rattle.merge_laws.specs.Calls.{Linked, allIn}
-use Rattle.link_laws.specs.Calls.{Call, intern, resolve, add, remove, get, getGlobal, sectionSymbol, addGroup, merge, load, archiveStart, archiveNext, matches, collect, plainCollect, viewIn, libraryIn, listsIn, callNumber}
+use Rattle.link_laws.specs.Calls.{Call, intern, resolve, add, remove, get, getGlobal, sectionSymbol, addGroup, merge, mergeFile, load, archiveStart, archiveNext, matches, collect, plainCollect, viewIn, libraryIn, listsIn, callNumber, fileHead, isRead}
 use Rattle.link_laws.specs.PlainCalls.{Compared, alike, many, compared, many-refusal}
+use Rattle.elf_laws.specs.Object as ElfFile
+use Rattle.link_laws.specs.FileCall.{refusal-read, refusal-unread, head-numbers}
 use Rattle.link_laws.specs.Table.{refusals, callNumbers, within}
 use Rattle.link_laws.specs.AddNumbers as AddNumbers
 use Rattle.merge_laws.specs.ByNumber.{changed}
@@ -205,6 +208,17 @@ plain-numbers marks entry work s = go (compared marks entry work s)
 
 -- ---- every call
 
+file-numbers : (file cells work ids : List ℕ) (s : Linked) → Among (callNumbers (mergeFile file cells work ids)) (callNumber (mergeFile file cells work ids) s)
+file-numbers file cells work ids s =
+    by-test (isRead file cells s)
+    (λ t.
+    subst (λ (r : Refusal). Among (callNumbers (mergeFile file cells work ids)) (r .number)) (sym (refusal-read file cells work ids s t))
+    (one-within (callNumber (merge (ElfFile.rowsOf file) work ids) s) (0 ∷ callNumbers (merge (ElfFile.rowsOf file) work ids)) (0 ∷ callNumbers (mergeFile file cells work ids)) refl
+    (merge-numbers (ElfFile.rowsOf file) (allIn s work ids))))
+    (λ t.
+    subst (λ (r : Refusal). Among (callNumbers (mergeFile file cells work ids)) (r .number)) (sym (refusal-unread file cells work ids s t))
+    (one-within (fileHead file cells s .number) (0 ∷ 22 ∷ 26 ∷ 27 ∷ 2 ∷ []) (0 ∷ callNumbers (mergeFile file cells work ids)) refl (head-numbers file cells s)))
+
 pub numbers : (k : Call) (s : Linked) → oneOf (callNumber k s) (0 ∷ callNumbers k) ≡ true
 numbers (intern x) s = intern-numbers (store (s .table)) x
 numbers (resolve id) s = resolve-numbers (store (s .table)) id
@@ -215,6 +229,7 @@ numbers (getGlobal name) s = global-numbers (s .table .link) (s .table .names) (
 numbers (sectionSymbol section) s = refl
 numbers (addGroup o work n) s = group-numbers o (s .table) work n
 numbers (merge o work ids) s = merge-numbers o (allIn s work ids)
+numbers (mergeFile file cells work ids) s = file-numbers file cells work ids s
 numbers (load o marks) s = load-numbers o (libraryIn s marks)
 numbers (archiveStart key index cells) s = start-numbers key index cells
 numbers (archiveNext index cells w) s = next-numbers index cells w (viewIn (s .table))
@@ -233,6 +248,7 @@ in-table (getGlobal name) = refl
 in-table (sectionSymbol section) = refl
 in-table (addGroup o work n) = refl
 in-table (merge o work ids) = refl
+in-table (mergeFile file cells work ids) = refl
 in-table (load o marks) = refl
 in-table (archiveStart key index cells) = refl
 in-table (archiveNext index cells w) = refl

@@ -34,7 +34,8 @@ use Rattle.merge_laws.specs.LogContents.{FromSymbol}
 use Rattle.merge_laws.specs.Calls.{Linked, allIn}
 use Rattle.shared_objects.specs.Load as Shared
 use Rattle.load_laws.specs.LibraryContents.{FromLibrary}
-use Rattle.link_laws.specs.Calls.{Call, intern, resolve, add, remove, get, getGlobal, sectionSymbol, addGroup, merge, load, archiveStart, archiveNext, matches, collect, plainCollect, libraryIn, callNext}
+use Rattle.link_laws.specs.Calls.{Call, intern, resolve, add, remove, get, getGlobal, sectionSymbol, addGroup, merge, mergeFile, load, archiveStart, archiveNext, matches, collect, plainCollect, libraryIn, callNext}
+use Rattle.elf_laws.specs.Object as ElfFile
 use Rattle.link_laws.specs.Kept.{signatures}
 use Rattle.link_laws.specs.Contents.{FromCall, FromCalls, here, later}
 
@@ -196,6 +197,7 @@ callEntry (getGlobal name) s met r p = absurd p
 callEntry (sectionSymbol section) s met r p = absurd p
 callEntry (addGroup o work n) s met r p = absurd p
 callEntry (merge o work ids) s met r p = objectEntry o (allIn s work ids) met (p .number)
+callEntry (mergeFile file cells work ids) s met r p = objectEntry (ElfFile.rowsOf file) (allIn s work ids) met (p .1 .number)
 callEntry (load o marks) s met r p = sharedEntry (s .table .link .gabi) (entry (o .entries) (p .number))
 callEntry (archiveStart key index cells) s met r p = absurd p
 callEntry (archiveNext index cells w) s met r p = absurd p
@@ -213,6 +215,7 @@ call-stands (getGlobal name) s met r p = absurd p
 call-stands (sectionSymbol section) s met r p = absurd p
 call-stands (addGroup o work n) s met r p = absurd p
 call-stands (merge o work ids) s met r p = object-stands o (allIn s work ids) met r p
+call-stands (mergeFile file cells work ids) s met r p = object-stands (ElfFile.rowsOf file) (allIn s work ids) met r (p .1)
 call-stands (load o marks) s met r p = library-stands o (libraryIn s marks) r p
 call-stands (archiveStart key index cells) s met r p = absurd p
 call-stands (archiveNext index cells w) s met r p = absurd p

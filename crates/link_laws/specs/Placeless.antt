@@ -1,8 +1,8 @@
--- 22 stands for a broken link alone; it, 20, 23 and 25 come at place 0.
+-- 22 stands for a broken link alone; it, 20, 23, 25, 26 and 30 come at place 0.
 -- Assumes nothing.
 use Prim.Native.Nat.{ℕ, _/_}
 use mathlib.Core.Path.{_≡_, refl, sym, ap, _∙_}
-use mathlib.Core.Bool.{true, false, false≢true}
+use mathlib.Core.Bool.{Bool, true, false, false≢true}
 use mathlib.Core.List.{List, [], _∷_}
 use mathlib.Core.Logic.{_≢_}
 use lib.Dec.{eqb, ltb, leb}
@@ -55,8 +55,12 @@ use Rattle.merge_laws.specs.Refusals.{oneOf}
 use Rattle.merge_laws.specs.ByNumber as ByNumber
 use Rattle.merge_laws.specs.ByNumber.{disjoint, changed, elf-gives}
 use Rattle.merge_laws.specs.Calls.{Linked, allIn}
-use Rattle.link_laws.specs.Calls.{Call, intern, resolve, add, remove, get, getGlobal, sectionSymbol, addGroup, merge, load, archiveStart, archiveNext, matches, collect, plainCollect, libraryIn, listsIn, groupIn, callRefusal, callNumber}
+use Rattle.link_laws.specs.Calls.{Call, intern, resolve, add, remove, get, getGlobal, sectionSymbol, addGroup, merge, mergeFile, load, archiveStart, archiveNext, matches, collect, plainCollect, libraryIn, listsIn, groupIn, callRefusal, callNumber, fileHead, isRead}
 use Rattle.link_laws.specs.PlainCalls.{Compared, alike, many, compared, many-refusal}
+use Rattle.merge_file.specs.MergeFile.{fileHeadOf}
+use Rattle.elf_laws.specs.Object as ElfFile
+use Rattle.link_laws.specs.FileCall.{refusal-read, refusal-unread, whole-gives}
+use Rattle.link_laws.specs.FileCall as Files
 use Rattle.link_laws.specs.Table.{starred, placeless, callNumbers, within}
 use Rattle.link_laws.specs.Among.{one-within}
 use Rattle.link_laws.specs.AddNumbers as AddNumbers
@@ -220,12 +224,25 @@ module _ (o : Group.Object) (t : State) (work : List ℕ) (n : ℕ) where
   group-only : addGroupOf o at n .said .number ≡ 22 → t .link .broken ≡ true
   group-only e = group-head-only o at n (sym (ap (λ (r : Refusal). r .number) (group-of-head o t work n 22 refl e)) ∙ e)
 
+file-head-only : (file cells : List ℕ) (s : Linked) → fileHead file cells s .number ≡ 22 → s .table .link .broken ≡ true
+file-head-only file cells s e =
+    by-test (s .table .link .broken) (λ b. b)
+    (λ b.
+    whole-gives (λ (r : Refusal). r .number ≡ 22 → s .table .link .broken ≡ true) (λ q. differ 26 22 refl q) (λ i q. differ 27 22 refl q) (λ q. differ 2 22 refl q)
+    (λ q. differ 0 22 refl q) file (length cells) (ap (λ (x : Bool). fileHeadOf x file (length cells) .number) (sym b) ∙ e))
+
 stopped-only : (k : Call) (s : Linked) → byElements k ≡ true → (headRefusal k s .number ≡ 22 → s .table .link .broken ≡ true) → callNumber k s ≡ 22 → s .table .link .broken ≡ true
 stopped-only k s g h e = split (stopped k s g (λ z. differ 0 22 refl (sym z ∙ e)))
   where
     split : Stopped k s → s .table .link .broken ≡ true
     split (at-head r n q) = h (sym (ap (λ (x : Refusal). x .number) r) ∙ e)
     split (at-element n q) = absurd (false≢true (ap (λ (m : ℕ). oneOf m (2 ∷ starred)) (sym e) ∙ n))
+
+file-only : (file cells work ids : List ℕ) (s : Linked) → callNumber (mergeFile file cells work ids) s ≡ 22 → s .table .link .broken ≡ true
+file-only file cells work ids s e =
+    stopped-only (mergeFile file cells work ids) s refl
+    (pick (λ (r : Refusal). r .number ≡ 22 → s .table .link .broken ≡ true) (isRead file cells s) _ _ (λ t. merge-head-only (ElfFile.rowsOf file) (allIn s work ids))
+    (λ t. file-head-only file cells s)) e
 
 -- a number that the call doesn't give
 never : {P : Type 0} (k : Call) (s : Linked) (m : ℕ) → oneOf m (0 ∷ callNumbers k) ≡ false → callNumber k s ≡ m → P
@@ -241,6 +258,7 @@ broken-only (getGlobal name) s e = never (getGlobal name) s 22 refl e
 broken-only (sectionSymbol section) s e = differ 0 22 refl e
 broken-only (addGroup o work n) s e = (refl, group-only o (s .table) work n e)
 broken-only (merge o work ids) s e = (refl, stopped-only (merge o work ids) s refl (merge-head-only o (allIn s work ids)) e)
+broken-only (mergeFile file cells work ids) s e = (refl, file-only file cells work ids s e)
 broken-only (load o marks) s e = (refl, stopped-only (load o marks) s refl (load-head-only o (libraryIn s marks)) e)
 broken-only (archiveStart key index cells) s e = never (archiveStart key index cells) s 22 refl e
 broken-only (archiveNext index cells w) s e = never (archiveNext index cells w) s 22 refl e
@@ -254,7 +272,7 @@ broken-only (plainCollect marks entry work) s e = go (compared marks entry work 
         (refl, collect-only (s .table .link) (listsIn s marks) (s .table .symbols) (s .table .sections) entry work (sym (ap (λ (x : Refusal). x .number) r) ∙ e))
     go (many m u v q) = differ 30 22 refl (sym (ap (λ (x : Refusal). x .number) (many-refusal marks entry work s q)) ∙ e)
 
--- ---- 20, 22, 23, 25 at 0
+-- ---- 20, 22, 23, 25, 26, 30 at 0
 
 twenty-two-at : (k : Call) (s : Linked) → callNumber k s ≡ 22 → callRefusal k s .place ≡ 0
 twenty-two-at k s e = let b = broken-only k s e in ap (λ (r : Refusal). r .place) (broken-refused s (b .1) k (b .0))
@@ -285,6 +303,20 @@ load-at o marks s p = split (stopped (load o marks) s refl (some (callNumber (lo
         (λ e. refl) o (libraryIn s marks) (sym (ap (λ (x : Refusal). oneOf (x .number) placeless) r) ∙ p)
     split (at-element n q) = absurd (ByNumber.apart (callNumber (load o marks) s) (2 ∷ starred) placeless refl n p)
 
+file-at : (file cells work ids : List ℕ) (s : Linked) → oneOf (callNumber (mergeFile file cells work ids) s) placeless ≡ true
+    → callRefusal (mergeFile file cells work ids) s .place ≡ 0
+file-at file cells work ids s p =
+    by-test (isRead file cells s)
+    (λ t.
+    let r = refusal-read file cells work ids s t in
+    ap (λ (x : Refusal). x .place) r
+    ∙ only-22 (merge (ElfFile.rowsOf file) work ids) s (0 ∷ 1 ∷ 2 ∷ starred) refl refl (ap (λ (x : Refusal). oneOf (x .number) placeless) (sym r) ∙ p))
+    (λ t.
+    let r = refusal-unread file cells work ids s t in
+    ap (λ (x : Refusal). x .place) r
+    ∙ Files.head-gives (λ (x : Refusal). oneOf (x .number) placeless ≡ true → x .place ≡ 0) (λ q. refl) (λ q. refl) (λ i q. absurd (false≢true q)) (λ q. refl) (λ q. refl)
+    (s .table .link .broken) file (length cells) (ap (λ (x : Refusal). oneOf (x .number) placeless) (sym r) ∙ p))
+
 pub zero-places : (k : Call) (s : Linked) → oneOf (callNumber k s) placeless ≡ true → callRefusal k s .place ≡ 0
 zero-places (intern x) s p = intern-place x s (other (callNumber (intern x) s) 1 refl p)
 zero-places (resolve id) s p = resolve-place id s (other (callNumber (resolve id) s) 1 refl p)
@@ -298,6 +330,7 @@ zero-places (getGlobal name) s p =
 zero-places (sectionSymbol section) s p = refl
 zero-places (addGroup o work n) s p = only-22 (addGroup o work n) s (0 ∷ 1 ∷ 2 ∷ 4 ∷ 5 ∷ 6 ∷ 7 ∷ []) refl refl p
 zero-places (merge o work ids) s p = only-22 (merge o work ids) s (0 ∷ 1 ∷ 2 ∷ starred) refl refl p
+zero-places (mergeFile file cells work ids) s p = file-at file cells work ids s p
 zero-places (load o marks) s p = load-at o marks s p
 zero-places (archiveStart key index cells) s p = start-place key index cells s (other (callNumber (archiveStart key index cells) s) 1 refl p)
 zero-places (archiveNext index cells w) s p = none-of (archiveNext index cells w) s refl p
@@ -327,6 +360,21 @@ merge-head-two o a =
     P : Refusal → Type 0
     P r = r .number ≡ 2 → r .place ≡ 0
 
+object-two : (o : Stages.Object) (work ids : List ℕ) (s : Linked) → headIn o (allIn s work ids) .number ≡ 2 → callRefusal (merge o work ids) s .place ≡ 0
+object-two o work ids s e =
+    let a : Stages.All = allIn s work ids in
+    ap (λ (x : Merge.Left). x .said .place) (ByNumber.head-leaves o a (λ z. differ 0 2 refl (sym z ∙ e)) .all) ∙ merge-head-two o a e
+
+file-two : (file cells work ids : List ℕ) (s : Linked) → headRefusal (mergeFile file cells work ids) s .number ≡ 2
+    → callRefusal (mergeFile file cells work ids) s .place ≡ 0
+file-two file cells work ids s e =
+    by-test (isRead file cells s)
+    (λ t. ap (λ (x : Refusal). x .place) (refusal-read file cells work ids s t) ∙ object-two (ElfFile.rowsOf file) work ids s (rw t at e))
+    (λ t.
+    ap (λ (x : Refusal). x .place) (refusal-unread file cells work ids s t)
+    ∙ Files.head-gives (λ (x : Refusal). x .number ≡ 2 → x .place ≡ 0) (λ q. refl) (λ q. refl) (λ i q. differ 27 2 refl q) (λ q. refl) (λ q. refl) (s .table .link .broken) file
+    (length cells) (rw t at e))
+
 pub head-two-place : (k : Call) (s : Linked) → headRefusal k s .number ≡ 2 → callRefusal k s .place ≡ 0
 head-two-place (intern x) s e = differ 0 2 refl e
 head-two-place (resolve id) s e = differ 0 2 refl e
@@ -336,9 +384,8 @@ head-two-place (get id) s e = differ 0 2 refl e
 head-two-place (getGlobal name) s e = differ 0 2 refl e
 head-two-place (sectionSymbol section) s e = differ 0 2 refl e
 head-two-place (addGroup o work n) s e = differ 0 2 refl e
-head-two-place (merge o work ids) s e =
-    let a : Stages.All = allIn s work ids in
-    ap (λ (x : Merge.Left). x .said .place) (ByNumber.head-leaves o a (λ z. differ 0 2 refl (sym z ∙ e)) .all) ∙ merge-head-two o a e
+head-two-place (merge o work ids) s e = object-two o work ids s e
+head-two-place (mergeFile file cells work ids) s e = file-two file cells work ids s e
 head-two-place (load o marks) s e =
     ap (λ (x : Shared.Left). placeIn (x .said)) (Unneeded.head-leaves o (libraryIn s marks) (λ z. differ 0 2 refl (sym z ∙ e)))
     ∙ head-gives (λ (r : Refusal). r .number ≡ 2 → r .place ≡ 0) (λ k q. differ 1 2 refl q) (λ q. refl) (λ q. refl) (λ q. refl) (λ q. refl) o (libraryIn s marks) e

@@ -13,7 +13,8 @@ use Rattle.merge_laws.specs.Profile.{makes-profile}
 use Rattle.merge_laws.specs.Calls.{Linked, allIn}
 use Rattle.merge_laws.specs.Origin.{AllShown, LogShown, log-both, log-shown, group-shown, merge-shown}
 use Rattle.load_laws.specs.Origin.{load-shown}
-use Rattle.link_laws.specs.Calls.{Call, intern, resolve, add, remove, get, getGlobal, sectionSymbol, addGroup, merge, load, archiveStart, archiveNext, matches, collect, plainCollect, libraryIn, callNext, callNotes, runCalls, logCalls, RemovesNothing}
+use Rattle.link_laws.specs.Calls.{Call, intern, resolve, add, remove, get, getGlobal, sectionSymbol, addGroup, merge, mergeFile, load, archiveStart, archiveNext, matches, collect, plainCollect, libraryIn, callNext, callNotes, runCalls, logCalls, RemovesNothing, isRead}
+use Rattle.elf_laws.specs.Object as ElfFile
 use Rattle.link_laws.specs.Growth.{Turn, turnNext, turnNotes, grow, runTurns, logTurns, Quiet}
 use Rattle.link_laws.specs.CallSteps.{callSteps, call-log, Leads, made, cleared, call-leads, headNumber, direct-shown}
 
@@ -45,6 +46,7 @@ call-shown (getGlobal name) s g = tt
 call-shown (sectionSymbol section) s g = tt
 call-shown (addGroup o work n) s g = pick AllShown (eqb (headNumber o (s .table) work n) 0) _ _ (λ a. group-shown (loadedIn o) _ n) (λ a. tt)
 call-shown (merge o work ids) s g = merge-shown o (allIn s work ids)
+call-shown (mergeFile file cells work ids) s g = pick AllShown (isRead file cells s) _ _ (λ a. merge-shown (ElfFile.rowsOf file) (allIn s work ids)) (λ a. tt)
 call-shown (load o marks) s g = load-shown o (libraryIn s marks) g
 call-shown (archiveStart key index cells) s g = tt
 call-shown (archiveNext index cells w) s g = tt

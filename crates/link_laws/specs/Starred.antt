@@ -2,8 +2,8 @@
 -- Assumes nothing.
 use Prim.Native.Nat.{ℕ}
 use native.Mathlib.Omega.{arith}
-use mathlib.Core.Path.{_≡_, refl, sym, ap, _∙_}
-use mathlib.Core.Bool.{Bool, true, false, false≢true}
+use mathlib.Core.Path.{_≡_, refl, sym, ap, _∙_, subst}
+use mathlib.Core.Bool.{Bool, true, false, cond, false≢true}
 use mathlib.Core.List.{List, [], _∷_}
 use mathlib.Core.Logic.{_≢_}
 use lib.Dec.{eqb, leb}
@@ -51,8 +51,10 @@ use Rattle.merge_laws.specs.ByNumber as ByNumber
 use Rattle.merge_laws.specs.ByNumber.{Between, allLeft, nameStays}
 use Rattle.merge_laws.specs.Calls.{Linked, allIn}
 use Rattle.load_laws.specs.Stops as Loading
-use Rattle.link_laws.specs.Calls.{Call, intern, resolve, add, remove, get, getGlobal, sectionSymbol, addGroup, merge, load, archiveStart, archiveNext, matches, collect, plainCollect, libraryIn, listsIn, callRefusal, callNumber, callNext, runCalls}
+use Rattle.link_laws.specs.Calls.{Call, intern, resolve, add, remove, get, getGlobal, sectionSymbol, addGroup, merge, mergeFile, load, archiveStart, archiveNext, matches, collect, plainCollect, libraryIn, listsIn, callRefusal, callNumber, callNext, runCalls, fileHead, isRead}
 use Rattle.link_laws.specs.PlainCalls.{plain-link}
+use Rattle.elf_laws.specs.Object as ElfFile
+use Rattle.link_laws.specs.FileCall.{next-read, next-unread, refusal-read, refusal-unread, head-numbers}
 use Rattle.link_laws.specs.Table.{unstarred, starred, within}
 use Rattle.link_laws.specs.Among.{one-within}
 use Rattle.link_laws.specs.CallSteps.{group-count}
@@ -109,6 +111,7 @@ headRefusal (getGlobal name) s = none
 headRefusal (sectionSymbol section) s = none
 headRefusal (addGroup o work n) s = none
 headRefusal (merge o work ids) s = Merge.headIn o (allIn s work ids)
+headRefusal (mergeFile file cells work ids) s = cond (isRead file cells s) (Merge.headIn (ElfFile.rowsOf file) (allIn s work ids)) (fileHead file cells s)
 headRefusal (load o marks) s = Shared.headIn o (libraryIn s marks)
 headRefusal (archiveStart key index cells) s = none
 headRefusal (archiveNext index cells w) s = none
@@ -130,6 +133,29 @@ merge-stopped o work ids s (Elements.at-element b at m h r e) =
 merge-stopped o work ids s (Elements.but-its-name b at found m h r e) =
     at-element (one-within (callNumber (merge o work ids) s) (nameStays o (lentTo o work ids s) at) (2 ∷ starred) (names-starred o work ids s at) h) (ap broke e)
 
+-- a file that isn't read leaves all; else it is stopped as the merge of its rows
+file-stopped : (file cells work ids : List ℕ) (s : Linked) → callNumber (mergeFile file cells work ids) s ≢ 0 → Stopped (mergeFile file cells work ids) s
+file-stopped file cells work ids s u =
+    by-test (isRead file cells s)
+    (λ t.
+    let r = refusal-read file cells work ids s t in
+    go t (merge-stopped (ElfFile.rowsOf file) work ids s (merge-leaves (ElfFile.rowsOf file) work ids s (λ z. u (ap (λ (x : Refusal). x .number) r ∙ z)))))
+    (λ t.
+    let r = refusal-unread file cells work ids s t in
+    at-head (r ∙ sym (ap (λ (b : Bool). cond b (Merge.headIn (ElfFile.rowsOf file) (allIn s work ids)) (fileHead file cells s)) t))
+    (subst (λ (x : Refusal). oneOf (x .number) (2 ∷ unstarred) ≡ true) (sym r)
+    (one-within (fileHead file cells s .number) (22 ∷ 26 ∷ 27 ∷ 2 ∷ []) (2 ∷ unstarred) refl (subst (λ (b : Bool). cond b true (oneOf (fileHead file cells s .number) (22 ∷ 26 ∷ 27 ∷ 2 ∷ [])) ≡ true) t (head-numbers file cells s))))
+    (next-unread file cells work ids s t))
+  where
+    go : isRead file cells s ≡ true → Stopped (merge (ElfFile.rowsOf file) work ids) s → Stopped (mergeFile file cells work ids) s
+    go t (at-head r n e) =
+        let q = refusal-read file cells work ids s t in
+        at-head (q ∙ r ∙ sym (ap (λ (b : Bool). cond b (Merge.headIn (ElfFile.rowsOf file) (allIn s work ids)) (fileHead file cells s)) t))
+        (subst (λ (x : Refusal). oneOf (x .number) (2 ∷ unstarred) ≡ true) (sym q) n) (next-read file cells work ids s t ∙ e)
+    go t (at-element n e) =
+        at-element (subst (λ (x : Refusal). oneOf (x .number) (2 ∷ starred) ≡ true) (sym (refusal-read file cells work ids s t)) n)
+        (ap broke (next-read file cells work ids s t) ∙ e)
+
 load-stopped : (o : Shared.Input) (marks : List ℕ) (s : Linked) → LoadLeft o marks s → Stopped (load o marks) s
 load-stopped o marks s (Elements.at-head r h e) = at-head r (one-within (callNumber (load o marks) s) (22 ∷ 1 ∷ 25 ∷ 2 ∷ []) (2 ∷ unstarred) refl h) e
 load-stopped o marks s (Elements.at-element b at m h r e) =
@@ -147,6 +173,7 @@ stopped (getGlobal name) s g u = absurd (apart g)
 stopped (sectionSymbol section) s g u = absurd (apart g)
 stopped (addGroup o work n) s g u = absurd (apart g)
 stopped (merge o work ids) s g u = merge-stopped o work ids s (merge-leaves o work ids s u)
+stopped (mergeFile file cells work ids) s g u = file-stopped file cells work ids s u
 stopped (load o marks) s g u = load-stopped o marks s (load-leaves o marks s u)
 stopped (archiveStart key index cells) s g u = absurd (apart g)
 stopped (archiveNext index cells w) s g u = absurd (apart g)
@@ -255,6 +282,7 @@ direct-same (getGlobal name) s g = refl
 direct-same (sectionSymbol section) s g = refl
 direct-same (addGroup o work n) s g = group-count o (s .table) work n (λ (l : Link). l .broken) keep-broken
 direct-same (merge o work ids) s g = absurd (apart (sym g))
+direct-same (mergeFile file cells work ids) s g = absurd (apart (sym g))
 direct-same (load o marks) s g = absurd (apart (sym g))
 direct-same (archiveStart key index cells) s g = refl
 direct-same (archiveNext index cells w) s g = refl
@@ -287,6 +315,12 @@ accepted-whole (getGlobal name) s w z = w
 accepted-whole (sectionSymbol section) s w z = w
 accepted-whole (addGroup o work n) s w z = direct-same (addGroup o work n) s refl ∙ w
 accepted-whole (merge o work ids) s w z = merge-whole o work ids s (merges o work ids s) w z
+accepted-whole (mergeFile file cells work ids) s w z =
+    by-test (isRead file cells s)
+    (λ t.
+    ap broke (next-read file cells work ids s t)
+    ∙ merge-whole (ElfFile.rowsOf file) work ids s (merges (ElfFile.rowsOf file) work ids s) w (ap (λ (r : Refusal). r .number) (sym (refusal-read file cells work ids s t)) ∙ z))
+    (λ t. ap broke (next-unread file cells work ids s t) ∙ w)
 accepted-whole (load o marks) s w z = load-whole o marks s (ways o marks s) w z
 accepted-whole (archiveStart key index cells) s w z = w
 accepted-whole (archiveNext index cells x) s w z = w
@@ -323,6 +357,7 @@ broken-leaves k s b =
     idle (sectionSymbol section) s c = refl
     idle (addGroup o work n) s c = absurd (apart (sym c))
     idle (merge o work ids) s c = absurd (apart (sym c))
+    idle (mergeFile file cells work ids) s c = absurd (apart (sym c))
     idle (load o marks) s c = absurd (apart (sym c))
     idle (archiveStart key index cells) s c = refl
     idle (archiveNext index cells w) s c = refl

@@ -5,16 +5,18 @@ use Prim.Native.Nat.{ℕ}
 use mathlib.Core.Bool.{Bool, true, false, cond}
 use mathlib.Core.List.{List, [], _∷_}
 use Rattle.merge_laws.specs.Refusals.{oneOf}
-use Rattle.link_laws.specs.Calls.{Call, intern, resolve, add, remove, get, getGlobal, sectionSymbol, addGroup, merge, load, archiveStart, archiveNext, matches, collect, plainCollect}
+use Rattle.link_laws.specs.Calls.{Call, intern, resolve, add, remove, get, getGlobal, sectionSymbol, addGroup, merge, mergeFile, load, archiveStart, archiveNext, matches, collect, plainCollect}
 
--- "one of the refusals 1 to 25 of its table", and those of document 02's requests
+-- "one of the refusals 1 to 25 of its table"; document 02: "Demand 1 and the table gain these and all later numbers"
 abbrev pub refusals : List ℕ
 refusals =
-    1 ∷ 2 ∷ 3 ∷ 4 ∷ 5 ∷ 6 ∷ 7 ∷ 8 ∷ 9 ∷ 10 ∷ 11 ∷ 12 ∷ 13 ∷ 14 ∷ 15 ∷ 16 ∷ 17 ∷ 18 ∷ 19 ∷ 20 ∷ 21 ∷ 22 ∷ 23 ∷ 24 ∷ 25 ∷ 30 ∷ []
+    1 ∷ 2 ∷ 3 ∷ 4 ∷ 5 ∷ 6 ∷ 7 ∷ 8 ∷ 9 ∷ 10 ∷ 11 ∷ 12 ∷ 13 ∷ 14 ∷ 15 ∷ 16 ∷ 17 ∷ 18 ∷ 19 ∷ 20 ∷ 21 ∷ 22 ∷ 23 ∷ 24 ∷ 25 ∷ 26
+    ∷ 27 ∷ 30
+    ∷ []
 
 -- those not marked *; each leaves "all"
 abbrev pub unstarred : List ℕ
-unstarred = 1 ∷ 15 ∷ 20 ∷ 22 ∷ 23 ∷ 25 ∷ 30 ∷ []
+unstarred = 1 ∷ 15 ∷ 20 ∷ 22 ∷ 23 ∷ 25 ∷ 26 ∷ 27 ∷ 30 ∷ []
 
 -- "Those marked *" that an element gives alone; 2, marked too, comes also where the cells for a call's own work are too few
 abbrev pub starred : List ℕ
@@ -22,7 +24,7 @@ starred = 3 ∷ 4 ∷ 5 ∷ 6 ∷ 7 ∷ 8 ∷ 9 ∷ 10 ∷ 11 ∷ 12 ∷ 13 ∷ 
 
 -- those that the column "Returned" has at 0
 abbrev pub placeless : List ℕ
-placeless = 20 ∷ 22 ∷ 23 ∷ 25 ∷ 30 ∷ []
+placeless = 20 ∷ 22 ∷ 23 ∷ 25 ∷ 26 ∷ 30 ∷ []
 
 abbrev pub callNumbers : Call → List ℕ
 -- "22 comes first, then 1", as for every call that changes the link
@@ -41,6 +43,9 @@ callNumbers (addGroup o work n) = 22 ∷ 1 ∷ 2 ∷ 4 ∷ 5 ∷ 6 ∷ 7 ∷ []
 -- reaches an add
 callNumbers (merge o work ids) =
     22 ∷ 1 ∷ 2 ∷ 3 ∷ 24 ∷ 4 ∷ 5 ∷ 6 ∷ 7 ∷ 8 ∷ 9 ∷ 10 ∷ 11 ∷ 12 ∷ 21 ∷ 13 ∷ 14 ∷ 16 ∷ 17 ∷ 18 ∷ 19 ∷ []
+-- 26 "right after 22", 27 "after 26", "then 2"; then as the merge of its rows
+callNumbers (mergeFile file cells work ids) =
+    22 ∷ 26 ∷ 27 ∷ 2 ∷ 1 ∷ 3 ∷ 24 ∷ 4 ∷ 5 ∷ 6 ∷ 7 ∷ 8 ∷ 9 ∷ 10 ∷ 11 ∷ 12 ∷ 21 ∷ 13 ∷ 14 ∷ 16 ∷ 17 ∷ 18 ∷ 19 ∷ []
 -- 25 "follows and marks nothing broken"; a library's symbols have no value or type that is judged
 callNumbers (load o marks) = 22 ∷ 1 ∷ 25 ∷ 2 ∷ 9 ∷ 10 ∷ 11 ∷ 12 ∷ 21 ∷ 17 ∷ []
 -- "An empty index slice gives 20 before 1"; "Fewer cells lent than entries give 2"

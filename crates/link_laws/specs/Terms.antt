@@ -9,6 +9,7 @@ use mathlib.Core.List.{List, [], _∷_, _++_, append-nil}
 use mathlib.Core.Logic.{_≢_, _↔_}
 use lib.Dec.{eqb, leb}
 use lib.ListN.{getD, length}
+use borrow.Author.Tests.{eq-eqb, ne-eqb}
 use Rattle.gabi.specs.StringTable as Strings
 use Rattle.gabi.specs.SymbolTable.{Sym, stvDefault, stvHidden}
 use Rattle.gabi.specs.Visibility.{combined}
@@ -117,7 +118,11 @@ use Rattle.load_laws.specs.SymbolDuplicates as InLoad
 use Rattle.plain_laws.specs.Agrees.{Agrees}
 use Rattle.plain_laws.specs.Plain as Plain
 use Rattle.plain_laws.specs.Plain.{builtRows}
-use Rattle.link_laws.specs.Calls.{Call, intern, resolve, add, remove, get, getGlobal, sectionSymbol, addGroup, merge, load, archiveStart, archiveNext, matches, collect, plainCollect, viewIn, groupIn, libraryIn, listsIn, LeftBy, callLeft, refusalBy, callRefusal, callNumber, callNext, callNotes, runCalls, logCalls, Removes, RemovesNothing}
+use Rattle.link_laws.specs.Calls.{Call, intern, resolve, add, remove, get, getGlobal, sectionSymbol, addGroup, merge, mergeFile, load, archiveStart, archiveNext, matches, collect, plainCollect, viewIn, groupIn, libraryIn, listsIn, LeftBy, callLeft, refusalBy, callRefusal, callNumber, callNext, callNotes, runCalls, logCalls, Removes, RemovesNothing, fileHead}
+use Rattle.link_laws.specs.FileCall as FileCall
+use Rattle.elf_laws.specs.Object as ElfFile
+use Rattle.elf_laws.specs.Object.{laid}
+use Rattle.merge_file.specs.MergeFile.{fileLeft, unread}
 use Rattle.link_laws.specs.Table.{refusals, callNumbers}
 use Rattle.link_laws.specs.Rules as Rules
 use Rattle.link_laws.specs.CallRules.{rules}
@@ -196,7 +201,8 @@ use Rattle.link_laws.specs.OwnEntries.{entryOf, AllFrom, entriesOf, all-
 use Rattle.link_laws.specs.Admitted as Admitted
 use Rattle.link_laws.specs.Admitted.{answerIn}
 
--- ---- 1. "The answer to every call is a result or, exactly where document 01's rules in their order give it, one of the refusals 1 to 25"
+-- ---- 1. "The answer to every call is a result or, exactly where document 01's rules in their order give it, one of the refusals 1 to 25"; document 02 adds
+-- 26, 27 and 30
 
 -- which, and at which place, is what the definition gives that the call's contract cites; it is 0, a result, or a number that document 01 gives the call
 pub answers : (k : Call) (s : Linked) → oneOf (callNumber k s) (0 ∷ callNumbers k) ≡ true
@@ -212,8 +218,8 @@ new-answers = Numbers.new-numbers
 pub add-place : (conversion : List ℕ) (u : UpcomingSymbol) (s : Linked) → callNumber (add conversion u) s ≢ 21 → callRefusal (add conversion u) s .place ≡ 0
 add-place = Places.add-place
 
--- the table's column "Returned": 20, 22, 23 and 25 at 0; so is document 02's 30
-pub zero-places : (k : Call) (s : Linked) → oneOf (callNumber k s) (20 ∷ 22 ∷ 23 ∷ 25 ∷ 30 ∷ []) ≡ true → callRefusal k s .place ≡ 0
+-- the table's column "Returned": 20, 22, 23, 25, and document 02's 26 and 30, at 0
+pub zero-places : (k : Call) (s : Linked) → oneOf (callNumber k s) (20 ∷ 22 ∷ 23 ∷ 25 ∷ 26 ∷ 30 ∷ []) ≡ true → callRefusal k s .place ≡ 0
 zero-places = Placeless.zero-places
 
 -- 2 at 0 where no element is met: an intern, a start over an index, a collection, a merge's work cells, a load's marks; a new
@@ -337,8 +343,8 @@ pub walk-leaves : (index cells : List ℕ) (w : Walk) (s : Linked) → callNumbe
     → (callLeft (archiveNext index cells w) s .cells ≡ cells) × (callLeft (archiveNext index cells w) s .moved .walk ≡ w)
 walk-leaves index cells w s = ArchiveLeaves.walk-leaves index cells w _
 
--- 1, 15, 20, 22, 23 and 25 leave "all", whichever call gives them
-pub leaves-all : (k : Call) (s : Linked) → oneOf (callNumber k s) (1 ∷ 15 ∷ 20 ∷ 22 ∷ 23 ∷ 25 ∷ 30 ∷ []) ≡ true → callNext k s ≡ s
+-- 1, 15, 20, 22, 23, 25, 26, 27 and 30 leave "all", whichever call gives them
+pub leaves-all : (k : Call) (s : Linked) → oneOf (callNumber k s) (1 ∷ 15 ∷ 20 ∷ 22 ∷ 23 ∷ 25 ∷ 26 ∷ 27 ∷ 30 ∷ []) ≡ true → callNext k s ≡ s
 leaves-all = Starred.leaves-all
 
 -- a merge or a load that is refused at its head leaves all: 22, 1, 25, missing work cells or marks
@@ -347,6 +353,18 @@ merge-head-leaves = Leaves.merge-head
 
 pub load-head-leaves : (o : Shared.Input) (marks : List ℕ) (s : Linked) → Shared.headIn o (libraryIn s marks) .number ≢ 0 → callNext (load o marks) s ≡ s
 load-head-leaves = Leaves.load-head
+
+-- document 02, 2026-01: "A file read and merged must equal its rows merged by hand", answer, every cell and every count; the cells lent for its rows hold
+-- them, one after the other
+pub file-is-rows : (file cells work ids : List ℕ) (s : Linked) → fileHead file cells s .number ≡ 0
+    → callLeft (mergeFile file cells work ids) s ≡ fileLeft (laid (ElfFile.rowsOf file) cells) (callLeft (merge (ElfFile.rowsOf file) work ids) s)
+file-is-rows file cells work ids s z = FileCall.left-read file cells work ids s (eq-eqb _ _ z)
+
+-- 26, 27 and too few cells for the rows "all leave everything, the link unbroken", the cells for the rows too; so does 22
+pub file-unread-leaves : (file cells work ids : List ℕ) (s : Linked) → fileHead file cells s .number ≢ 0
+    → (callLeft (mergeFile file cells work ids) s ≡ unread cells (allIn s work ids) (fileHead file cells s)) × (callNext (mergeFile file cells work ids) s ≡ s)
+file-unread-leaves file cells work ids s u =
+    let f = ne-eqb _ _ u in (FileCall.left-unread file cells work ids s f, FileCall.next-unread file cells work ids s f)
 
 pub not-needed-leaves : (o : Shared.Input) (marks : List ℕ) (s : Linked) → callLeft (load o marks) s .answer ≡ NotNeeded → callNext (load o marks) s ≡ s
 not-needed-leaves = Leaves.load-unneeded

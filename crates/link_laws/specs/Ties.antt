@@ -34,7 +34,7 @@ use Rattle.symbol_laws.specs.DirectContents.{FromAdd}
 use Rattle.upcoming_symbol.specs.declared.UpcomingSymbol.{UpcomingSymbol}
 use Rattle.merge_laws.specs.Calls.{Linked}
 use Rattle.extraction_laws.specs.Wanted.{row-strong}
-use Rattle.link_laws.specs.Calls.{Call, intern, resolve, add, remove, get, getGlobal, sectionSymbol, addGroup, merge, load, archiveStart, archiveNext, matches, collect, plainCollect, viewIn, callNext}
+use Rattle.link_laws.specs.Calls.{Call, intern, resolve, add, remove, get, getGlobal, sectionSymbol, addGroup, merge, mergeFile, load, archiveStart, archiveNext, matches, collect, plainCollect, viewIn, callNext}
 use Rattle.link_laws.specs.Contents.{FromCall, FromCalls, here, later}
 use Rattle.link_laws.specs.Undefined.{isUndefinedRow, symbolsUnder, undefined-none}
 
@@ -63,6 +63,7 @@ call-of-name (getGlobal name) s met r p = absurd p
 call-of-name (sectionSymbol section) s met r p = absurd p
 call-of-name (addGroup o work n) s met r p = absurd p
 call-of-name (merge o work ids) s met r p = ap isOfName (p .content .shown)
+call-of-name (mergeFile file cells work ids) s met r p = ap isOfName (p .1 .content .shown)
 call-of-name (load o marks) s met r p = ap isOfName (p .shown)
 call-of-name (archiveStart key index cells) s met r p = absurd p
 call-of-name (archiveNext index cells w) s met r p = absurd p

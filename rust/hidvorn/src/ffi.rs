@@ -27,13 +27,14 @@ pub(crate) const KEY: usize = 15;
 /// The profile of the link.
 pub(crate) const PROFILE: usize = 16;
 
+fn cause(number: u64) -> Cause {
+    Cause::of_number(number).expect("a number of the documents' table")
+}
+
 fn answer(header: &Header) -> Result<(), Refusal> {
     match header[9] {
         0 => Ok(()),
-        number => {
-            let cause = Cause::of_number(number).expect("a number of document 01's table");
-            Err(Refusal { cause, place: header[10] as usize })
-        }
+        number => Err(Refusal { cause: cause(number), place: header[10] as usize }),
     }
 }
 
@@ -189,6 +190,40 @@ unsafe extern "C" {
         file: *const u8,
         file_len: usize,
         strings: usize,
+    ) -> u64;
+
+    fn hidvorn_read_file(
+        answer: *mut u64,
+        answer_len: usize,
+        rows: *mut u64,
+        rows_len: usize,
+        file: *const u8,
+        file_len: usize,
+    ) -> u64;
+
+    fn hidvorn_merge_file(
+        header: *mut u64,
+        header_len: usize,
+        bytes: *mut u8,
+        bytes_len: usize,
+        names: *mut u64,
+        names_len: usize,
+        symbols: *mut u64,
+        symbols_len: usize,
+        sections: *mut u64,
+        sections_len: usize,
+        inputs: *mut u64,
+        inputs_len: usize,
+        lists: *mut u64,
+        lists_len: usize,
+        work: *mut u64,
+        work_len: usize,
+        ids: *mut u64,
+        ids_len: usize,
+        rows: *mut u64,
+        rows_len: usize,
+        file: *const u8,
+        file_len: usize,
     ) -> u64;
 
     fn hidvorn_load_shared_object(
@@ -606,6 +641,74 @@ pub(crate) fn merge_elf(
             file.as_ptr(),
             file.len(),
             strings,
+        );
+    }
+    answer(header)
+}
+
+/// The cells of a read's answer: the place, or how many sections, symbols and cells of contents
+/// were written, and the section of the sections' names.
+pub(crate) type Reading = [u64; 8];
+
+/// Writes the rows of a file: headers, symbols, contents, one after the other.
+pub(crate) fn read_file(rows: &mut [u64], file: &[u8]) -> Result<Reading, Refusal> {
+    let mut answer: Reading = [0; 8];
+    // SAFETY: see the module.
+    let number = unsafe {
+        hidvorn_read_file(
+            answer.as_mut_ptr(),
+            answer.len(),
+            rows.as_mut_ptr(),
+            rows.len(),
+            file.as_ptr(),
+            file.len(),
+        )
+    };
+    match number {
+        0 => Ok(answer),
+        number => Err(Refusal { cause: cause(number), place: answer[0] as usize }),
+    }
+}
+
+#[allow(clippy::too_many_arguments)]
+pub(crate) fn merge_file(
+    header: &mut Header,
+    bytes: &mut [u8],
+    names: &mut [u64],
+    symbols: &mut [u64],
+    sections: &mut [u64],
+    inputs: &mut [u64],
+    lists: &mut [u64],
+    work: &mut [u64],
+    ids: &mut [u64],
+    rows: &mut [u64],
+    file: &[u8],
+) -> Result<(), Refusal> {
+    // SAFETY: see the module.
+    unsafe {
+        hidvorn_merge_file(
+            header.as_mut_ptr(),
+            header.len(),
+            bytes.as_mut_ptr(),
+            bytes.len(),
+            names.as_mut_ptr(),
+            names.len(),
+            symbols.as_mut_ptr(),
+            symbols.len(),
+            sections.as_mut_ptr(),
+            sections.len(),
+            inputs.as_mut_ptr(),
+            inputs.len(),
+            lists.as_mut_ptr(),
+            lists.len(),
+            work.as_mut_ptr(),
+            work.len(),
+            ids.as_mut_ptr(),
+            ids.len(),
+            rows.as_mut_ptr(),
+            rows.len(),
+            file.as_ptr(),
+            file.len(),
         );
     }
     answer(header)

@@ -9,10 +9,12 @@
 //! | `Symbols::{new, add, get, get_global, section_symbol_id, remove}` | [`Link::new`], [`Link::add`], .. |
 //! | `intern`, `Interned::resolve` | [`Link::intern`], [`Link::resolve`]; [`Link::find`] issues no name and works on a broken link |
 //! | `merge_elf` | [`Link::merge_elf`] of an [`Object`]; [`Merged`] has the ids of its sections and symbols |
+//! | reading an object file | [`Link::merge_file`]; [`Object::read`] for its rows alone |
 //! | `SectionGroupsForObject::add_group` | [`Link::add_group`] with the object's [`GroupMarks`] |
 //! | `load_shared_object` | [`Link::load_shared_object`] of a [`SharedObject`] |
 //! | `PendingArchive::{new, next}`, `ObjectRequirement::matches` | [`PendingArchive::new`], [`PendingArchive::next`], [`PendingArchive::admits`] |
 //! | `gc_sections::run` | [`Link::gc_sections`] |
+//! | `plain_collector::run` | [`Link::gc_sections_plain`] |
 //! | panics and errors | [`Refusal`], a cause and a place |
 //!
 //! Left out, and what to do instead:
@@ -55,6 +57,9 @@ mod object;
 mod refusal;
 mod rows;
 mod symbol;
+
+#[cfg(test)]
+mod file_tests;
 
 pub use archive::{IndexEntry, Member, PendingArchive, Step};
 pub use group::GroupMarks;

@@ -1,5 +1,6 @@
 //! The link: its storage and its calls.
 use crate::ffi::{self, Header, KEY, PROFILE, VALUE};
+use crate::object::{cells_for, loaded_symbols};
 use crate::{
     GroupMarks, Interned, LibraryName, Load, Merged, Object, Refusal, SectionId, SharedObject,
     Symbol, SymbolId, UpcomingSymbol,
@@ -94,6 +95,8 @@ pub struct Link {
     pub(crate) work: Vec<u64>,
     /// For a merge: what each symbol of the object became.
     pub(crate) ids: Vec<u64>,
+    /// For the merge of a file: its rows.
+    rows: Vec<u64>,
     /// For a load: a mark for each name.
     marks: Vec<u64>,
 }
@@ -141,6 +144,7 @@ impl Link {
             lists: Vec::new(),
             work: vec![0; OBJECT_SECTIONS * 8],
             ids: Vec::new(),
+            rows: Vec::new(),
             marks: vec![0; names],
         };
         link.start(key, profile)?;
@@ -288,7 +292,41 @@ impl Link {
             &object.file,
             object.names,
         )?;
-        Ok(Merged::new(self, object))
+        Ok(Merged::new(self, object.section_count(), object.loaded_symbols()))
+    }
+
+    /// Merges an object file: an ELF file of the 64-bit class, little-endian, relocatable. It is
+    /// answered as the merge of its rows ([`Object::read`], then [`Link::merge_elf`]). 26 and 27
+    /// change nothing, nor does 2 at place 0 for a file whose tables overlap and have more entries
+    /// than a file of its size has room for; of other refusals see [`Link::merge_elf`].
+    ///
+    /// Nothing of the file is copied but names. Rows are kept for the next file: the storage grows
+    /// with the largest.
+    pub fn merge_file(&mut self, file: &[u8]) -> Result<Merged<'_>, Refusal> {
+        let cells = cells_for(file);
+        if self.rows.len() < cells {
+            self.rows.resize(cells, 0);
+        }
+        // Its relocations and groups' members are among the rows; a symbol has 24 bytes.
+        self.make_room(cells);
+        if self.ids.len() < file.len() / 24 {
+            self.ids.resize(file.len() / 24, 0);
+        }
+        ffi::merge_file(
+            &mut self.header,
+            &mut self.bytes,
+            &mut self.names,
+            &mut self.symbols,
+            &mut self.sections,
+            &mut self.inputs,
+            &mut self.lists,
+            &mut self.work,
+            &mut self.ids,
+            &mut self.rows,
+            file,
+        )?;
+        let sections = file_sections(file);
+        Ok(Merged::new(self, sections, loaded_symbols(&self.rows[..sections * 8])))
     }
 
     /// Adds one section group of an object outside of a merge. `section` is the group; `marks` has
@@ -367,7 +405,7 @@ impl Link {
         Ok(self.collected())
     }
 
-    /// The same by a second collector, which visits sections by recursion and fits a page. It is
+    /// The same by a second collector, whose one recursive function fits a page. It is
     /// proved to keep and drop what [`Link::gc_sections`] does and to be refused where that is,
     /// with the same number and place. More than 256 sections that are built and not dropped give
     /// 30, after 22 and 1, and leave everything.
@@ -405,6 +443,19 @@ impl Link {
         if self.lists.len() < needed {
             self.lists.resize(needed.max(2 * self.lists.len()), 0);
         }
+    }
+}
+
+/// How many sections an accepted file has: `e_shnum`, or `sh_size` of the first header where that
+/// is 0; none where `e_shoff` is 0.
+fn file_sections(file: &[u8]) -> usize {
+    let number = |at: usize, len: usize| {
+        file[at..at + len].iter().rev().fold(0, |n, byte| n << 8 | *byte as usize)
+    };
+    match (number(40, 8), number(60, 2)) {
+        (0, _) => 0,
+        (headers, 0) => number(headers + 32, 8),
+        (_, count) => count,
     }
 }
 

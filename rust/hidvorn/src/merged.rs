@@ -1,5 +1,5 @@
 //! What became of an object's sections and symbols in a merge.
-use crate::{Converted, Link, Object, SymbolId};
+use crate::{Converted, Link, SymbolId};
 use std::fmt;
 
 /// The ids of a merged object's sections and symbols, by the object's own numbers.
@@ -18,12 +18,8 @@ pub struct Merged<'l> {
 }
 
 impl<'l> Merged<'l> {
-    pub(crate) fn new(link: &'l Link, object: &Object<'_>) -> Self {
-        Merged {
-            link,
-            conversion: &link.work.as_chunks().0[..object.section_count()],
-            ids: &link.ids[..object.loaded_symbols()],
-        }
+    pub(crate) fn new(link: &'l Link, sections: usize, symbols: usize) -> Self {
+        Merged { link, conversion: &link.work.as_chunks().0[..sections], ids: &link.ids[..symbols] }
     }
 
     /// The link after the merge.

@@ -1,5 +1,5 @@
 //! Objects as rows, for a merge, an admission or a group by itself.
-use crate::ElfSymbol;
+use crate::{ElfSymbol, Refusal, ffi};
 use std::borrow::Cow;
 
 /// A section of an object: what every section has, and its contents by kind.
@@ -119,6 +119,24 @@ impl<'a> Object<'a> {
         Object { file: file.into(), ..Object::default() }
     }
 
+    /// The object that a file holds: an ELF file of the 64-bit class, little-endian, relocatable. 26
+    /// if it is no such file, 27 if its headers or a table lie past its end or are cut; 2 if its
+    /// tables overlap and have more entries together than a file of its size has room for.
+    ///
+    /// [`Link::merge_file`](crate::Link::merge_file) does the same by itself: this is for
+    /// [`PendingArchive::admits`](crate::PendingArchive::admits).
+    pub fn read(file: impl Into<Cow<'a, [u8]>>) -> Result<Self, Refusal> {
+        let file = file.into();
+        let mut rows = vec![0; cells_for(&file)];
+        let [_, sections, symbols, contents, names, ..] = ffi::read_file(&mut rows, &file)?;
+        let [sections, symbols, contents] =
+            [sections * 8, symbols * 8, contents].map(|cells| cells as usize);
+        rows.truncate(sections + symbols + contents);
+        let contents = rows.split_off(sections + symbols);
+        let entries = rows.split_off(sections);
+        Ok(Object { headers: rows, entries, contents, file, names: names as usize })
+    }
+
     /// How many sections it has.
     pub fn section_count(&self) -> usize {
         self.headers.len() / 8
@@ -159,8 +177,7 @@ impl<'a> Object<'a> {
     /// How many symbols the table has that a merge loads: the first that isn't excluded. A second
     /// one is refused.
     pub(crate) fn loaded_symbols(&self) -> usize {
-        let mut headers = self.headers.as_chunks::<8>().0.iter();
-        headers.find(|row| row[0] == 3 && row[2] & 1 == 0).map_or(0, |row| row[6] as usize)
+        loaded_symbols(&self.headers)
     }
 
     /// What a group by itself is lent: headers by which the table starts at 0 and other tables have
@@ -184,6 +201,18 @@ impl<'a> Object<'a> {
         }
         (headers, lent.as_flattened())
     }
+}
+
+/// The symbols of the first symbol table that isn't excluded, by the rows of headers.
+pub(crate) fn loaded_symbols(headers: &[u64]) -> usize {
+    let mut headers = headers.as_chunks::<8>().0.iter();
+    headers.find(|row| row[0] == 3 && row[2] & 1 == 0).map_or(0, |row| row[6] as usize)
+}
+
+/// Cells for the rows of any file of that length whose tables don't overlap: 8 for a symbol of 24
+/// bytes; for headers, relocations and members of groups it is less of each byte.
+pub(crate) fn cells_for(file: &[u8]) -> usize {
+    file.len() / 3 + 8
 }
 
 /// A section's contents as fields of a header's row.

@@ -1,4 +1,4 @@
-//! Refusals by document 01's table.
+//! Refusals by the documents' table.
 use std::fmt;
 
 macro_rules! causes {
@@ -13,7 +13,7 @@ macro_rules! causes {
 
         impl Cause {
             /// Every cause, by ascending number.
-            pub const ALL: [Cause; 26] = [$(Cause::$name),*];
+            pub const ALL: [Cause; 28] = [$(Cause::$name),*];
 
             fn words(self) -> &'static str {
                 match self {
@@ -76,12 +76,16 @@ causes! {
     SecondSymbolTable = 24: "second symbol table",
     /// 25: a library inside an archive that has no soname.
     ArchivedLibraryWithoutSoname = 25: "archived library without soname",
-    /// 30, of document 02: more built sections than the plain collector takes.
+    /// 26: a file below 64 bytes, or no relocatable ELF file of the 64-bit class, little-endian.
+    NotAnObject = 26: "no relocatable ELF file of 64 bits, little-endian",
+    /// 27: section headers or a table past the file's end, a cut last entry or an empty group.
+    BadTable = 27: "section headers or table past the file's end, cut entry or empty group",
+    /// 30: more built sections than the plain collector takes.
     TooManySections = 30: "more built sections than the plain collector takes",
 }
 
 impl Cause {
-    /// The number in the table: 1 to 25, and 30.
+    /// The number in the table: 1 to 27, and 30.
     pub const fn number(self) -> u64 {
         self as u64
     }
@@ -101,6 +105,7 @@ impl Cause {
                 | BrokenLink
                 | UnknownGlobalName
                 | ArchivedLibraryWithoutSoname
+                | NotAnObject
                 | TooManySections
         )
     }
@@ -117,8 +122,8 @@ impl fmt::Display for Cause {
 /// What a refused call leaves behind is stated by the same table. A call by itself (an add, a
 /// remove, a lookup, a group, a step of a walk, a collection) leaves all as it was. Inside a merge
 /// or a load the elements before the refused one stay, and the link is broken: every later call
-/// that would change it is refused with 22. Not so 1, 22 and 25, nor 2 for missing work cells,
-/// which this crate always lends: they change nothing. A repeated COMDAT group that lists a section
+/// that would change it is refused with 22. Not so 1, 22, 25, 26 and 27, nor 2 for missing work cells
+/// or too few cells for a file's rows: they change nothing. A repeated COMDAT group that lists a section
 /// number of 65,280 or above gives 2 and breaks the link: it is the one 2 that more capacity
 /// doesn't mend.
 #[derive(Clone, Copy, Debug, PartialEq, Eq, Hash)]
@@ -134,6 +139,7 @@ pub struct Refusal {
     /// | 3 to 7, 18, 19, 24 | the section's number in the object |
     /// | 8 to 14, 16, 17 | the symbol's number in its symbol table; of a library by the order of `push_symbol` |
     /// | 21 | an id: the name's for an add, also inside a merge or a load, and for a lookup by name; the symbol's for `get` and `remove`, the section's for a collection; for a walk the index' entry (`PendingArchive::entry`) |
+    /// | 27 | the section's number in the file; 0 for the section headers |
     ///
     /// 0 for the others, and for a direct add but 21. For a group by itself symbols have their
     /// number in the table that was named.
@@ -141,7 +147,7 @@ pub struct Refusal {
 }
 
 impl Refusal {
-    /// The cause's number in the table: 1 to 25, and 30.
+    /// The cause's number in the table: 1 to 27, and 30.
     pub const fn number(&self) -> u64 {
         self.cause.number()
     }

@@ -452,7 +452,9 @@ fn refusals_are_told_in_words() {
     assert_eq!(told(duplicate, 0), "duplicate strong definition, place 0 (refusal 17)");
     assert_eq!(told(Cause::BrokenLink, 0), "changing call on a broken link (refusal 22)");
     assert_eq!(Cause::DuplicateStrong.to_string(), "duplicate strong definition");
-    let known = |number: &u64| (1..=25).contains(number) || *number == 30;
+    let cut = "section headers or table past the file's end, cut entry or empty group, place 2 (refusal 27)";
+    assert_eq!(told(Cause::BadTable, 2), cut);
+    let known = |number: &u64| (1..=27).contains(number) || *number == 30;
     assert!((1..=30).filter(known).eq(Cause::ALL.map(Cause::number)));
     for number in 0..=31 {
         let cause = Cause::of_number(number);

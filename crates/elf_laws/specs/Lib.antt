@@ -1,0 +1,12 @@
+pub mod Object
+pub mod Written
+pub mod Read
+pub mod Rows
+pub mod Ranges
+pub mod Names
+pub mod Back
+pub mod Writer
+pub mod Trip
+pub mod Accepted
+pub mod Examples
+pub mod Tables

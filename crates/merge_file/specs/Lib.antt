@@ -1,0 +1,4 @@
+pub mod MergeFile
+pub mod Contract
+pub mod Ways
+pub mod Laws
