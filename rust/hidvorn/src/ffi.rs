@@ -861,8 +861,10 @@ pub(crate) fn matches(
     answer(header)
 }
 
+/// A collection, by the plain collector if it is asked for.
 #[allow(clippy::too_many_arguments)]
-pub(crate) fn gc_run(
+pub(crate) fn collect(
+    plain: bool,
     header: &mut Header,
     bytes: &[u8],
     names: &[u64],
@@ -874,48 +876,10 @@ pub(crate) fn gc_run(
     entry: usize,
     work: &mut [u64],
 ) -> Result<(), Refusal> {
+    let run = if plain { hidvorn_plain_run } else { hidvorn_gc_run };
     // SAFETY: see the module.
     unsafe {
-        hidvorn_gc_run(
-            header.as_mut_ptr(),
-            header.len(),
-            bytes.as_ptr(),
-            bytes.len(),
-            names.as_ptr(),
-            names.len(),
-            symbols.as_mut_ptr(),
-            symbols.len(),
-            sections.as_mut_ptr(),
-            sections.len(),
-            lists.as_ptr(),
-            lists.len(),
-            marks.as_ptr(),
-            marks.len(),
-            entered,
-            entry,
-            work.as_mut_ptr(),
-            work.len(),
-        );
-    }
-    answer(header)
-}
-
-#[allow(clippy::too_many_arguments)]
-pub(crate) fn plain_run(
-    header: &mut Header,
-    bytes: &[u8],
-    names: &[u64],
-    symbols: &mut [u64],
-    sections: &mut [u64],
-    lists: &[u64],
-    marks: &[u8],
-    entered: bool,
-    entry: usize,
-    work: &mut [u64],
-) -> Result<(), Refusal> {
-    // SAFETY: see the module.
-    unsafe {
-        hidvorn_plain_run(
+        run(
             header.as_mut_ptr(),
             header.len(),
             bytes.as_ptr(),

@@ -390,19 +390,7 @@ impl Link {
         marks: &[u8],
         entry: Option<SymbolId>,
     ) -> Result<Collected, Refusal> {
-        ffi::gc_run(
-            &mut self.header,
-            &self.bytes,
-            &self.names,
-            &mut self.symbols,
-            &mut self.sections,
-            &self.lists,
-            marks,
-            entry.is_some(),
-            entry.map_or(0, SymbolId::number),
-            &mut self.work,
-        )?;
-        Ok(self.collected())
+        self.collect(false, marks, entry)
     }
 
     /// The same by a second collector, whose one recursive function fits a page. It is
@@ -414,7 +402,17 @@ impl Link {
         marks: &[u8],
         entry: Option<SymbolId>,
     ) -> Result<Collected, Refusal> {
-        ffi::plain_run(
+        self.collect(true, marks, entry)
+    }
+
+    fn collect(
+        &mut self,
+        plain: bool,
+        marks: &[u8],
+        entry: Option<SymbolId>,
+    ) -> Result<Collected, Refusal> {
+        ffi::collect(
+            plain,
             &mut self.header,
             &self.bytes,
             &self.names,
