@@ -53,7 +53,7 @@ fn add(
     binding: u64,
 ) -> Symbols {
     let x = spelled(n);
-    let named = interner_calls::intern(table.link, bytes, names, &x);
+    let named = interner::intern(table.link, bytes, names, &x);
     let l = named.link;
     let issued = Symbols { link: l };
     let answer = named.answer;
@@ -62,7 +62,7 @@ fn add(
         interner::Answer::Name { id } => {
             let u = absolute(id, n, binding);
             let conversion = [0u64; 1];
-            let o = symbol_add::add(issued, names, symbols, sections, &conversion, u);
+            let o = symbols::add(issued, names, symbols, sections, &conversion, u);
             o.table
         }
     }

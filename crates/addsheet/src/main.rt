@@ -10,10 +10,10 @@ use symbol::Symbol;
 use symbol::SymbolValue;
 use symbol::SymbolVisibility;
 use symbols::Symbols;
-use text_fields::Number;
-use text_lines::Lines;
-use text_lines::Step;
-use text_lines::Taken;
+use text::Lines;
+use text::Number;
+use text::Step;
+use text::Taken;
 use upcoming_symbol::ElfSymbol;
 use upcoming_symbol::UpcomingSymbol;
 
@@ -101,15 +101,15 @@ fn not_six(s: Sheet, line: u64) -> Sheet {
 // ---- a data line
 
 fn number_at(line: &[u8], k: usize) -> Number {
-    text_fields::decimal(text_fields::field(line, k))
+    text::decimal(text::field(line, k))
 }
 
 fn six_fields(line: &[u8]) -> bool {
-    let last = text_fields::field(line, 5);
+    let last = text::field(line, 5);
     if last.len() == 0 {
         return false;
     }
-    let more = text_fields::field(line, 6);
+    let more = text::field(line, 6);
     if more.len() == 0 {
         return true;
     }
@@ -152,7 +152,7 @@ fn parse(line: &[u8]) -> Parsed {
 
 // `-` is the empty name.
 fn name_in(line: &[u8]) -> &[u8] {
-    let name = text_fields::field(line, 0);
+    let name = text::field(line, 0);
     if byte_slices::same_bytes(name, b"-") {
         return byte_slices::part_of(line, 0, 0);
     }
@@ -174,7 +174,7 @@ fn add_named(
         name: name,
         file: SttFile::None,
     };
-    let o = symbol_add::add(table, names, symbols, sections, &conversion, upcoming);
+    let o = symbols::add(table, names, symbols, sections, &conversion, upcoming);
     let after = o.table;
     let answer = o.answer;
     match answer {
@@ -198,7 +198,7 @@ fn add(
     elf: ElfSymbol,
     name: &[u8],
 ) -> Added {
-    let o = interner_calls::intern(l, bytes, names, name);
+    let o = interner::intern(l, bytes, names, name);
     let named = o.link;
     let table = Symbols { link: named };
     let answer = o.answer;
@@ -284,8 +284,8 @@ fn some_line(
     refusals: &mut [u64],
     raw: &[u8],
 ) -> Sheet {
-    let line = text_fields::without_cr(raw);
-    let first = text_fields::field(line, 0);
+    let line = text::without_cr(raw);
+    let first = text::field(line, 0);
     if first.len() == 0 {
         return blank_line(s);
     }
@@ -297,7 +297,7 @@ fn some_line(
 
 // A name longer than all bytes of names has no room, whatever follows it.
 fn long_line(s: Sheet, buf: &[u8], bytes: &[u8], refusals: &mut [u64]) -> Sheet {
-    let name = text_fields::field(buf, 0);
+    let name = text::field(buf, 0);
     if name.len() <= bytes.len() {
         complain(s.line, b"the line is too long");
         return stopped(s);
@@ -335,10 +335,10 @@ fn taken_line(
 
 fn read_line(buf: &mut [u8], lines: Lines, before: Taken) -> Step {
     if let Taken::Long = before {
-        let rest = text_lines::skip_line(buf, lines);
-        return text_lines::next_line(buf, rest);
+        let rest = text::skip_line(buf, lines);
+        return text::next_line(buf, rest);
     }
-    text_lines::next_line(buf, lines)
+    text::next_line(buf, lines)
 }
 
 // The sheet at its next line.
@@ -395,7 +395,7 @@ fn no_names(s: Sheet) -> Sheet {
 
 // At the first data line: the line of names before it says nothing, but has to be there.
 fn first_line(buf: &mut [u8], table: Symbols) -> Sheet {
-    let step = text_lines::next_line(buf, text_lines::new());
+    let step = text::next_line(buf, text::new());
     let taken = step.taken;
     let s = sheet_at(table, step.lines, taken, 0, 0, 0, true);
     match taken {
@@ -411,26 +411,26 @@ fn first_line(buf: &mut [u8], table: Symbols) -> Sheet {
 fn put_name(buf: &mut [u8], n: usize, bytes: &[u8], names: &[u64], id: Interned) -> usize {
     let name = interner::name_of(bytes, names, id);
     if name.len() == 0 {
-        return text_out::put(buf, n, b"-");
+        return text::put(buf, n, b"-");
     }
-    text_out::put(buf, n, name)
+    text::put(buf, n, name)
 }
 
 fn put_weak(buf: &mut [u8], n: usize, v: SymbolVisibility) -> usize {
     match v {
-        SymbolVisibility::Local => text_out::put(buf, n, b" - "),
+        SymbolVisibility::Local => text::put(buf, n, b" - "),
         SymbolVisibility::Global { weak, hidden: _ } => {
             if weak {
-                return text_out::put(buf, n, b" yes ");
+                return text::put(buf, n, b" yes ");
             }
-            text_out::put(buf, n, b" no ")
+            text::put(buf, n, b" no ")
         }
     }
 }
 
 fn put_numbered(buf: &mut [u8], n: usize, kind: &[u8], v: u64) -> usize {
-    let k = text_out::put(buf, n, kind);
-    text_out::put_decimal(buf, k, v)
+    let k = text::put(buf, n, kind);
+    text::put_decimal(buf, k, v)
 }
 
 fn put_offset(buf: &mut [u8], n: usize, offset: i64) -> usize {
@@ -444,7 +444,7 @@ fn put_offset(buf: &mut [u8], n: usize, offset: i64) -> usize {
 // An address, a section that isn't loaded and an external symbol don't occur on a sheet.
 fn put_value(buf: &mut [u8], n: usize, v: SymbolValue) -> usize {
     match v {
-        SymbolValue::Null => text_out::put(buf, n, b"null 0"),
+        SymbolValue::Null => text::put(buf, n, b"null 0"),
         SymbolValue::Absolute { value } => put_numbered(buf, n, b"abs ", value),
         SymbolValue::Section { section } => put_numbered(buf, n, b"sec ", section.0 as u64),
         SymbolValue::SectionRelative { section, offset } => {
@@ -455,13 +455,13 @@ fn put_value(buf: &mut [u8], n: usize, v: SymbolValue) -> usize {
             let k = put_numbered(buf, n, b"addr ", section.0 as u64);
             put_numbered(buf, k, b":", address)
         }
-        SymbolValue::SectionNotLoaded => text_out::put(buf, n, b"notloaded 0"),
-        SymbolValue::ExternallyDefined => text_out::put(buf, n, b"external 0"),
+        SymbolValue::SectionNotLoaded => text::put(buf, n, b"notloaded 0"),
+        SymbolValue::ExternallyDefined => text::put(buf, n, b"external 0"),
         SymbolValue::Undefined { zero } => {
             if zero {
-                return text_out::put(buf, n, b"undef 1");
+                return text::put(buf, n, b"undef 1");
             }
-            text_out::put(buf, n, b"undef 0")
+            text::put(buf, n, b"undef 0")
         }
     }
 }
@@ -469,13 +469,13 @@ fn put_value(buf: &mut [u8], n: usize, v: SymbolValue) -> usize {
 fn put_symbol(buf: &mut [u8], bytes: &[u8], names: &[u64], s: Symbol) -> usize {
     let id = s.id;
     let k = put_numbered(buf, 0, b"", id.0 as u64);
-    let spaced = text_out::put(buf, k, b" ");
+    let spaced = text::put(buf, k, b" ");
     let named = put_name(buf, spaced, bytes, names, s.name);
     let visibility = s.visibility;
     let weak = put_weak(buf, named, visibility);
     let value = s.value;
     let valued = put_value(buf, weak, value);
-    text_out::put(buf, valued, b"\n")
+    text::put(buf, valued, b"\n")
 }
 
 fn print_row(
@@ -486,7 +486,7 @@ fn print_row(
     symbols: &[u64],
     i: usize,
 ) {
-    let found = symbol_lookup::get(table, symbols, SymbolId(i));
+    let found = symbols::get(table, symbols, SymbolId(i));
     match found {
         symbols::Found::Refused { refusal: _ } => {}
         symbols::Found::Row { symbol } => {
@@ -515,7 +515,7 @@ fn print_rows(
 fn print_refusal(buf: &mut [u8], cell: u64) {
     let k = put_numbered(buf, 0, b"refused ", cell / 32);
     let n = put_numbered(buf, k, b" ", cell % 32);
-    let end = text_out::put(buf, n, b"\n");
+    let end = text::put(buf, n, b"\n");
     io::write_all(1, byte_slices::part_of(buf, 0, end));
 }
 

@@ -182,7 +182,7 @@ fn print(what: &[u8], t: Tally) {
 }
 
 fn members(index: &[u8], cells: &mut [u64]) {
-    archive_open::open(index, cells);
+    archive_index::open(index, cells);
     print(b": members ", depths(index, cells));
 }
 

@@ -77,7 +77,7 @@ fn refer_named(
         file: SttFile::None,
     };
     let table = Symbols { link: l };
-    let o = symbol_add::add(table, names, symbols, sections, &none, upcoming);
+    let o = symbols::add(table, names, symbols, sections, &none, upcoming);
     let after = o.table;
     after.link
 }
@@ -91,7 +91,7 @@ fn refer(
     sections: &mut [u64],
     x: &[u8],
 ) -> Link {
-    let o = interner_calls::intern(l, bytes, names, x);
+    let o = interner::intern(l, bytes, names, x);
     let named = o.link;
     let answer = o.answer;
     match answer {
@@ -105,7 +105,7 @@ fn refer(
 
 fn removed(l: Link, symbols: &mut [u64], sections: &mut [u64], id: usize) -> Link {
     let table = Symbols { link: l };
-    let o = symbol_remove::remove(table, symbols, sections, SymbolId(id));
+    let o = symbols::remove(table, symbols, sections, SymbolId(id));
     let after = o.table;
     after.link
 }
@@ -176,7 +176,7 @@ fn next(
     names: &[u64],
     symbols: &[u64],
 ) -> Walk {
-    let m = archive_pass::next(w, index, cells, l, bytes, names, symbols);
+    let m = archive_walk::next(w, index, cells, l, bytes, names, symbols);
     let offer = m.offer;
     print_offer(offer);
     m.walk
@@ -377,19 +377,9 @@ fn admissions(l: Link, cells: &[u64]) {
 
 // The same link in the gABI's profile.
 fn by_gabi(l: Link) -> Link {
-    Link {
-        names: l.names,
-        bytes: l.bytes,
-        symbols: l.symbols,
-        sections: l.sections,
-        inputs: l.inputs,
-        lists: l.lists,
-        chains: l.chains,
-        slots: l.slots,
-        key: l.key,
-        gabi: true,
-        broken: l.broken,
-    }
+    let mut m = l;
+    m.gabi = true;
+    m
 }
 
 // "A weak or global definition, and nothing else, admits one."

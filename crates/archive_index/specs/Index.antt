@@ -7,7 +7,11 @@ use lib.Dec.{eqb}
 use lib.ListN.{getD, length}
 use Rattle.gabi.specs.StringTable.{ended, nameAt}
 
--- the big-endian number of 32 bits at place i; a byte past the end is 0
+-- the bytes of a number of 32 bits
+abbrev pub wordBytes : ℕ
+wordBytes = 4
+
+-- the big-endian one at place i; a byte past the end is 0
 abbrev pub wordAt : List ℕ → ℕ → ℕ
 wordAt s i = getD s i 0 * 16777216 + getD s (i + 1) 0 * 65536 + getD s (i + 2) 0 * 256 + getD s (i + 3) 0
 
@@ -15,7 +19,7 @@ unfoldable pub countOf : List ℕ → ℕ
 countOf s = wordAt s 0
 
 unfoldable pub offsetOf : List ℕ → ℕ → ℕ
-offsetOf s k = wordAt s (4 + 4 * k)
+offsetOf s k = wordAt s (wordBytes + wordBytes * k)
 
 -- the place after the name at place p and its zero byte; 0 where it is cut short
 unfoldable pub afterOf : List ℕ → ℕ → ℕ
@@ -23,7 +27,7 @@ afterOf s p = cond (ended s p) (p + length (nameAt s p) + 1) 0
 
 -- where the names start, after c offsets
 abbrev pub namesAt : ℕ → ℕ
-namesAt c = 4 + 4 * c
+namesAt c = wordBytes + wordBytes * c
 
 -- where entry k's name starts, of c entries
 unfoldable pub placeOf : List ℕ → ℕ → ℕ → ℕ

@@ -1,4 +1,4 @@
 pub mod Index
 pub mod Rows
 pub mod Open
-pub mod Ways
+pub mod Proof

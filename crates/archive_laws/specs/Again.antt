@@ -3,7 +3,7 @@
 -- Assumes nothing.
 use Prim.Native.Nat.{ℕ, zero, suc, _+_, _*_, _<_}
 use native.Mathlib.Omega.{arith}
-use mathlib.Core.Path.{_≡_, refl, subst}
+use mathlib.Core.Path.{_≡_, refl}
 use mathlib.Core.Logic.{inl, inr}
 use mathlib.Core.Bool.{Bool, true, false, cond}
 use mathlib.Core.List.{List}
@@ -18,9 +18,9 @@ use Rattle.archive_walk.specs.Names.{notedOf}
 use Rattle.archive_walk.specs.Walk.{stepOf, stepMoved, refusedMove, handedOut, ended, offerOf, Queue, queueOf, marked, enqueue, tieOf, tieAll, removedOf, passed, makeOf, searchOf, passOf, walkFits, goOf, nextOf}
 use Rattle.archive_laws.specs.Pass.{Rows, kept-rows, other-field, noted-rows}
 
-module _ (key : ℕ) (s : List ℕ) (c : ℕ) where
+module _ (key : ℕ) (s : List ℕ) (keys : ℕ → ℕ) (named : ℕ → List ℕ) (c : ℕ) where
   abbrev Good : List ℕ → Type 0
-  Good l = Rows key s c l
+  Good l = Rows key s keys named c l
 
   module _ (t : Table) (p : ℕ) where
     tied-good : (k : ℕ) (l : List ℕ) (n : ℕ) → k < c → Good l → Good (tieOf key c s t p k (queueOf l n) .cells)
@@ -37,12 +37,12 @@ module _ (key : ℕ) (s : List ℕ) (c : ℕ) where
         b = set a (r * 8 + 6) p
 
         noted : Good a
-        noted = noted-rows key s c l k h y
+        noted = noted-rows key s keys named c l k h y
 
         queued : Good (set b (n * 8 + 7) k)
         queued =
-            kept-rows key s c b (n * 8 + 7) k (λ j f d e. other-field key s c j f n 7 d (inr refl) e)
-            (kept-rows key s c a (r * 8 + 6) p (λ j f d e. other-field key s c j f r 6 d (inl refl) e) noted)
+            kept-rows key s keys named c b (n * 8 + 7) k (λ j f d e. other-field key s keys named c j f n 7 d (inr refl) e)
+            (kept-rows key s keys named c a (r * 8 + 6) p (λ j f d e. other-field key s keys named c j f r 6 d (inl refl) e) noted)
 
         go : (u x w : Bool) → Good ((cond {A = Queue} u (cond x (queueOf (set b (n * 8 + 7) k) (n + 1)) (cond w (queueOf a n) (queueOf l n))) (queueOf l n)) .cells)
         go false x w = y
@@ -67,7 +67,7 @@ module _ (key : ℕ) (s : List ℕ) (c : ℕ) where
       go false = y
 
   -- a call with a walk of that start, whatever its counts
-  pub again : (l : List ℕ) (w : Walk) (t : Table) → w .key ≡ key → w .entries ≡ c → Rows key s c l → Rows key s c (nextOf s l w t .cells)
+  pub again : (l : List ℕ) (w : Walk) (t : Table) → w .key ≡ key → w .entries ≡ c → Rows key s keys named c l → Rows key s keys named c (nextOf s l w t .cells)
   unfolding nextOf goOf passOf searchOf makeOf
   again l w t e f y = go (w .done) (walkFits s l w) (ltb (w .offered) (w .queued)) (eqb (judgeTable t .number) 0) (ltb (removedOf s l t (w .entries) 0) (w .entries))
     where

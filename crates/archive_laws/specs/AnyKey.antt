@@ -16,18 +16,17 @@ use Rattle.archive_index.specs.Rows.{requiredAt, memberAt, passAt, queueAt, sto
 use Rattle.archive_index.specs.Open.{openOf}
 use Rattle.archive_walk.specs.declared.Walk.{Walk}
 use Rattle.archive_walk.specs.declared.Started.{Started}
-use Rattle.archive_walk.specs.declared.Begun.{Begun}
 use Rattle.archive_walk.specs.declared.Begun.the-variants.{Ready}
 use Rattle.archive_walk.specs.declared.Begun.the-variants as Begins
 use Rattle.archive_walk.specs.declared.Offer.{Offer}
 use Rattle.archive_walk.specs.declared.Offer.the-variants.{Member, Done}
-use Rattle.archive_walk.specs.Look.{Table, judgeTable, removedName, tiedName}
+use Rattle.archive_walk.specs.Look.{Table, judgeTable, tiedName}
 use Rattle.archive_walk.specs.Names.{chained, chainAt, headedOf, notedOf, requiredOf}
 use Rattle.archive_walk.specs.Walk.{begunNumber, freshWalk, noWalk, begunOf, startOf, Step, stepOf, stepMoved, refusedMove, handedOut, ended, offerOf, Queue, queueOf, marked, enqueue, tieOf, tieAll, removedOf, passed, makeOf, searchOf, passOf, walkFits, goOf, nextOf}
 use Rattle.archive_laws.specs.Chains.{any-same}
-use Rattle.archive_laws.specs.Runs.{Run, ranOf, begunRun, stepRun, history, startRun}
-use Rattle.archive_laws.specs.Walked.{asks, Walked}
-use Rattle.archive_laws.specs.WalkLaws.{walked}
+use Rattle.archive_laws.specs.Runs.{Run, begunRun, stepRun, history, startRun}
+use Rattle.archive_laws.specs.Walked.{asks}
+use Rattle.archive_laws.specs.Terms.{walked}
 
 -- alike but for the cells of the chains: an entry's link and the head of a chain
 pub record Alike (l m : List ℕ) : Type 0 where

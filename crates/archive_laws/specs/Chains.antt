@@ -5,7 +5,7 @@ use Prim.Native.Nat.{ℕ, zero, suc, _+_, _*_, _-_, _/_, _%_, _<_, _≤_}
 use native.Mathlib.Nat.{not-suc-le-zero, mod-lt}
 use native.Mathlib.Decide.{ℕ-discrete}
 use native.Mathlib.Omega.{arith}
-use mathlib.Core.Path.{_≡_, refl, sym, ap, subst, _∙_}
+use mathlib.Core.Path.{_≡_, refl, sym, ap, _∙_}
 use mathlib.Core.Bool.{Bool, true, false, cond, not}
 use mathlib.Core.List.{List}
 use lib.Dec.{eqb, ltb}
@@ -13,12 +13,12 @@ use lib.ListN.{getD, set, length, length-set}
 use lib.Seq.{getD-set-same, getD-set-other}
 use borrow.Author.Tests.{eqb-true, eq-eqb, ne-eqb, lt-ltb}
 use Rattle.byte_slices.specs.Bytes.{same}
-use Rattle.byte_slices.specs.Ways.{same-true, same-refl}
+use Rattle.byte_slices.specs.Proof.Ways.{same-true, same-refl}
 use Rattle.keyed_hash.specs.Keyed.{hashOf}
 use Rattle.archive_index.specs.Rows.{requiredAt, memberAt, nextAt, headAt, storedName, noHeads}
 use Rattle.archive_walk.specs.Names.{nameChain, along, bearsOf, borneFrom, chained, chainAt, headedOf, notedOf}
-use Rattle.archive_laws.specs.Rounds.{cnt, anyBelow}
-use Rattle.archive_laws.specs.Counts.{clash, any-in, any-out, any-none, cnt-le, cnt-mono, cnt-less}
+use Rattle.archive_laws.specs.Members.{cnt, anyBelow}
+use Rattle.archive_laws.specs.Proof.Counts.{clash, any-in, any-none, cnt-le, cnt-mono, cnt-less}
 
 -- ---- entries below a number
 

@@ -13,13 +13,13 @@ use lib.Dec.{eqb}
 use lib.ListN.{getD, set, length, length-set}
 use lib.Seq.{getD-set-same, getD-set-other}
 use borrow.Author.Tests.{eq-eqb, ne-eqb}
-use Rattle.cells.specs.Rows.{row-same, row-other}
+use Rattle.cells.specs.Proof.Rows.{row-same, row-other}
 use Rattle.archive_index.specs.declared.Spot.{Spot}
 use Rattle.archive_index.specs.declared.Spot.the-variants.{Known, Free}
 use Rattle.archive_index.specs.Index.{offsetOf, afterOf, namesAt, placeOf, cutOf}
 use Rattle.archive_index.specs.Rows.{childAt, sideOf, descend, spotOf, rowOf, entered, enterOf, enterAll}
-use Rattle.archive_laws.specs.Bits.{half, Agree, half-more, agree-none, agree-back, agree-on, agree-more, agree-all, half-word}
-use Rattle.archive_laws.specs.Entries.{Entered, Seen, seen, low-side, enter-entered, no-entries, has-name, placed}
+use Rattle.archive_laws.specs.Proof.Bits.{half, Agree, half-more, agree-none, agree-back, agree-on, agree-more, agree-all, half-word}
+use Rattle.archive_laws.specs.Proof.Entries.{Entered, Seen, seen, low-side, enter-entered, no-entries, has-name, placed}
 
 module _ (s : List ℕ) (c : ℕ) where
   -- entry x is entry j's child in field f

@@ -11,11 +11,12 @@ use Rattle.cells.specs.Rows.{putRow}
 use Rattle.byte_slices.specs.Bytes.{wordAt, same}
 use Rattle.link.specs.Bounds.{lesser}
 use Rattle.link.specs.Judge.{judgeSections, judgeNames, judgeLists, afterSymbols, afterSections, judgeOf}
+use Rattle.link.specs.Counts.{noNames, withNames, withSymbols, withProfile}
 use Rattle.keyed_hash.specs.Keyed as Keyed
 use Rattle.interner.specs.Hash.{spread, headCell}
 use Rattle.interner.specs.Names.{chase, seekOf, findFrom, findOf}
-use Rattle.symbol_rows.specs.Holder.{heldBy, holderOf}
-use Rattle.symbol_rows.specs.Undefined.{strongUndefined}
+use Rattle.symbol_resolution.specs.Holder.{heldBy, holderOf}
+use Rattle.symbol_resolution.specs.RowsUndefined.{strongUndefined}
 use Rattle.archive_index.specs.Index.{countOf, offsetOf, afterOf, cutOf}
 use Rattle.archive_index.specs.Rows as Rows
 use Rattle.archive_index.specs.Open.{openRowsOf, openNamesOf, openEntriesOf, openOf}
@@ -34,7 +35,7 @@ weak = 3
 -- the table of a link of that profile with the names b and c, whose rows 1 and 2 have this code of visibility, state and kind of value
 abbrev twoNames : Bool → ℕ → ℕ → ℕ → ℕ → ℕ → Table
 twoNames gabi v bs bk cs ck =
-    tableOf (record { names = 2; bytes = 2; symbols = 3; sections = 0; inputs = 0; lists = 0; chains = 2; slots = 0; key = 0; gabi = gabi; broken = false }) (98 ∷ 99 ∷ [])
+    tableOf (withProfile (withSymbols (withNames (noNames 0 2) 2 2) 3) gabi) (98 ∷ 99 ∷ [])
     (0 ∷ 1 ∷ 0 ∷ 1 ∷ 0 ∷ 0 ∷ 0 ∷ 0 ∷ 1 ∷ 1 ∷ 1 ∷ 2 ∷ 0 ∷ 0 ∷ 0 ∷ 0 ∷ 0 ∷ 2 ∷ [])
     (1 ∷ 0 ∷ 0 ∷ 0 ∷ 0 ∷ 0 ∷ 0 ∷ 0 ∷ bs ∷ 0 ∷ 0 ∷ 0 ∷ v ∷ bk ∷ 0 ∷ 0 ∷ cs ∷ 1 ∷ 0 ∷ 0 ∷ v ∷ ck ∷ 0 ∷ 0 ∷ [])
 

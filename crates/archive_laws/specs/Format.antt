@@ -1,16 +1,16 @@
 -- The reading of an index is right: of the bytes of any list of entries (the System V format, gabi/specs/ArchiveIndex.antt), whatever stands behind them, the
 -- count, each offset and each name are the list's, and opening them is refused for too many entries or too few rows alone.
 -- Assumes nothing.
-use Prim.Native.Nat.{ℕ, zero, suc, _+_, _*_, _/_, _%_, _<_, _≤_}
-use native.Mathlib.Nat.{div-div-eq-div-mul, div-add-mod', mod-eq-of-lt, suc-add}
+use Prim.Native.Nat.{ℕ, suc, _+_, _*_, _/_, _%_, _<_, _≤_}
+use native.Mathlib.Nat.{div-div-eq-div-mul, div-add-mod', mod-eq-of-lt}
 use native.Mathlib.Omega.{arith}
 use mathlib.Core.Path.{_≡_, refl, sym, ap, _∙_}
-use mathlib.Core.Bool.{true, false, cond}
+use mathlib.Core.Bool.{true, cond}
 use mathlib.Core.List.{List, [], _∷_, _++_, append-assoc}
-use lib.Dec.{eqb, ltb}
-use lib.ListN.{getD, take, drop, length, length-append}
-use lib.Seq.{getD-drop, drop-drop, drop-at, take-at, drop-append-seam}
-use borrow.Author.Tests.{lt-ltb, le-ltb, eq-eqb, ne-eqb}
+use lib.Dec.{ltb}
+use lib.ListN.{getD, drop, length, length-append}
+use lib.Seq.{getD-drop, drop-drop, drop-at, take-at}
+use borrow.Author.Tests.{lt-ltb, le-ltb, ne-eqb}
 use Rattle.gabi.specs.StringTable.{beforeZero, ended, nameAt}
 use Rattle.gabi.specs.ArchiveIndex.{Entry, word, offsets, names, indexBytes, NoZero, AllFit}
 use Rattle.archive_index.specs.Open.{offsetsIn, refusedAs, openRowsOf, openNamesOf, openEntriesOf, openOf}

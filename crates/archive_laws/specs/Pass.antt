@@ -12,14 +12,13 @@ use lib.Dec.{eqb, ltb}
 use lib.ListN.{getD, set, length, length-set}
 use lib.Seq.{getD-set-same, getD-set-other}
 use borrow.Author.Tests.{ne-eqb, ltb-true, ltb-false}
-use Rattle.archive_index.specs.Index.{offsetOf, nameOf}
 use Rattle.archive_index.specs.Rows.{requiredAt, memberAt, passAt, queueAt, storedName}
 use Rattle.archive_walk.specs.Look.{Table, removedName, tiedName}
 use Rattle.archive_walk.specs.Names.{notedOf}
 use Rattle.archive_walk.specs.Walk.{Queue, queueOf, marked, enqueue, tieOf, tieAll, removedOf}
-use Rattle.archive_laws.specs.Rounds.{among, Once, none, more, isFirst, anyBelow, pullAt, pull}
-use Rattle.archive_laws.specs.Counts.{clash, any-in, any-none, cnt-le, First, first-one, among-here, among-there, Below, one-more, once-members}
-use Rattle.archive_laws.specs.Chains.{Linked, linked-kept, noted-field, noted-length, noted-there, noted-here, noted-linked}
+use Rattle.archive_laws.specs.Members.{among, Once, none, more, isFirst, anyBelow, pullAt, pull}
+use Rattle.archive_laws.specs.Proof.Counts.{clash, any-in, any-none, cnt-le, First, first-one, among-here, among-there, Below, one-more, once-members}
+use Rattle.archive_laws.specs.Chains.{Linked, linked-kept, noted-field, noted-length, noted-there, noted-linked}
 use Rattle.archive_laws.specs.Runs.{queueList}
 
 -- ---- the queue in the cells
@@ -34,21 +33,21 @@ unfolding queueList
 queue-same l m zero h = refl
 queue-same l m (suc n) h = rw (h n (omega arith), queue-same l m n (λ i e. h i (omega arith)))
 
-module _ (key : ℕ) (s : List ℕ) (c : ℕ) where
+module _ (key : ℕ) (s : List ℕ) (keys : ℕ → ℕ) (named : ℕ → List ℕ) (c : ℕ) where
   -- the rows say what the index says
   pub record Rows (l : List ℕ) : Type 0 where
     pub room : c * 8 ≤ length l
-    pub name : (k : ℕ) → k < c → storedName s l k ≡ nameOf s c k
-    pub member : (k : ℕ) → k < c → First s k (memberAt l k)
+    pub name : (k : ℕ) → k < c → storedName s l k ≡ named k
+    pub member : (k : ℕ) → k < c → First keys k (memberAt l k)
     pub linked : Linked key s c l
 
   -- a representative has a pass just where its member is in the queue
   pub record Marks (l : List ℕ) (n : ℕ) : Type 0 where
-    pub mark : (k : ℕ) → k < c → eqb (passAt l (memberAt l k)) 0 ≡ not (among s k (queueList l n))
-    pub once : Once s (queueList l n)
-    pub below : Below s c (queueList l n)
+    pub mark : (k : ℕ) → k < c → eqb (passAt l (memberAt l k)) 0 ≡ not (among keys k (queueList l n))
+    pub once : Once keys (queueList l n)
+    pub below : Below keys c (queueList l n)
     -- no name is required of a member that isn't queued
-    pub unmarked : (k : ℕ) → k < c → among s k (queueList l n) ≡ false → requiredAt l k ≡ 0
+    pub unmarked : (k : ℕ) → k < c → among keys k (queueList l n) ≡ false → requiredAt l k ≡ 0
 
   pub record Sound (l : List ℕ) (n : ℕ) : Type 0 where
     pub rows : Rows l
@@ -102,7 +101,7 @@ module _ (key : ℕ) (s : List ℕ) (c : ℕ) where
         keep j g h p q z = noted-field key s c k l j g h p q z
 
     module _ (n : ℕ) (y : Sound l n) where
-      noted-marks : among s k (queueList l n) ≡ true → Marks noted n
+      noted-marks : among keys k (queueList l n) ≡ true → Marks noted n
       noted-marks queued = record {
         mark = λ j h. rw (noted-queue n, noted-member j, noted-pass (memberAt l j)) (y .marks .mark j h);
         once = rw (noted-queue n) (y .marks .once);
@@ -110,14 +109,14 @@ module _ (key : ℕ) (s : List ℕ) (c : ℕ) where
         unmarked = λ j h f. other j h (rw (noted-queue n) at f);
       }
         where
-          other : (j : ℕ) → j < c → among s j (queueList l n) ≡ false → requiredAt noted j ≡ 0
-          other j h f = noted-there key s c k l j (λ d. clash (among s k (queueList l n)) queued (rw d at f)) ∙ y .marks .unmarked j h f
+          other : (j : ℕ) → j < c → among keys j (queueList l n) ≡ false → requiredAt noted j ≡ 0
+          other j h f = noted-there key s c k l j (λ d. clash (among keys k (queueList l n)) queued (rw d at f)) ∙ y .marks .unmarked j h f
 
-      pub noted-sound : k < c → among s k (queueList l n) ≡ true → Sound noted n
+      pub noted-sound : k < c → among keys k (queueList l n) ≡ true → Sound noted n
       noted-sound h queued = record { rows = noted-rows h (y .rows); marks = noted-marks queued }
 
   -- entry k goes to the end of the queue
-  module _ (p k : ℕ) (l : List ℕ) (n : ℕ) (y : Sound l n) (h : k < c) (pos : p ≡ 0 → ⊥) (free : among s k (queueList l n) ≡ false) where
+  module _ (p k : ℕ) (l : List ℕ) (n : ℕ) (y : Sound l n) (h : k < c) (pos : p ≡ 0 → ⊥) (free : among keys k (queueList l n) ≡ false) where
     abbrev r : ℕ
     r = memberAt l k
 
@@ -133,9 +132,9 @@ module _ (key : ℕ) (s : List ℕ) (c : ℕ) where
     -- there is room: as many members are queued as are named at most
     room-left : n < c
     room-left =
-        let o : Once s (k ∷ queueList l n) = more free (y .marks .once) in
-        let w : Below s c (k ∷ queueList l n) = one-more h (y .marks .below) in
-        omega (arith, queue-length l n, once-members s c (k ∷ queueList l n) o w, cnt-le (isFirst s) c)
+        let o : Once keys (k ∷ queueList l n) = more free (y .marks .once) in
+        let w : Below keys c (k ∷ queueList l n) = one-more h (y .marks .below) in
+        omega (arith, queue-length l n, once-members keys c (k ∷ queueList l n) o w, cnt-le (isFirst keys) c)
 
     b-rows : Rows b
     b-rows = kept-rows a (r * 8 + 6) p (λ j f d e. other-field j f r 6 d (inl refl) e) a-rows
@@ -173,32 +172,32 @@ module _ (key : ℕ) (s : List ℕ) (c : ℕ) where
     m-pass-other q e =
         kept-field b (n * 8 + 7) k q 6 (λ g. omega arith) ∙ kept-field a (r * 8 + 6) p q 6 (λ g. e (omega arith)) ∙ noted-pass l k q
 
-    m-mark : (j : ℕ) → j < c → eqb (passAt m (memberAt m j)) 0 ≡ not (among s j (queueList m (n + 1)))
-    m-mark j g = rw (m-queue, m-member j) (go (ℕ-discrete (offsetOf s k) (offsetOf s j)))
+    m-mark : (j : ℕ) → j < c → eqb (passAt m (memberAt m j)) 0 ≡ not (among keys j (queueList m (n + 1)))
+    m-mark j g = rw (m-queue, m-member j) (go (ℕ-discrete (keys k) (keys j)))
       where
-        first-j : First s j (memberAt l j)
+        first-j : First keys j (memberAt l j)
         first-j = y .rows .member j g
 
-        first-k : First s k r
+        first-k : First keys k r
         first-k = y .rows .member k h
 
-        go : Dec (offsetOf s k ≡ offsetOf s j) → eqb (passAt m (memberAt l j)) 0 ≡ not (among s j (k ∷ queueList l n))
+        go : Dec (keys k ≡ keys j) → eqb (passAt m (memberAt l j)) 0 ≡ not (among keys j (k ∷ queueList l n))
         go (yes e) =
-            let one : memberAt l j ≡ r = first-one s (memberAt l j) r (first-j .first) (first-k .first) (first-j .same ∙ sym e ∙ sym (first-k .same)) in
-            rw (one, m-pass-here, among-here s (queueList l n) k j e, ne-eqb p 0 pos)
+            let one : memberAt l j ≡ r = first-one keys (memberAt l j) r (first-j .first) (first-k .first) (first-j .same ∙ sym e ∙ sym (first-k .same)) in
+            rw (one, m-pass-here, among-here keys (queueList l n) k j e, ne-eqb p 0 pos)
         go (no e) =
-            rw (m-pass-other (memberAt l j) (λ d. e (sym (first-k .same) ∙ sym (ap (offsetOf s) d) ∙ first-j .same)), among-there s (queueList l n) k j e) (y .marks .mark j g)
+            rw (m-pass-other (memberAt l j) (λ d. e (sym (first-k .same) ∙ sym (ap keys d) ∙ first-j .same)), among-there keys (queueList l n) k j e) (y .marks .mark j g)
 
-    m-unmarked : (j : ℕ) → j < c → among s j (queueList m (n + 1)) ≡ false → requiredAt m j ≡ 0
+    m-unmarked : (j : ℕ) → j < c → among keys j (queueList m (n + 1)) ≡ false → requiredAt m j ≡ 0
     unfolding marked
-    m-unmarked j g f = go (ℕ-discrete (offsetOf s k) (offsetOf s j)) (rw m-queue at f)
+    m-unmarked j g f = go (ℕ-discrete (keys k) (keys j)) (rw m-queue at f)
       where
-        go : Dec (offsetOf s k ≡ offsetOf s j) → among s j (k ∷ queueList l n) ≡ false → requiredAt m j ≡ 0
-        go (yes e) w = clash (among s j (k ∷ queueList l n)) (among-here s (queueList l n) k j e) w
+        go : Dec (keys k ≡ keys j) → among keys j (k ∷ queueList l n) ≡ false → requiredAt m j ≡ 0
+        go (yes e) w = clash (among keys j (k ∷ queueList l n)) (among-here keys (queueList l n) k j e) w
         go (no e) w =
             kept-field b (n * 8 + 7) k j 0 (λ z. omega arith) ∙ kept-field a (r * 8 + 6) p j 0 (λ z. omega arith)
-            ∙ noted-there key s c k l j (λ d. e (ap (offsetOf s) (sym d)))
-            ∙ y .marks .unmarked j g (sym (among-there s (queueList l n) k j e) ∙ w)
+            ∙ noted-there key s c k l j (λ d. e (ap keys (sym d)))
+            ∙ y .marks .unmarked j g (sym (among-there keys (queueList l n) k j e) ∙ w)
 
     pub marked-sound : Sound (marked key c s p k r l n) (n + 1)
     marked-sound = record {
@@ -224,7 +223,7 @@ module _ (key : ℕ) (s : List ℕ) (c : ℕ) where
   noted-low : (p : ℕ) (l : List ℕ) (k : ℕ) → Low p l → Low p (notedOf key c s l k)
   noted-low p l k w j g = rw (noted-member l k j, noted-pass l k (memberAt l j)) (w j g)
 
-  marked-low : (p k : ℕ) (l : List ℕ) (n : ℕ) (y : Sound l n) (h : k < c) (pos : p ≡ 0 → ⊥) (free : among s k (queueList l n) ≡ false) → Low p l → Low p (marked key c s p k (memberAt l k) l n)
+  marked-low : (p k : ℕ) (l : List ℕ) (n : ℕ) (y : Sound l n) (h : k < c) (pos : p ≡ 0 → ⊥) (free : among keys k (queueList l n) ≡ false) → Low p l → Low p (marked key c s p k (memberAt l k) l n)
   marked-low p k l n y h pos free w j g = rw (m-member p k l n y h pos free j) (go (ℕ-discrete (memberAt l j) (memberAt l k)))
     where
       go : Dec (memberAt l j ≡ memberAt l k) → passAt (marked key c s p k (memberAt l k) l n) (memberAt l j) ≤ p
@@ -241,18 +240,18 @@ module _ (key : ℕ) (s : List ℕ) (c : ℕ) where
 
   module _ (t : Table) (p : ℕ) (pos : p ≡ 0 → ⊥) where
     abbrev tie : ℕ → Bool
-    tie k = tiedName t (nameOf s c k)
+    tie k = tiedName t (named k)
 
-    made-at : (k : ℕ) (l : List ℕ) (n : ℕ) → k < c → Sound l n → Made p l n (pullAt s tie (queueList l n) k) (tieOf key c s t p k (queueOf l n))
+    made-at : (k : ℕ) (l : List ℕ) (n : ℕ) → k < c → Sound l n → Made p l n (pullAt keys tie (queueList l n) k) (tieOf key c s t p k (queueOf l n))
     unfolding tieOf enqueue pullAt
     made-at k l n h y =
         rw (y .rows .name k h)
-        (go (tiedName t (nameOf s c k)) (eqb (passAt l (memberAt l k)) 0) (eqb (passAt l (memberAt l k)) p) (among s k (queueList l n)) refl (y .marks .mark k h))
+        (go (tiedName t (named k)) (eqb (passAt l (memberAt l k)) 0) (eqb (passAt l (memberAt l k)) p) (among keys k (queueList l n)) refl (y .marks .mark k h))
       where
         none : Made p l n (queueList l n) (queueOf l n)
         none = record { sound = y; queue = refl; more = omega arith; front = λ i g. refl; low = λ w. w }
 
-        go : (u x w f : Bool) → among s k (queueList l n) ≡ f → x ≡ not f
+        go : (u x w f : Bool) → among keys k (queueList l n) ≡ f → x ≡ not f
             → Made p l n (cond u (cond f (queueList l n) (k ∷ queueList l n)) (queueList l n))
             (cond u (cond x (queueOf (marked key c s p k (memberAt l k) l n) (n + 1)) (cond w (queueOf (notedOf key c s l k) n) (queueOf l n))) (queueOf l n))
         go false x w f e d = none
@@ -276,7 +275,7 @@ module _ (key : ℕ) (s : List ℕ) (c : ℕ) where
 
     -- the n entries from k on
     made-run : (n k : ℕ) (u : Queue) → k + n ≡ c → Sound (u .cells) (u .queued)
-        → Made p (u .cells) (u .queued) (pull s tie n k (queueList (u .cells) (u .queued))) (tieAll key c s t p n k u)
+        → Made p (u .cells) (u .queued) (pull keys tie n k (queueList (u .cells) (u .queued))) (tieAll key c s t p n k u)
     unfolding tieAll pull
     made-run zero k u e y = record { sound = y; queue = refl; more = omega arith; front = λ i g. refl; low = λ w. w }
     made-run (suc n) k u e y =
@@ -284,21 +283,21 @@ module _ (key : ℕ) (s : List ℕ) (c : ℕ) where
         let r = made-run n (k + 1) (tieOf key c s t p k u) (omega arith) (m .sound) in
         record {
           sound = r .sound;
-          queue = r .queue ∙ ap (λ (q : List ℕ). pull s tie n (k + 1) q) (m .queue);
+          queue = r .queue ∙ ap (λ (q : List ℕ). pull keys tie n (k + 1) q) (m .queue);
           more = omega (arith, m .more, r .more);
           front = λ i g. r .front i (omega (arith, m .more)) ∙ m .front i g;
           low = λ w. r .low (m .low w);
         }
 
     -- a pass over the cells queues what the definition pulls
-    pub made-pass : (l : List ℕ) (n : ℕ) → Sound l n → Made p l n (pull s tie c 0 (queueList l n)) (tieAll key c s t p c 0 (queueOf l n))
+    pub made-pass : (l : List ℕ) (n : ℕ) → Sound l n → Made p l n (pull keys tie c 0 (queueList l n)) (tieAll key c s t p c 0 (queueOf l n))
     made-pass l n y = made-run c 0 (queueOf l n) (omega arith) y
 
   -- ---- the search for a removed name
 
   module _ (l : List ℕ) (t : Table) (y : Rows l) where
     abbrev gone : ℕ → Bool
-    gone k = removedName t (nameOf s c k)
+    gone k = removedName t (named k)
 
     removed-hit : (n k : ℕ) → k + n ≡ c → removedOf s l t n k < k + n → anyBelow gone c ≡ true
     unfolding removedOf

@@ -6,10 +6,10 @@ use mathlib.Core.Bool.{Bool, true, false, cond, _&&_, _||_}
 use mathlib.Core.List.{List}
 use lib.Dec.{eqb}
 use Rattle.symbol.specs.Row.{visibilityCodeAt}
-use Rattle.symbol.specs.Hidden.{global, globalHidden}
-use Rattle.symbol_rows.specs.declared.Holder.{Holder}
-use Rattle.symbol_rows.specs.declared.Holder.the-variants.{Unissued, Nobody, Removed, Known}
-use Rattle.symbol_rows.specs.Undefined.{undefinedRow, strongUndefined}
+use Rattle.symbol.specs.Layout.{global, globalHidden}
+use Rattle.symbol_resolution.specs.declared.rows.Holder.{Holder}
+use Rattle.symbol_resolution.specs.declared.rows.Holder.the-variants.{Unissued, Nobody, Removed, Known}
+use Rattle.symbol_resolution.specs.RowsUndefined.{undefinedRow, strongUndefined}
 use Rattle.archive_walk.specs.Look.{Table, nameHolder, isUndefined, undefinedName, tiesRow, ties, tiedName}
 
 -- the row is global and not weak, hidden or not

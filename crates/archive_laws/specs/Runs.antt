@@ -1,34 +1,32 @@
 -- Calls of the contracts' definitions in a row, each over its own table, and what of them the definition's rounds are.
 -- Assumes nothing.
-use Prim.Native.Nat.{ℕ, zero, suc, _≤_}
-use mathlib.Core.Path.{_≡_}
-use mathlib.Core.Bool.{true, cond, false≢true}
+use Prim.Native.Nat.{ℕ, zero, suc}
+use mathlib.Core.Bool.{true, cond}
 use mathlib.Core.List.{List, [], _∷_}
 use lib.Dec.{eqb}
-use Rattle.archive_index.specs.Index.{nameOf}
 use Rattle.archive_index.specs.Rows.{queueAt}
 use Rattle.archive_walk.specs.declared.Walk.{Walk}
 use Rattle.archive_walk.specs.declared.Offer.{Offer}
 use Rattle.archive_walk.specs.declared.Offer.the-variants.{Member, Done, Refused}
 use Rattle.archive_walk.specs.Look.{Table, judgeTable, removedName, tiedName}
-use Rattle.archive_walk.specs.Walk.{Step, freshWalk, startOf, nextOf}
-use Rattle.archive_laws.specs.Rounds.{anyBelow, View, Rounds, roundsOf}
+use Rattle.archive_walk.specs.Walk.{Step, startOf, nextOf}
+use Rattle.archive_laws.specs.Members.{anyBelow, View, Rounds, roundsOf}
 
 -- the entries of the first n of the queue, last first
 unfoldable pub queueList : List ℕ → ℕ → List ℕ
 queueList l zero = []
 queueList l (suc n) = queueAt l n ∷ queueList l n
 
--- what a call over c entries sees of a table: entry k's name ties (tiedName); a pass is refused by 1, or by 21 at a removed name
-abbrev pub viewOf : List ℕ → ℕ → Table → View
-viewOf s c t = record {
-  tied = λ k. tiedName t (nameOf s c k);
-  refused = cond (eqb (judgeTable t .number) 0) (anyBelow (λ k. removedName t (nameOf s c k)) c) true;
+-- what a call over c entries sees of a table, where entry k's name is `named k`: it ties (tiedName); a pass is refused by 1, or by 21 at a removed name
+abbrev pub viewBy : (ℕ → List ℕ) → ℕ → Table → View
+viewBy named c t = record {
+  tied = λ k. tiedName t (named k);
+  refused = cond (eqb (judgeTable t .number) 0) (anyBelow (λ k. removedName t (named k)) c) true;
 }
 
-unfoldable pub viewsOf : List ℕ → ℕ → List Table → List View
-viewsOf s c [] = []
-viewsOf s c (t ∷ ts) = viewOf s c t ∷ viewsOf s c ts
+unfoldable pub viewsBy : (ℕ → List ℕ) → ℕ → List Table → List View
+viewsBy named c [] = []
+viewsBy named c (t ∷ ts) = viewBy named c t ∷ viewsBy named c ts
 
 -- the cells, the walk, and the entries by which members were offered, last first
 pub record Run : Type 0 where
@@ -58,10 +56,6 @@ history s (t ∷ ts) r = history s ts (stepRun s t r)
 -- a walk begins with the cells and the walk that a start leaves; no member was offered
 abbrev pub begunRun : List ℕ → Walk → Run
 begunRun l w = runOf l w []
-
--- of the last pass: no walk is done before a pass, and none begins as done
-pub begun-some-pass : (l : List ℕ) (key c n : ℕ) → begunRun l (freshWalk key c n) .walk .done ≡ true → 1 ≤ begunRun l (freshWalk key c n) .walk .passes
-begun-some-pass l key c n e = absurd (false≢true e)
 
 unfoldable pub startRun : ℕ → List ℕ → List ℕ → Run
 startRun key s l = begunRun (startOf key s l .cells) (startOf key s l .started .walk)

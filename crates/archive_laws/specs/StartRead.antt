@@ -1,27 +1,27 @@
 -- The call `start` on the bytes of any list of entries (Format.antt): what it answers, and the rows that it leaves, by that list.
 -- Assumes nothing.
-use Prim.Native.Nat.{ℕ, suc, _+_, _/_, _<_, _≤_}
+use Prim.Native.Nat.{ℕ, _+_, _/_, _<_}
 use native.Mathlib.Omega.{arith}
-use mathlib.Core.Path.{_≡_, refl, sym, ap, _∙_}
-use mathlib.Core.Bool.{true, false, cond, false≢true}
+use mathlib.Core.Path.{_≡_, refl, ap, _∙_}
+use mathlib.Core.Bool.{true, false, cond}
 use mathlib.Core.List.{List, [], _∷_, _++_}
 use mathlib.Core.Logic.{_≢_}
 use lib.Dec.{eqb, ltb}
 use lib.ListN.{length, length-append}
-use borrow.Author.Tests.{eqb-false}
-use Rattle.cells.specs.Split.{by-test}
+use Rattle.cells.specs.Proof.Split.{by-test}
 use Rattle.gabi.specs.ArchiveIndex.{Entry, AllFit}
 use Rattle.link.specs.Said.{SaidWith}
 use Rattle.archive_index.specs.Rows.{requiredAt, memberAt, passAt, storedName, noHeads}
-use Rattle.archive_index.specs.Index.{countOf, namesAt, nameOf, offsetOf}
-use Rattle.archive_index.specs.Open.{Left, openRowsOf, openOf}
+use Rattle.archive_index.specs.Index.{countOf, nameOf, offsetOf}
+use Rattle.archive_index.specs.Open.{openRowsOf}
 use Rattle.archive_walk.specs.declared.Walk.{Walk}
 use Rattle.archive_walk.specs.Walk.{Start, begunNumber, begunSaid, freshWalk, begunOf, startOf}
-use Rattle.archive_laws.specs.Counts.{First}
+use Rattle.archive_laws.specs.Proof.Counts.{First}
 use Rattle.archive_laws.specs.Format.{bytesOf, count-read, offset-read, name-read, start-read}
 use Rattle.archive_laws.specs.Runs.{queueList, startRun, history}
+use Rattle.archive_laws.specs.Members as Members
 use Rattle.archive_laws.specs.Rounds.{among}
-use Rattle.archive_laws.specs.WalkLaws.{walk-fine}
+use Rattle.archive_laws.specs.Terms.{walk-fine}
 
 -- ---- the words
 
@@ -87,12 +87,12 @@ module _ (a b : List Entry) (e : Entry) (rest : List ℕ) (many : length (a ++ e
   pub record StartRow : Type 0 where
     pub name : storedName index left k ≡ e .name
     pub offset : offsetOf index k ≡ e .offset
-    pub member : First index k (memberAt left k)
+    pub member : First (offsetOf index) k (memberAt left k)
     pub unrequired : requiredAt left k ≡ 0
     pub unqueued : eqb (passAt left (memberAt left k)) 0 ≡ true
 
   pub start-row : StartRow
-  unfolding startRun history startOf begunOf queueList among openRowsOf
+  unfolding startRun history startOf begunOf queueList Members.among openRowsOf
   start-row =
       let c : countOf index ≡ length all = count-read all rest many in
       let low : k < countOf index = omega (arith, c, length-append a (e ∷ b)) in

@@ -15,35 +15,35 @@ use Rattle.archive_walk.specs.declared.Walk.{Walk}
 use Rattle.archive_walk.specs.declared.Offer.the-variants.{Member, Done}
 use Rattle.archive_walk.specs.Look.{Table, judgeTable}
 use Rattle.archive_walk.specs.Walk.{stepOf, stepMoved, refusedMove, offerOf, Queue, queueOf, tieAll, removedOf, makeOf, searchOf, passOf, walkFits, goOf, nextOf}
-use Rattle.archive_walk.specs.Ways.{fits-all}
-use Rattle.archive_laws.specs.Rounds.{isFirst, members, View, pull, Rounds, roundsOf, frontOf, passRound, round}
-use Rattle.archive_laws.specs.Counts.{clash, cnt-le, once-members}
+use Rattle.archive_walk.specs.Proof.Ways.{fits-all}
+use Rattle.archive_laws.specs.Members.{isFirst, members, View, pull, Rounds, roundsOf, frontOf, passRound, round}
+use Rattle.archive_laws.specs.Proof.Counts.{clash, cnt-le, once-members}
 use Rattle.archive_laws.specs.RoundLaws.{Kept}
-use Rattle.archive_laws.specs.Runs.{queueList, viewOf, Run, runOf, ranOf, stepRun, seen}
+use Rattle.archive_laws.specs.Runs.{queueList, viewBy, Run, runOf, ranOf, stepRun, seen}
 use Rattle.archive_laws.specs.Pass.{queue-length, Sound, Low, Made, made-pass, search-is}
 
-module _ (key : ℕ) (s : List ℕ) (c : ℕ) where
+module _ (key : ℕ) (s : List ℕ) (keys : ℕ → ℕ) (named : ℕ → List ℕ) (c : ℕ) where
   -- ---- the ways of a call of the definition
 
   module _ (v : View) (q : List ℕ) (o p : ℕ) where
-    round-done : round s c v (roundsOf q o p true) ≡ roundsOf q o p true
+    round-done : round keys c v (roundsOf q o p true) ≡ roundsOf q o p true
     unfolding round
     round-done = refl
 
-    round-sent : ltb o (length q) ≡ true → round s c v (roundsOf q o p false) ≡ roundsOf q (o + 1) p false
+    round-sent : ltb o (length q) ≡ true → round keys c v (roundsOf q o p false) ≡ roundsOf q (o + 1) p false
     unfolding round frontOf
     round-sent e = rw e
 
-    round-halted : ltb o (length q) ≡ false → v .refused ≡ true → round s c v (roundsOf q o p false) ≡ roundsOf q o p false
+    round-halted : ltb o (length q) ≡ false → v .refused ≡ true → round keys c v (roundsOf q o p false) ≡ roundsOf q o p false
     unfolding round passRound
     round-halted e f = rw (e, f)
 
-    module _ (q′ : List ℕ) (e : ltb o (length q) ≡ false) (f : v .refused ≡ false) (g : q′ ≡ pull s (v .tied) c 0 q) where
-      round-made : ltb o (length q′) ≡ true → round s c v (roundsOf q o p false) ≡ roundsOf q′ (o + 1) (p + 1) false
+    module _ (q′ : List ℕ) (e : ltb o (length q) ≡ false) (f : v .refused ≡ false) (g : q′ ≡ pull keys (v .tied) c 0 q) where
+      round-made : ltb o (length q′) ≡ true → round keys c v (roundsOf q o p false) ≡ roundsOf q′ (o + 1) (p + 1) false
       unfolding round passRound frontOf
       round-made h = rw (e, f, ← g, h)
 
-      round-last : ltb o (length q′) ≡ false → round s c v (roundsOf q o p false) ≡ roundsOf q′ o (p + 1) true
+      round-last : ltb o (length q′) ≡ false → round keys c v (roundsOf q o p false) ≡ roundsOf q′ o (p + 1) true
       unfolding round passRound frontOf
       round-last h = rw (e, f, ← g, h)
 
@@ -55,35 +55,35 @@ module _ (key : ℕ) (s : List ℕ) (c : ℕ) where
     pub keyed : r .walk .key ≡ key
     pub entries : r .walk .entries ≡ c
     pub whole : r .walk .length ≤ length s
-    pub sound : Sound key s c (r .cells) (r .walk .queued)
-    pub low : Low key s c (r .walk .passes) (r .cells)
+    pub sound : Sound key s keys named c (r .cells) (r .walk .queued)
+    pub low : Low key s keys named c (r .walk .passes) (r .cells)
     pub sent : r .offers ≡ queueList (r .cells) (r .walk .offered)
 
   record Agree (t : Table) (l : List ℕ) (q : ℕ) (a : Rounds) (r : Run) : Type 0 where
     fine : Fine r
-    same : seen r ≡ round s c (viewOf s c t) a
+    same : seen r ≡ round keys c (viewBy named c t) a
     wrote : r .walk .passes ≡ a .passes + 1 → r .cells ≡ tieAll key c s t (a .passes + 1) c 0 (queueOf l q) .cells
     left : (r .walk .passes ≡ a .passes + 1 → ⊥) → r .cells ≡ l
 
   -- the counts of a walk that goes on are those of a walk
-  pub going-fits : (l : List ℕ) (n p q o : ℕ) → n ≤ length s → Sound key s c l q → Kept s c (roundsOf (queueList l q) o p false)
+  pub going-fits : (l : List ℕ) (n p q o : ℕ) → n ≤ length s → Sound key s keys named c l q → Kept keys c (roundsOf (queueList l q) o p false)
       → walkFits s l (walkAt n p q o false) ≡ true
   going-fits l n p q o h y k =
       let long : length (queueList l q) ≡ q = queue-length l q in
-      let few : length (queueList l q) ≤ members s c = once-members s c (queueList l q) (y .marks .once) (y .marks .below) in
-      sym (fits-all s l (walkAt n p q o false) true h (omega (arith, y .rows .room)) (omega (arith, cnt-le (isFirst s) c)) (omega (arith, k .some)) (omega (arith, k .going refl)) refl)
+      let few : length (queueList l q) ≤ members keys c = once-members keys c (queueList l q) (y .marks .once) (y .marks .below) in
+      sym (fits-all s l (walkAt n p q o false) true h (omega (arith, y .rows .room)) (omega (arith, cnt-le (isFirst keys) c)) (omega (arith, k .some)) (omega (arith, k .going refl)) refl)
 
-  module _ (t : Table) (l : List ℕ) (n p q o : ℕ) (os : List ℕ) (h : n ≤ length s) (y : Sound key s c l q) (b : Low key s c p l) (e : os ≡ queueList l o) where
+  module _ (t : Table) (l : List ℕ) (n p q o : ℕ) (os : List ℕ) (h : n ≤ length s) (y : Sound key s keys named c l q) (b : Low key s keys named c p l) (e : os ≡ queueList l o) where
     abbrev v : View
-    v = viewOf s c t
+    v = viewBy named c t
 
     abbrev u : Queue
     u = tieAll key c s t (p + 1) c 0 (queueOf l q)
 
-    made : Made key s c (p + 1) l q (pull s (v .tied) c 0 (queueList l q)) u
-    made = made-pass key s c t (p + 1) (λ z. omega arith) l q y
+    made : Made key s keys named c (p + 1) l q (pull keys (v .tied) c 0 (queueList l q)) u
+    made = made-pass key s keys named c t (p + 1) (λ z. omega arith) l q y
 
-    later : Low key s c (p + 1) l
+    later : Low key s keys named c (p + 1) l
     later j g = omega (arith, b j g)
 
     one-sent : (m : List ℕ) → os ≡ queueList m o → queueAt m o ∷ os ≡ queueList m (o + 1)
@@ -105,9 +105,9 @@ module _ (key : ℕ) (s : List ℕ) (c : ℕ) where
     judged-out f = rw f
 
     judged-in : (b : Bool) → eqb (judgeTable t .number) 0 ≡ true → ltb (removedOf s l t c 0) c ≡ b → v .refused ≡ b
-    judged-in b f g = rw f (sym (search-is key s c l t (y .rows)) ∙ g)
+    judged-in b f g = rw f (sym (search-is key s keys named c l t (y .rows)) ∙ g)
 
-    step-going : Kept s c (roundsOf (queueList l q) o p false) → Agree t l q (roundsOf (queueList l q) o p false) (stepRun s t (runOf l (walkAt n p q o false) os))
+    step-going : Kept keys c (roundsOf (queueList l q) o p false) → Agree t l q (roundsOf (queueList l q) o p false) (stepRun s t (runOf l (walkAt n p q o false) os))
     unfolding stepRun nextOf goOf offerOf passOf searchOf makeOf
     step-going k =
         go (walkFits s l (walkAt n p q o false)) (ltb o q) (eqb (judgeTable t .number) 0) (ltb (removedOf s l t c 0) c) (ltb o (u .queued))
@@ -162,8 +162,8 @@ module _ (key : ℕ) (s : List ℕ) (c : ℕ) where
     unfolding stepRun nextOf
     step-done = record { fine = record { keyed = refl; entries = refl; whole = h; sound = y; low = b; sent = e }; same = sym (round-done v (queueList l q) o p); wrote = λ z. absurd (omega arith); left = λ z. refl }
 
-  step-at : (t : Table) (l : List ℕ) (n p q o : ℕ) (d : Bool) (os : List ℕ) → n ≤ length s → Sound key s c l q → Low key s c p l → os ≡ queueList l o
-      → Kept s c (roundsOf (queueList l q) o p d) → Agree t l q (roundsOf (queueList l q) o p d) (stepRun s t (runOf l (walkAt n p q o d) os))
+  step-at : (t : Table) (l : List ℕ) (n p q o : ℕ) (d : Bool) (os : List ℕ) → n ≤ length s → Sound key s keys named c l q → Low key s keys named c p l → os ≡ queueList l o
+      → Kept keys c (roundsOf (queueList l q) o p d) → Agree t l q (roundsOf (queueList l q) o p d) (stepRun s t (runOf l (walkAt n p q o d) os))
   step-at t l n p q o true os h y b e k = step-done t l n p q o os h y b e
   step-at t l n p q o false os h y b e k = step-going t l n p q o os h y b e k
 
@@ -178,20 +178,20 @@ module _ (key : ℕ) (s : List ℕ) (c : ℕ) where
           ≡ runOf (r .cells) (walkAt (r .walk .length) (r .walk .passes) (r .walk .queued) (r .walk .offered) (r .walk .done)) (r .offers)
       go k n d e = rw (d, e)
 
-  agrees : (t : Table) (r : Run) → Fine r → Kept s c (seen r) → Agree t (r .cells) (r .walk .queued) (seen r) (stepRun s t r)
+  agrees : (t : Table) (r : Run) → Fine r → Kept keys c (seen r) → Agree t (r .cells) (r .walk .queued) (seen r) (stepRun s t r)
   agrees t r f k =
       let w = r .walk in
       subst (λ (z : Run). Agree t (r .cells) (w .queued) (seen r) (stepRun s t z)) (sym (parts r (f .keyed) (f .entries)))
       (step-at t (r .cells) (w .length) (w .passes) (w .queued) (w .offered) (w .done) (r .offers) (f .whole) (f .sound) (f .low) (f .sent) k)
 
-  pub step-agrees : (t : Table) (r : Run) → Fine r → Kept s c (seen r) → Fine (stepRun s t r) × (seen (stepRun s t r) ≡ round s c (viewOf s c t) (seen r))
+  pub step-agrees : (t : Table) (r : Run) → Fine r → Kept keys c (seen r) → Fine (stepRun s t r) × (seen (stepRun s t r) ≡ round keys c (viewBy named c t) (seen r))
   step-agrees t r f k = let x = agrees t r f k in (x .fine, x .same)
 
   -- the cells after a pass
-  pub step-wrote : (t : Table) (r : Run) → Fine r → Kept s c (seen r) → stepRun s t r .walk .passes ≡ r .walk .passes + 1
+  pub step-wrote : (t : Table) (r : Run) → Fine r → Kept keys c (seen r) → stepRun s t r .walk .passes ≡ r .walk .passes + 1
       → stepRun s t r .cells ≡ tieAll key c s t (r .walk .passes + 1) c 0 (queueOf (r .cells) (r .walk .queued)) .cells
   step-wrote t r f k = agrees t r f k .wrote
 
   -- a call that makes no pass writes nothing
-  pub step-left : (t : Table) (r : Run) → Fine r → Kept s c (seen r) → (stepRun s t r .walk .passes ≡ r .walk .passes + 1 → ⊥) → stepRun s t r .cells ≡ r .cells
+  pub step-left : (t : Table) (r : Run) → Fine r → Kept keys c (seen r) → (stepRun s t r .walk .passes ≡ r .walk .passes + 1 → ⊥) → stepRun s t r .cells ≡ r .cells
   step-left t r f k = agrees t r f k .left

@@ -72,7 +72,7 @@ fn refer(
         file: SttFile::None,
     };
     let table = Symbols { link: l };
-    let o = symbol_add::add(table, names, symbols, sections, &none, upcoming);
+    let o = symbols::add(table, names, symbols, sections, &none, upcoming);
     let after = o.table;
     after.link
 }
@@ -85,7 +85,7 @@ fn undefined(
     sections: &mut [u64],
     x: &[u8],
 ) -> Link {
-    let o = interner_calls::intern(l, bytes, names, x);
+    let o = interner::intern(l, bytes, names, x);
     let named = o.link;
     let answer = o.answer;
     match answer {

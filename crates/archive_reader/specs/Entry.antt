@@ -6,7 +6,7 @@ use mathlib.Core.Bool.{cond}
 use mathlib.Core.List.{List, []}
 use lib.Dec.{ltb}
 use lib.ListN.{length}
-use Rattle.archive_index.specs.Index.{offsetOf, nameOf}
+use Rattle.archive_index.specs.Index.{offsetOf, nameOf, wordBytes}
 
 -- 0 where there is no such entry
 unfoldable pub entryOffset : List ℕ → ℕ → ℕ → ℕ
@@ -14,4 +14,4 @@ entryOffset s c k = cond (ltb k c) (offsetOf s k) 0
 
 -- empty where there is no such entry, or no room for the offsets before the names
 unfoldable pub entryName : List ℕ → ℕ → ℕ → List ℕ
-entryName s c k = cond (ltb k c) (cond (ltb c (length s / 4)) (nameOf s c k) []) []
+entryName s c k = cond (ltb k c) (cond (ltb c (length s / wordBytes)) (nameOf s c k) []) []

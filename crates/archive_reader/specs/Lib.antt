@@ -1,4 +1,3 @@
 pub mod Entry
 pub mod Contract
-pub mod OneOutcome
-pub mod Ways
+pub mod Proof

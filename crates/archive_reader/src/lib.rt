@@ -5,6 +5,7 @@ ghost use Prim.Native.Nat.{_+_, _*_, _≤_};
 ghost use lib.ListN.{length};
 ghost use Rattle.gabi.specs.StringTable.{nameAt};
 ghost use Rattle.archive_index.specs.Index.{placeOf};
+ghost use Rattle.cells.specs.Slice.{before};
 ghost use Rattle.archive_reader.specs.Entry.{entryOffset, entryName};
 ghost use Rattle.archive_reader.specs.Contract.{ReaderMeets, OffsetMeets, NameMeets};
 
@@ -13,9 +14,9 @@ ghost use Rattle.archive_reader.specs.Contract.{ReaderMeets, OffsetMeets
 // Where entry k's name starts: the names before it are passed over.
 fn place(bytes: &[u8], entries: usize, k: usize) -> usize
     requires { ⌜ 4 + 4 * entries ≤ length (now bytes) ⌝ }
-    ensures { λ r. ⌜ r ≡ placeOf (now (bytes .entry)) entries k ⌝ }
+    ensures { λ r. ⌜ r ≡ placeOf (before bytes) entries k ⌝ }
 {
-    let mut at = 4 + 4 * entries;
+    let mut at = archive_index::WORD_BYTES + archive_index::WORD_BYTES * entries;
     let mut i = 0;
     while i < k {
         at = archive_index::after_name(bytes, at);
@@ -25,7 +26,7 @@ fn place(bytes: &[u8], entries: usize, k: usize) -> usize
 }
 
 fn name_from(bytes: &[u8], at: usize) -> &[u8]
-    ensures { λ r. ⌜ (now r ≡ nameAt (now (bytes .entry)) at) × (r .ptr .0 ≡ bytes .entry .ptr .0) ⌝ }
+    ensures { λ r. ⌜ (now r ≡ nameAt (before bytes) at) × (r .ptr .0 ≡ bytes .entry .ptr .0) ⌝ }
 {
     let mut found = false;
     let name = strings::ended(bytes, at, &mut found);
@@ -33,7 +34,7 @@ fn name_from(bytes: &[u8], at: usize) -> &[u8]
 }
 
 fn offset_in(bytes: &[u8], entries: usize, k: usize) -> u64
-    ensures { λ r. ⌜ r ≡ entryOffset (now (bytes .entry)) entries k ⌝ }
+    ensures { λ r. ⌜ r ≡ entryOffset (before bytes) entries k ⌝ }
 {
     if k < entries {
         return archive_index::offset(bytes, k);
@@ -42,12 +43,12 @@ fn offset_in(bytes: &[u8], entries: usize, k: usize) -> u64
 }
 
 fn name_in(bytes: &[u8], entries: usize, k: usize) -> &[u8]
-    ensures { λ r. ⌜ (now r ≡ entryName (now (bytes .entry)) entries k) × (r .ptr .0 ≡ bytes .entry .ptr .0) ⌝ }
+    ensures { λ r. ⌜ (now r ≡ entryName (before bytes) entries k) × (r .ptr .0 ≡ bytes .entry .ptr .0) ⌝ }
 {
     if entries <= k {
         return &bytes[..0];
     }
-    if bytes.len() / 4 <= entries {
+    if bytes.len() / archive_index::WORD_BYTES <= entries {
         return &bytes[..0];
     }
     let at = place(bytes, entries, k);
@@ -61,7 +62,7 @@ pub struct ArchiveIndex<'a> {
     pub entries: usize,
 }
 
-// Over the number of entries that `archive_open::open` answered.
+// Over the number of entries that `archive_index::open` answered.
 pub fn new<'a>(bytes: &'a [u8], entries: usize) -> ArchiveIndex<'a>
     ensures { λ r. ⌜ ReaderMeets (bytes .entry) entries (r .bytes) (r .entries) ⌝ }
 {
@@ -70,7 +71,7 @@ pub fn new<'a>(bytes: &'a [u8], entries: usize) -> ArchiveIndex<'a>
 
 // Entry k's member offset.
 pub fn offset_of<'a>(x: ArchiveIndex<'a>, k: usize) -> u64
-    ensures { λ r. ⌜ OffsetMeets (now (x .entry .bytes)) (x .entry .entries) k r ⌝ }
+    ensures { λ r. ⌜ OffsetMeets (x .entry .bytes .now) (x .entry .entries) k r ⌝ }
 {
     offset_in(x.bytes, x.entries, k)
 }
@@ -85,7 +86,7 @@ pub fn name_of<'a>(x: ArchiveIndex<'a>, k: usize) -> &'a [u8]
 // ---- the same with plain parameters
 
 pub fn entry_offset(bytes: &[u8], entries: usize, k: usize) -> u64
-    ensures { λ r. ⌜ OffsetMeets (now (bytes .entry)) entries k r ⌝ }
+    ensures { λ r. ⌜ OffsetMeets (before bytes) entries k r ⌝ }
 {
     offset_of(new(bytes, entries), k)
 }

@@ -4,12 +4,11 @@
 use Prim.Native.Nat.{ℕ}
 use mathlib.Core.Path.{_≡_}
 use mathlib.Core.List.{List}
-use Rattle.cells.specs.Slice.{Slice, before, after}
-use Rattle.link.specs.declared.Link.{Link}
+use Rattle.cells.specs.Slice.{Slice, after}
 use Rattle.archive_walk.specs.declared.Walk.{Walk}
 use Rattle.archive_walk.specs.declared.Started.{Started}
 use Rattle.archive_walk.specs.declared.Moved.{Moved}
-use Rattle.archive_walk.specs.Look.{Table, tableOf}
+use Rattle.archive_walk.specs.Look.{Table}
 use Rattle.archive_walk.specs.Walk.{startLeft, startOf, stepMoved, nextOf}
 
 -- ---- `start`
@@ -32,10 +31,6 @@ pub record NextExit : Type 0 where
 
 abbrev pub nextExit : Slice → Moved → NextExit
 nextExit cells r = record { cells = after cells; result = r }
-
--- the table as it is lent
-abbrev pub tableIn : Link → Slice → Slice → Slice → Table
-tableIn l bytes names symbols = tableOf l (before bytes) (before names) (before symbols)
 
 abbrev pub NextMeets : List ℕ → List ℕ → Walk → Table → NextExit → Type 0
 NextMeets index cells w t e = stepMoved (e .cells) (e .result) ≡ nextOf index cells w t

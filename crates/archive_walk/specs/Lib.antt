@@ -2,4 +2,5 @@ pub mod Names
 pub mod Look
 pub mod Walk
 pub mod Contract
-pub mod Ways
+pub mod Proof
+pub mod Notes

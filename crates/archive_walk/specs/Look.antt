@@ -10,11 +10,13 @@ use Rattle.link.specs.declared.Refusal.{Refusal}
 use Rattle.link.specs.declared.SymbolId.{SymbolId}
 use Rattle.link.specs.Bounds.{notLent, nameRows}
 use Rattle.link.specs.Judge.{judgeOf}
+use Rattle.link.specs.Counts.{lentRows}
 use Rattle.interner.specs.Names.{findOf}
-use Rattle.symbol_rows.specs.declared.Holder.{Holder}
-use Rattle.symbol_rows.specs.declared.Holder.the-variants.{Unissued, Nobody, Removed, Known}
-use Rattle.symbol_rows.specs.Holder.{holderOf}
-use Rattle.symbol_rows.specs.Undefined.{undefinedRow, strongUndefined}
+use Rattle.symbol_resolution.specs.declared.rows.Holder.{Holder}
+use Rattle.symbol_resolution.specs.declared.rows.Holder.the-variants.{Unissued, Nobody, Removed, Known}
+use Rattle.symbol_resolution.specs.Holder.{holderOf}
+use Rattle.symbol_resolution.specs.RowsUndefined.{undefinedRow, strongUndefined}
+use Rattle.cells.specs.Slice.{Slice, before}
 
 -- the link, and what of it a call is lent
 pub record Table : Type 0 where
@@ -26,9 +28,12 @@ pub record Table : Type 0 where
 abbrev pub tableOf : Link → List ℕ → List ℕ → List ℕ → Table
 tableOf l b n y = record { link = l; bytes = b; names = n; symbols = y }
 
+-- as it is lent
+abbrev pub tableIn : Link → Slice → Slice → Slice → Table
+tableIn l b n y = tableOf l (before b) (before n) (before y)
+
 abbrev pub lentOf : Link → ℕ → ℕ → ℕ → Lent
-lentOf l bytes names symbols =
-    record { names = nameRows names; bytes = bytes; symbols = symbols; sections = l .slots; inputs = notLent; lists = notLent }
+lentOf l bytes names symbols = lentRows (nameRows names) bytes symbols (l .slots) notLent notLent
 
 -- 1 for a count above what is lent
 unfoldable pub judgeTable : Table → Refusal

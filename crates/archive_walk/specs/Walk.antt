@@ -5,11 +5,12 @@ use mathlib.Core.Bool.{Bool, true, false, cond}
 use mathlib.Core.List.{List, [], _∷_}
 use lib.Dec.{eqb, ltb}
 use lib.ListN.{set, length}
+use Rattle.link.specs.Bounds.{notLent}
 use Rattle.link.specs.Judge.{refused}
 use Rattle.link.specs.Said.{SaidWith}
 use Rattle.archive_index.specs.declared.Opened.{Opened}
 use Rattle.archive_index.specs.Index.{offsetOf}
-use Rattle.archive_index.specs.Rows.{memberAt, passAt, queueAt, storedName, noHeads}
+use Rattle.archive_index.specs.Rows.{memberAt, passAt, queueAt, storedName, noHeads, passField, queueField, rowsIn, cellOf}
 use Rattle.archive_index.specs.Open.{openOf}
 use Rattle.archive_walk.specs.Names.{notedOf}
 use Rattle.archive_walk.specs.Look.{Table, judgeTable, removedName, tiedName}
@@ -73,7 +74,7 @@ freshWalk key c n = record { key = key; entries = c; length = n; passes = 0; que
 
 -- what comes with a refusal fits no index: a call for the next member gives 1, and doesn't say "done"
 abbrev pub noWalk : Walk
-noWalk = record { key = 0; entries = 0; length = 0xffffffffffffffff; passes = 0; queued = 0; offered = 0; done = false }
+noWalk = record { key = 0; entries = 0; length = notLent; passes = 0; queued = 0; offered = 0; done = false }
 
 unfoldable pub begunOf : ℕ → ℕ → Opened → Started
 begunOf key n o =
@@ -124,7 +125,7 @@ queueOf l n = record { cells = l; queued = n }
 
 -- entry k goes to the end of the queue of n, in pass p, and its name is required of its member
 unfoldable pub marked : ℕ → ℕ → List ℕ → ℕ → ℕ → ℕ → List ℕ → ℕ → List ℕ
-marked key c s p k r l n = set (set (notedOf key c s l k) (r * 8 + 6) p) (n * 8 + 7) k
+marked key c s p k r l n = set (set (notedOf key c s l k) (cellOf r passField) p) (cellOf n queueField) k
 
 -- entry k, whose name is undefined, of the member that r represents: queued if no pass has queued it yet; in the pass that queues it the names of
 -- its other entries are required too
@@ -172,7 +173,7 @@ passOf s l w t =
 unfoldable pub walkFits : List ℕ → List ℕ → Walk → Bool
 walkFits s l w =
     cond (ltb (length s) (w .length)) false
-    (cond (ltb (length l / 8) (w .entries)) false
+    (cond (ltb (rowsIn l) (w .entries)) false
     (cond (ltb (w .entries) (w .queued)) false
     (cond (ltb (w .queued) (w .offered)) false (cond (ltb (w .queued) (w .passes)) false true))))
 

@@ -2,12 +2,16 @@
 // The queue lies in the rows, and so do the chains of required names; nothing of the link is written.
 ghost use mathlib.Core.Path.{_≡_};
 ghost use lib.ListN.{length};
-ghost use Rattle.cells.specs.Slice.{before};
+ghost use Rattle.cells.specs.Slice.{before, after};
 ghost use Rattle.archive_walk.specs.Walk.{begunOf};
 ghost use Rattle.archive_walk.specs.Contract.{startExit, StartMeets};
 ghost use Rattle.archive_walk.specs.Names.{nameChain, bearsOf, borneFrom, headedOf, notedOf, requiredOf};
+
+pub mod passes;
+
 use archive_index::Opened;
 use link::Refusal;
+pub use passes::next;
 
 // The key of the chains of names; entries and length of the index at the start; passes made; members queued since the start, and how many of them
 // were offered. A walk is plain data: one of an earlier call can be used again, or one that nobody started. Every call with it ends, and touches no row
@@ -56,21 +60,21 @@ pub struct Moved {
 
 // The chain of the name x of the member that r represents, among c chains.
 fn name_chain(key: usize, c: usize, r: u64, x: &[u8]) -> usize
-    ensures { λ y. ⌜ y ≡ nameChain key c r (now (x .entry)) ⌝ }
+    ensures { λ y. ⌜ y ≡ nameChain key c r (before x) ⌝ }
 {
     if c == 0 {
         return 0;
     }
     let h = keyed_hash::hash(key, x);
-    let m = r as usize % 0x1_0000_0000;
+    let m = r as usize % keyed_hash::HASH_BOUND;
     (h + m) % c
 }
 
 fn bears(index: &[u8], cells: &[u64], r: u64, x: &[u8], k: usize) -> bool
-    ensures { λ y. ⌜ y ≡ bearsOf (now (index .entry)) (now (cells .entry)) r (now (x .entry)) k ⌝ }
+    ensures { λ y. ⌜ y ≡ bearsOf (before index) (before cells) r (before x) k ⌝ }
 {
-    if cells::row_get(cells, k, 0) == 1 {
-        if cells::row_get(cells, k, 1) == r {
+    if cells::row_get(cells, k, archive_index::REQUIRED) == 1 {
+        if cells::row_get(cells, k, archive_index::MEMBER) == r {
             return byte_slices::same_bytes(archive_index::name(index, cells, k), x);
         }
     }
@@ -79,10 +83,10 @@ fn bears(index: &[u8], cells: &[u64], r: u64, x: &[u8], k: usize) -> bool
 
 // Does an entry from this head on bear the name? Cells that are not a walk's may lead round in a ring: as many steps as rows are lent, at most.
 fn is_borne(index: &[u8], cells: &[u64], r: u64, x: &[u8], head: usize) -> bool
-    ensures { λ y. ⌜ y ≡ borneFrom (now (index .entry)) (now (cells .entry)) r (now (x .entry)) head ⌝ }
+    ensures { λ y. ⌜ y ≡ borneFrom (before index) (before cells) r (before x) head ⌝ }
 {
     let mut at = head;
-    let mut left = cells.len() / 8;
+    let mut left = cells.len() / archive_index::ROW_WIDTH;
     while 0 < left {
         if at == 0 {
             return false;
@@ -90,7 +94,7 @@ fn is_borne(index: &[u8], cells: &[u64], r: u64, x: &[u8], head: usize) -> bool
         if bears(index, cells, r, x, at - 1) {
             return true;
         }
-        at = cells::row_get(cells, at - 1, 2) as usize;
+        at = cells::row_get(cells, at - 1, archive_index::LINK) as usize;
         left -= 1;
     }
     false
@@ -98,27 +102,27 @@ fn is_borne(index: &[u8], cells: &[u64], r: u64, x: &[u8], head: usize) -> bool
 
 // Entry k is marked, and goes to the head of chain b; one whose row isn't lent is in no chain.
 fn put_at_head(cells: &mut [u64], k: usize, b: usize)
-    ensures { λ _. ⌜ now (cells .exit) ≡ headedOf (now (cells .entry)) k b ⌝ }
+    ensures { λ _. ⌜ after cells ≡ headedOf (before cells) k b ⌝ }
 {
-    let rows = cells.len() / 8;
-    let head = cells::row_get(cells, b, 3);
-    cells::row_put(cells, k, 0, 1);
+    let rows = cells.len() / archive_index::ROW_WIDTH;
+    let head = cells::row_get(cells, b, archive_index::HEAD);
+    cells::row_put(cells, k, archive_index::REQUIRED, 1);
     if k < rows {
-        cells::row_put(cells, k, 2, head);
-        cells::row_put(cells, b, 3, (k + 1) as u64);
+        cells::row_put(cells, k, archive_index::LINK, head);
+        cells::row_put(cells, b, archive_index::HEAD, (k + 1) as u64);
     }
 }
 
 // Entry k's name is required of its member: in the name's chain, unless that has it.
 pub fn note(w: Walk, index: &[u8], cells: &mut [u64], k: usize)
-    ensures { λ _. ⌜ now (cells .exit) ≡ notedOf (w .key) (w .entries) (now (index .entry)) (now (cells .entry)) k ⌝ }
+    ensures { λ _. ⌜ after cells ≡ notedOf (w .key) (w .entries) (before index) (before cells) k ⌝ }
 {
-    let r = cells::row_get(cells, k, 1);
+    let r = cells::row_get(cells, k, archive_index::MEMBER);
     let x = archive_index::name(index, cells, k);
     let b = name_chain(w.key, w.entries, r, x);
-    let head = cells::row_get(cells, b, 3) as usize;
+    let head = cells::row_get(cells, b, archive_index::HEAD) as usize;
     if is_borne(index, cells, r, x, head) {
-        cells::row_put(cells, k, 0, 1);
+        cells::row_put(cells, k, archive_index::REQUIRED, 1);
         return;
     }
     put_at_head(cells, k, b);
@@ -126,11 +130,11 @@ pub fn note(w: Walk, index: &[u8], cells: &mut [u64], k: usize)
 
 // Is the name required of the member that was offered by this entry: was it undefined in the pass that queued it?
 pub fn is_required(w: Walk, index: &[u8], cells: &[u64], entry: usize, x: &[u8]) -> bool
-    ensures { λ y. ⌜ y ≡ requiredOf (now (index .entry)) (now (cells .entry)) w entry (now (x .entry)) ⌝ }
+    ensures { λ y. ⌜ y ≡ requiredOf (before index) (before cells) w entry (before x) ⌝ }
 {
-    let r = cells::row_get(cells, entry, 1);
+    let r = cells::row_get(cells, entry, archive_index::MEMBER);
     let b = name_chain(w.key, w.entries, r, x);
-    let first = cells::row_get(cells, b, 3) as usize;
+    let first = cells::row_get(cells, b, archive_index::HEAD) as usize;
     if first == 0 {
         return false;
     }
@@ -161,7 +165,7 @@ fn begin(key: usize, length: usize, o: Opened) -> Started
         walk: Walk {
             key: 0,
             entries: 0,
-            length: 0xffff_ffff_ffff_ffff,
+            length: link::NOT_LENT,
             passes: 0,
             queued: 0,
             offered: 0,
@@ -171,12 +175,12 @@ fn begin(key: usize, length: usize, o: Opened) -> Started
     }
 }
 
-// A row of 8 cells for each entry of the index: 20; 1; 2. No pass is made. Any number is a key; one that nobody can guess keeps chosen names from
+// A row of cells for each entry of the index: 20; 1; 2. No pass is made. Any number is a key; one that nobody can guess keeps chosen names from
 // sharing a chain.
 pub fn start(key: usize, index: &[u8], cells: &mut [u64]) -> Started
     ensures { λ r. ⌜ StartMeets key (before index) (before cells) (startExit cells r) ⌝ }
 {
-    let opened = archive_open::open(index, cells);
+    let opened = archive_index::open(index, cells);
     archive_index::clear_heads(cells, opened.entries);
     begin(key, index.len(), opened)
 }

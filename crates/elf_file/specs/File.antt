@@ -2,7 +2,7 @@
 -- Assumes nothing.
 use Prim.Native.Nat.{ℕ}
 use mathlib.Core.List.{List}
-use Rattle.gabi_file.specs.File.{shName, shType, shFlags, shOffset, shSize, shLink, shInfo, headerBytesAt}
+use Rattle.gabi.specs.File.{shName, shType, shFlags, shOffset, shSize, shLink, shInfo, headerBytesAt}
 use Rattle.elf_file.specs.declared.Header.{Header}
 
 unfoldable pub headerOf : List ℕ → Header

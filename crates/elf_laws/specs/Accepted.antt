@@ -9,15 +9,16 @@ use mathlib.Core.List.{List, [], _∷_}
 use lib.Dec.{eqb, ltb}
 use lib.ListN.{length, getD, take, length-append}
 use borrow.Author.Tests.{le-ltb}
-use Rattle.cells.specs.Split.{by-test}
+use Rattle.cells.specs.Proof.Split.{by-test}
 use Rattle.link.specs.Judge.{refused}
-use Rattle.gabi_file.specs.File.{wordAt}
+use Rattle.gabi.specs.File.{wordAt}
 use Rattle.elf_object.specs.Judge.{firstBad}
-use Rattle.gabi_file.specs.File.{halfAt, headerTable}
+use Rattle.gabi.specs.File.{halfAt, headerTable}
 use Rattle.elf_file.specs.File.{headerAt}
-use Rattle.elf_check.specs.Check.{isObject, headersFit, excluded, entrySize, entriesOk, sectionOk, tableOk, badTable, fileRefusal}
+use Rattle.elf_file.specs.Check.{isObject, headersFit, excluded, entrySize, entriesOk, sectionOk, tableOk, badTable, fileRefusal}
 use Rattle.elf_laws.specs.Back.{joined}
-use Rattle.elf_laws.specs.Writer.{Section, placed, headersOf, bodies, start, fileOf, shoff-back, count-back, header-read, table-long}
+use Rattle.elf_laws.specs.Writer.{Section, placed, headersOf, bodies, start, fileOf}
+use Rattle.elf_laws.specs.Proof.Writer.{shoff-back, count-back, header-read, table-long}
 use Rattle.elf_laws.specs.Trip.{Fit}
 
 -- a section whose bytes are whole entries: it would pass as a file of its own

@@ -7,14 +7,14 @@ use mathlib.Core.List.{List, [], _∷_, _++_}
 use lib.ListN.{take, replicate}
 use Rattle.gabi.specs.StringTable.{beforeZero, ended, nameAt}
 use Rattle.byte_slices.specs.Bytes.{same}
-use Rattle.gabi_file.specs.File.{wordAt}
+use Rattle.gabi.specs.File.{wordAt}
 use Rattle.link.specs.Judge.{refused}
 use Rattle.elf_object.specs.Judge.{firstBad}
 use Rattle.elf_file.specs.declared.Header.{Header}
-use Rattle.gabi_file.specs.File.{halfAt, xwordAt, sectionCount, headerTable, nameSection, rSym}
+use Rattle.gabi.specs.File.{halfAt, xwordAt, sectionCount, headerTable, nameSection, rSym}
 use Rattle.elf_file.specs.File.{headerOf, headerAt}
-use Rattle.elf_check.specs.Check.{isObject, headersFit, excluded, entrySize, entriesOk, sectionOk, tableOk, badTable, fileRefusal}
-use Rattle.elf_rows.specs.Rows.{entriesIn, contentsIn, ehFrameHdr, kindOf, namedKind, comdatOf, flagsOf, firstOf, countOf, headerRow}
+use Rattle.elf_file.specs.Check.{isObject, headersFit, excluded, entrySize, entriesOk, sectionOk, tableOk, badTable, fileRefusal}
+use Rattle.elf_file.specs.Rows.{entriesIn, contentsIn, ehFrameHdr, kindOf, namedKind, comdatOf, flagsOf, firstOf, countOf, headerRow}
 use Rattle.elf_laws.specs.Back.{le2, le4, le8}
 
 -- ---- files

@@ -1,7 +1,5 @@
 pub mod Object
-pub mod Written
-pub mod Read
-pub mod Rows
+pub mod Terms
 pub mod Ranges
 pub mod Names
 pub mod Back
@@ -10,3 +8,4 @@ pub mod Trip
 pub mod Accepted
 pub mod Examples
 pub mod Tables
+pub mod Proof

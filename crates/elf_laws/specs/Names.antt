@@ -8,22 +8,22 @@ use mathlib.Core.List.{List, [], _∷_}
 use lib.Dec.{eqb, ltb}
 use lib.ListN.{getD}
 use borrow.Author.Tests.{eq-eqb, eqb-true, ltb-true, ltb-false, lt-leb, le-leb}
-use Rattle.cells.specs.Split.{by-test}
-use Rattle.byte_slices.specs.Ways.{apart}
+use Rattle.cells.specs.Proof.Split.{by-test}
+use Rattle.byte_slices.specs.Proof.Ways.{apart}
 use Rattle.byte_slices.specs.Bytes.{same, part}
 use Rattle.gabi.specs.StringTable.{nameAt, name-empty}
 use Rattle.strings.specs.Lookup.{Looked, looked, lookUp}
 use Rattle.elf_object.specs.Rows.{rowsIn, kindAt, flagsAt, firstAt, countAt, isExcluded, isLoaded, nameIn}
 use Rattle.elf_file.specs.declared.Header.{Header}
-use Rattle.gabi_file.specs.File.{sectionCount, headerTable, nameSection}
+use Rattle.gabi.specs.File.{sectionCount, headerTable, nameSection}
 use Rattle.elf_file.specs.File.{headerAt}
-use Rattle.elf_check.specs.Check.{excluded}
-use Rattle.elf_rows.specs.Rows.{entryCount, contentCount, kinds, kindOf, ehFrameHdr, namedKind, namesOf, stringsNumber, flagsOf, firstOf, countOf, headerRow}
-use Rattle.elf_check.specs.Ways.{excluded-yes, excluded-no}
-use Rattle.elf_rows.specs.Ways.{number-none, number-is, number-past, names-none, names-in, names-past, strings-none, strings-part, strings-other}
+use Rattle.elf_file.specs.Check.{excluded}
+use Rattle.elf_file.specs.Rows.{entryCount, contentCount, kinds, kindOf, ehFrameHdr, namedKind, namesOf, stringsNumber, flagsOf, firstOf, countOf, headerRow}
+use Rattle.elf_file.specs.Proof.ChecksWays.{excluded-yes, excluded-no}
+use Rattle.elf_file.specs.Proof.RowsWays.{number-none, number-is, number-past, names-none, names-in, names-past, strings-none, strings-part, strings-other}
 use Rattle.elf_laws.specs.Object.{headersFrom, rowsOf}
-use Rattle.elf_laws.specs.Written.{length-headers}
-use Rattle.elf_laws.specs.Rows.{header-row}
+use Rattle.elf_laws.specs.Proof.Written.{length-headers}
+use Rattle.elf_laws.specs.Proof.Rows.{header-row}
 use Rattle.elf_laws.specs.Ranges.{typed, both}
 
 -- ---- kind 4 is section type 3 and nothing else
@@ -104,7 +104,7 @@ module _ (file : List ℕ) (o : ℕ) where
   none : (t : List ℕ) (r : Looked) → r ≡ looked [] false → [] ≡ t → r .name ≡ nameAt t o
   none t r e q = ap (λ (x : Looked). x .name) e ∙ sym (name-empty o) ∙ ap (λ (l : List ℕ). nameAt l o) q
 
-  pub names-agree : nameIn (rowsOf file .headers) file (rowsOf file .strings) o .name
+  pub names-agree : nameIn (rowsOf file .headers) file (rowsOf file .sectionNames) o .name
       ≡ nameAt (namesOf file (headerTable file) (nameSection file) (sectionCount file)) o
   unfolding rowsOf headerRow excluded
   names-agree =

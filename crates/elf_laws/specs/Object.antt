@@ -4,10 +4,10 @@ use Prim.Native.Nat.{ℕ, zero, suc, _+_, _*_}
 use mathlib.Core.List.{List, [], _∷_, _++_}
 use lib.ListN.{length, drop}
 use Rattle.merge_stages.specs.Stages.{Object, objectOf}
-use Rattle.gabi_file.specs.File.{sectionCount, headerTable, nameSection, symbolAt}
+use Rattle.gabi.specs.File.{sectionCount, headerTable, nameSection, symbolAt}
 use Rattle.elf_file.specs.File.{headerAt}
-use Rattle.elf_rows.specs.Rows.{entriesIn, contentsIn, entryCount, contentCount, namesOf, stringsNumber, headerRow}
-use Rattle.elf_read.specs.Read.{symbolRow, bytesOf, elementAt}
+use Rattle.elf_file.specs.Rows.{entriesIn, contentsIn, entryCount, contentCount, namesOf, stringsNumber, headerRow}
+use Rattle.elf_file.specs.Read.{symbolRow, bytesOf, elementAt}
 
 -- of k sections from i on
 unfoldable pub headersFrom : List ℕ → List ℕ → List ℕ → ℕ → ℕ → ℕ → ℕ → List ℕ

@@ -10,19 +10,19 @@ use mathlib.Core.List.{List, [], _∷_}
 use lib.Dec.{eqb, ltb}
 use lib.ListN.{length, getD}
 use borrow.Author.Tests.{eqb-true, le-ltb, ltb-true, ltb-false, lt-leb}
-use Rattle.cells.specs.Split.{by-test}
-use Rattle.byte_slices.specs.Ways.{apart}
+use Rattle.cells.specs.Proof.Split.{by-test}
+use Rattle.byte_slices.specs.Proof.Ways.{apart}
 use Rattle.byte_slices.specs.Bytes.{same}
 use Rattle.gabi.specs.StringTable.{nameAt}
 use Rattle.elf_object.specs.Rows.{kindAt, flagsAt, firstAt, countAt}
 use Rattle.elf_object.specs.Judge as Merge
 use Rattle.elf_file.specs.declared.Header.{Header}
-use Rattle.gabi_file.specs.File.{eShoff, sectionCount, headerTable, nameSection}
+use Rattle.gabi.specs.File.{eShoff, sectionCount, headerTable, nameSection}
 use Rattle.elf_file.specs.File.{headerAt}
-use Rattle.elf_check.specs.Check.{isObject, headersFit, excluded, entrySize, sectionOk, tableOk, badTable, fileRefusal}
-use Rattle.elf_rows.specs.Rows.{entriesIn, contentsIn, entryCount, contentCount, kinds, kindOf, ehFrameHdr, namedKind, namesOf, comdatOf, flagsOf, firstOf, countOf, headerRow}
+use Rattle.elf_file.specs.Check.{isObject, headersFit, excluded, entrySize, sectionOk, tableOk, badTable, fileRefusal}
+use Rattle.elf_file.specs.Rows.{entriesIn, contentsIn, entryCount, contentCount, kinds, kindOf, ehFrameHdr, namedKind, namesOf, comdatOf, flagsOf, firstOf, countOf, headerRow}
 use Rattle.elf_laws.specs.Object.{headersFrom, rowsOf}
-use Rattle.elf_laws.specs.Rows.{header-row, entries-inside, contents-inside}
+use Rattle.elf_laws.specs.Proof.Rows.{header-row, entries-inside, contents-inside}
 
 -- ---- 27: no table is past the end
 

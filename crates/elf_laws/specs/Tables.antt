@@ -7,10 +7,11 @@ use mathlib.Core.Path.{_≡_, refl, sym, ap, ap₂, _∙_}
 use mathlib.Core.List.{List, [], _∷_, _++_}
 use lib.ListN.{length, getD, take, drop}
 use lib.Seq.{take-at, drop-append-add}
-use Rattle.gabi_file.specs.File.{wordAt, bytesAt, symbolAt, rSym, relAt, relaAt, memberAt, xwordAt}
-use Rattle.elf_read.specs.Read.{symbolRow, elementAt}
+use Rattle.gabi.specs.File.{wordAt, bytesAt, symbolAt, rSym, relAt, relaAt, memberAt, xwordAt}
+use Rattle.elf_file.specs.Read.{symbolRow, elementAt}
 use Rattle.elf_laws.specs.Object.{symbolsFrom, elementsFrom}
-use Rattle.elf_laws.specs.Back.{le4, le8, Sized, joined, symbolBytes, symbol-back, word-back, xword-back}
+use Rattle.elf_laws.specs.Back.{le4, le8, Sized, joined, symbolBytes}
+use Rattle.elf_laws.specs.Proof.Back.{symbol-back, word-back, xword-back}
 
 -- entry i + 1 behind an entry of that size is entry i of the rest
 entry-behind : (n : ℕ) (x : Sized n) (l : List ℕ) (i : ℕ) → bytesAt (x .bytes ++ l) ((i + 1) * n) n ≡ bytesAt l (i * n) n

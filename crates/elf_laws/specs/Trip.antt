@@ -9,17 +9,18 @@ use mathlib.Core.List.{List, [], _∷_, _++_}
 use lib.Dec.{eqb, ltb}
 use lib.ListN.{length, getD, take, length-append}
 use borrow.Author.Tests.{ltb-true}
-use Rattle.cells.specs.Split.{by-test}
+use Rattle.cells.specs.Proof.Split.{by-test}
 use Rattle.merge_stages.specs.Stages.{Object, objectOf}
 use Rattle.elf_file.specs.declared.Header.{Header}
-use Rattle.gabi_file.specs.File.{sectionCount, headerTable, nameSection, shtStrtab, shtGroup, isComdat}
+use Rattle.gabi.specs.File.{sectionCount, headerTable, nameSection, shtStrtab, shtGroup, isComdat}
 use Rattle.elf_file.specs.File.{headerAt}
-use Rattle.elf_check.specs.Check.{excluded}
-use Rattle.elf_rows.specs.Rows.{entriesIn, contentsIn, namedKind, stringsOf, namesOf, stringsNumber, comdatOf, flagsOf, firstOf, countOf, headerRow}
-use Rattle.elf_read.specs.Read.{bytesOf}
+use Rattle.elf_file.specs.Check.{excluded}
+use Rattle.elf_file.specs.Rows.{entriesIn, contentsIn, namedKind, stringsOf, namesOf, stringsNumber, comdatOf, flagsOf, firstOf, countOf, headerRow}
+use Rattle.elf_file.specs.Read.{bytesOf}
 use Rattle.elf_laws.specs.Object.{headersFrom, symbolsFrom, allSymbolsFrom, elementsFrom, allElementsFrom, rowsOf}
 use Rattle.elf_laws.specs.Back.{Fields}
-use Rattle.elf_laws.specs.Writer.{Section, placed, bodies, start, fileOf, count-back, names-back, header-read, bytes-read}
+use Rattle.elf_laws.specs.Writer.{Section, placed, bodies, start, fileOf}
+use Rattle.elf_laws.specs.Proof.Writer.{count-back, names-back, header-read, bytes-read}
 
 -- ---- rows of headers in a list; their bytes by a function, in the sections' order
 
@@ -139,7 +140,7 @@ module _ (s : ℕ) (xs : List Section) (z : length xs ≡ 0 → ⊥) (m : length
       let names = namesOf file table (nameSection file) (sectionCount file) in
       ap (headersFrom file names table 0 0 0) (count-back s xs z m) ∙ headers-over file names table xs 0 (start xs) 0 0 shows
 
-  pub strings-trip : s < 0xffff → rowsOf (fileOf s xs) .strings ≡ stringsNumber s (length xs)
+  pub strings-trip : s < 0xffff → rowsOf (fileOf s xs) .sectionNames ≡ stringsNumber s (length xs)
   unfolding rowsOf
   strings-trip h = ap₂ stringsNumber (names-back s xs h) (count-back s xs z m)
 

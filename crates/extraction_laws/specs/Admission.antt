@@ -15,8 +15,10 @@ use Rattle.archive_walk.specs.declared.Walk.{Walk}
 use Rattle.archive_walk.specs.Names.{requiredOf}
 use Rattle.elf_object.specs.Judge.{judgeOf}
 use Rattle.object_requirement.specs.Matches.{matchesOf}
-use Rattle.extraction_laws.specs.Some.{some, some-same}
-use Rattle.extraction_laws.specs.Member.{memberOf, object-admits}
+use Rattle.extraction_laws.specs.Some.{some}
+use Rattle.extraction_laws.specs.Proof.Some.{some-same}
+use Rattle.extraction_laws.specs.Member.{memberOf}
+use Rattle.extraction_laws.specs.Proof.Member.{object-admits}
 use Rattle.extraction_laws.specs.MemberWords.{symbolsOf, member-is}
 use Rattle.extraction_laws.specs.Taken.{extracts-some}
 use Rattle.extraction_laws.specs.Answer.{says, matches-says}

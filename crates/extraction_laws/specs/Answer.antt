@@ -9,28 +9,27 @@ use mathlib.Core.List.{List, [], _∷_, _++_}
 use lib.Dec.{ltb}
 use lib.ListN.{length}
 use borrow.Author.Tests.{eq-eqb, lt-ltb, le-ltb}
-use Rattle.cells.specs.Split.{by-test}
+use Rattle.cells.specs.Proof.Split.{by-test}
 use Rattle.gabi.specs.StringTable as Strings
 use Rattle.gabi.specs.Archive.{Named, extracts}
-use Rattle.archive_index.specs.Index.{countOf}
 use Rattle.link.specs.declared.Link.{Link}
 use Rattle.archive_walk.specs.declared.Walk.{Walk}
 use Rattle.archive_walk.specs.Look.{Table, undefinedName, tiedName}
 use Rattle.archive_walk.specs.Names.{requiredOf}
-use Rattle.archive_walk.specs.Walk.{begunNumber, startOf}
 use Rattle.archive_laws.specs.Profiles.{strongName, tied-old, tied-gabi}
-use Rattle.archive_laws.specs.Rounds.{among, View, pull, Rounds, frontOf, passRound, round, rounds, fresh}
+use Rattle.archive_laws.specs.Members.{among, View, pull, Rounds, frontOf, passRound, round, rounds, fresh}
 use Rattle.archive_laws.specs.RoundLaws.{pull-keeps}
-use Rattle.archive_laws.specs.Runs.{viewOf, viewsOf, Run, stepRun, history, startRun, seen}
-use Rattle.archive_laws.specs.Walked.{inIndex, queueIn, Pass}
+use Rattle.archive_laws.specs.Runs.{viewBy, viewsBy, Run, stepRun, history, seen}
+use Rattle.archive_laws.specs.ByKey.{inIndex, queueIn, Pass, Walked}
 use Rattle.archive_laws.specs.Steps.{Fine}
-use Rattle.archive_laws.specs.WalkLaws.{walked, walk-fine}
+use Rattle.archive_laws.specs.KeyedWalk.{walked-by, fine-after}
 use Rattle.elf_object.specs.Judge.{judgeOf}
 use Rattle.object_requirement.specs.declared.Admission.{Admission}
 use Rattle.object_requirement.specs.declared.Admission.the-variants.{Yes, No}
 use Rattle.object_requirement.specs.Matches.{admission, offeredIn, matchesOf, hasGlobalSymbol}
-use Rattle.extraction_laws.specs.Some.{some-same}
-use Rattle.extraction_laws.specs.Member.{admitting, memberOf, object-admits}
+use Rattle.extraction_laws.specs.Proof.Some.{some-same}
+use Rattle.extraction_laws.specs.Member.{admitting, memberOf}
+use Rattle.extraction_laws.specs.Proof.Member.{object-admits}
 use Rattle.extraction_laws.specs.MemberWords.{symbolsOf, member-is}
 use Rattle.extraction_laws.specs.Taken.{lists, takenIn, taken, taken-either, taken-same, extracts-is, gabi-extracts}
 use Rattle.extraction_laws.specs.Chosen as Chosen
@@ -74,15 +73,12 @@ admitted-is member wanted weakly =
 
 -- ---- what a pass queues stays queued, and the names required of it stay
 
-module _ (s : List ℕ) where
-  abbrev c : ℕ
-  c = countOf s
-
+module _ (keys : ℕ → ℕ) (c : ℕ) where
   front-queue : (q : List ℕ) (o p : ℕ) → frontOf q o p .queue ≡ q
   unfolding frontOf
   front-queue q o p = by-test (ltb o (length q)) (λ a. rw a) (λ a. rw a)
 
-  round-keeps : (v : View) (a : Rounds) (j : ℕ) → among s j (a .queue) ≡ true → among s j (round s c v a .queue) ≡ true
+  round-keeps : (v : View) (a : Rounds) (j : ℕ) → among keys j (a .queue) ≡ true → among keys j (round keys c v a .queue) ≡ true
   unfolding round passRound
   round-keeps v a j e =
       by-test (a .done) (λ d. rw d e)
@@ -90,42 +86,47 @@ module _ (s : List ℕ) where
       by-test (ltb (a .offered) (length (a .queue))) (λ f. rw (d, f, front-queue (a .queue) (a .offered) (a .passes)) e)
       (λ f.
       by-test (v .refused) (λ g. rw (d, f, g) e)
-      (λ g. rw (d, f, g, front-queue (pull s (v .tied) c 0 (a .queue)) (a .offered) (a .passes + 1)) (pull-keeps s (v .tied) c 0 (a .queue) j e))))
+      (λ g. rw (d, f, g, front-queue (pull keys (v .tied) c 0 (a .queue)) (a .offered) (a .passes + 1)) (pull-keeps keys (v .tied) c 0 (a .queue) j e))))
 
-  history-snoc : (ts : List Table) (v : Table) (r : Run) → history s (ts ++ (v ∷ [])) r ≡ stepRun s v (history s ts r)
+  rounds-snoc : (named : ℕ → List ℕ) (ts : List Table) (v : Table) (a : Rounds)
+      → rounds keys c (viewsBy named c (ts ++ (v ∷ []))) a ≡ round keys c (viewBy named c v) (rounds keys c (viewsBy named c ts) a)
+  unfolding rounds viewsBy
+  rounds-snoc named [] v a = refl
+  rounds-snoc named (t ∷ ts) v a = rounds-snoc named ts v (round keys c (viewBy named c t) a)
+
+history-snoc : (s : List ℕ) (ts : List Table) (v : Table) (r : Run) → history s (ts ++ (v ∷ [])) r ≡ stepRun s v (history s ts r)
+unfolding history
+history-snoc s [] v r = refl
+history-snoc s (t ∷ ts) v r = history-snoc s ts v (stepRun s t r)
+
+-- calls from any run at its beginning whose rows say what its entries' keys and names are
+module _ (key : ℕ) (s : List ℕ) (keys : ℕ → ℕ) (named : ℕ → List ℕ) (c : ℕ) (start : Run) (fine : Fine key s keys named c start) (begins : seen start ≡ fresh) where
+  abbrev ran : List Table → Run
+  ran ts = history s ts start
+
+  walked : (ts : List Table) → Walked s keys named c ts (ran ts)
+  walked ts = walked-by key s keys named c start fine begins ts
+
+  queued-on : (ts : List Table) (v : Table) (j : ℕ) → among keys j (queueIn (ran ts)) ≡ true → among keys j (queueIn (ran (ts ++ (v ∷ [])))) ≡ true
+  queued-on ts v j e =
+      let now : seen (ran (ts ++ (v ∷ []))) ≡ round keys c (viewBy named c v) (seen (ran ts)) =
+      walked (ts ++ (v ∷ [])) .same-rounds ∙ rounds-snoc keys c named ts v fresh ∙ ap (round keys c (viewBy named c v)) (sym (walked ts .same-rounds)) in
+      ap (λ (a : Rounds). among keys j (a .queue)) now ∙ round-keeps keys c (viewBy named c v) (seen (ran ts)) j e
+
+  pub names-on : (us ts : List Table) (e : ℕ) → e < c → among keys e (queueIn (ran ts)) ≡ true → (x : List ℕ)
+      → requiredOf s (history s us (ran ts) .cells) (history s us (ran ts) .walk) e x ≡ requiredOf s (ran ts .cells) (ran ts .walk) e x
   unfolding history
-  history-snoc [] v r = refl
-  history-snoc (t ∷ ts) v r = history-snoc ts v (stepRun s t r)
+  names-on [] ts e h q x = refl
+  names-on (v ∷ us) ts e h q x =
+      ap (λ (r : Run). requiredOf s (history s us r .cells) (history s us r .walk) e x) (sym (history-snoc s ts v start))
+      ∙ names-on us (ts ++ (v ∷ [])) e h (queued-on ts v e q) x
+      ∙ ap (λ (r : Run). requiredOf s (r .cells) (r .walk) e x) (history-snoc s ts v start)
+      ∙ walked ts .names-stay v e h q x
 
-  rounds-snoc : (ts : List Table) (v : Table) (a : Rounds) → rounds s c (viewsOf s c (ts ++ (v ∷ []))) a ≡ round s c (viewOf s c v) (rounds s c (viewsOf s c ts) a)
-  unfolding rounds viewsOf
-  rounds-snoc [] v a = refl
-  rounds-snoc (t ∷ ts) v a = rounds-snoc ts v (round s c (viewOf s c t) a)
-
-  module _ (key : ℕ) (l : List ℕ) (start : begunNumber (startOf key s l .started .begun) ≡ 0) where
-    abbrev ran : List Table → Run
-    ran ts = history s ts (startRun key s l)
-
-    queued-on : (ts : List Table) (v : Table) (j : ℕ) → among s j (queueIn (ran ts)) ≡ true → among s j (queueIn (ran (ts ++ (v ∷ [])))) ≡ true
-    queued-on ts v j e =
-        let now : seen (ran (ts ++ (v ∷ []))) ≡ round s c (viewOf s c v) (seen (ran ts)) =
-        walked key s l start (ts ++ (v ∷ [])) .same-rounds ∙ rounds-snoc ts v fresh ∙ ap (round s c (viewOf s c v)) (sym (walked key s l start ts .same-rounds)) in
-        ap (λ (a : Rounds). among s j (a .queue)) now ∙ round-keeps (viewOf s c v) (seen (ran ts)) j e
-
-    pub names-on : (us ts : List Table) (e : ℕ) → e < c → among s e (queueIn (ran ts)) ≡ true → (x : List ℕ)
-        → requiredOf s (history s us (ran ts) .cells) (history s us (ran ts) .walk) e x ≡ requiredOf s (ran ts .cells) (ran ts .walk) e x
-    unfolding history
-    names-on [] ts e h q x = refl
-    names-on (v ∷ us) ts e h q x =
-        ap (λ (r : Run). requiredOf s (history s us r .cells) (history s us r .walk) e x) (sym (history-snoc ts v (startRun key s l)))
-        ∙ names-on us (ts ++ (v ∷ [])) e h (queued-on ts v e q) x
-        ∙ ap (λ (r : Run). requiredOf s (r .cells) (r .walk) e x) (history-snoc ts v (startRun key s l))
-        ∙ walked key s l start ts .names-stay v e h q x
-
-    pub fine-on : (us ts : List Table) → Fine key s c (history s us (ran ts))
-    unfolding history
-    fine-on [] ts = walk-fine key s l start ts
-    fine-on (v ∷ us) ts = rw (← history-snoc ts v (startRun key s l)) (fine-on us (ts ++ (v ∷ [])))
+  pub fine-on : (us ts : List Table) → Fine key s keys named c (history s us (ran ts))
+  unfolding history
+  fine-on [] ts = fine-after key s keys named c start fine begins ts
+  fine-on (v ∷ us) ts = rw (← history-snoc s ts v start) (fine-on us (ts ++ (v ∷ [])))
 
 -- ---- an answer in a walk
 
@@ -140,27 +141,27 @@ matches-says link headers entries contents file s l w e b j a d h q =
     answer true = refl
     answer false = refl
 
--- a start that isn't refused, any calls, then one over t that makes a pass
-module _ (key : ℕ) (s l : List ℕ) (start : begunNumber (startOf key s l .started .begun) ≡ 0) (ts : List Table) (t : Table)
-    (made : stepRun s t (history s ts (startRun key s l)) .walk .passes ≡ history s ts (startRun key s l) .walk .passes + 1) where
+-- any calls from such a run on, then one over t that makes a pass
+module _ (key : ℕ) (s : List ℕ) (keys : ℕ → ℕ) (named : ℕ → List ℕ) (c : ℕ) (start : Run) (fine : Fine key s keys named c start) (begins : seen start ≡ fresh)
+    (ts : List Table) (t : Table) (made : stepRun s t (history s ts start) .walk .passes ≡ history s ts start .walk .passes + 1) where
   abbrev before : Run
-  before = history s ts (startRun key s l)
+  before = history s ts start
 
   abbrev after : Run
   after = stepRun s t before
 
-  pass : Pass s (countOf s) t before after
-  pass = walked key s l start ts .pass t made
+  pass : Pass s keys named c t before after
+  pass = walked key s keys named c start fine begins ts .pass t made
 
   -- the member of entry e, not offered before, is this object, whose fields are in range; the index lists its global and weak definitions;
   -- admission is lent this link
-  module _ (e : ℕ) (low : e < countOf s) (new : among s e (before .offers) ≡ false) (headers entries contents file : List ℕ)
+  module _ (e : ℕ) (low : e < c) (new : among keys e (before .offers) ≡ false) (headers entries contents file : List ℕ)
       (ranged : judgeOf headers entries (length contents) (length file) .number ≡ 0)
-      (listed : (x : List ℕ) → inIndex s (countOf s) e x ≡ lists (symbolsOf headers entries file) x) (link : Link) where
+      (listed : (x : List ℕ) → inIndex keys named c e x ≡ lists (symbolsOf headers entries file) x) (link : Link) where
     abbrev pub member : List Named
     member = symbolsOf headers entries file
 
-    listed-own : (x : List ℕ) → inIndex s (countOf s) e x ≡ lists (memberOf headers entries file) x
+    listed-own : (x : List ℕ) → inIndex keys named c e x ≡ lists (memberOf headers entries file) x
     listed-own x = listed x ∙ ap (λ (m : List Named). lists m x) (sym (member-is headers entries file))
 
     abbrev pub answer : Bool
@@ -168,10 +169,10 @@ module _ (key : ℕ) (s l : List ℕ) (start : begunNumber (startOf key s l .sta
 
     asked : hasGlobalSymbol (link .gabi) headers entries file (requiredOf s (after .cells) (after .walk) e) ≡ answer
     asked =
-        Chosen.admitted (link .gabi) s (countOf s) t before after pass e low new headers entries file listed-own
+        Chosen.admitted (link .gabi) s keys named c t before after pass e low new headers entries file listed-own
         ∙ ap (takenIn (link .gabi) (tiedName t)) (member-is headers entries file)
 
-    answered : (r : Run) → Fine key s (countOf s) r → ((x : List ℕ) → requiredOf s (r .cells) (r .walk) e x ≡ requiredOf s (after .cells) (after .walk) e x)
+    answered : (r : Run) → Fine key s keys named c r → ((x : List ℕ) → requiredOf s (r .cells) (r .walk) e x ≡ requiredOf s (after .cells) (after .walk) e x)
         → matchesOf link headers entries contents file s (r .cells) (r .walk) e ≡ says answer
     answered r f same =
         matches-says link headers entries contents file s (r .cells) (r .walk) e answer ranged (f .whole)
@@ -184,12 +185,12 @@ module _ (key : ℕ) (s l : List ℕ) (start : begunNumber (startOf key s l .sta
 
     -- right after the pass: yes, just if a symbol that may admit the member bears a name that ties at the pass and that the member defines
     pub answer-is : matchesOf link headers entries contents file s (after .cells) (after .walk) e ≡ says answer
-    answer-is = answered after (subst (Fine key s (countOf s)) (history-snoc s ts t (startRun key s l)) (walk-fine key s l start (ts ++ (t ∷ [])))) (λ x. refl)
+    answer-is = answered after (subst (Fine key s keys named c) (history-snoc s ts t start) (fine-after key s keys named c start fine begins (ts ++ (t ∷ [])))) (λ x. refl)
 
     -- a member that is let in was queued by the pass
-    pub let-in-queued : matchesOf link headers entries contents file s (after .cells) (after .walk) e ≡ Yes → among s e (queueIn after) ≡ true
+    pub let-in-queued : matchesOf link headers entries contents file s (after .cells) (after .walk) e ≡ Yes → among keys e (queueIn after) ≡ true
     let-in-queued y =
-        Chosen.queued (link .gabi) s (countOf s) t before after pass e low new headers entries file listed-own
+        Chosen.queued (link .gabi) s keys named c t before after pass e low new headers entries file listed-own
         (ap (takenIn (link .gabi) (tiedName t)) (member-is headers entries file) ∙ yes answer (sym answer-is ∙ y))
       where
         yes : (b : Bool) → says b ≡ Yes → b ≡ true
@@ -198,13 +199,13 @@ module _ (key : ℕ) (s l : List ℕ) (start : begunNumber (startOf key s l .sta
 
     -- and for a queued member the answer is the same after any further calls, over whatever tables: "a queued one is offered though its name is
     -- defined since"
-    pub answer-later : among s e (queueIn after) ≡ true → (us : List Table)
+    pub answer-later : among keys e (queueIn after) ≡ true → (us : List Table)
         → matchesOf link headers entries contents file s (history s us after .cells) (history s us after .walk) e ≡ says answer
     answer-later q us =
-        let same : after ≡ history s (ts ++ (t ∷ [])) (startRun key s l) = sym (history-snoc s ts t (startRun key s l)) in
-        let q′ : among s e (queueIn (history s (ts ++ (t ∷ [])) (startRun key s l))) ≡ true = rw same at q in
-        answered (history s us after) (rw same (fine-on s key l start us (ts ++ (t ∷ []))))
-        (λ x. rw same (names-on s key l start us (ts ++ (t ∷ [])) e low q′ x))
+        let same : after ≡ history s (ts ++ (t ∷ [])) start = sym (history-snoc s ts t start) in
+        let q′ : among keys e (queueIn (history s (ts ++ (t ∷ [])) start)) ≡ true = rw same at q in
+        answered (history s us after) (rw same (fine-on key s keys named c start fine begins us (ts ++ (t ∷ []))))
+        (λ x. rw same (names-on key s keys named c start fine begins us (ts ++ (t ∷ [])) e low q′ x))
 
     -- ---- by the gABI
 

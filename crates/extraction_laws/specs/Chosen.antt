@@ -7,24 +7,25 @@ use mathlib.Core.List.{List}
 use lib.Dec.{eqb}
 use borrow.Author.Tests.{eqb-true}
 use Rattle.byte_slices.specs.Bytes.{same}
-use Rattle.byte_slices.specs.Ways.{same-true}
+use Rattle.byte_slices.specs.Proof.Ways.{same-true}
 use Rattle.gabi.specs.Archive.{Named}
-use Rattle.archive_index.specs.Index.{offsetOf, nameOf}
 use Rattle.archive_walk.specs.Look.{Table, tiedName}
 use Rattle.archive_walk.specs.Names.{requiredOf}
-use Rattle.archive_laws.specs.Rounds.{Same, among}
-use Rattle.archive_laws.specs.Counts.{any-out, among-same}
+use Rattle.archive_laws.specs.Members.{Same, among}
+use Rattle.archive_laws.specs.Proof.Counts.{any-out, among-same}
 use Rattle.archive_laws.specs.Runs.{Run}
-use Rattle.archive_laws.specs.Walked.{inIndex, queueIn, Pass}
+use Rattle.archive_laws.specs.ByKey.{inIndex, queueIn, Pass}
 use Rattle.object_requirement.specs.Matches.{hasGlobalSymbol}
-use Rattle.extraction_laws.specs.Some.{and-left, and-right, and-cond, both-ways, and-in, In, some-out, some-same}
-use Rattle.extraction_laws.specs.Member.{admitting, memberOf, object-admits}
+use Rattle.extraction_laws.specs.Some.{In}
+use Rattle.extraction_laws.specs.Proof.Some.{and-left, and-right, and-cond, both-ways, and-in, some-out, some-same}
+use Rattle.extraction_laws.specs.Member.{admitting, memberOf}
+use Rattle.extraction_laws.specs.Proof.Member.{object-admits}
 use Rattle.extraction_laws.specs.Taken.{lists, takenIn}
 
--- a call that made a pass over t (every such call of a walk is one: archive_laws, `walked`); entry e's member was not offered before, and is this object,
--- whose global and weak definitions the index lists; admission is asked by a link of that profile
-module _ (gabi : Bool) (s : List ℕ) (c : ℕ) (t : Table) (r r′ : Run) (pass : Pass s c t r r′) (e : ℕ) (low : e < c) (new : among s e (r .offers) ≡ false)
-    (headers entries file : List ℕ) (listed : (x : List ℕ) → inIndex s c e x ≡ lists (memberOf headers entries file) x) where
+-- a call that made a pass over t (every such call of a walk is one: archive_laws, `walked-by`), whatever its entries' keys and names; entry e's member was
+-- not offered before, and is this object, whose global and weak definitions the index lists; admission is asked by a link of that profile
+module _ (gabi : Bool) (s : List ℕ) (keys : ℕ → ℕ) (named : ℕ → List ℕ) (c : ℕ) (t : Table) (r r′ : Run) (pass : Pass s keys named c t r r′) (e : ℕ) (low : e < c) (new : among keys e (r .offers) ≡ false)
+    (headers entries file : List ℕ) (listed : (x : List ℕ) → inIndex keys named c e x ≡ lists (memberOf headers entries file) x) where
   abbrev member : List Named
   member = memberOf headers entries file
 
@@ -40,32 +41,32 @@ module _ (gabi : Bool) (s : List ℕ) (c : ℕ) (t : Table) (r r′ : Run) (pass
       (λ d. rw (required-is (d .name)))
 
   -- a member that would be admitted is queued by the pass
-  pub queued : takenIn gabi (tiedName t) member ≡ true → among s e (queueIn r′) ≡ true
+  pub queued : takenIn gabi (tiedName t) member ≡ true → among keys e (queueIn r′) ≡ true
   unfolding inIndex
   queued h = go (some-out (λ d. admitting gabi (d .symbol) && (tiedName t (d .name) && lists member (d .name))) member h)
     where
-      tied : (x : List ℕ) (j : ℕ) → j < c → tiedName t x ≡ true → cond (eqb (offsetOf s j) (offsetOf s e)) (same (nameOf s c j) x) false ≡ true → among s e (queueIn r′) ≡ true
+      tied : (x : List ℕ) (j : ℕ) → j < c → tiedName t x ≡ true → cond (eqb (keys j) (keys e)) (same (named j) x) false ≡ true → among keys e (queueIn r′) ≡ true
       tied x j g u w =
-          let b = rw (and-cond (eqb (offsetOf s j) (offsetOf s e)) (same (nameOf s c j) x)) at w in
-          let o : Same s j e = eqb-true (offsetOf s j) (offsetOf s e) (and-left (eqb (offsetOf s j) (offsetOf s e)) (same (nameOf s c j) x) b) in
-          let n : nameOf s c j ≡ x = same-true (nameOf s c j) x (and-right (eqb (offsetOf s j) (offsetOf s e)) (same (nameOf s c j) x) b) in
-          sym (among-same s (queueIn r′) j e o) ∙ pass .all j g (ap (tiedName t) n ∙ u)
+          let b = rw (and-cond (eqb (keys j) (keys e)) (same (named j) x)) at w in
+          let o : Same keys j e = eqb-true (keys j) (keys e) (and-left (eqb (keys j) (keys e)) (same (named j) x) b) in
+          let n : named j ≡ x = same-true (named j) x (and-right (eqb (keys j) (keys e)) (same (named j) x) b) in
+          sym (among-same keys (queueIn r′) j e o) ∙ pass .all j g (ap (tiedName t) n ∙ u)
 
-      go : ((d : Named) × In d member × (admitting gabi (d .symbol) && (tiedName t (d .name) && lists member (d .name)) ≡ true)) → among s e (queueIn r′) ≡ true
+      go : ((d : Named) × In d member × (admitting gabi (d .symbol) && (tiedName t (d .name) && lists member (d .name)) ≡ true)) → among keys e (queueIn r′) ≡ true
       go (d, i, q) =
           let rest = and-right (admitting gabi (d .symbol)) (tiedName t (d .name) && lists member (d .name)) q in
           let u : tiedName t (d .name) ≡ true = and-left (tiedName t (d .name)) (lists member (d .name)) rest in
-          by u (any-out (λ j. cond (eqb (offsetOf s j) (offsetOf s e)) (same (nameOf s c j) (d .name)) false) c (listed (d .name) ∙ and-right (tiedName t (d .name)) (lists member (d .name)) rest))
+          by u (any-out (λ j. cond (eqb (keys j) (keys e)) (same (named j) (d .name)) false) c (listed (d .name) ∙ and-right (tiedName t (d .name)) (lists member (d .name)) rest))
         where
-          by : tiedName t (d .name) ≡ true → ((j : ℕ) × (j < c) × (cond (eqb (offsetOf s j) (offsetOf s e)) (same (nameOf s c j) (d .name)) false ≡ true)) → among s e (queueIn r′) ≡ true
+          by : tiedName t (d .name) ≡ true → ((j : ℕ) × (j < c) × (cond (eqb (keys j) (keys e)) (same (named j) (d .name)) false ≡ true)) → among keys e (queueIn r′) ≡ true
           by u (j, g, w) = tied (d .name) j g u w
 
   -- the walk's choice and admission
   abbrev pub chosen : Bool
-  chosen = among s e (queueIn r′) && hasGlobalSymbol gabi headers entries file (requiredOf s (r′ .cells) (r′ .walk) e)
+  chosen = among keys e (queueIn r′) && hasGlobalSymbol gabi headers entries file (requiredOf s (r′ .cells) (r′ .walk) e)
 
   pub chosen-is : chosen ≡ takenIn gabi (tiedName t) member
   chosen-is =
       both-ways chosen (takenIn gabi (tiedName t) member)
-      (λ h. sym admitted ∙ and-right (among s e (queueIn r′)) (hasGlobalSymbol gabi headers entries file (requiredOf s (r′ .cells) (r′ .walk) e)) h)
-      (λ h. and-in (among s e (queueIn r′)) (hasGlobalSymbol gabi headers entries file (requiredOf s (r′ .cells) (r′ .walk) e)) (queued h) (admitted ∙ h))
+      (λ h. sym admitted ∙ and-right (among keys e (queueIn r′)) (hasGlobalSymbol gabi headers entries file (requiredOf s (r′ .cells) (r′ .walk) e)) h)
+      (λ h. and-in (among keys e (queueIn r′)) (hasGlobalSymbol gabi headers entries file (requiredOf s (r′ .cells) (r′ .walk) e)) (queued h) (admitted ∙ h))

@@ -18,16 +18,17 @@ use Rattle.byte_slices.specs.Bytes.{wordAt, same}
 use Rattle.link.specs.Bounds.{lesser}
 use Rattle.link.specs.Judge.{judgeSections, judgeNames, judgeLists, afterSymbols, afterSections}
 use Rattle.link.specs.Judge as Link
+use Rattle.link.specs.Counts.{noNames, withNames, withSymbols, withProfile}
 use Rattle.keyed_hash.specs.Keyed as Keyed
 use Rattle.interner.specs.Hash.{spread, headCell}
 use Rattle.interner.specs.Names.{chase, seekOf, findFrom, findOf}
-use Rattle.symbol_rows.specs.Holder.{heldBy, holderOf}
-use Rattle.symbol_rows.specs.Undefined.{strongUndefined}
+use Rattle.symbol_resolution.specs.Holder.{heldBy, holderOf}
+use Rattle.symbol_resolution.specs.RowsUndefined.{strongUndefined}
 use Rattle.upcoming_symbol.specs.Judge.{shownOf, hiddenOf, sectionInRange, elfInRange}
 use Rattle.upcoming_symbol.specs.Judge as Upcoming
 use Rattle.upcoming_symbol.specs.declared.Conversion.the-variants as To
 use Rattle.upcoming_symbol.specs.Upcoming.{inSection, convertedOf, undefinedOf, valueOf, elfRowOf}
-use Rattle.symbol_laws.specs.Rows.{rowAt}
+use Rattle.symbol_laws.specs.Proof.Rows.{rowAt}
 use Rattle.symbol_laws.specs.Gabi.{symOf}
 use Rattle.symbol_laws.specs.Differences.{elf}
 use Rattle.archive_index.specs.Index.{countOf, offsetOf, afterOf, cutOf}
@@ -41,6 +42,7 @@ use Rattle.elf_object.specs.Rows as Object
 use Rattle.elf_object.specs.Judge as Judged
 use Rattle.object_requirement.specs.declared.Admission.{Admission}
 use Rattle.object_requirement.specs.declared.Admission.the-variants.{Yes, No}
+use Rattle.cells.specs.Search.{anyFrom}
 use Rattle.object_requirement.specs.Matches as Admits
 use Rattle.extraction_laws.specs.Member.{withName, rowsNamed, sectionNamed, sectionsNamed, memberOf}
 
@@ -50,7 +52,7 @@ b = 98 ∷ []
 -- a table of one name, b, with this code of visibility and this second word of an undefined value, of a link of this profile
 abbrev tableWith : Bool → ℕ → ℕ → Table
 tableWith gabi v a =
-    tableOf (record { names = 1; bytes = 1; symbols = 2; sections = 0; inputs = 0; lists = 0; chains = 1; slots = 0; key = 0; gabi = gabi; broken = false }) b
+    tableOf (withProfile (withSymbols (withNames (noNames 0 1) 1 1) 2) gabi) b
     (0 ∷ 1 ∷ 0 ∷ 1 ∷ 0 ∷ 0 ∷ 0 ∷ 0 ∷ 1 ∷ []) (1 ∷ 0 ∷ 0 ∷ 0 ∷ 0 ∷ 0 ∷ 0 ∷ 0 ∷ 1 ∷ 0 ∷ 0 ∷ 0 ∷ v ∷ 7 ∷ a ∷ 0 ∷ [])
 
 abbrev pub strongly : Bool → Table
@@ -142,7 +144,7 @@ pub data All : List Case → Type 0 where
   also : {c : Case} {cs : List Case} → Right c → All cs → All (c ∷ cs)
 
 pub differences : All (agreeing false ∷ weakReference ∷ weakDefinition ∷ memberRefers ∷ agreeing true ∷ weakTiesNone ∷ weakAdmits ∷ referenceAdmitsNot ∷ localAdmitsNot ∷ [])
-unfolding beforeZero ended hasName nameAt sameName Strings.among isGlobal isWeak isReference isDefinition Gabi.count isGlobalDefinition isWeakDefinition isGlobalReference has resolve isUnresolved wants offers extracts putRow same lesser judgeSections judgeNames judgeLists afterSymbols afterSections Link.judgeOf wordAt Keyed.folded Keyed.mixed Keyed.hashFrom Keyed.pointOf Keyed.hashOf spread headCell chase seekOf findFrom findOf heldBy holderOf shownOf hiddenOf sectionInRange elfInRange Upcoming.judgeOf inSection convertedOf undefinedOf valueOf elfRowOf countOf offsetOf afterOf cutOf Rows.descend Rows.spotOf Rows.enterOf Rows.enterAll Rows.noHeads Rows.rowsOf openRowsOf openNamesOf openEntriesOf openOf judgeTable nameHolder removedName strongUndefined tiesRow tiedName nameChain along bearsOf borneFrom chained headedOf notedOf requiredOf begunOf startOf offerOf marked enqueue tieOf tieAll removedOf makeOf searchOf passOf walkFits goOf nextOf stepRun history startRun Object.sectionOf Object.entriesFrom Object.tableEntries Judged.rangeOk Judged.contentsOk Judged.headerOk Judged.entryOk Judged.firstBad Judged.badHeader Judged.badEntry Judged.judgeOf Admits.isSection Admits.nameAnywhere Admits.isRequired Admits.someFrom Admits.definesName Admits.admits Admits.bearsRequired Admits.inTable Admits.isTable Admits.inSection Admits.hasGlobalSymbol Admits.offeredIn Admits.matchesOf withName rowsNamed sectionNamed sectionsNamed memberOf
+unfolding beforeZero ended hasName nameAt sameName Strings.among isGlobal isWeak isReference isDefinition Gabi.count isGlobalDefinition isWeakDefinition isGlobalReference has resolve isUnresolved wants offers extracts putRow same lesser judgeSections judgeNames judgeLists afterSymbols afterSections Link.judgeOf wordAt Keyed.folded Keyed.mixed Keyed.hashFrom Keyed.pointOf Keyed.hashOf spread headCell chase seekOf findFrom findOf heldBy holderOf shownOf hiddenOf sectionInRange elfInRange Upcoming.judgeOf inSection convertedOf undefinedOf valueOf elfRowOf countOf offsetOf afterOf cutOf Rows.descend Rows.spotOf Rows.enterOf Rows.enterAll Rows.noHeads Rows.rowsOf openRowsOf openNamesOf openEntriesOf openOf judgeTable nameHolder removedName strongUndefined tiesRow tiedName nameChain along bearsOf borneFrom chained headedOf notedOf requiredOf begunOf startOf offerOf marked enqueue tieOf tieAll removedOf makeOf searchOf passOf walkFits goOf nextOf stepRun history startRun Object.sectionOf Object.entriesFrom Object.tableEntries Judged.rangeOk Judged.contentsOk Judged.headerOk Judged.entryOk Judged.firstBad Judged.badHeader Judged.badEntry Judged.judgeOf Admits.isSection Admits.nameAnywhere Admits.isRequired anyFrom Admits.definesName Admits.admits Admits.bearsRequired Admits.inTable Admits.isTable Admits.inSection Admits.hasGlobalSymbol Admits.offeredIn Admits.matchesOf withName rowsNamed sectionNamed sectionsNamed memberOf
 differences =
     also {c = agreeing false} (refl, refl, refl, refl, refl)
     (also {c = weakReference} (refl, refl, refl, refl, refl)

@@ -8,3 +8,4 @@ pub mod Terms
 pub mod MemberWords
 pub mod Answer
 pub mod Admission
+pub mod Proof

@@ -8,7 +8,7 @@ use mathlib.Core.List.{List, [], _∷_, _++_}
 use native.Mathlib.Omega.{arith}
 use lib.Dec.{eqb, leb}
 use borrow.Author.Tests.{leb-true, leb-false, lt-ltb, le-ltb, ne-eqb}
-use Rattle.cells.specs.Split.{by-test}
+use Rattle.cells.specs.Proof.Split.{by-test}
 use Rattle.gabi.specs.StringTable.{hasName, nameAt, name-empty}
 use Rattle.gabi.specs.Archive.{Named}
 use Rattle.strings.specs.Lookup.{Looked, looked}

@@ -4,12 +4,13 @@ use Prim.Native.Nat.{ℕ}
 use mathlib.Core.Path.{_≡_, refl, sym, ap, _∙_}
 use mathlib.Core.Bool.{Bool, true, false, cond, _&&_, _||_}
 use mathlib.Core.List.{List, [], _∷_}
-use Rattle.cells.specs.Split.{by-test}
+use Rattle.cells.specs.Proof.Split.{by-test}
 use Rattle.gabi.specs.StringTable.{sameName, among, same-eq, same-refl}
 use Rattle.gabi.specs.SymbolTable.{Sym, isGlobal, isWeak, isDefinition}
 use Rattle.gabi.specs.Resolution.{isWeakDefinition}
 use Rattle.gabi.specs.Archive.{Named, offers, extracts}
-use Rattle.extraction_laws.specs.Some.{clash, and-in, and-left, and-right, or-left, or-right, or-out, or-none, both-ways, In, here, there, some, some-in, some-out, some-same}
+use Rattle.extraction_laws.specs.Some.{In, here, there, some}
+use Rattle.extraction_laws.specs.Proof.Some.{clash, and-in, and-left, and-right, or-left, or-right, or-out, or-none, both-ways, some-in, some-out, some-same}
 use Rattle.extraction_laws.specs.Member.{admitting, admitsIn}
 
 -- the name x is in the index for this member: an index lists global and weak definitions

@@ -8,7 +8,7 @@ use mathlib.Core.Bool.{Bool, true, false, _&&_, _||_}
 use mathlib.Core.List.{List}
 use Rattle.gabi.specs.StringTable as Strings
 use Rattle.gabi.specs.Archive.{Named, extracts}
-use Rattle.archive_index.specs.Index.{countOf}
+use Rattle.archive_index.specs.Index.{countOf, offsetOf, nameOf}
 use Rattle.archive_walk.specs.Look.{Table, undefinedName, tiedName}
 use Rattle.archive_walk.specs.Names.{requiredOf}
 use Rattle.archive_walk.specs.Walk.{begunNumber, startOf}
@@ -16,7 +16,7 @@ use Rattle.archive_laws.specs.Profiles.{strongName, tied-old, tied-gabi}
 use Rattle.archive_laws.specs.Rounds.{among}
 use Rattle.archive_laws.specs.Runs.{Run, stepRun, history, startRun}
 use Rattle.archive_laws.specs.Walked.{inIndex, queueIn, Pass}
-use Rattle.archive_laws.specs.WalkLaws.{walked}
+use Rattle.archive_laws.specs.Terms.{walked}
 use Rattle.object_requirement.specs.Matches.{hasGlobalSymbol}
 use Rattle.extraction_laws.specs.Member.{memberOf}
 use Rattle.extraction_laws.specs.Taken.{lists, takenIn, taken, weakOffers, taken-either, extracts-is, takes-as-gabi, gabi-extracts, taken-same}
@@ -54,7 +54,7 @@ module _ (key : ℕ) (s l : List ℕ) (start : begunNumber (startOf key s l .sta
         && hasGlobalSymbol gabi headers entries file (requiredOf s (stepRun s t before .cells) (stepRun s t before .walk) e)
 
     chosen-in : (gabi : Bool) → chosenIn gabi ≡ takenIn gabi (tiedName t) member
-    chosen-in gabi = Chosen.chosen-is gabi s c t before (stepRun s t before) pass e low new headers entries file listed
+    chosen-in gabi = Chosen.chosen-is gabi s (offsetOf s) (nameOf s c) c t before (stepRun s t before) pass e low new headers entries file listed
 
     -- ---- the old profile
 

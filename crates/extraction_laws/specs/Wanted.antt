@@ -7,17 +7,17 @@ use mathlib.Core.Bool.{Bool, true, false, not, _&&_, _||_, false≢true}
 use mathlib.Core.List.{List, [], _∷_}
 use lib.Dec.{eqb, leb}
 use borrow.Author.Tests.{lt-leb, ne-eqb, leb-false}
-use Rattle.cells.specs.Split.{by-test}
+use Rattle.cells.specs.Proof.Split.{by-test}
 use Rattle.link.specs.Said.{numberIn}
 use Rattle.gabi.specs.SymbolTable.{Sym}
 use Rattle.gabi.specs.Resolution.{Resolution, defined, duplicate, unresolved, zeroValue, resolve}
 use Rattle.gabi.specs.Archive.{isUnresolved, wants}
 use Rattle.interner.specs.Names.{findOf}
 use Rattle.symbol.specs.declared.Row.{Row}
-use Rattle.symbol_rows.specs.Holder.{globalAt, heldBy, holderOf}
+use Rattle.symbol_resolution.specs.Holder.{globalAt, heldBy, holderOf}
 use Rattle.symbols.specs.New.{newOf}
 use Rattle.symbol_laws.specs.Rank.{weak}
-use Rattle.symbol_laws.specs.Rows.{rowAt}
+use Rattle.symbol_laws.specs.Proof.Rows.{rowAt}
 use Rattle.symbol_laws.specs.History.{State, Entry, rows, Call, RemovesNothing}
 use Rattle.symbol_laws.specs.Demand.{Resolved}
 use Rattle.symbol_laws.specs.Gabi.{AllMean}

@@ -1,18 +1,20 @@
 // The calls for another language, as numbers and slices: `rt staticlib ffi` writes target/staticlib/libffi.a. A slice is a pointer and a length. A
-// header of at least 24 cells holds the link and the answer (ffi_header); the result is the number of the refusal, 0 for a result. The library that
+// header of at least 24 cells holds the link and the answer (ffi_cells); the result is the number of the refusal, 0 for a result. The library that
 // a call stands for says which values it answers.
 ghost use Rattle.cells.specs.Slice.{before};
-ghost use Rattle.ffi_header.specs.Contract.{toldExit};
+ghost use Rattle.ffi_cells.specs.Contract.{toldExit};
 ghost use Rattle.ffi_names.specs.Contract as Names;
 ghost use Rattle.ffi_symbols.specs.Contract as Symbols;
-ghost use Rattle.ffi_lookup.specs.Contract as Lookup;
+ghost use Rattle.ffi_symbols.specs.LookupContract as Lookup;
 ghost use Rattle.ffi_merge.specs.Contract as Merge;
-ghost use Rattle.ffi_file.specs.Contract as File;
+ghost use Rattle.ffi_merge.specs.FileContract as File;
 ghost use Rattle.ffi_load.specs.Contract as Load;
-ghost use Rattle.ffi_load.specs.Contract.{libraryIn, LoadMeets};
+ghost use Rattle.ffi_load.specs.Contract.{LoadMeets};
 ghost use Rattle.ffi_archive.specs.Contract as Archive;
 ghost use Rattle.ffi_collect.specs.Calls.{entryOf};
-ghost use Rattle.ffi_collect.specs.Contract.{runExit, listsIn, RunMeets, PlainMeets};
+ghost use Rattle.ffi_collect.specs.Contract.{runExit, RunMeets, PlainMeets};
+ghost use Rattle.gc_sections.specs.Run.{listsIn};
+ghost use Rattle.shared_objects.specs.Load.{libraryIn};
 
 #[no_mangle]
 pub extern "C" fn hidvorn_new(
@@ -90,7 +92,7 @@ pub extern "C" fn hidvorn_get(
 ) -> u64
     ensures { λ r. ⌜ Lookup.GetMeets (before header) (before symbols) id (before out) (Lookup.foundExit r header out) ⌝ }
 {
-    ffi_lookup::get(header, symbols, id, out)
+    ffi_symbols::get(header, symbols, id, out)
 }
 
 #[no_mangle]
@@ -103,7 +105,7 @@ pub extern "C" fn hidvorn_get_global(
 ) -> u64
     ensures { λ r. ⌜ Lookup.GetGlobalMeets (before header) (before names) (before symbols) name (before out) (Lookup.foundExit r header out) ⌝ }
 {
-    ffi_lookup::get_global(header, names, symbols, name, out)
+    ffi_symbols::get_global(header, names, symbols, name, out)
 }
 
 #[no_mangle]
@@ -114,7 +116,7 @@ pub extern "C" fn hidvorn_section_symbol_id(
 ) -> u64
     ensures { λ r. ⌜ Lookup.SectionSymbolMeets (before header) (before sections) section (toldExit r header) ⌝ }
 {
-    ffi_lookup::section_symbol_id(header, sections, section)
+    ffi_symbols::section_symbol_id(header, sections, section)
 }
 
 #[no_mangle]
@@ -187,7 +189,7 @@ pub extern "C" fn hidvorn_merge_elf(
 pub extern "C" fn hidvorn_read_file(answer: &mut [u64], rows: &mut [u64], file: &[u8]) -> u64
     ensures { λ r. ⌜ File.ReadMeets (before answer) (before file) (before rows) (File.readExit r answer rows) ⌝ }
 {
-    ffi_file::read_file(answer, rows, file)
+    ffi_merge::read_file(answer, rows, file)
 }
 
 #[no_mangle]
@@ -206,7 +208,7 @@ pub extern "C" fn hidvorn_merge_file(
 ) -> u64
     ensures { λ r. ⌜ File.FileMeets (before header) (before file) (File.lentRows bytes names symbols sections inputs lists work ids rows) (toldExit r header) ⌝ }
 {
-    ffi_file::merge_file(
+    ffi_merge::merge_file(
         header,
         bytes,
         names,

@@ -14,8 +14,9 @@ use Rattle.archive_walk.specs.Walk.{Start, startOf, Step, nextOf}
 use Rattle.object_requirement.specs.declared.Admission.{Admission}
 use Rattle.object_requirement.specs.declared.Admission.the-variants as Admits
 use Rattle.object_requirement.specs.Matches.{matchesOf}
-use Rattle.ffi_header.specs.declared.Reply.{Reply}
-use Rattle.ffi_header.specs.Header.{isShort, linkIn, resultOf, refusalOf, refusedOf, Told, told, answerOf}
+use Rattle.ffi_cells.specs.declared.header.Reply.{Reply}
+use Rattle.ffi_cells.specs.Header.{isShort, linkIn, resultOf, refusalOf, refusedOf, Told, told, answerOf}
+use Rattle.cells.specs.Slice.{Slice, after}
 use Rattle.ffi_archive.specs.Cells.{walkIn, walkOut}
 
 -- ---- answers
@@ -44,6 +45,10 @@ pub record WalkLeft : Type 0 where
 
 abbrev pub walkLeft : Told → List ℕ → List ℕ → WalkLeft
 walkLeft t c rows = record { told = t; walk = c; rows = rows }
+
+-- of lent slices after the call
+abbrev pub walkAfter : ℕ → Slice → Slice → Slice → WalkLeft
+walkAfter r h c rows = walkLeft (told r (after h)) (after c) (after rows)
 
 -- seven cells for a walk
 unfoldable pub noWalk : List ℕ → Bool

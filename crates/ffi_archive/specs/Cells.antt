@@ -4,7 +4,7 @@ use Prim.Native.Nat.{ℕ}
 use mathlib.Core.List.{List}
 use lib.ListN.{getD, set}
 use Rattle.archive_walk.specs.declared.Walk.{Walk}
-use Rattle.ffi_header.specs.Header.{isSet, flagOf}
+use Rattle.ffi_cells.specs.Header.{isSet, flagOf}
 
 unfoldable pub walkIn : List ℕ → Walk
 walkIn c =

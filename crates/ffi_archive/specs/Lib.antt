@@ -1,4 +1,4 @@
 pub mod Cells
 pub mod Calls
 pub mod Contract
-pub mod Ways
+pub mod Proof

@@ -1,22 +1,21 @@
-// The walk over an archive's members, and admission, for another language: the answer lies in a header (ffi_header), the walk in seven cells. A
+// The walk over an archive's members, and admission, for another language: the answer lies in a header (ffi_cells), the walk in seven cells. A
 // header of fewer than 24 cells gives 1, and nothing is read or written; a walk of fewer than seven gives 1 at place 0 and is left.
 ghost use mathlib.Core.Path.{_≡_};
-ghost use Rattle.cells.specs.Slice.{before};
-ghost use Rattle.ffi_header.specs.Header.{told};
-ghost use Rattle.ffi_header.specs.Contract.{toldExit};
+ghost use Rattle.cells.specs.Slice.{before, after};
+ghost use Rattle.ffi_cells.specs.Contract.{toldExit};
 ghost use Rattle.ffi_archive.specs.Cells.{walkIn, indexOut, countsOut, walkOut};
-ghost use Rattle.ffi_archive.specs.Calls.{begunReply, offeredReply, admittedReply, walkLeft, startFit, nextFit};
+ghost use Rattle.ffi_archive.specs.Calls.{begunReply, offeredReply, admittedReply, startFit, nextFit, walkAfter};
 ghost use Rattle.ffi_archive.specs.Contract.{walkExit, StartMeets, NextMeets, MatchesMeets};
 use archive_walk::Begun;
 use archive_walk::Offer;
 use archive_walk::Walk;
-use ffi_header::Reply;
+use ffi_cells::Reply;
 use object_requirement::Admission;
 
 // ---- a walk
 
 pub fn walk_in(walk: &[u64]) -> Walk
-    ensures { λ r. ⌜ r ≡ walkIn (now (walk .entry)) ⌝ }
+    ensures { λ r. ⌜ r ≡ walkIn (before walk) ⌝ }
 {
     Walk {
         key: cells::get(walk, 0) as usize,
@@ -25,12 +24,12 @@ pub fn walk_in(walk: &[u64]) -> Walk
         passes: cells::get(walk, 3) as usize,
         queued: cells::get(walk, 4) as usize,
         offered: cells::get(walk, 5) as usize,
-        done: ffi_header::is_set(cells::get(walk, 6)),
+        done: ffi_cells::is_set(cells::get(walk, 6)),
     }
 }
 
 fn put_index(walk: &mut [u64], w: Walk)
-    ensures { λ _. ⌜ now (walk .exit) ≡ indexOut (now (walk .entry)) w ⌝ }
+    ensures { λ _. ⌜ after walk ≡ indexOut (before walk) w ⌝ }
 {
     cells::put(walk, 0, w.key as u64);
     cells::put(walk, 1, w.entries as u64);
@@ -38,7 +37,7 @@ fn put_index(walk: &mut [u64], w: Walk)
 }
 
 fn put_counts(walk: &mut [u64], w: Walk)
-    ensures { λ _. ⌜ now (walk .exit) ≡ countsOut (now (walk .entry)) w ⌝ }
+    ensures { λ _. ⌜ after walk ≡ countsOut (before walk) w ⌝ }
 {
     cells::put(walk, 3, w.passes as u64);
     cells::put(walk, 4, w.queued as u64);
@@ -46,11 +45,11 @@ fn put_counts(walk: &mut [u64], w: Walk)
 }
 
 pub fn put_walk(walk: &mut [u64], w: Walk)
-    ensures { λ _. ⌜ now (walk .exit) ≡ walkOut (now (walk .entry)) w ⌝ }
+    ensures { λ _. ⌜ after walk ≡ walkOut (before walk) w ⌝ }
 {
     put_index(walk, w);
     put_counts(walk, w);
-    cells::put(walk, 6, ffi_header::flag(w.done));
+    cells::put(walk, 6, ffi_cells::flag(w.done));
 }
 
 // ---- answers
@@ -59,8 +58,8 @@ fn begun(a: Begun) -> Reply
     ensures { λ r. ⌜ r ≡ begunReply a ⌝ }
 {
     match a {
-        Begun::Ready { entries } => ffi_header::result(entries as u64, 0, 0, 0),
-        Begun::Refused { refusal } => ffi_header::refused(refusal),
+        Begun::Ready { entries } => ffi_cells::result(entries as u64, 0, 0, 0),
+        Begun::Refused { refusal } => ffi_cells::refused(refusal),
     }
 }
 
@@ -72,9 +71,9 @@ fn offered(a: Offer) -> Reply
             offset,
             entry,
             passes,
-        } => ffi_header::result(1, offset, entry as u64, passes as u64),
-        Offer::Done { passes } => ffi_header::result(0, 0, 0, passes as u64),
-        Offer::Refused { refusal } => ffi_header::refused(refusal),
+        } => ffi_cells::result(1, offset, entry as u64, passes as u64),
+        Offer::Done { passes } => ffi_cells::result(0, 0, 0, passes as u64),
+        Offer::Refused { refusal } => ffi_cells::refused(refusal),
     }
 }
 
@@ -82,9 +81,9 @@ fn admitted(a: Admission) -> Reply
     ensures { λ r. ⌜ r ≡ admittedReply a ⌝ }
 {
     match a {
-        Admission::Yes => ffi_header::result(1, 0, 0, 0),
-        Admission::No => ffi_header::result(0, 0, 0, 0),
-        Admission::Refused { refusal } => ffi_header::refused(refusal),
+        Admission::Yes => ffi_cells::result(1, 0, 0, 0),
+        Admission::No => ffi_cells::result(0, 0, 0, 0),
+        Admission::Refused { refusal } => ffi_cells::refused(refusal),
     }
 }
 
@@ -97,13 +96,13 @@ fn start_fit(
     index: &[u8],
     rows: &mut [u64],
 ) -> u64
-    ensures { λ r. ⌜ walkLeft (told r (now (header .exit))) (now (walk .exit)) (now (rows .exit)) ≡ startFit (now (header .entry)) (now (walk .entry)) key (now (index .entry)) (now (rows .entry)) ⌝ }
+    ensures { λ r. ⌜ walkAfter r header walk rows ≡ startFit (before header) (before walk) key (before index) (before rows) ⌝ }
 {
     let s = archive_walk::start(key, index, rows);
     let w = s.walk;
     let a = s.begun;
     put_walk(walk, w);
-    ffi_header::answer(header, begun(a))
+    ffi_cells::answer(header, begun(a))
 }
 
 // The value is the number of entries; the link isn't looked at. The key may be any number.
@@ -116,11 +115,11 @@ pub fn archive_start(
 ) -> u64
     ensures { λ r. ⌜ StartMeets (before header) (before walk) key (before index) (before rows) (walkExit r header walk rows) ⌝ }
 {
-    if header.len() < ffi_header::HEADER_CELLS {
+    if header.len() < ffi_cells::HEADER_CELLS {
         return 1;
     }
     if walk.len() < 7 {
-        return ffi_header::answer(header, ffi_header::refusal(1, 0));
+        return ffi_cells::answer(header, ffi_cells::refusal(1, 0));
     }
     start_fit(header, walk, key, index, rows)
 }
@@ -134,15 +133,16 @@ fn next_fit(
     names: &[u64],
     symbols: &[u64],
 ) -> u64
-    ensures { λ r. ⌜ walkLeft (told r (now (header .exit))) (now (walk .exit)) (now (rows .exit)) ≡ nextFit (now (header .entry)) (now (walk .entry)) (now (index .entry)) (now (rows .entry)) (now (bytes .entry)) (now (names .entry)) (now (symbols .entry)) ⌝ }
+    ensures { λ r. ⌜ walkAfter r header walk rows
+        ≡ nextFit (before header) (before walk) (before index) (before rows) (before bytes) (before names) (before symbols) ⌝ }
 {
-    let l = ffi_header::link_in(header);
+    let l = ffi_cells::link_in(header);
     let w = walk_in(walk);
-    let m = archive_pass::next(w, index, rows, l, bytes, names, symbols);
+    let m = archive_walk::next(w, index, rows, l, bytes, names, symbols);
     let moved = m.walk;
     let a = m.offer;
     put_walk(walk, moved);
-    ffi_header::answer(header, offered(a))
+    ffi_cells::answer(header, offered(a))
 }
 
 // The values are 1 for a member, its offset, the entry that queued it and the passes made; 0, 0, 0 and the passes where the walk is done.
@@ -157,11 +157,11 @@ pub fn archive_next(
 ) -> u64
     ensures { λ r. ⌜ NextMeets (before header) (before walk) (before index) (before rows) (before bytes) (before names) (before symbols) (walkExit r header walk rows) ⌝ }
 {
-    if header.len() < ffi_header::HEADER_CELLS {
+    if header.len() < ffi_cells::HEADER_CELLS {
         return 1;
     }
     if walk.len() < 7 {
-        return ffi_header::answer(header, ffi_header::refusal(1, 0));
+        return ffi_cells::answer(header, ffi_cells::refusal(1, 0));
     }
     next_fit(header, walk, index, rows, bytes, names, symbols)
 }
@@ -180,14 +180,14 @@ pub fn matches(
 ) -> u64
     ensures { λ r. ⌜ MatchesMeets (before header) (before walk) (before index) (before rows) entry (before headers) (before entries) (before contents) (before file) (toldExit r header) ⌝ }
 {
-    if header.len() < ffi_header::HEADER_CELLS {
+    if header.len() < ffi_cells::HEADER_CELLS {
         return 1;
     }
     if walk.len() < 7 {
-        return ffi_header::answer(header, ffi_header::refusal(1, 0));
+        return ffi_cells::answer(header, ffi_cells::refusal(1, 0));
     }
-    let l = ffi_header::link_in(header);
+    let l = ffi_cells::link_in(header);
     let w = walk_in(walk);
     let a = object_requirement::matches(l, headers, entries, contents, file, w, index, rows, entry);
-    ffi_header::answer(header, admitted(a))
+    ffi_cells::answer(header, admitted(a))
 }

@@ -1,2 +1,4 @@
 pub mod Cells
-pub mod Ways
+pub mod Proof
+pub mod Header
+pub mod Contract

@@ -1,6 +1,20 @@
 // A symbol that was found, and one that is to be added, in lent cells, for the calls from another language.
 ghost use mathlib.Core.Path.{_≡_};
+ghost use Rattle.cells.specs.Slice.{after, before};
 ghost use Rattle.ffi_cells.specs.Cells.{typeCode, globalCode, visibilityCode, symbolRow, rowOut, symbolOut, isItem, nameIn, wordsIn, elfIn, itemIn};
+
+mod header;
+
+pub use header::HEADER_CELLS;
+pub use header::Reply;
+pub use header::answer;
+pub use header::flag;
+pub use header::is_set;
+pub use header::link_in;
+pub use header::refusal;
+pub use header::refused;
+pub use header::result;
+pub use header::tell;
 use link::Interned;
 use link::SectionId;
 use link::SymbolId;
@@ -51,11 +65,11 @@ fn visibility_code(v: SymbolVisibility) -> u64
 
 // A present row of these fields, behind the id.
 fn put_row(out: &mut [u64], id: SymbolId, row: Row)
-    ensures { λ _. ⌜ now (out .exit) ≡ rowOut (now (out .entry)) id row ⌝ }
+    ensures { λ _. ⌜ after out ≡ rowOut (before out) id row ⌝ }
 {
     let name = row.name;
     let v = row.value;
-    cell_writes::row_store(
+    cells::row_store(
         out,
         0,
         id.0 as u64,
@@ -88,7 +102,7 @@ fn row_of(s: Symbol) -> Row
 }
 
 pub fn put_symbol(out: &mut [u64], s: Symbol)
-    ensures { λ _. ⌜ now (out .exit) ≡ symbolOut (now (out .entry)) s ⌝ }
+    ensures { λ _. ⌜ after out ≡ symbolOut (before out) s ⌝ }
 {
     let id = s.id;
     put_row(out, id, row_of(s));
@@ -98,7 +112,7 @@ pub fn put_symbol(out: &mut [u64], s: Symbol)
 
 // Eight cells: the variant, then its fields. An unknown variant, or an unknown kind of value, is no symbol.
 pub fn is_item(item: &[u64]) -> bool
-    ensures { λ r. ⌜ r ≡ isItem (now (item .entry)) ⌝ }
+    ensures { λ r. ⌜ r ≡ isItem (before item) ⌝ }
 {
     if item.len() < 8 {
         return false;
@@ -117,7 +131,7 @@ pub fn is_item(item: &[u64]) -> bool
 }
 
 fn elf_in(item: &[u64]) -> ElfSymbol
-    ensures { λ r. ⌜ r ≡ elfIn (now (item .entry)) ⌝ }
+    ensures { λ r. ⌜ r ≡ elfIn (before item) ⌝ }
 {
     ElfSymbol {
         binding: cells::get(item, 1),
@@ -129,7 +143,7 @@ fn elf_in(item: &[u64]) -> ElfSymbol
 }
 
 fn words_in(item: &[u64]) -> Words
-    ensures { λ r. ⌜ r ≡ wordsIn (now (item .entry)) ⌝ }
+    ensures { λ r. ⌜ r ≡ wordsIn (before item) ⌝ }
 {
     Words {
         kind: cells::get(item, 2),
@@ -139,13 +153,13 @@ fn words_in(item: &[u64]) -> Words
 }
 
 fn name_in(item: &[u64], i: usize) -> Interned
-    ensures { λ r. ⌜ r ≡ nameIn (now (item .entry)) i ⌝ }
+    ensures { λ r. ⌜ r ≡ nameIn (before item) i ⌝ }
 {
     Interned(cells::get(item, i) as usize)
 }
 
 pub fn item_in(item: &[u64]) -> UpcomingSymbol
-    ensures { λ r. ⌜ r ≡ itemIn (now (item .entry)) ⌝ }
+    ensures { λ r. ⌜ r ≡ itemIn (before item) ⌝ }
 {
     let variant = cells::get(item, 0);
     match variant {
@@ -154,7 +168,7 @@ pub fn item_in(item: &[u64]) -> UpcomingSymbol
         },
         2 => UpcomingSymbol::GlobalHidden {
             name: name_in(item, 1),
-            value: symbol_read::value_at(words_in(item)),
+            value: symbol::value_at(words_in(item)),
         },
         3 => UpcomingSymbol::Section {
             section: SectionId(cells::get(item, 1) as usize),
@@ -167,7 +181,7 @@ pub fn item_in(item: &[u64]) -> UpcomingSymbol
         5 => UpcomingSymbol::Elf {
             elf: elf_in(item),
             name: name_in(item, 6),
-            file: symbol_read::file_at(cells::get(item, 7)),
+            file: symbol::file_at(cells::get(item, 7)),
         },
         _ => UpcomingSymbol::Null,
     }

@@ -7,8 +7,8 @@ use Rattle.gc_sections.specs.declared.EntryPoint.{EntryPoint}
 use Rattle.gc_sections.specs.declared.EntryPoint.the-variants as Entry
 use Rattle.gc_sections.specs.Run.{Said, Left, Lists, runOf}
 use Rattle.plain_collector.specs.Run.{plainOf}
-use Rattle.ffi_header.specs.declared.Reply.{Reply}
-use Rattle.ffi_header.specs.Header.{isShort, linkIn, Told, told, tellOf}
+use Rattle.ffi_cells.specs.declared.header.Reply.{Reply}
+use Rattle.ffi_cells.specs.Header.{isShort, linkIn, Told, told, tellOf}
 
 abbrev pub collectedReply : Said → Reply
 collectedReply s =

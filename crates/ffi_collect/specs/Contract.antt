@@ -4,10 +4,10 @@
 use Prim.Native.Nat.{ℕ}
 use mathlib.Core.Path.{_≡_}
 use mathlib.Core.List.{List}
-use Rattle.cells.specs.Slice.{Slice, before, after}
+use Rattle.cells.specs.Slice.{Slice, after}
 use Rattle.gc_sections.specs.declared.EntryPoint.{EntryPoint}
-use Rattle.gc_sections.specs.Run.{Lists, listsOf}
-use Rattle.ffi_header.specs.Header.{told}
+use Rattle.gc_sections.specs.Run.{Lists}
+use Rattle.ffi_cells.specs.Header.{told}
 use Rattle.ffi_collect.specs.Calls.{runLeft, runCall, plainCall}
 
 pub record RunExit : Type 0 where
@@ -20,10 +20,6 @@ pub record RunExit : Type 0 where
 abbrev pub runExit : ℕ → Slice → Slice → Slice → Slice → RunExit
 runExit n header symbols sections work =
     record { number = n; header = after header; symbols = after symbols; sections = after sections; work = after work }
-
--- what is lent to be read
-abbrev pub listsIn : Slice → Slice → Slice → Slice → Lists
-listsIn bytes names lists marks = listsOf (before bytes) (before names) (before lists) (before marks)
 
 abbrev pub RunMeets : List ℕ → Lists → List ℕ → List ℕ → EntryPoint → List ℕ → RunExit → Type 0
 RunMeets h x symbols sections entry work e =

@@ -1,3 +1,3 @@
 pub mod Calls
 pub mod Contract
-pub mod Ways
+pub mod Proof

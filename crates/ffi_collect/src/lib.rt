@@ -1,11 +1,11 @@
-// Both collections, for another language: the link and the answer lie in a header (ffi_header). A header of fewer than 24 cells gives 1, and nothing is
+// Both collections, for another language: the link and the answer lie in a header (ffi_cells). A header of fewer than 24 cells gives 1, and nothing is
 // read or written.
 ghost use mathlib.Core.Path.{_≡_};
 ghost use Rattle.cells.specs.Slice.{before};
-ghost use Rattle.gc_sections.specs.Run.{saidOf};
+ghost use Rattle.gc_sections.specs.Run.{saidOf, listsIn};
 ghost use Rattle.ffi_collect.specs.Calls.{collectedReply, entryOf};
-ghost use Rattle.ffi_collect.specs.Contract.{runExit, listsIn, RunMeets, PlainMeets};
-use ffi_header::Reply;
+ghost use Rattle.ffi_collect.specs.Contract.{runExit, RunMeets, PlainMeets};
+use ffi_cells::Reply;
 use gc_sections::Answer;
 use gc_sections::EntryPoint;
 use link::SymbolId;
@@ -15,9 +15,9 @@ fn collected(a: Answer) -> Reply
 {
     match a {
         Answer::Dropped { sections, symbols } => {
-            ffi_header::result(sections as u64, symbols as u64, 0, 0)
+            ffi_cells::result(sections as u64, symbols as u64, 0, 0)
         }
-        Answer::Refused { refusal } => ffi_header::refused(refusal),
+        Answer::Refused { refusal } => ffi_cells::refused(refusal),
     }
 }
 
@@ -47,10 +47,10 @@ pub fn gc_run(
 ) -> u64
     ensures { λ r. ⌜ RunMeets (before header) (listsIn bytes names lists marks) (before symbols) (before sections) (entryOf entered entry) (before work) (runExit r header symbols sections work) ⌝ }
 {
-    if header.len() < ffi_header::HEADER_CELLS {
+    if header.len() < ffi_cells::HEADER_CELLS {
         return 1;
     }
-    let l = ffi_header::link_in(header);
+    let l = ffi_cells::link_in(header);
     let point = entry_of(entered, entry);
     let o = gc_sections::run(
         l,
@@ -65,7 +65,7 @@ pub fn gc_run(
     );
     let left = o.link;
     let a = o.answer;
-    ffi_header::tell(header, left, collected(a))
+    ffi_cells::tell(header, left, collected(a))
 }
 
 // The same, by the plain collector.
@@ -83,10 +83,10 @@ pub fn plain_run(
 ) -> u64
     ensures { λ r. ⌜ PlainMeets (before header) (listsIn bytes names lists marks) (before symbols) (before sections) (entryOf entered entry) (before work) (runExit r header symbols sections work) ⌝ }
 {
-    if header.len() < ffi_header::HEADER_CELLS {
+    if header.len() < ffi_cells::HEADER_CELLS {
         return 1;
     }
-    let l = ffi_header::link_in(header);
+    let l = ffi_cells::link_in(header);
     let point = entry_of(entered, entry);
     let o = plain_collector::run(
         l,
@@ -101,5 +101,5 @@ pub fn plain_run(
     );
     let left = o.link;
     let a = o.answer;
-    ffi_header::tell(header, left, collected(a))
+    ffi_cells::tell(header, left, collected(a))
 }

@@ -1,2 +1,2 @@
-pub mod OneOutcome
+pub mod Terms
 pub mod Replies

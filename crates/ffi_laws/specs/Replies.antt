@@ -12,8 +12,9 @@ use lib.Dec.{eqb, ltb}
 use lib.ListN.{getD, take, drop, length, length-set, drop-of-length-le}
 use lib.Seq.{getD-set-same, getD-set-other}
 use borrow.Author.Tests.{eqb-true, eqb-false, ltb-false}
-use Rattle.cells.specs.Split.{by-test}
-use Rattle.cells.specs.Rows.{putRow, length-putRow, row-same, row-other}
+use Rattle.cells.specs.Proof.Split.{by-test}
+use Rattle.cells.specs.Rows.{putRow}
+use Rattle.cells.specs.Proof.Rows.{length-putRow, row-same, row-other}
 use Rattle.link.specs.declared.Link.{Link}
 use Rattle.link.specs.declared.SymbolId.{SymbolId}
 use Rattle.link.specs.Bounds.{lesser}
@@ -35,11 +36,11 @@ use Rattle.archive_walk.specs.Walk.{begunSaid, offerSaid}
 use Rattle.object_requirement.specs.declared.Admission.{Admission}
 use Rattle.object_requirement.specs.declared.Admission.the-variants as Admits
 use Rattle.object_requirement.specs.Matches as Matches
-use Rattle.ffi_header.specs.declared.Reply.{Reply}
-use Rattle.ffi_header.specs.Header.{isSet, flagOf, isShort, linkIn, refusalOf, replyIn, countsIn, profileIn, headerOf, tellOf, answerOf}
+use Rattle.ffi_cells.specs.declared.header.Reply.{Reply}
+use Rattle.ffi_cells.specs.Header.{isSet, flagOf, isShort, linkWith, linkIn, refusalOf, replyIn, countsIn, profileIn, headerOf, tellOf, answerOf}
 use Rattle.ffi_cells.specs.Cells.{symbolOut}
 use Rattle.ffi_names.specs.Calls.{firstOf, partReply, resolveReply}
-use Rattle.ffi_lookup.specs.Calls.{FoundLeft, foundLeft, foundOf, sectionSymbolReply}
+use Rattle.ffi_symbols.specs.LookupCalls.{FoundLeft, foundLeft, foundOf, sectionSymbolReply}
 use Rattle.ffi_archive.specs.Calls.{begunReply, offeredReply, admittedReply}
 
 -- ---- the words
@@ -220,7 +221,7 @@ module _ (h : List ℕ) (long : isShort h ≡ false) (r : Reply) where
     flag-back false = refl
 
     pub tell-link : linkIn (tellOf h l r .header) ≡ l
-    unfolding linkIn tellOf
+    unfolding linkIn linkWith tellOf
     tell-link =
         rw (
           count-cell 0 (omega arith),

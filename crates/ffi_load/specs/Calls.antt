@@ -5,7 +5,7 @@ use mathlib.Core.Bool.{cond}
 use mathlib.Core.List.{List}
 use Rattle.link.specs.declared.Link.{Link}
 use Rattle.shared_objects.specs.Load.{All, allOf, Input, Left, loadOf}
-use Rattle.ffi_header.specs.Header.{isShort, linkIn, saying, Told, told, tellOf}
+use Rattle.ffi_cells.specs.Header.{isShort, linkIn, saying, Told, told, tellOf}
 
 -- the lent cells that a load may write
 pub record Rows : Type 0 where

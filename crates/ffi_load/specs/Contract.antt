@@ -3,13 +3,12 @@
 -- Assumes nothing.
 use Prim.Native.Nat.{ℕ}
 use mathlib.Core.Path.{_≡_}
-use mathlib.Core.Bool.{Bool}
 use mathlib.Core.List.{List}
 use denote.Triple.Both.{Both}
 use Rattle.cells.specs.Slice.{Slice, before, after}
-use Rattle.shared_objects.specs.Load.{Input, inputAs}
-use Rattle.ffi_header.specs.Header.{told}
-use Rattle.ffi_header.specs.Contract.{ToldExit}
+use Rattle.shared_objects.specs.Load.{Input}
+use Rattle.ffi_cells.specs.Header.{told}
+use Rattle.ffi_cells.specs.Contract.{ToldExit}
 use Rattle.ffi_load.specs.Calls.{Rows, rowsOf, loadLeft, loadCall}
 
 -- the link's rows and the marks, before the call and after it
@@ -19,11 +18,6 @@ linkRows b n s x i l m =
       entry = rowsOf (before b) (before n) (before s) (before x) (before i) (before l) (before m);
       exit = rowsOf (after b) (after n) (after s) (after x) (after i) (after l) (after m);
     }
-
--- the library as it is lent
-abbrev pub libraryIn : Slice → Slice → Slice → Slice → Bool → Bool → ℕ → Bool → Input
-libraryIn entries file needs path archived sonamed soname asneeded =
-    inputAs (before entries) (before file) (before needs) (before path) archived sonamed soname asneeded
 
 abbrev pub LoadMeets : List ℕ → Input → Both Rows Rows → ToldExit → Type 0
 LoadMeets h o c e = loadLeft (told (e .number) (e .header)) (c .exit) ≡ loadCall h o (c .entry)

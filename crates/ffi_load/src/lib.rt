@@ -1,21 +1,21 @@
-// The load of a shared object, for another language: the link and the answer lie in a header (ffi_header). A header of fewer than 24 cells gives 1,
+// The load of a shared object, for another language: the link and the answer lie in a header (ffi_cells). A header of fewer than 24 cells gives 1,
 // and nothing is read or written.
 ghost use mathlib.Core.Path.{_≡_};
 ghost use Rattle.cells.specs.Slice.{before};
-ghost use Rattle.shared_objects.specs.Load.{saidOf};
-ghost use Rattle.ffi_header.specs.Header.{saying};
-ghost use Rattle.ffi_header.specs.Contract.{toldExit};
-ghost use Rattle.ffi_load.specs.Contract.{linkRows, libraryIn, LoadMeets};
-use ffi_header::Reply;
+ghost use Rattle.shared_objects.specs.Load.{saidOf, libraryIn};
+ghost use Rattle.ffi_cells.specs.Header.{saying};
+ghost use Rattle.ffi_cells.specs.Contract.{toldExit};
+ghost use Rattle.ffi_load.specs.Contract.{linkRows, LoadMeets};
+use ffi_cells::Reply;
 use shared_objects::Answer;
 
 fn loaded(a: Answer) -> Reply
     ensures { λ r. ⌜ r ≡ saying (saidOf a) ⌝ }
 {
     match a {
-        Answer::Loaded => ffi_header::result(1, 0, 0, 0),
-        Answer::NotNeeded => ffi_header::result(0, 0, 0, 0),
-        Answer::Refused { refusal } => ffi_header::refused(refusal),
+        Answer::Loaded => ffi_cells::result(1, 0, 0, 0),
+        Answer::NotNeeded => ffi_cells::result(0, 0, 0, 0),
+        Answer::Refused { refusal } => ffi_cells::refused(refusal),
     }
 }
 
@@ -40,10 +40,10 @@ pub fn load_shared_object<'a>(
 ) -> u64
     ensures { λ r. ⌜ LoadMeets (before header) (libraryIn entries file needs path archived sonamed soname asneeded) (linkRows bytes names symbols sections inputs lists marks) (toldExit r header) ⌝ }
 {
-    if header.len() < ffi_header::HEADER_CELLS {
+    if header.len() < ffi_cells::HEADER_CELLS {
         return 1;
     }
-    let l = ffi_header::link_in(header);
+    let l = ffi_cells::link_in(header);
     let o = shared_objects::load_shared_object(
         l,
         bytes,
@@ -64,5 +64,5 @@ pub fn load_shared_object<'a>(
     );
     let left = o.link;
     let a = o.answer;
-    ffi_header::tell(header, left, loaded(a))
+    ffi_cells::tell(header, left, loaded(a))
 }

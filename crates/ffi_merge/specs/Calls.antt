@@ -6,10 +6,10 @@ use mathlib.Core.List.{List}
 use Rattle.link.specs.declared.Link.{Link}
 use Rattle.link.specs.Judge.{goingOf}
 use Rattle.section_groups.specs.Group as Group
-use Rattle.add_group.specs.AddGroup as AddGroup
+use Rattle.section_groups.specs.AddGroup as AddGroup
 use Rattle.merge_stages.specs.Stages.{All, allOf, Object}
 use Rattle.merge_elf.specs.Merge.{Left, mergeOf}
-use Rattle.ffi_header.specs.Header.{isShort, linkIn, refusedOf, Told, told, tellOf}
+use Rattle.ffi_cells.specs.Header.{isShort, linkIn, refusedOf, Told, told, tellOf}
 
 -- ---- a group
 

@@ -8,8 +8,8 @@ use denote.Triple.Both.{Both}
 use Rattle.cells.specs.Slice.{Slice, before, after}
 use Rattle.section_groups.specs.Group as Group
 use Rattle.merge_stages.specs.Stages as Stages
-use Rattle.ffi_header.specs.Header.{told}
-use Rattle.ffi_header.specs.Contract.{ToldExit}
+use Rattle.ffi_cells.specs.Header.{told}
+use Rattle.ffi_cells.specs.Contract.{ToldExit}
 use Rattle.ffi_merge.specs.Calls.{groupLeft, groupCall, Rows, rowsOf, mergeLeft, mergeCall}
 
 -- ---- `add_group`

@@ -1,20 +1,25 @@
-// The merge of an object, and a group added by itself, for another language: the link and the answer lie in a header (ffi_header). A header of fewer
+// The merge of an object, and a group added by itself, for another language: the link and the answer lie in a header (ffi_cells). A header of fewer
 // than 24 cells gives 1, and nothing is read or written. There are no values.
 ghost use mathlib.Core.Path.{_≡_};
 ghost use Rattle.cells.specs.Slice.{before};
-ghost use Rattle.add_group.specs.AddGroup as AddGroup;
+ghost use Rattle.section_groups.specs.AddGroup as AddGroup;
 ghost use Rattle.merge_elf.specs.Merge as Merge;
-ghost use Rattle.ffi_header.specs.Header.{refusedOf};
-ghost use Rattle.ffi_header.specs.Contract.{toldExit};
+ghost use Rattle.ffi_cells.specs.Header.{refusedOf};
+ghost use Rattle.ffi_cells.specs.Contract.{toldExit};
 ghost use Rattle.ffi_merge.specs.Contract.{groupExit, groupObject, GroupMeets, linkRows, mergeObject, MergeMeets};
-use ffi_header::Reply;
 
-fn grouped(a: add_group::Answer) -> Reply
+mod file;
+
+use ffi_cells::Reply;
+pub use file::merge_file;
+pub use file::read_file;
+
+fn grouped(a: section_groups::Answer) -> Reply
     ensures { λ r. ⌜ r ≡ refusedOf (AddGroup.refusalOf a) ⌝ }
 {
     match a {
-        add_group::Answer::Added => ffi_header::result(0, 0, 0, 0),
-        add_group::Answer::Refused { refusal } => ffi_header::refused(refusal),
+        section_groups::Answer::Added => ffi_cells::result(0, 0, 0, 0),
+        section_groups::Answer::Refused { refusal } => ffi_cells::refused(refusal),
     }
 }
 
@@ -27,17 +32,17 @@ pub fn add_group(
     headers: &[u64],
     entries: &[u64],
     contents: &[u64],
-    file: &[u8],
+    image: &[u8],
     t: usize,
     n: usize,
 ) -> u64
-    ensures { λ r. ⌜ GroupMeets (before header) (groupObject headers entries contents file t) (before bytes) (before names) (before work) n (groupExit r header bytes names work) ⌝ }
+    ensures { λ r. ⌜ GroupMeets (before header) (groupObject headers entries contents image t) (before bytes) (before names) (before work) n (groupExit r header bytes names work) ⌝ }
 {
-    if header.len() < ffi_header::HEADER_CELLS {
+    if header.len() < ffi_cells::HEADER_CELLS {
         return 1;
     }
-    let l = ffi_header::link_in(header);
-    let o = add_group::add_group(
+    let l = ffi_cells::link_in(header);
+    let o = section_groups::add_group(
         l,
         bytes,
         names,
@@ -45,21 +50,21 @@ pub fn add_group(
         headers,
         entries,
         contents,
-        file,
+        image,
         t,
         n,
     );
     let left = o.link;
     let a = o.answer;
-    ffi_header::tell(header, left, grouped(a))
+    ffi_cells::tell(header, left, grouped(a))
 }
 
 pub fn merged(a: merge_elf::Answer) -> Reply
     ensures { λ r. ⌜ r ≡ refusedOf (Merge.refusalOf a) ⌝ }
 {
     match a {
-        merge_elf::Answer::Merged => ffi_header::result(0, 0, 0, 0),
-        merge_elf::Answer::Refused { refusal } => ffi_header::refused(refusal),
+        merge_elf::Answer::Merged => ffi_cells::result(0, 0, 0, 0),
+        merge_elf::Answer::Refused { refusal } => ffi_cells::refused(refusal),
     }
 }
 
@@ -76,15 +81,15 @@ pub fn merge_elf(
     headers: &[u64],
     entries: &[u64],
     contents: &[u64],
-    file: &[u8],
-    strings: usize,
+    image: &[u8],
+    shstrndx: usize,
 ) -> u64
-    ensures { λ r. ⌜ MergeMeets (before header) (mergeObject headers entries contents file strings) (linkRows bytes names symbols sections inputs lists work ids) (toldExit r header) ⌝ }
+    ensures { λ r. ⌜ MergeMeets (before header) (mergeObject headers entries contents image shstrndx) (linkRows bytes names symbols sections inputs lists work ids) (toldExit r header) ⌝ }
 {
-    if header.len() < ffi_header::HEADER_CELLS {
+    if header.len() < ffi_cells::HEADER_CELLS {
         return 1;
     }
-    let l = ffi_header::link_in(header);
+    let l = ffi_cells::link_in(header);
     let o = merge_elf::merge_elf(
         l,
         bytes,
@@ -98,10 +103,10 @@ pub fn merge_elf(
         headers,
         entries,
         contents,
-        file,
-        strings,
+        image,
+        shstrndx,
     );
     let left = o.link;
     let a = o.answer;
-    ffi_header::tell(header, left, merged(a))
+    ffi_cells::tell(header, left, merged(a))
 }

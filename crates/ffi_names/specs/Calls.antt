@@ -9,8 +9,8 @@ use Rattle.link.specs.Bounds.{lesser}
 use Rattle.link.specs.Judge.{judgeOf}
 use Rattle.interner.specs.Names.{Store, storeOf, findOf}
 use Rattle.interner.specs.Calls.{Left, lent, internOf, Resolved, resolveOf}
-use Rattle.ffi_header.specs.declared.Reply.{Reply}
-use Rattle.ffi_header.specs.Header.{isShort, linkIn, resultOf, refusalOf, refusedOf, saying, Told, told, tellOf, answerOf}
+use Rattle.ffi_cells.specs.declared.header.Reply.{Reply}
+use Rattle.ffi_cells.specs.Header.{isShort, linkIn, resultOf, refusalOf, refusedOf, saying, Told, told, tellOf, answerOf}
 
 pub record InternLeft : Type 0 where
   pub told : Told

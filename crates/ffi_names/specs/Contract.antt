@@ -5,8 +5,8 @@ use Prim.Native.Nat.{ℕ}
 use mathlib.Core.Path.{_≡_}
 use mathlib.Core.List.{List}
 use Rattle.cells.specs.Slice.{Slice, after}
-use Rattle.ffi_header.specs.Header.{told}
-use Rattle.ffi_header.specs.Contract.{ToldExit}
+use Rattle.ffi_cells.specs.Header.{told}
+use Rattle.ffi_cells.specs.Contract.{ToldExit}
 use Rattle.ffi_names.specs.Calls.{internLeft, internCall, resolveCall, findCall}
 
 pub record InternExit : Type 0 where

@@ -1,4 +1,3 @@
 pub mod Calls
 pub mod Contract
-pub mod Laws
-pub mod Ways
+pub mod Proof

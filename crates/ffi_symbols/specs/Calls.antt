@@ -5,13 +5,14 @@ use mathlib.Core.Bool.{true, false, cond}
 use mathlib.Core.List.{List}
 use lib.Dec.{eqb}
 use Rattle.upcoming_symbol.specs.declared.UpcomingSymbol.{UpcomingSymbol}
-use Rattle.symbol_rows.specs.Apply.{tableOf}
+use Rattle.symbol_resolution.specs.Apply.{tableOf}
 use Rattle.symbols.specs.Calls as Table
 use Rattle.symbols.specs.New as New
 use Rattle.symbols.specs.Add.{addOf}
 use Rattle.symbols.specs.Remove as Remove
-use Rattle.ffi_header.specs.Header.{isShort, linkIn, refusalOf, saying, Told, told, tellOf, answerOf}
+use Rattle.ffi_cells.specs.Header.{isShort, linkIn, refusalOf, saying, Told, told, tellOf, answerOf}
 use Rattle.ffi_cells.specs.Cells.{isItem, itemIn}
+use Rattle.cells.specs.Slice.{Slice, after}
 
 -- ---- new
 
@@ -24,6 +25,10 @@ pub record NewLeft : Type 0 where
 
 abbrev pub newLeft : Told → List ℕ → List ℕ → List ℕ → List ℕ → NewLeft
 newLeft t b n s x = record { told = t; bytes = b; names = n; symbols = s; sections = x }
+
+-- of lent slices after the call
+abbrev pub newAfter : ℕ → Slice → Slice → Slice → Slice → Slice → NewLeft
+newAfter r h b n s x = newLeft (told r (after h)) (after b) (after n) (after s) (after x)
 
 abbrev pub newTold : List ℕ → New.NewLeft → NewLeft
 newTold h w =
@@ -53,6 +58,10 @@ pub record AddLeft : Type 0 where
 
 abbrev pub addLeft : Told → List ℕ → List ℕ → List ℕ → AddLeft
 addLeft t n s x = record { told = t; names = n; symbols = s; sections = x }
+
+-- of lent slices after the call
+abbrev pub addAfter : ℕ → Slice → Slice → Slice → Slice → AddLeft
+addAfter r h n s x = addLeft (told r (after h)) (after n) (after s) (after x)
 
 abbrev pub addTold : List ℕ → Table.Left → AddLeft
 addTold h w = addLeft (tellOf h (w .table .link) (saying (w .said))) (w .table .names) (w .table .symbols) (w .table .sections)

@@ -5,7 +5,7 @@ use Prim.Native.Nat.{ℕ}
 use mathlib.Core.Path.{_≡_}
 use mathlib.Core.List.{List}
 use Rattle.cells.specs.Slice.{Slice, after}
-use Rattle.ffi_header.specs.Header.{told}
+use Rattle.ffi_cells.specs.Header.{told}
 use Rattle.ffi_symbols.specs.Calls.{newLeft, newCall, addLeft, addCall, removeLeft, removeCall}
 
 pub record NewExit : Type 0 where

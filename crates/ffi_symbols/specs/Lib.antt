@@ -1,3 +1,5 @@
 pub mod Calls
 pub mod Contract
-pub mod Ways
+pub mod Proof
+pub mod LookupCalls
+pub mod LookupContract

@@ -1,15 +1,21 @@
-// A new table, symbols added and removed, for another language: the link and the answer lie in a header (ffi_header), a symbol that is to be added
+// A new table, symbols added and removed, for another language: the link and the answer lie in a header (ffi_cells), a symbol that is to be added
 // in cells of its own (ffi_cells). A header of fewer than 24 cells gives 1, and nothing is read or written; other cells that are too few give 1 at
 // place 0 and are left.
 ghost use mathlib.Core.Path.{_≡_};
 ghost use Rattle.cells.specs.Slice.{before};
 ghost use Rattle.symbols.specs.Calls.{said};
 ghost use Rattle.symbols.specs.New as New;
-ghost use Rattle.ffi_header.specs.Header.{saying, told};
-ghost use Rattle.ffi_symbols.specs.Calls.{newLeft, newTold, addLeft, addKnown};
+ghost use Rattle.ffi_cells.specs.Header.{saying};
+ghost use Rattle.ffi_symbols.specs.Calls.{newTold, addKnown, addAfter, newAfter};
 ghost use Rattle.ffi_symbols.specs.Contract.{newExit, NewMeets, addExit, AddMeets, removeExit, RemoveMeets};
-use ffi_header::Reply;
+
+mod lookup;
+
+use ffi_cells::Reply;
 use link::SymbolId;
+pub use lookup::get;
+pub use lookup::get_global;
+pub use lookup::section_symbol_id;
 use symbols::Answer;
 use symbols::Symbols;
 use upcoming_symbol::UpcomingSymbol;
@@ -18,8 +24,8 @@ fn added(a: Answer) -> Reply
     ensures { λ r. ⌜ r ≡ saying (said a) ⌝ }
 {
     match a {
-        Answer::Symbol { id } => ffi_header::result(id.0 as u64, 0, 0, 0),
-        Answer::Refused { refusal } => ffi_header::refused(refusal),
+        Answer::Symbol { id } => ffi_cells::result(id.0 as u64, 0, 0, 0),
+        Answer::Refused { refusal } => ffi_cells::refused(refusal),
     }
 }
 
@@ -37,13 +43,14 @@ fn new_in(
     symbols: &mut [u64],
     sections: &mut [u64],
 ) -> u64
-    ensures { λ r. ⌜ newLeft (told r (now (header .exit))) (now (bytes .exit)) (now (names .exit)) (now (symbols .exit)) (now (sections .exit)) ≡ newTold (now (header .entry)) (New.newOf key gabi (now (bytes .entry)) (now (names .entry)) (now (symbols .entry)) (now (sections .entry))) ⌝ }
+    ensures { λ r. ⌜ newAfter r header bytes names symbols sections
+        ≡ newTold (before header) (New.newOf key gabi (before bytes) (before names) (before symbols) (before sections)) ⌝ }
 {
     let o = Symbols::new(key, gabi, bytes, names, symbols, sections);
     let table = o.table;
     let l = table.link;
     let a = o.answer;
-    ffi_header::tell(header, l, added(a))
+    ffi_cells::tell(header, l, added(a))
 }
 
 // The value is the null symbol's id. What the lent cells held before doesn't matter. Any number is a key of the names' hash; a profile is 0, the old one,
@@ -59,7 +66,7 @@ pub fn new(
 ) -> u64
     ensures { λ r. ⌜ NewMeets (before header) key profile (before bytes) (before names) (before symbols) (before sections) (newExit r header bytes names symbols sections) ⌝ }
 {
-    if header.len() < ffi_header::HEADER_CELLS {
+    if header.len() < ffi_cells::HEADER_CELLS {
         return 1;
     }
     if profile == OLD {
@@ -68,7 +75,7 @@ pub fn new(
     if profile == GABI {
         return new_in(header, key, true, bytes, names, symbols, sections);
     }
-    ffi_header::answer(header, ffi_header::refusal(1, 0))
+    ffi_cells::answer(header, ffi_cells::refusal(1, 0))
 }
 
 fn add_known(
@@ -79,14 +86,15 @@ fn add_known(
     conversion: &[u64],
     u: UpcomingSymbol,
 ) -> u64
-    ensures { λ r. ⌜ addLeft (told r (now (header .exit))) (now (names .exit)) (now (symbols .exit)) (now (sections .exit)) ≡ addKnown (now (header .entry)) (now (names .entry)) (now (symbols .entry)) (now (sections .entry)) (now (conversion .entry)) u ⌝ }
+    ensures { λ r. ⌜ addAfter r header names symbols sections
+        ≡ addKnown (before header) (before names) (before symbols) (before sections) (before conversion) u ⌝ }
 {
-    let l = ffi_header::link_in(header);
-    let o = symbol_add::add(Symbols { link: l }, names, symbols, sections, conversion, u);
+    let l = ffi_cells::link_in(header);
+    let o = symbols::add(Symbols { link: l }, names, symbols, sections, conversion, u);
     let table = o.table;
     let grown = table.link;
     let a = o.answer;
-    ffi_header::tell(header, grown, added(a))
+    ffi_cells::tell(header, grown, added(a))
 }
 
 // The value is the symbol's id.
@@ -100,27 +108,27 @@ pub fn add(
 ) -> u64
     ensures { λ r. ⌜ AddMeets (before header) (before names) (before symbols) (before sections) (before conversion) (before item) (addExit r header names symbols sections) ⌝ }
 {
-    if header.len() < ffi_header::HEADER_CELLS {
+    if header.len() < ffi_cells::HEADER_CELLS {
         return 1;
     }
     if ffi_cells::is_item(item) {
         let u = ffi_cells::item_in(item);
         return add_known(header, names, symbols, sections, conversion, u);
     }
-    ffi_header::answer(header, ffi_header::refusal(1, 0))
+    ffi_cells::answer(header, ffi_cells::refusal(1, 0))
 }
 
 // The value is the id.
 pub fn remove(header: &mut [u64], symbols: &mut [u64], sections: &mut [u64], id: usize) -> u64
     ensures { λ r. ⌜ RemoveMeets (before header) (before symbols) (before sections) id (removeExit r header symbols sections) ⌝ }
 {
-    if header.len() < ffi_header::HEADER_CELLS {
+    if header.len() < ffi_cells::HEADER_CELLS {
         return 1;
     }
-    let l = ffi_header::link_in(header);
-    let o = symbol_remove::remove(Symbols { link: l }, symbols, sections, SymbolId(id));
+    let l = ffi_cells::link_in(header);
+    let o = symbols::remove(Symbols { link: l }, symbols, sections, SymbolId(id));
     let table = o.table;
     let left = table.link;
     let a = o.answer;
-    ffi_header::tell(header, left, added(a))
+    ffi_cells::tell(header, left, added(a))
 }

@@ -6,8 +6,8 @@ use mathlib.Core.Path.{_≡_, sym, _∙_}
 use mathlib.Core.Bool.{Bool, true, false}
 use mathlib.Core.List.{List}
 use lib.ListN.{getD, length}
-use Rattle.cells.specs.Split.{by-test}
-use Rattle.byte_slices.specs.Ways.{apart}
+use Rattle.cells.specs.Proof.Split.{by-test}
+use Rattle.byte_slices.specs.Proof.Ways.{apart}
 use Rattle.link.specs.declared.Link.{Link}
 use Rattle.sections.specs.Rows.{field, firstAt, isBuilt}
 use Rattle.gc_sections.specs.declared.EntryPoint.{EntryPoint}
@@ -16,10 +16,10 @@ use Rattle.gc_sections.specs.declared.Lead.the-variants.{Section}
 use Rattle.gc_sections.specs.Roots.{symbolId, sectionId, leadOf, readable, nameIs, rooted, isRoot}
 use Rattle.gc_sections.specs.Run.{Left, Lists, judged, runOf}
 use Rattle.gc_laws.specs.Reached.{Leads, Reached, marked, entered, root, step}
-use Rattle.gc_laws.specs.Own.{built-own, own-built, leads-own, own-leads, root-own, own-root}
+use Rattle.gc_laws.specs.Proof.Own.{built-own, own-built, leads-own, own-leads, root-own, own-root}
 use Rattle.gc_laws.specs.Walk.{built-below}
-use Rattle.gc_laws.specs.Paint.{picked-none, paint-none, length-painted}
-use Rattle.gc_laws.specs.Swept.{stateCell, symbolCell, freed}
+use Rattle.gc_laws.specs.Proof.Paint.{picked-none, paint-none, length-painted}
+use Rattle.gc_laws.specs.Proof.Swept.{stateCell, symbolCell, freed}
 use Rattle.gc_laws.specs.Collected as C
 
 module _ (l : Link) (x : Lists) (symbols sections : List ℕ) (entry : EntryPoint) (work : List ℕ) (ok : judged l x symbols sections work .number ≡ 0)

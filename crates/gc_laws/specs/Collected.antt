@@ -10,8 +10,8 @@ use mathlib.Core.List.{List}
 use borrow.Author.Tests.{eq-eqb, ne-eqb, eqb-true, lt-ltb, ltb-true, ltb-false, lt-leb, le-leb}
 use lib.Dec.{eqb, ltb, leb}
 use lib.ListN.{getD, length}
-use Rattle.cells.specs.Split.{by-test}
-use Rattle.byte_slices.specs.Ways.{apart}
+use Rattle.cells.specs.Proof.Split.{by-test}
+use Rattle.byte_slices.specs.Proof.Ways.{apart}
 use Rattle.link.specs.declared.Link.{Link}
 use Rattle.link.specs.declared.Refusal.{Refusal}
 use Rattle.link.specs.declared.SectionId.{SectionId}
@@ -33,9 +33,9 @@ use Rattle.gc_sections.specs.Run.{Left, left, Lists, numberOf, placeOf, judged,
 use Rattle.gc_laws.specs.Reached.{Reached}
 use Rattle.gc_laws.specs.Walk.{built-below}
 use Rattle.gc_laws.specs.Exact.{Exact, exact, elsewhere, lead-below}
-use Rattle.gc_laws.specs.Paint.{paint, picked, length-painted, paint-hit, paint-miss}
-use Rattle.gc_laws.specs.Swept.{stateCell, itself, doomed, swept-is, taken, gone, takesSymbol, freed, symbolCell, purged-is}
-use Rattle.gc_laws.specs.Head.{sections-fit, slots-fit, symbols-fit, work-fits, run-is}
+use Rattle.gc_laws.specs.Proof.Paint.{paint, picked, length-painted, paint-hit, paint-miss, paint-falls}
+use Rattle.gc_laws.specs.Proof.Swept.{stateCell, itself, doomed, swept-is, taken, gone, takesSymbol, freed, symbolCell, purged-is}
+use Rattle.gc_laws.specs.Proof.Head.{sections-fit, slots-fit, symbols-fit, work-fits, run-is}
 
 pub differ : (a b : ℕ) (q : Refusal) → Dropped a b ≡ Refused q → ⊥
 differ a b q e = let z : _≡_ {A = ℕ} 0 1 = cc in omega arith
@@ -291,11 +291,6 @@ module _ (l : Link) (x : Lists) (symbols sections : List ℕ) (entry : EntryPoin
           let q = goes-no i (subst (λ (m : ℕ). goes m ≡ true) s e) in
           doomed-no (q .0) (q .2) .1 (k z (q .0) (q .1) (doomed-no (q .0) (q .2) .0))))
 
-      pub unreached-doomed : (y : ℕ) → Built y → D y ≡ false → R y
-      unreached-doomed y b e =
-          let h = built-below sections n y b in
-          ⊎-elim (λ z. absurd (apart (sym e ∙ idle y b z))) (λ m. found .good .sound y h m .0) (found .good .bit y h)
-
       -- ---- what symbols lead to after the call
 
       pub row-same : (i f : ℕ) → f < 8 → goes i ≡ false → Symbol.field (r .symbols) i f ≡ Symbol.field symbols i f
@@ -358,6 +353,14 @@ module _ (l : Link) (x : Lists) (symbols sections : List ℕ) (entry : EntryPoin
           rw (run-result, ← e)
           (paint-hit frees (symbolCell symbols cells) 0 (l .symbols) 0 sections₁ i (omega arith) (omega (arith, lead-below symbols (l .symbols) i y m)) f
           (omega (arith, fit, room, length-painted D stateCell 3 n 0 sections)))
+
+      -- and none gets another
+      pub section-symbol-falls : (y : ℕ) → getD (r .sections) (cells * 8 + y) 0 ≤ getD sections (cells * 8 + y) 0
+      unfolding result
+      section-symbol-falls y =
+          let same : getD sections₁ (cells * 8 + y) 0 ≡ getD sections (cells * 8 + y) 0 =
+          paint-miss D stateCell 3 n 0 sections (cells * 8 + y) (λ j a b e d. omega (arith, fit)) in
+          rw (run-result, ← same) (paint-falls frees (symbolCell symbols cells) (l .symbols) 0 sections₁ (cells * 8 + y))
 
       pub section-symbol-stays : (y : ℕ) → ((i : ℕ) → Lies i y → Symbol.field symbols i 5 ≡ 2 → Built y → R y)
           → getD (r .sections) (cells * 8 + y) 0 ≡ getD sections (cells * 8 + y) 0

@@ -11,8 +11,8 @@ use mathlib.Core.List.{List}
 use borrow.Author.Tests.{ltb-true, ltb-false, leb-true, leb-false, eqb-true, eqb-false}
 use lib.Dec.{eqb, ltb, leb}
 use lib.ListN.{getD, length}
-use Rattle.cells.specs.Split.{by-test}
-use Rattle.byte_slices.specs.Ways.{apart}
+use Rattle.cells.specs.Proof.Split.{by-test}
+use Rattle.byte_slices.specs.Proof.Ways.{apart}
 use Rattle.link.specs.declared.Link.{Link}
 use Rattle.link.specs.declared.SectionId.{SectionId}
 use Rattle.sections.specs.Rows.{firstAt, countAt, isBuilt}
@@ -26,8 +26,9 @@ use Rattle.gc_sections.specs.Roots.{symbolId, sectionId, leadOf, isRoot}
 use Rattle.gc_sections.specs.Reach.{Walk, saveOf, reachLead, addOf, rootSymbol, rootSection, entryOf, endOf, relocation, relocations, follow, visit, clearCell, startOf, rootsOf, processOf, walked}
 use Rattle.gc_sections.specs.Run.{Lists}
 use Rattle.gc_laws.specs.Reached.{Names, Reached, marked, entered, root, step}
-use Rattle.gc_laws.specs.Own.{built-own, own-built, leads-own, own-leads, root-own, own-root}
-use Rattle.gc_laws.specs.Marks.{marks, marks-le, marks-none, cleared, length-cleared}
+use Rattle.gc_laws.specs.Proof.Own.{built-own, own-built, leads-own, own-leads, root-own, own-root}
+use Rattle.gc_laws.specs.Marks.{marks}
+use Rattle.gc_laws.specs.Proof.Marks.{marks-le, marks-none, cleared, length-cleared}
 use Rattle.gc_laws.specs.Walk.{Good, Ext, Seen, Steps, none, ext-refl, ext-trans, ext-seen, save-step, reach-step, each-steps, built-below}
 
 pub elsewhere : (id : SectionId) → Leading.Nowhere ≡ Leading.Section id → ⊥

@@ -9,10 +9,11 @@ use Rattle.byte_slices.specs.Bytes.{same}
 use Rattle.link.specs.declared.Link.{Link}
 use Rattle.link.specs.Bounds.{lesser}
 use Rattle.link.specs.Judge as Link
-use Rattle.symbol_rows.specs.Decide.{sectionCell}
-use Rattle.symbol_rows.specs.Apply.{setSectionSymbol}
+use Rattle.link.specs.Counts.{noNames, withNames, withSymbols, withSections, withLists, withSlots}
+use Rattle.symbol_resolution.specs.Decide.{sectionCell}
+use Rattle.symbol_resolution.specs.Apply.{setSectionSymbol}
 use Rattle.symbols.specs.Remove.{dropSection, removeRowOf}
-use Rattle.sections.specs.Rows.{stateAt, isBuilt}
+use Rattle.sections.specs.Rows.{stateAt, isBuilt, builtState, program, sectionCells, reservedCells}
 use Rattle.symbol.specs.Row as Symbol
 use Rattle.gc_sections.specs.declared.EntryPoint.the-variants as Entry
 use Rattle.gc_sections.specs.declared.Answer.{Answer}
@@ -25,7 +26,7 @@ use Rattle.gc_sections.specs.Run.{Left, Lists, listsOf, judgeCells, judgeOf, pu
 
 -- counts: one name of no bytes; so many symbols, sections and list cells
 abbrev pub counts : ℕ → ℕ → ℕ → Link
-counts symbols sections lists = record { names = 1; bytes = 0; symbols = symbols; sections = sections; inputs = 0; lists = lists; chains = 1; slots = sections; key = 0; gabi = false; broken = false }
+counts symbols sections lists = withSlots (withLists (withSections (withSymbols (withNames (noNames 0 1) 1 0) symbols) sections) lists) sections
 
 -- the null symbol, and one that lies in section s: local, `Section`
 abbrev pub null : List ℕ
@@ -36,10 +37,10 @@ inSection s = 1 ∷ 0 ∷ 3 ∷ 0 ∷ 0 ∷ 2 ∷ s ∷ 0 ∷ []
 
 -- a built program section: read or not, with one relocation at a place of the lists
 abbrev pub section : ℕ → ℕ → List ℕ
-section read first = 2 ∷ 0 ∷ 1 ∷ 0 ∷ read ∷ first ∷ 1 ∷ 0 ∷ []
+section read first = sectionCells builtState 0 program 0 read first 1
 
 abbrev pub reserved : List ℕ
-reserved = 1 ∷ 0 ∷ 0 ∷ 0 ∷ 0 ∷ 0 ∷ 0 ∷ 0 ∷ []
+reserved = reservedCells
 
 abbrev pub lent : List ℕ → List ℕ → Lists
 lent lists marks = listsOf [] (replicate {A = ℕ} 9 0) lists marks

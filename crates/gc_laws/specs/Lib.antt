@@ -1,14 +1,9 @@
 pub mod Reached
-pub mod Own
 pub mod Marks
 pub mod Walk
 pub mod Exact
-pub mod Paint
-pub mod Swept
-pub mod Head
 pub mod Collected
-pub mod Demand
+pub mod Terms
 pub mod Again
-pub mod BySection
-pub mod WorkCells
 pub mod Examples
+pub mod Proof

@@ -9,10 +9,12 @@ use mathlib.Core.Logic.{_≢_}
 use lib.ListN.{getD}
 use Rattle.link.specs.declared.Link.{Link}
 use Rattle.interner.specs.Names.{nameAt}
+use Rattle.symbol.specs.Layout.{removedState, sectionKind, relativeKind, addressKind}
 use Rattle.symbol.specs.Row as Symbol
-use Rattle.sections.specs.Rows.{field, stateAt, nameIdAt, retainAt, readAt, firstAt, countAt}
+use Rattle.sections.specs.Rows.{stateAt, nameIdAt, kindAt, retainAt, readAt, firstAt, countAt, builtState, program, uninitialized}
 use Rattle.gc_sections.specs.declared.EntryPoint.{EntryPoint}
 use Rattle.gc_sections.specs.declared.EntryPoint.the-variants.{Symbol}
+use Rattle.gc_sections.specs.Roots.{valueKindAt, valueSectionAt}
 use Rattle.gc_sections.specs.Run.{Lists}
 
 -- the bytes of a text
@@ -23,30 +25,11 @@ bytesFrom t i (suc n) = code (charAt t i) ∷ bytesFrom t (i + 1) n
 abbrev pub bytesOf : String → List ℕ
 bytesOf t = bytesFrom t 0 (len t)
 
--- ---- the numbers in rows that are read here
-
--- the first cell of a section's row, built or dropped, and of a symbol's, removed
-abbrev pub builtState : ℕ
-builtState = 2
-
-abbrev pub droppedState : ℕ
-droppedState = 3
-
-abbrev pub removedState : ℕ
-removedState = 2
-
--- the kinds of a section, as in document 01
-abbrev pub program : ℕ
-program = 1
-
-abbrev pub uninitialized : ℕ
-uninitialized = 2
-
 -- a value that lies in a section, the cell behind it: `Section`, relative to one, an address in one
 pub data InSection (kind : ℕ) : Type 0 where
-  section : kind ≡ 2 → InSection kind
-  relative : kind ≡ 3 → InSection kind
-  address : kind ≡ 4 → InSection kind
+  section : kind ≡ sectionKind → InSection kind
+  relative : kind ≡ relativeKind → InSection kind
+  address : kind ≡ addressKind → InSection kind
 
 module _ (l : Link) (x : Lists) (symbols sections : List ℕ) where
   -- section y was built, and not dropped since
@@ -58,8 +41,8 @@ module _ (l : Link) (x : Lists) (symbols sections : List ℕ) where
   pub record Leads (i y : ℕ) : Type 0 where
     pub issued : i < l .symbols
     pub present : Symbol.stateAt symbols i ≢ removedState
-    pub valued : InSection (Symbol.field symbols i 5)
-    pub lies : Symbol.field symbols i 6 ≡ y
+    pub valued : InSection (valueKindAt symbols i)
+    pub lies : valueSectionAt symbols i ≡ y
 
   -- some relocation of section y names a symbol that lies in section z
   pub record Names (y z : ℕ) : Type 0 where
@@ -73,7 +56,7 @@ module _ (l : Link) (x : Lists) (symbols sections : List ℕ) where
     retained : retainAt sections y ≢ 0 → IsRoot y
     ehFrame : nameAt (x .bytes) (x .names) (nameIdAt sections y) ≡ bytesOf ".eh_frame" → IsRoot y
     unreadable : readAt sections y ≡ 0 → IsRoot y
-    otherKind : field sections y 2 ≢ program → field sections y 2 ≢ uninitialized → IsRoot y
+    otherKind : kindAt sections y ≢ program → kindAt sections y ≢ uninitialized → IsRoot y
 
   module _ (entry : EntryPoint) where
     -- "Roots: symbols marked by the caller, the entry symbol", and those sections, if they are built; from these on by relocations

@@ -11,8 +11,8 @@ use borrow.Author.Tests.{ltb-true, ltb-false, leb-false, eqb-true, eqb-false}
 use lib.Dec.{eqb, ltb, leb}
 use lib.ListN.{getD, set, length, length-set}
 use lib.Seq.{getD-set-same, getD-set-other}
-use Rattle.cells.specs.Split.{by-test}
-use Rattle.byte_slices.specs.Ways.{apart}
+use Rattle.cells.specs.Proof.Split.{by-test}
+use Rattle.byte_slices.specs.Proof.Ways.{apart}
 use Rattle.link.specs.declared.SectionId.{SectionId}
 use Rattle.sections.specs.Rows.{isBuilt}
 use Rattle.gc_sections.specs.declared.Unbuilt.{Unbuilt}
@@ -20,7 +20,8 @@ use Rattle.gc_sections.specs.declared.Unbuilt.the-variants.{None, Lowest}
 use Rattle.gc_sections.specs.Each.{each}
 use Rattle.gc_sections.specs.Roots.{sectionId}
 use Rattle.gc_sections.specs.Reach.{Walk, walkOf, visitorOf, queue, saveOf, lowerOf, reachOf}
-use Rattle.gc_laws.specs.Marks.{marks, marks-past, marks-more, marks-lt}
+use Rattle.gc_laws.specs.Marks.{marks}
+use Rattle.gc_laws.specs.Proof.Marks.{marks-past, marks-more, marks-lt}
 
 pub built-below : (sections : List ℕ) (n y : ℕ) → isBuilt sections n y ≡ true → y < n
 unfolding isBuilt

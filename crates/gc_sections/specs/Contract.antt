@@ -3,11 +3,11 @@
 use Prim.Native.Nat.{ℕ}
 use mathlib.Core.Path.{_≡_}
 use mathlib.Core.List.{List}
-use Rattle.cells.specs.Slice.{Slice, before, after}
+use Rattle.cells.specs.Slice.{Slice, after}
 use Rattle.link.specs.declared.Link.{Link}
 use Rattle.gc_sections.specs.declared.EntryPoint.{EntryPoint}
 use Rattle.gc_sections.specs.declared.Outcome.{Outcome}
-use Rattle.gc_sections.specs.Run.{Lists, listsOf, outcome, runOf}
+use Rattle.gc_sections.specs.Run.{Lists, outcome, runOf}
 
 pub record Exit : Type 0 where
   pub symbols : List ℕ
@@ -17,10 +17,6 @@ pub record Exit : Type 0 where
 
 abbrev pub runExit : Slice → Slice → Slice → Outcome → Exit
 runExit symbols sections work r = record { symbols = after symbols; sections = after sections; work = after work; result = r }
-
--- what is lent to be read
-abbrev pub listsIn : Slice → Slice → Slice → Slice → Lists
-listsIn bytes names lists marks = listsOf (before bytes) (before names) (before lists) (before marks)
 
 abbrev pub RunMeets : Link → Lists → List ℕ → List ℕ → EntryPoint → List ℕ → Exit → Type 0
 RunMeets l x symbols sections entry work e =

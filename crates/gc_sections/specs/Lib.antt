@@ -4,6 +4,4 @@ pub mod Reach
 pub mod Sweep
 pub mod Run
 pub mod Contract
-pub mod EachWays
-pub mod ReachWays
-pub mod RunWays
+pub mod Proof

@@ -9,8 +9,9 @@ use Rattle.byte_slices.specs.Bytes.{same}
 use Rattle.link.specs.declared.SymbolId.{SymbolId}
 use Rattle.link.specs.declared.SectionId.{SectionId}
 use Rattle.interner.specs.Names.{nameAt}
+use Rattle.symbol.specs.Layout.{kindCell, firstCell, removedState, sectionKind, relativeKind, addressKind}
 use Rattle.symbol.specs.Row as Symbol
-use Rattle.sections.specs.Rows.{field, nameIdAt, retainAt, readAt, isBuilt}
+use Rattle.sections.specs.Rows.{nameIdAt, kindAt, retainAt, readAt, isBuilt, program, uninitialized}
 use Rattle.gc_sections.specs.declared.Lead.{Lead}
 use Rattle.gc_sections.specs.declared.Lead.the-variants.{Nowhere, Section}
 
@@ -20,29 +21,34 @@ symbolId i = record { 0 = i }
 abbrev pub sectionId : ℕ → SectionId
 sectionId i = record { 0 = i }
 
--- a value of kind 2 (section), 3 (relative) or 4 (virtual address) lies in section a
+-- the kind of a symbol's value, and the section that it lies in
+abbrev pub valueKindAt : List ℕ → ℕ → ℕ
+valueKindAt symbols i = Symbol.field symbols i kindCell
+
+abbrev pub valueSectionAt : List ℕ → ℕ → ℕ
+valueSectionAt symbols i = Symbol.field symbols i firstCell
+
+-- a section, relative to one, or an address in one: the value lies in section a
 unfoldable pub valueLead : ℕ → ℕ → Lead
 valueLead kind a =
-    cond (eqb kind 2) (Section (sectionId a)) (cond (eqb kind 3) (Section (sectionId a)) (cond (eqb kind 4) (Section (sectionId a)) Nowhere))
+    cond (eqb kind sectionKind) (Section (sectionId a))
+    (cond (eqb kind relativeKind) (Section (sectionId a)) (cond (eqb kind addressKind) (Section (sectionId a)) Nowhere))
 
 -- "Symbols removed or absent lead nowhere"
 unfoldable pub leadOf : List ℕ → ℕ → SymbolId → Lead
 leadOf symbols count id =
     cond (leb count (id .0)) Nowhere
-    (cond (eqb (Symbol.stateAt symbols (id .0)) 2) Nowhere (valueLead (Symbol.field symbols (id .0) 5) (Symbol.field symbols (id .0) 6)))
+    (cond (eqb (Symbol.stateAt symbols (id .0)) removedState) Nowhere (valueLead (valueKindAt symbols (id .0)) (valueSectionAt symbols (id .0))))
 
 -- `.eh_frame`
 abbrev pub ehFrame : List ℕ
 ehFrame = 46 ∷ 101 ∷ 104 ∷ 95 ∷ 102 ∷ 114 ∷ 97 ∷ 109 ∷ 101 ∷ []
 
-abbrev pub kindAt : List ℕ → ℕ → ℕ
-kindAt sections i = field sections i 2
-
 -- a readable program or uninitialized section
 unfoldable pub readable : List ℕ → ℕ → Bool
 readable sections i =
     cond (eqb (readAt sections i) 0) false
-    (cond (eqb (kindAt sections i) 1) true (cond (eqb (kindAt sections i) 2) true false))
+    (cond (eqb (kindAt sections i) program) true (cond (eqb (kindAt sections i) uninitialized) true false))
 
 unfoldable pub nameIs : List ℕ → List ℕ → List ℕ → ℕ → List ℕ → Bool
 nameIs bytes names sections i x = same (nameAt bytes names (nameIdAt sections i)) x

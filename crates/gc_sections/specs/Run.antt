@@ -9,8 +9,10 @@ use Rattle.link.specs.declared.Link.{Link}
 use Rattle.link.specs.declared.Lent.{Lent}
 use Rattle.link.specs.declared.Refusal.{Refusal}
 use Rattle.link.specs.Bounds.{notLent, nameRows, sectionSlots}
+use Rattle.link.specs.Counts.{lentRows}
 use Rattle.link.specs.Judge.{refused, none, changeOf}
 use Rattle.symbols.specs.Remove.{rowsOf}
+use Rattle.cells.specs.Slice.{Slice, after, before}
 use Rattle.gc_sections.specs.declared.Unbuilt.{Unbuilt}
 use Rattle.gc_sections.specs.declared.Unbuilt.the-variants.{None, Lowest}
 use Rattle.gc_sections.specs.declared.EntryPoint.{EntryPoint}
@@ -63,6 +65,10 @@ left symbols sections work l a =
 abbrev pub outcome : List ℕ → List ℕ → List ℕ → Outcome → Left
 outcome symbols sections work r = left symbols sections work (r .link) (r .answer)
 
+-- of lent slices after the call
+abbrev pub outcomeAfter : Slice → Slice → Slice → Outcome → Left
+outcomeAfter symbols sections work r = outcome (after symbols) (after sections) (after work) r
+
 -- what is only read: the names and their bytes, the lists, the marks
 pub record Lists : Type 0 where
   pub bytes : List ℕ
@@ -73,16 +79,23 @@ pub record Lists : Type 0 where
 abbrev pub listsOf : List ℕ → List ℕ → List ℕ → List ℕ → Lists
 listsOf bytes names lists marks = record { bytes = bytes; names = names; lists = lists; marks = marks }
 
+-- as it is lent
+abbrev pub listsIn : Slice → Slice → Slice → Slice → Lists
+listsIn bytes names lists marks = listsOf (before bytes) (before names) (before lists) (before marks)
+
 -- ---- the head
 
 abbrev pub lentOf : ℕ → ℕ → ℕ → ℕ → ℕ → Lent
-lentOf bytes names symbols sections lists =
-    record { names = nameRows names; bytes = bytes; symbols = symbols; sections = sectionSlots sections; inputs = notLent; lists = lists }
+lentOf bytes names symbols sections lists = lentRows (nameRows names) bytes symbols (sectionSlots sections) notLent lists
 
--- "mark list cut short" (1), at the first symbol without one; then two work cells for each section (2)
+-- the work cells of a section: its mark, and one of the queue's
+abbrev pub workWidth : ℕ
+workWidth = 2
+
+-- "mark list cut short" (1), at the first symbol without one; then the work cells (2)
 unfoldable pub judgeCells : Link → ℕ → ℕ → Refusal
 judgeCells l marks work =
-    cond (ltb marks (l .symbols)) (refused 1 marks) (cond (ltb (work / 2) (l .sections)) (refused 2 0) none)
+    cond (ltb marks (l .symbols)) (refused 1 marks) (cond (ltb (work / workWidth) (l .sections)) (refused 2 0) none)
 
 unfoldable pub judgeOf : Link → Lent → ℕ → ℕ → Refusal
 judgeOf l lent marks work =

@@ -8,6 +8,7 @@ use lib.ListN.{getD, set}
 use Rattle.link.specs.declared.Link.{Link}
 use Rattle.symbols.specs.Remove.{Rows, removeRowOf}
 use Rattle.sections.specs.Rows.{droppedOf, isBuilt}
+use Rattle.cells.specs.Slice.{Slice, before, after}
 use Rattle.gc_sections.specs.declared.Lead.{Lead}
 use Rattle.gc_sections.specs.declared.Lead.the-variants.{Nowhere, Section}
 use Rattle.gc_sections.specs.Each.{each}
@@ -22,14 +23,25 @@ pub record Swept : Type 0 where
 abbrev pub sweptOf : List ℕ → List ℕ → ℕ → Swept
 sweptOf sections work count = record { sections = sections; work = work; count = count }
 
--- a section that is built and was not reached is dropped; its work cell says that this call did it
+-- of lent slices before the call, and after it
+abbrev pub sweptBefore : Slice → Slice → ℕ → Swept
+sweptBefore sections work count = sweptOf (before sections) (before work) count
+
+abbrev pub sweptAfter : Slice → Slice → ℕ → Swept
+sweptAfter sections work count = sweptOf (after sections) (after work) count
+
+-- what a section's work cell holds where this call dropped it; 0 not reached, 1 reached
+abbrev pub droppedMark : ℕ
+droppedMark = 2
+
+-- a section that is built and was not reached is dropped
 unfoldable pub dropUnreached : ℕ → ℕ → Swept → Swept
 dropUnreached n i s =
     cond (isBuilt (s .sections) n i)
-    (cond (eqb (getD (s .work) i 0) 0) (sweptOf (droppedOf (s .sections) (sectionId i)) (set (s .work) i 2) (s .count + 1)) s) s
+    (cond (eqb (getD (s .work) i 0) 0) (sweptOf (droppedOf (s .sections) (sectionId i)) (set (s .work) i droppedMark) (s .count + 1)) s) s
 
 unfoldable pub droppedNow : List ℕ → ℕ → ℕ → Bool
-droppedNow work n x = cond (ltb x n) (cond (eqb (getD work x 0) 2) true false) false
+droppedNow work n x = cond (ltb x n) (cond (eqb (getD work x 0) droppedMark) true false) false
 
 -- the lent cells that the pass over the symbols writes, and how many it removed
 pub record Purged : Type 0 where

@@ -1,14 +1,14 @@
 // Section collection: what no relocation reaches from the roots is dropped, and its symbols are removed.
 ghost use mathlib.Core.Path.{_≡_};
 ghost use Prim.Native.Nat.{_+_, _<_, _≤_};
-ghost use Rattle.cells.specs.Slice.{before};
-ghost use Rattle.symbols.specs.Remove.{rowsOf};
+ghost use Rattle.cells.specs.Slice.{before, after};
+ghost use Rattle.symbols.specs.Remove.{rowsAfter, rowsBefore};
 ghost use Rattle.gc_sections.specs.Each.{each};
 ghost use Rattle.gc_sections.specs.Roots.{valueLead, leadOf, readable, rooted, isRoot, nameIs};
 ghost use Rattle.gc_sections.specs.Reach.{walkOf, saveOf, lowerOf, reachOf, addOf, rootSymbol, rootSection, entryOf, endOf, relocation, relocations, visit, clearCell, startOf, rootsOf, processOf, walked};
-ghost use Rattle.gc_sections.specs.Sweep.{sweptOf, dropUnreached, droppedNow, purgedOf, purgeSymbol, sweepSections, purgeSymbols};
-ghost use Rattle.gc_sections.specs.Run.{outcome, lentOf, judgeCells, judgeOf, sweepOf, finishOf};
-ghost use Rattle.gc_sections.specs.Contract.{runExit, listsIn, RunMeets};
+ghost use Rattle.gc_sections.specs.Sweep.{dropUnreached, droppedNow, purgedOf, purgeSymbol, sweepSections, purgeSymbols, sweptAfter, sweptBefore};
+ghost use Rattle.gc_sections.specs.Run.{lentOf, judgeCells, judgeOf, sweepOf, finishOf, listsIn, outcomeAfter};
+ghost use Rattle.gc_sections.specs.Contract.{runExit, RunMeets};
 use link::Interned;
 use link::Lent;
 use link::Link;
@@ -57,13 +57,13 @@ fn value_lead(kind: u64, a: u64) -> Lead
     ensures { λ r. ⌜ r ≡ valueLead kind a ⌝ }
 {
     match kind {
-        2 => Lead::Section {
+        symbol::KIND_SECTION => Lead::Section {
             id: SectionId(a as usize),
         },
-        3 => Lead::Section {
+        symbol::KIND_RELATIVE => Lead::Section {
             id: SectionId(a as usize),
         },
-        4 => Lead::Section {
+        symbol::KIND_ADDRESS => Lead::Section {
             id: SectionId(a as usize),
         },
         _ => Lead::Nowhere,
@@ -71,48 +71,51 @@ fn value_lead(kind: u64, a: u64) -> Lead
 }
 
 pub fn lead_of(symbols: &[u64], count: usize, id: SymbolId) -> Lead
-    ensures { λ r. ⌜ r ≡ leadOf (now (symbols .entry)) count id ⌝ }
+    ensures { λ r. ⌜ r ≡ leadOf (before symbols) count id ⌝ }
 {
     let i = id.0;
     if count <= i {
         return Lead::Nowhere;
     }
-    if cells::row_get(symbols, i, 0) == 2 {
+    if cells::row_get(symbols, i, symbol::CELL_STATE) == symbol::REMOVED {
         return Lead::Nowhere;
     }
-    value_lead(cells::row_get(symbols, i, 5), cells::row_get(symbols, i, 6))
+    value_lead(
+        cells::row_get(symbols, i, symbol::CELL_KIND),
+        cells::row_get(symbols, i, symbol::CELL_FIRST),
+    )
 }
 
 // ---- which sections are roots
 
 fn readable(sections: &[u64], i: usize) -> bool
-    ensures { λ r. ⌜ r ≡ readable (now (sections .entry)) i ⌝ }
+    ensures { λ r. ⌜ r ≡ readable (before sections) i ⌝ }
 {
-    if cells::row_get(sections, i, 4) == 0 {
+    if cells::row_get(sections, i, sections::READ) == 0 {
         return false;
     }
-    let kind = cells::row_get(sections, i, 2);
-    if kind == 1 {
+    let kind = cells::row_get(sections, i, sections::KIND);
+    if kind == sections::PROGRAM {
         return true;
     }
-    if kind == 2 {
+    if kind == sections::UNINITIALIZED {
         return true;
     }
     false
 }
 
 fn name_is(bytes: &[u8], names: &[u64], sections: &[u64], i: usize, name: &[u8]) -> bool
-    ensures { λ r. ⌜ r ≡ nameIs (now (bytes .entry)) (now (names .entry)) (now (sections .entry)) i (now (name .entry)) ⌝ }
+    ensures { λ r. ⌜ r ≡ nameIs (before bytes) (before names) (before sections) i (before name) ⌝ }
 {
-    let id = Interned(cells::row_get(sections, i, 1) as usize);
+    let id = Interned(cells::row_get(sections, i, sections::NAME) as usize);
     byte_slices::same_bytes(interner::name_of(bytes, names, id), name)
 }
 
 fn rooted(bytes: &[u8], names: &[u64], sections: &[u64], i: usize) -> bool
-    ensures { λ r. ⌜ r ≡ rooted (now (bytes .entry)) (now (names .entry)) (now (sections .entry)) i ⌝ }
+    ensures { λ r. ⌜ r ≡ rooted (before bytes) (before names) (before sections) i ⌝ }
 {
     if readable(sections, i) {
-        if cells::row_get(sections, i, 3) == 0 {
+        if cells::row_get(sections, i, sections::RETAIN) == 0 {
             return name_is(bytes, names, sections, i, b".eh_frame");
         }
     }
@@ -120,7 +123,7 @@ fn rooted(bytes: &[u8], names: &[u64], sections: &[u64], i: usize) -> bool
 }
 
 pub fn is_root(bytes: &[u8], names: &[u64], sections: &[u64], n: usize, i: usize) -> bool
-    ensures { λ r. ⌜ r ≡ isRoot (now (bytes .entry)) (now (names .entry)) (now (sections .entry)) n i ⌝ }
+    ensures { λ r. ⌜ r ≡ isRoot (before bytes) (before names) (before sections) n i ⌝ }
 {
     if sections::is_built(sections, n, SectionId(i)) {
         return rooted(bytes, names, sections, i);
@@ -133,7 +136,7 @@ pub fn is_root(bytes: &[u8], names: &[u64], sections: &[u64], n: usize, i: usize
 // A section that was not reached before enters the queue.
 fn save(work: &mut [u64], n: usize, v: Visitor, id: SectionId) -> Visitor
     requires { ⌜ n ≤ 65535 ⌝ }
-    ensures { λ r. ⌜ walkOf (now (work .exit)) r ≡ saveOf n id (walkOf (now (work .entry)) v) ⌝ }
+    ensures { λ r. ⌜ walkOf (after work) r ≡ saveOf n id (walkOf (before work) v) ⌝ }
 {
     let section = id.0;
     let queued = v.queued;
@@ -168,7 +171,7 @@ pub fn lower(u: Unbuilt, id: SectionId) -> Unbuilt
 
 fn reach(sections: &[u64], work: &mut [u64], n: usize, v: Visitor, id: SectionId) -> Visitor
     requires { ⌜ n ≤ 65535 ⌝ }
-    ensures { λ r. ⌜ walkOf (now (work .exit)) r ≡ reachOf (now (sections .entry)) n id (walkOf (now (work .entry)) v) ⌝ }
+    ensures { λ r. ⌜ walkOf (after work) r ≡ reachOf (before sections) n id (walkOf (before work) v) ⌝ }
 {
     if sections::is_built(sections, n, id) {
         return save(work, n, v, id);
@@ -190,7 +193,7 @@ fn add(
     id: SymbolId,
 ) -> Visitor
     requires { ⌜ l .sections ≤ 65535 ⌝ }
-    ensures { λ r. ⌜ walkOf (now (work .exit)) r ≡ addOf l (now (symbols .entry)) (now (sections .entry)) id (walkOf (now (work .entry)) v) ⌝ }
+    ensures { λ r. ⌜ walkOf (after work) r ≡ addOf l (before symbols) (before sections) id (walkOf (before work) v) ⌝ }
 {
     let lead = lead_of(symbols, l.symbols, id);
     match lead {
@@ -211,7 +214,7 @@ fn root_symbol(
     i: usize,
 ) -> Visitor
     requires { ⌜ l .sections ≤ 65535 ⌝ }
-    ensures { λ r. ⌜ walkOf (now (work .exit)) r ≡ rootSymbol l (now (symbols .entry)) (now (sections .entry)) (now (marks .entry)) i (walkOf (now (work .entry)) v) ⌝ }
+    ensures { λ r. ⌜ walkOf (after work) r ≡ rootSymbol l (before symbols) (before sections) (before marks) i (walkOf (before work) v) ⌝ }
 {
     if i < marks.len() {
         if marks[i] != 0 {
@@ -230,7 +233,7 @@ fn root_symbols(
     v: Visitor,
 ) -> Visitor
     requires { ⌜ l .sections ≤ 65535 ⌝ }
-    ensures { λ r. ⌜ walkOf (now (work .exit)) r ≡ each (rootSymbol l (now (symbols .entry)) (now (sections .entry)) (now (marks .entry))) (l .symbols) 0 (walkOf (now (work .entry)) v) ⌝ }
+    ensures { λ r. ⌜ walkOf (after work) r ≡ each (rootSymbol l (before symbols) (before sections) (before marks)) (l .symbols) 0 (walkOf (before work) v) ⌝ }
 {
     let mut u = v;
     let mut i = 0;
@@ -251,7 +254,7 @@ fn root_section(
     i: usize,
 ) -> Visitor
     requires { ⌜ n ≤ 65535 ⌝ }
-    ensures { λ r. ⌜ walkOf (now (work .exit)) r ≡ rootSection n (now (bytes .entry)) (now (names .entry)) (now (sections .entry)) i (walkOf (now (work .entry)) v) ⌝ }
+    ensures { λ r. ⌜ walkOf (after work) r ≡ rootSection n (before bytes) (before names) (before sections) i (walkOf (before work) v) ⌝ }
 {
     if is_root(bytes, names, sections, n, i) {
         return save(work, n, v, SectionId(i));
@@ -268,7 +271,7 @@ fn root_sections(
     v: Visitor,
 ) -> Visitor
     requires { ⌜ n ≤ 65535 ⌝ }
-    ensures { λ r. ⌜ walkOf (now (work .exit)) r ≡ each (rootSection n (now (bytes .entry)) (now (names .entry)) (now (sections .entry))) n 0 (walkOf (now (work .entry)) v) ⌝ }
+    ensures { λ r. ⌜ walkOf (after work) r ≡ each (rootSection n (before bytes) (before names) (before sections)) n 0 (walkOf (before work) v) ⌝ }
 {
     let mut u = v;
     let mut i = 0;
@@ -288,7 +291,7 @@ fn add_entry(
     entry: EntryPoint,
 ) -> Visitor
     requires { ⌜ l .sections ≤ 65535 ⌝ }
-    ensures { λ r. ⌜ walkOf (now (work .exit)) r ≡ entryOf l (now (symbols .entry)) (now (sections .entry)) entry (walkOf (now (work .entry)) v) ⌝ }
+    ensures { λ r. ⌜ walkOf (after work) r ≡ entryOf l (before symbols) (before sections) entry (walkOf (before work) v) ⌝ }
 {
     match entry {
         EntryPoint::None => v,
@@ -308,7 +311,8 @@ fn roots(
     v: Visitor,
 ) -> Visitor
     requires { ⌜ l .sections ≤ 65535 ⌝ }
-    ensures { λ r. ⌜ walkOf (now (work .exit)) r ≡ rootsOf l (now (bytes .entry)) (now (names .entry)) (now (symbols .entry)) (now (sections .entry)) (now (marks .entry)) entry (walkOf (now (work .entry)) v) ⌝ }
+    ensures { λ r. ⌜ walkOf (after work) r
+        ≡ rootsOf l (before bytes) (before names) (before symbols) (before sections) (before marks) entry (walkOf (before work) v) ⌝ }
 {
     let marked = root_symbols(l, symbols, sections, marks, work, v);
     let kept = root_sections(l.sections, bytes, names, sections, work, marked);
@@ -340,7 +344,7 @@ fn relocation(
     j: usize,
 ) -> Visitor
     requires { ⌜ l .sections ≤ 65535 ⌝ }
-    ensures { λ r. ⌜ walkOf (now (work .exit)) r ≡ relocation l (now (symbols .entry)) (now (sections .entry)) (now (lists .entry)) j (walkOf (now (work .entry)) v) ⌝ }
+    ensures { λ r. ⌜ walkOf (after work) r ≡ relocation l (before symbols) (before sections) (before lists) j (walkOf (before work) v) ⌝ }
 {
     let id = cells::get(lists, j) as usize;
     add(l, symbols, sections, work, v, SymbolId(id))
@@ -357,7 +361,7 @@ fn relocations(
     count: usize,
 ) -> Visitor
     requires { ⌜ l .sections ≤ 65535 ⌝ }
-    ensures { λ r. ⌜ walkOf (now (work .exit)) r ≡ relocations l (now (symbols .entry)) (now (sections .entry)) (now (lists .entry)) first count (walkOf (now (work .entry)) v) ⌝ }
+    ensures { λ r. ⌜ walkOf (after work) r ≡ relocations l (before symbols) (before sections) (before lists) first count (walkOf (before work) v) ⌝ }
 {
     let end = end_of(l.lists, first, count);
     let mut u = v;
@@ -381,12 +385,12 @@ fn visit(
 ) -> Visitor
     requires { ⌜ l .sections ≤ 65535 ⌝ }
     requires { ⌜ h ≤ l .sections ⌝ }
-    ensures { λ r. ⌜ walkOf (now (work .exit)) r ≡ visit l (now (symbols .entry)) (now (sections .entry)) (now (lists .entry)) h (walkOf (now (work .entry)) v) ⌝ }
+    ensures { λ r. ⌜ walkOf (after work) r ≡ visit l (before symbols) (before sections) (before lists) h (walkOf (before work) v) ⌝ }
 {
     if h < v.queued {
         let x = cells::get(work, l.sections + h) as usize;
-        let first = cells::row_get(sections, x, 5) as usize;
-        let count = cells::row_get(sections, x, 6) as usize;
+        let first = cells::row_get(sections, x, sections::FIRST) as usize;
+        let count = cells::row_get(sections, x, sections::COUNT) as usize;
         return relocations(l, symbols, sections, lists, work, v, first, count);
     }
     v
@@ -401,7 +405,7 @@ fn process(
     v: Visitor,
 ) -> Visitor
     requires { ⌜ l .sections ≤ 65535 ⌝ }
-    ensures { λ r. ⌜ walkOf (now (work .exit)) r ≡ processOf l (now (symbols .entry)) (now (sections .entry)) (now (lists .entry)) (walkOf (now (work .entry)) v) ⌝ }
+    ensures { λ r. ⌜ walkOf (after work) r ≡ processOf l (before symbols) (before sections) (before lists) (walkOf (before work) v) ⌝ }
 {
     let mut u = v;
     let mut h = 0;
@@ -415,14 +419,14 @@ fn process(
 // ---- the whole walk
 
 fn clear_cell(work: &mut [u64], i: usize)
-    ensures { λ _. ⌜ now (work .exit) ≡ clearCell i (now (work .entry)) ⌝ }
+    ensures { λ _. ⌜ after work ≡ clearCell i (before work) ⌝ }
 {
     cells::put(work, i, 0);
 }
 
 // No section was reached yet.
 pub fn clear(work: &mut [u64], n: usize)
-    ensures { λ _. ⌜ now (work .exit) ≡ each clearCell n 0 (now (work .entry)) ⌝ }
+    ensures { λ _. ⌜ after work ≡ each clearCell n 0 (before work) ⌝ }
 {
     let mut i = 0;
     while i < n {
@@ -432,7 +436,7 @@ pub fn clear(work: &mut [u64], n: usize)
 }
 
 fn start(work: &mut [u64], n: usize) -> Visitor
-    ensures { λ r. ⌜ walkOf (now (work .exit)) r ≡ startOf n (now (work .entry)) ⌝ }
+    ensures { λ r. ⌜ walkOf (after work) r ≡ startOf n (before work) ⌝ }
 {
     clear(work, n);
     Visitor {
@@ -453,7 +457,8 @@ fn walk(
     work: &mut [u64],
 ) -> Visitor
     requires { ⌜ l .sections ≤ 65535 ⌝ }
-    ensures { λ r. ⌜ walkOf (now (work .exit)) r ≡ walked l (now (bytes .entry)) (now (names .entry)) (now (symbols .entry)) (now (sections .entry)) (now (lists .entry)) (now (marks .entry)) entry (now (work .entry)) ⌝ }
+    ensures { λ r. ⌜ walkOf (after work) r
+        ≡ walked l (before bytes) (before names) (before symbols) (before sections) (before lists) (before marks) entry (before work) ⌝ }
 {
     let none = start(work, l.sections);
     let rooted = roots(l, bytes, names, symbols, sections, marks, entry, work, none);
@@ -462,16 +467,19 @@ fn walk(
 
 // ---- sweep
 
-// A section that is built and was not reached is dropped; its work cell becomes 2.
+// What a section's work cell holds where this call dropped it; 0 not reached, 1 reached.
+const DROPPED_MARK: u64 = 2;
+
+// A section that is built and was not reached is dropped.
 fn drop_unreached(sections: &mut [u64], work: &mut [u64], n: usize, i: usize, count: usize) -> usize
     requires { ⌜ count < n ⌝ }
-    ensures { λ r. ⌜ sweptOf (now (sections .exit)) (now (work .exit)) r ≡ dropUnreached n i (sweptOf (now (sections .entry)) (now (work .entry)) count) ⌝ }
+    ensures { λ r. ⌜ sweptAfter sections work r ≡ dropUnreached n i (sweptBefore sections work count) ⌝ }
     ensures few { λ r. ⌜ r ≤ count + 1 ⌝ }
 {
     if sections::is_built(sections, n, SectionId(i)) {
         if cells::get(work, i) == 0 {
             sections::drop_section(sections, SectionId(i));
-            cells::put(work, i, 2);
+            cells::put(work, i, DROPPED_MARK);
             return count + 1;
         }
     }
@@ -479,7 +487,7 @@ fn drop_unreached(sections: &mut [u64], work: &mut [u64], n: usize, i: usize, co
 }
 
 fn sweep_sections(sections: &mut [u64], work: &mut [u64], n: usize) -> usize
-    ensures { λ r. ⌜ sweptOf (now (sections .exit)) (now (work .exit)) r ≡ sweepSections n (now (sections .entry)) (now (work .entry)) ⌝ }
+    ensures { λ r. ⌜ sweptAfter sections work r ≡ sweepSections n (before sections) (before work) ⌝ }
 {
     let mut count = 0;
     let mut i = 0;
@@ -491,10 +499,10 @@ fn sweep_sections(sections: &mut [u64], work: &mut [u64], n: usize) -> usize
 }
 
 fn dropped_now(work: &[u64], n: usize, x: usize) -> bool
-    ensures { λ r. ⌜ r ≡ droppedNow (now (work .entry)) n x ⌝ }
+    ensures { λ r. ⌜ r ≡ droppedNow (before work) n x ⌝ }
 {
     if x < n {
-        if cells::get(work, x) == 2 {
+        if cells::get(work, x) == DROPPED_MARK {
             return true;
         }
     }
@@ -510,7 +518,7 @@ fn purge_symbol(
     count: usize,
 ) -> usize
     requires { ⌜ count < l .symbols ⌝ }
-    ensures { λ r. ⌜ purgedOf (rowsOf (now (symbols .exit)) (now (sections .exit))) r ≡ purgeSymbol l (now (work .entry)) i (purgedOf (rowsOf (now (symbols .entry)) (now (sections .entry))) count) ⌝ }
+    ensures { λ r. ⌜ purgedOf (rowsAfter symbols sections) r ≡ purgeSymbol l (before work) i (purgedOf (rowsBefore symbols sections) count) ⌝ }
     ensures few { λ r. ⌜ r ≤ count + 1 ⌝ }
 {
     let lead = lead_of(symbols, l.symbols, SymbolId(i));
@@ -518,7 +526,7 @@ fn purge_symbol(
         Lead::Nowhere => count,
         Lead::Section { id } => {
             if dropped_now(work, l.sections, id.0) {
-                symbol_remove::remove_row(l, symbols, sections, SymbolId(i));
+                symbols::remove_row(l, symbols, sections, SymbolId(i));
                 return count + 1;
             }
             count
@@ -527,7 +535,7 @@ fn purge_symbol(
 }
 
 fn purge_symbols(l: Link, symbols: &mut [u64], sections: &mut [u64], work: &[u64]) -> usize
-    ensures { λ r. ⌜ purgedOf (rowsOf (now (symbols .exit)) (now (sections .exit))) r ≡ purgeSymbols l (now (work .entry)) (rowsOf (now (symbols .entry)) (now (sections .entry))) ⌝ }
+    ensures { λ r. ⌜ purgedOf (rowsAfter symbols sections) r ≡ purgeSymbols l (before work) (rowsBefore symbols sections) ⌝ }
 {
     let mut count = 0;
     let mut i = 0;
@@ -539,7 +547,7 @@ fn purge_symbols(l: Link, symbols: &mut [u64], sections: &mut [u64], work: &[u64
 }
 
 fn sweep(l: Link, symbols: &mut [u64], sections: &mut [u64], work: &mut [u64]) -> Outcome
-    ensures { λ r. ⌜ outcome (now (symbols .exit)) (now (sections .exit)) (now (work .exit)) r ≡ sweepOf l (now (symbols .entry)) (now (sections .entry)) (now (work .entry)) ⌝ }
+    ensures { λ r. ⌜ outcomeAfter symbols sections work r ≡ sweepOf l (before symbols) (before sections) (before work) ⌝ }
 {
     let dropped = sweep_sections(sections, work, l.sections);
     let removed = purge_symbols(l, symbols, sections, work);
@@ -554,7 +562,9 @@ fn sweep(l: Link, symbols: &mut [u64], sections: &mut [u64], work: &mut [u64]) -
 
 // ---- the call
 
-// Two work cells for each section.
+// The work cells of a section: its mark, and one of the queue's.
+const WORK_WIDTH: usize = 2;
+
 fn judge_cells(l: Link, marks: usize, work: usize) -> Refusal
     ensures { λ r. ⌜ r ≡ judgeCells l marks work ⌝ }
 {
@@ -564,7 +574,7 @@ fn judge_cells(l: Link, marks: usize, work: usize) -> Refusal
             place: marks as u64,
         };
     }
-    if work / 2 < l.sections {
+    if work / WORK_WIDTH < l.sections {
         return Refusal {
             number: 2,
             place: 0,
@@ -579,7 +589,7 @@ fn judge_cells(l: Link, marks: usize, work: usize) -> Refusal
 pub fn judge(l: Link, lent: Lent, marks: usize, work: usize) -> Refusal
     ensures { λ r. ⌜ r ≡ judgeOf l lent marks work ⌝ }
 {
-    let head = link_judge::judge_change(l, lent);
+    let head = link::judge_change(l, lent);
     if head.number != 0 {
         return head;
     }
@@ -606,7 +616,7 @@ pub fn finish(
     work: &mut [u64],
     unbuilt: Unbuilt,
 ) -> Outcome
-    ensures { λ r. ⌜ outcome (now (symbols .exit)) (now (sections .exit)) (now (work .exit)) r ≡ finishOf l (now (symbols .entry)) (now (sections .entry)) (now (work .entry)) unbuilt ⌝ }
+    ensures { λ r. ⌜ outcomeAfter symbols sections work r ≡ finishOf l (before symbols) (before sections) (before work) unbuilt ⌝ }
 {
     match unbuilt {
         Unbuilt::None => sweep(l, symbols, sections, work),

@@ -69,7 +69,7 @@ fn name(n: usize, choose: bool) -> [u8; 12] {
 
 fn issue(l: Link, bytes: &mut [u8], names: &mut [u64], n: usize, choose: bool) -> Link {
     let x = name(n, choose);
-    let o = interner_calls::intern(l, bytes, names, &x);
+    let o = interner::intern(l, bytes, names, &x);
     o.link
 }
 
@@ -135,7 +135,7 @@ fn print(issued: usize, t: Tally) {
 }
 
 fn run(key: usize, bytes: &mut [u8], names: &mut [u64], count: usize, choose: bool) {
-    let o = interner_calls::new(key, bytes, names);
+    let o = interner::new(key, bytes, names);
     let l = fill(o.link, bytes, names, count, choose);
     print(l.names, chains(names));
 }

@@ -6,6 +6,7 @@ use mathlib.Core.List.{List, []}
 use lib.ListN.{getD, length}
 use Rattle.link.specs.declared.Link.{Link}
 use Rattle.link.specs.Bounds.{nameRows, nameBytes}
+use Rattle.link.specs.Counts.{withNames}
 use Rattle.interner.specs.Hash.{headOf}
 use Rattle.interner.specs.Names.{Store, nameAt, nextAt, findOf}
 use Rattle.interner_laws.specs.Histories.{IssuedIn, StaysIn}
@@ -77,20 +78,7 @@ Stays s t = StaysIn count name s t
 
 -- the counts that interning leaves alone
 abbrev pub rest : Link → Link
-rest l =
-    record {
-      names = 0;
-      bytes = 0;
-      symbols = l .symbols;
-      sections = l .sections;
-      inputs = l .inputs;
-      lists = l .lists;
-      chains = l .chains;
-      slots = l .slots;
-      key = l .key;
-      gabi = l .gabi;
-      broken = l .broken;
-    }
+rest l = withNames l 0 0
 
 -- only rows and bytes between the counts were written, and heads of chains
 pub record Untouched (s t : Store) : Type 0 where

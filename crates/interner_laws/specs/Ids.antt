@@ -9,7 +9,7 @@ use Rattle.interner.specs.Calls.{Left, internOf, resolved, resolveOf}
 use Rattle.interner_laws.specs.Histories.{issued-stays, one-id, one-name}
 use Rattle.interner_laws.specs.Good.{Good, Issued, count, name}
 use Rattle.interner_laws.specs.Interns.{Accepted, id, after, intern-good, intern-stays, intern-issued, intern-untouched, after-good, after-stays, after-untouched}
-use Rattle.interner_laws.specs.Judged.{Within, within-rest, resolves}
+use Rattle.interner_laws.specs.Proof.Judged.{Within, within-rest, resolves}
 
 module _ (s : Store) (g : Good s) (x : List ℕ) (ok : Accepted (internOf s x)) (vs : List (List ℕ)) where
   abbrev first : Left

@@ -10,21 +10,22 @@ use lib.Dec.{eqb, ltb}
 use lib.ListN.{length, take, getD, set, replicate, length-set, length-append, length-replicate, getD-replicate}
 use lib.Seq.{length-take-le, getD-append-add, getD-set-other}
 use borrow.Author.Tests.{eqb-false, ne-eqb, ltb-true, ltb-false, le-ltb, lt-leb}
-use Rattle.cells.specs.Split.{by-test}
-use Rattle.byte_slices.specs.Ways.{pick}
+use Rattle.cells.specs.Proof.Split.{by-test}
+use Rattle.byte_slices.specs.Proof.Ways.{pick}
 use Rattle.link.specs.declared.Interned.{Interned}
 use Rattle.link.specs.Bounds.{nameRows, nameBytes}
 use Rattle.link.specs.Judge.{refused, changeOf}
 use Rattle.link.specs.Said.{accepted, refusing, numberIn, valueIn}
 use Rattle.link.specs.declared.Link.{Link}
+use Rattle.link.specs.Counts.{noNames, noRows}
 use Rattle.interner.specs.Hash.{headCell}
 use Rattle.interner.specs.Names.{Store, storeOf, roomOf, fitsOf, keepOf, added}
-use Rattle.interner.specs.Calls.{Left, left, lent, issueOf, internOf, noRows, noNames, clearHeads, newOf}
+use Rattle.interner.specs.Calls.{Left, left, lent, issueOf, internOf, clearHeads, newOf}
 use Rattle.interner_laws.specs.Histories.{history, always, kept, stays-none, stays-both}
 use Rattle.interner_laws.specs.Good.{Chained, Good, Issued, Stays, Untouched, rest, count, rowsIn, name, head, find}
-use Rattle.interner_laws.specs.Find.{found, find-low, find-known}
-use Rattle.interner_laws.specs.Written.{head-behind, head-within}
-use Rattle.interner_laws.specs.More.{More, added-more, more-untouched, more-stays, more-issued, more-chained}
+use Rattle.interner_laws.specs.Proof.Find.{found, find-low, find-known}
+use Rattle.interner_laws.specs.Proof.Written.{head-behind, head-within}
+use Rattle.interner_laws.specs.Proof.More.{More, added-more, more-untouched, more-stays, more-issued, more-chained}
 
 -- ---- nothing done
 

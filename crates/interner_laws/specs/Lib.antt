@@ -1,10 +1,6 @@
 pub mod Histories
 pub mod Good
-pub mod Find
-pub mod Written
-pub mod More
 pub mod Interns
-pub mod Same
-pub mod Judged
 pub mod Ids
-pub mod Promises
+pub mod Terms
+pub mod Proof

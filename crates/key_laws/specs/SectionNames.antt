@@ -10,42 +10,44 @@ use lib.Dec.{eqb, ltb}
 use lib.ListN.{length, getD, set, length-set}
 use lib.Seq.{getD-set-same, getD-set-other, set-out}
 use borrow.Author.Tests.{eqb-true, eqb-false, ltb-true, ltb-false}
-use Rattle.cells.specs.Split.{by-test}
-use Rattle.cells.specs.Rows.{putRow, length-putRow, row-same, row-other}
+use Rattle.cells.specs.Proof.Split.{by-test}
+use Rattle.cells.specs.Rows.{putRow}
+use Rattle.cells.specs.Proof.Rows.{length-putRow, row-same, row-other}
 use Rattle.link.specs.declared.Link.{Link}
 use Rattle.link.specs.declared.Interned.{Interned}
 use Rattle.link.specs.declared.SymbolId.{SymbolId}
 use Rattle.link.specs.Bounds.{sectionSlots}
+use Rattle.link.specs.Counts.{noNames, withSections, withSlots, moreSections}
 use Rattle.strings.specs.Lookup.{Looked}
 use Rattle.interner.specs.Names.{Store, storeOf, roomOf, fitsOf, keepOf}
 use Rattle.interner_laws.specs.Good.{find}
-use Rattle.interner_laws.specs.Find.{find-low}
+use Rattle.interner_laws.specs.Proof.Find.{find-low}
 use Rattle.interner_laws.specs.Interns.{idOf, keeps}
 use Rattle.symbol.specs.declared.Row.{Row}
-use Rattle.symbol_rows.specs.declared.Decision.{Decision}
-use Rattle.symbol_rows.specs.declared.Decision.the-variants.{Refuse, Nothing, Keep, Append, Replace, Amend}
-use Rattle.symbol_rows.specs.Decide.{sectionCell, refusalOf}
-use Rattle.symbol_rows.specs.Apply.{Table, tableOf, setSectionSymbol, noteSection, appendOf, applyOf}
+use Rattle.symbol_resolution.specs.declared.rows.Decision.{Decision}
+use Rattle.symbol_resolution.specs.Decide.{sectionCell, refusalOf}
+use Rattle.symbol_resolution.specs.Apply.{Table, tableOf, setSectionSymbol, noteSection, appendOf, applyOf}
+use Rattle.symbol_resolution.specs.Proof.Outcomes.{decision-left}
 use Rattle.sections.specs.Rows as Sections
-use Rattle.sections.specs.Rows.{stateAt, nameIdAt, moreSections, reserveOf}
+use Rattle.sections.specs.Rows.{stateAt, nameIdAt, reserveOf}
 use Rattle.symbols.specs.Remove.{Rows, dropSection, removeRowOf}
 use Rattle.elf_object.specs.Rows.{rowsIn, field, nameOffsetAt, retainAt, readAt, nameIn, conversionAt}
 use Rattle.merge_sections.specs.Reserve as Reserve
 use Rattle.merge_sections.specs.Reserve.{takeRowOf, reserveClassOf, reserveOneOf, reserveAllOf}
-use Rattle.merge_plan.specs.declared.Planned.{Planned}
-use Rattle.merge_plan.specs.Plan.{inputOf, plannedOf}
+use Rattle.merge_symbols.specs.declared.plan.Planned.{Planned}
+use Rattle.merge_symbols.specs.Plan.{inputOf, plannedOf}
 use Rattle.merge_symbols.specs.Stage as Symbols
-use Rattle.merge_symbols.specs.Stage.{acceptRow, keptOf, commitOf, view, namedOf, lookedOf, symbolOf, symbolsOf}
+use Rattle.merge_symbols.specs.Stage.{acceptRow, keptOf, commitOf, view, symbolNamed, lookedOf, symbolOf, symbolsOf}
 use Rattle.merge_build.specs.declared.Plan.{Plan}
 use Rattle.merge_build.specs.Relocations.{tableFor, limitOf, relocationsOf, symbolsOk}
 use Rattle.merge_build.specs.Build as Build
 use Rattle.merge_build.specs.Build.{listsFit, planWith, planOf, sectionIdOf, buildRowOf, tabledOf, builtFrom, sectionOf, buildOf}
-use Rattle.symbol_laws.specs.Issue.{room-free}
-use Rattle.symbol_laws.specs.Writes.{section-behind}
+use Rattle.symbol_laws.specs.Proof.Issue.{room-free}
+use Rattle.symbol_laws.specs.Proof.Writes.{section-behind}
 use Rattle.merge_laws.specs.Loop.{loop-holds}
 use Rattle.merge_laws.specs.Placed.{reserve-loop}
-use Rattle.merge_laws.specs.SymbolStage.{symbols-loop, noted-long}
-use Rattle.merge_laws.specs.BuildStage.{build-loop}
+use Rattle.merge_laws.specs.Proof.SymbolStage.{symbols-loop, noted-long}
+use Rattle.merge_laws.specs.Proof.BuildStage.{build-loop}
 
 -- of the rows that are counted and lent, a built one has a name within the names' rows
 abbrev pub Named : Link → List ℕ → Type 0
@@ -53,20 +55,7 @@ Named l rows = (i : ℕ) → i < l .sections → i < l .slots → i * 8 + 8 ≤ 
 
 -- of a link it depends on these counts alone
 abbrev pub shape : Link → Link
-shape l =
-    record {
-      names = 0;
-      bytes = 0;
-      symbols = 0;
-      sections = l .sections;
-      inputs = 0;
-      lists = 0;
-      chains = l .chains;
-      slots = l .slots;
-      key = 0;
-      gabi = false;
-      broken = false;
-    }
+shape l = withSlots (withSections (noNames 0 (l .chains)) (l .sections)) (l .slots)
 
 pub named-shape : (l m : Link) (rows : List ℕ) → shape m ≡ shape l → Named l rows → Named m rows
 named-shape l m rows e h = subst (λ (z : Link). Named z rows) (sym e) h
@@ -167,24 +156,16 @@ pub record BuiltNamed (l : Link) (rows : List ℕ) : Type 0 where
   pub low : l .names ≤ l .chains
 
 pub applied-named : (t : Table) (r : Row) (d : Decision) → Named (t .link) (t .sections) → Named (applyOf t r d .link) (applyOf t r d .sections)
-unfolding applyOf appendOf
-applied-named t r (Refuse n) h = h
-applied-named t r Nothing h = h
-applied-named t r (Keep id) h = h
-applied-named t r Append h =
-    named-rows (t .link) (noteSection (t .link) (t .sections) r (t .link .symbols)) (t .sections) (noted-long (t .link) (t .sections) r (t .link .symbols))
-    (section-behind (t .link) (t .sections) r (t .link .symbols)) h
-applied-named t r (Replace id) h = h
-applied-named t r (Amend id) h = h
+unfolding appendOf
+applied-named t r d h =
+    decision-left (λ (u : Table). Named (u .link) (u .sections)) t r h
+    (named-rows (t .link) (noteSection (t .link) (t .sections) r (t .link .symbols)) (t .sections) (noted-long (t .link) (t .sections) r (t .link .symbols))
+    (section-behind (t .link) (t .sections) r (t .link .symbols)) h)
+    (λ id x. h) d
 
 applied-low : (t : Table) (r : Row) (d : Decision) → t .link .names ≤ t .link .chains → applyOf t r d .link .names ≤ applyOf t r d .link .chains
-unfolding applyOf appendOf
-applied-low t r (Refuse n) h = h
-applied-low t r Nothing h = h
-applied-low t r (Keep id) h = h
-applied-low t r Append h = h
-applied-low t r (Replace id) h = h
-applied-low t r (Amend id) h = h
+unfolding appendOf
+applied-low t r d h = decision-left (λ (u : Table). u .link .names ≤ u .link .chains) t r h h (λ id x. h) d
 
 -- ---- sections reserved
 
@@ -193,7 +174,7 @@ one-named : (headers : List ℕ) (s : Reserve.State) (n : ℕ) → Named (s .res
 unfolding reserveOneOf reserveClassOf takeRowOf reserveOf
 one-named headers s n h =
     let class : ℕ = Reserve.classOf headers n in
-    by-test (eqb (Reserve.refusalOf (s .reserved .link) (s .sections) class (s .reserved .table)) 0)
+    by-test (eqb (Reserve.reserveNumber (s .reserved .link) (s .sections) class (s .reserved .table)) 0)
     (λ a.
     by-test (eqb class 2)
     (λ b. by-test (Sections.roomOf (s .reserved .link) (s .sections)) (λ c. rw (a, b, c) (reserve-named (s .reserved .link) (s .sections) h)) (λ c. rw (a, b, c) h))
@@ -214,9 +195,9 @@ keep-low s id x h = keeps (λ (k : Store). k .link .names ≤ k .link .chains) s
 
 symbol-named : (o : Symbols.Object) (s : Symbols.State) (i : ℕ) → BuiltNamed (s .stage .link) (s .sections)
     → BuiltNamed (symbolOf o s i .stage .link) (symbolOf o s i .sections)
-unfolding symbolOf lookedOf namedOf commitOf keptOf acceptRow
+unfolding symbolOf lookedOf symbolNamed commitOf keptOf acceptRow
 symbol-named o s i h =
-    let x : Looked = nameIn (o .headers) (o .file) (o .strings) (field (o .entries) i 0) in
+    let x : Looked = nameIn (o .headers) (o .image) (o .symbolNames) (field (o .entries) i 0) in
     let p : Planned = plannedOf (view s) (inputOf (o .entries) (o .work)) (x .name) i (s .stage .file) in
     let st : Store = storeOf (s .bytes) (s .names) (s .stage .link) in
     let k : Store = keepOf st (p .id) (x .name) in
@@ -265,9 +246,9 @@ plan-low s lists ids limit relocations x low z =
 
 section-named : (o : Build.Object) (kind : ℕ) (s : Build.State) (n : ℕ) → BuiltNamed (s .stage .link) (s .sections)
     → BuiltNamed (sectionOf o s n kind .stage .link) (sectionOf o s n kind .sections)
-unfolding sectionOf Build.lookedOf Build.namedOf tabledOf Build.commitOf Build.keptOf buildRowOf Sections.builtOf
+unfolding sectionOf Build.lookedOf Build.sectionNamed tabledOf Build.commitOf Build.keptOf buildRowOf Sections.builtOf
 section-named o kind s n h =
-    let x : Looked = nameIn (o .headers) (o .file) (o .strings) (nameOffsetAt (o .headers) n) in
+    let x : Looked = nameIn (o .headers) (o .image) (o .sectionNames) (nameOffsetAt (o .headers) n) in
     let relocations : List ℕ = relocationsOf (o .headers) (o .contents) (tableFor (o .work) n kind) in
     let limit : ℕ = limitOf (o .headers) (tableFor (o .work) n kind) (o .table) (o .symbols) in
     let st : Store = storeOf (s .bytes) (s .names) (s .stage .link) in

@@ -1,3 +1,3 @@
 pub mod Keyed
 pub mod Ways
-pub mod Polynomial
+pub mod Proof

@@ -3,14 +3,34 @@ ghost use mathlib.Core.Path.{_≡_};
 ghost use Prim.Native.Nat.{_+_, _<_};
 ghost use lib.ListN.{length};
 ghost use Rattle.byte_slices.specs.Bytes.{wordAt};
+ghost use Rattle.cells.specs.Slice.{before};
 ghost use Rattle.keyed_hash.specs.Keyed.{folded, mixed, pointOf, hashOf};
 ghost use Rattle.keyed_hash.specs.Ways.{lastMixed};
+
+// No hash is as much: 2^32.
+pub const HASH_BOUND: usize = 0x1_0000_0000;
+
+// 2^33, and what it is modulo 2^33 - 9.
+const FOLD_BOUND: usize = 0x2_0000_0000;
+
+const FOLD_REST: usize = 9;
+
+// No point is as much: 2^28.
+const POINT_BOUND: usize = 0x1000_0000;
+
+// The point of key 0.
+const BASE_POINT: usize = 0x9e3_779b;
+
+// The bytes of a word, and the last of them.
+const WORD_BYTES: usize = 4;
+
+const LAST_BYTE: usize = 3;
 
 // The same number modulo 2^33 - 9: above 2^33, nines.
 fn folded(x: usize) -> usize
     ensures { λ r. ⌜ r ≡ folded x ⌝ }
 {
-    x % 0x2_0000_0000 + x / 0x2_0000_0000 * 9
+    x % FOLD_BOUND + x / FOLD_BOUND * FOLD_REST
 }
 
 // One more word of 32 bits in the hash of those before it, at the point r.
@@ -30,7 +50,7 @@ fn point(key: usize, base: usize) -> usize
     ensures { λ r. ⌜ r ≡ pointOf key base ⌝ }
     ensures small { λ r. ⌜ r < 0x10000000 ⌝ }
 {
-    let r = (key % 0x1000_0000 + base) % 0x1000_0000;
+    let r = (key % POINT_BOUND + base) % POINT_BOUND;
     if r == 0 {
         return base;
     }
@@ -47,7 +67,7 @@ fn wide(x: u8) -> usize
 // A word whose bytes are all there, read at once.
 fn whole_word(x: &[u8], i: usize) -> usize
     requires { ⌜ i + 3 < length (now x) ⌝ }
-    ensures { λ r. ⌜ r ≡ wordAt (now (x .entry)) i ⌝ }
+    ensures { λ r. ⌜ r ≡ wordAt (before x) i ⌝ }
     ensures small { λ r. ⌜ r < 0x100000000 ⌝ }
 {
     wide(x[i]) + wide(x[i + 1]) * 0x100 + wide(x[i + 2]) * 0x1_0000 + wide(x[i + 3]) * 0x100_0000
@@ -57,7 +77,7 @@ fn whole_word(x: &[u8], i: usize) -> usize
 fn last_mixed(r: usize, h: usize, x: &[u8], i: usize) -> usize
     requires { ⌜ r < 0x10000000 ⌝ }
     requires { ⌜ h < 0x400000000 ⌝ }
-    ensures { λ t. ⌜ t ≡ lastMixed r h (now (x .entry)) i ⌝ }
+    ensures { λ t. ⌜ t ≡ lastMixed r h (before x) i ⌝ }
 {
     if i < x.len() {
         return mixed(r, h, byte_slices::word_at(x, i));
@@ -67,15 +87,15 @@ fn last_mixed(r: usize, h: usize, x: &[u8], i: usize) -> usize
 
 // Any number is a key; its lowest 28 bits count.
 pub fn hash(key: usize, x: &[u8]) -> usize
-    ensures { λ r. ⌜ r ≡ hashOf key (now (x .entry)) ⌝ }
+    ensures { λ r. ⌜ r ≡ hashOf key (before x) ⌝ }
     ensures small { λ r. ⌜ r < 0x100000000 ⌝ }
 {
-    let r = point(key, 0x9e3_779b);
-    let mut h = x.len() % 0x1_0000_0000;
+    let r = point(key, BASE_POINT);
+    let mut h = x.len() % HASH_BOUND;
     let mut i = 0;
-    while 3 < x.len() - i {
+    while LAST_BYTE < x.len() - i {
         h = mixed(r, h, whole_word(x, i));
-        i += 4;
+        i += WORD_BYTES;
     }
-    folded(last_mixed(r, h, x, i)) % 0x2_0000_0000 / 2
+    folded(last_mixed(r, h, x, i)) % FOLD_BOUND / 2
 }

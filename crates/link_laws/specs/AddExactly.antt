@@ -8,7 +8,7 @@ use mathlib.Core.List.{List, _++_}
 use lib.Dec.{eqb, ltb, leb}
 use lib.ListN.{getD, length}
 use borrow.Author.Tests.{eqb-true, eqb-false, ltb-true, ltb-false, lt-ltb, le-ltb, ne-eqb}
-use Rattle.cells.specs.Split.{by-test}
+use Rattle.cells.specs.Proof.Split.{by-test}
 use Rattle.link.specs.declared.Link.{Link}
 use Rattle.link.specs.declared.Interned.{Interned}
 use Rattle.link.specs.declared.SymbolId.{SymbolId}
@@ -22,6 +22,8 @@ use Rattle.symbol.specs.declared.SttFile.the-variants as File
 use Rattle.symbol.specs.declared.SymbolValue.{SymbolValue}
 use Rattle.symbol.specs.declared.SymbolValue.the-variants as Val
 use Rattle.symbol.specs.Codes.{wordsOf}
+use Rattle.symbol.specs.Layout.{refusesScope, refusesValue}
+use Rattle.symbol.specs.Row.{scopeRefused, valueRefused}
 use Rattle.upcoming_symbol.specs.declared.ElfSymbol.{ElfSymbol}
 use Rattle.upcoming_symbol.specs.declared.UpcomingSymbol.{UpcomingSymbol}
 use Rattle.upcoming_symbol.specs.declared.UpcomingSymbol.the-variants.{Null, GlobalUnknown, GlobalHidden, Section, ExternallyDefined, Elf}
@@ -29,27 +31,27 @@ use Rattle.upcoming_symbol.specs.Judge as Upcoming
 use Rattle.upcoming_symbol.specs.Judge.{shownOf, hiddenOf, sectionInRange, elfInRange, externalInRange, inRange}
 use Rattle.upcoming_symbol.specs.Upcoming as Row
 use Rattle.upcoming_symbol.specs.Upcoming.{inSection, conversionFrom, convertedOf, undefinedOf, valueOf, elfRowOf, libraryCode, externalRowOf, nameOf}
-use Rattle.symbol_rows.specs.declared.Holder.{Holder}
-use Rattle.symbol_rows.specs.declared.Holder.the-variants.{Unissued, Nobody, Removed, Known}
-use Rattle.symbol_rows.specs.declared.Decision.{Decision}
-use Rattle.symbol_rows.specs.declared.Decision.the-variants.{Refuse, Keep, Append, Replace}
-use Rattle.symbol_rows.specs.Holder.{holderOf}
-use Rattle.symbol_rows.specs.Decide.{weakOf, referenceRank, rankOf, typeRefusal, sectionCell, sectionRoom, roomOf, newOf, replaceOf, rankedOf, knownOf, namedOf, localOf, decideOf, refusalOf}
+use Rattle.symbol_resolution.specs.declared.rows.Holder.{Holder}
+use Rattle.symbol_resolution.specs.declared.rows.Holder.the-variants.{Unissued, Nobody, Removed, Known}
+use Rattle.symbol_resolution.specs.declared.rows.Decision.{Decision}
+use Rattle.symbol_resolution.specs.Holder.{holderOf}
+use Rattle.symbol_resolution.specs.Decide.{weakOf, referenceRank, rankOf, typeRefusal, sectionCell, sectionRoom, roomOf, decideOf, refusalOf}
+use Rattle.symbol_resolution.specs.Proof.Outcomes.{absentUnder, freshUnder, isLocalRow, rowRank, Meets, heldRank, hides, scope-refused, name-absent, new-unvalued, new-untyped, new-full, new-appended, known-unvalued, known-untyped, known-replaced, known-twice, known-kept, known-amended}
 use Rattle.symbols.specs.Add.{judgeAddOf, fileOf, fileIssued, issuedOf, directHolderOf, unissuedFile, placeOf, decidedOf, committedOf, emptyAt, addRowOf, lent, addOf}
 use Rattle.symbol_laws.specs.Standing.{library-number, library-refused, library-local, library-weak}
-use Rattle.symbol_laws.specs.Duplicate.{kept-number}
 use Rattle.symbol_laws.specs.History.{State, table}
 use Rattle.merge_laws.specs.Calls.{Linked}
 use Rattle.link_laws.specs.Calls.{add, refusalBy, callRefusal}
-use Rattle.link_laws.specs.Rules.{Rule, firstOf, headRules, headed, first-is, not-below, head-rules, placeless-is}
-use Rattle.link_laws.specs.Exactly.{holder-is}
+use Rattle.link_laws.specs.Rules.{Rule, firstOf, headRules}
+use Rattle.link_laws.specs.Proof.Rules.{headed, first-is, not-below, head-rules, placeless-is}
+use Rattle.link_laws.specs.Proof.Exactly.{holder-is}
 use Rattle.link_laws.specs.TableRules.{isIssued, isEmpty, rowOf, isKnown, isRemoved, isWeakRow, isUndefinedRow, noSymbolRow, Value, undefined, common, sectionless, section, defined, isUndefined, isCommon, isSectionless, noSectionCell, Asked, conversionIn, placedAs, elfValue, givenValue, asked, isOutside, isUnissuedFile, fileId, isLocal, isFresh, replaces, shownRules, issuedRules, heldRules, addHead, addRules}
 
 -- ---- binding and visibility
 
 -- a row's code that isn't refused
 pub record Passes (b v : ℕ) : Type 0 where
-  pub low : leb 5 (Upcoming.judgeOf b v) ≡ false
+  pub low : refusesScope (Upcoming.judgeOf b v) ≡ false
   pub local : eqb (Upcoming.judgeOf b v) 0 ≡ eqb b 0
   pub weak : weakOf (Upcoming.judgeOf b v) ≡ eqb b 2
 
@@ -116,7 +118,7 @@ Reads undefined w = w .kind ≡ 7
 Reads common w = w .kind ≡ 13
 Reads sectionless w = w .kind ≡ 14
 Reads (section s) w = (w .kind ≡ 2) × (w .a ≡ s)
-Reads defined w = (leb 13 (w .kind) ≡ false) × (eqb (w .kind) 7 ≡ false) × (eqb (w .kind) 2 ≡ false)
+Reads defined w = (refusesValue (w .kind) ≡ false) × (eqb (w .kind) 7 ≡ false) × (eqb (w .kind) 2 ≡ false)
 
 converted-reads : (cell : ℕ) (empty : Bool) (v : ℕ) → Reads (placedAs (conversionIn cell) empty v) (convertedOf (conversionFrom cell) empty v)
 unfolding convertedOf conversionFrom inSection
@@ -157,10 +159,10 @@ cell-is l n s =
 
 -- what the definitions ask of the words
 record Valued (t : State) (x : Value) (w : Words) : Type 0 where
-  refused-value : leb 13 (w .kind) ≡ isCommon x || isSectionless x
+  refused-value : refusesValue (w .kind) ≡ isCommon x || isSectionless x
   thirteen : isCommon x ≡ true → w .kind ≡ 13
   fourteen : isSectionless x ≡ true → w .kind ≡ 14
-  undefined-value : leb 13 (w .kind) ≡ false → eqb (w .kind) 7 ≡ isUndefined x
+  undefined-value : refusesValue (w .kind) ≡ false → eqb (w .kind) 7 ≡ isUndefined x
   cell : cond (eqb (w .kind) 2) (cond (ltb (sectionCell (t .link) (length (t .sections)) (w .a)) (length (t .sections))) true false) true ≡ not (noSectionCell t x)
 
 valued : (t : State) (x : Value) (w : Words) → Reads x w → Valued t x w
@@ -178,8 +180,8 @@ valued t defined w e = record { refused-value = e .0; thirteen = λ q. absurd (f
 
 -- a row's code beside the one that its binding and visibility give, hidden apart: the same refusal, local and weak alike
 pub record Shown (c k : ℕ) : Type 0 where
-  pub number : leb 5 k ≡ true → c ≡ k
-  pub refuses : leb 5 c ≡ leb 5 k
+  pub number : refusesScope k ≡ true → c ≡ k
+  pub refuses : refusesScope c ≡ refusesScope k
   pub local : eqb c 0 ≡ eqb k 0
   pub weak : weakOf c ≡ weakOf k
 
@@ -283,17 +285,6 @@ room-tree true lo c = refl
 room-tree false true c = refl
 room-tree false false c = refl
 
-new-tree : (z x : Bool) (n : ℕ) → refusalOf (cond z (cond (not x) Append (Refuse 2)) (Refuse n)) ≡ cond z (cond x 2 0) n
-new-tree true true n = refl
-new-tree true false n = refl
-new-tree false x n = refl
-
-known-tree : (id : SymbolId) (b c : Bool) (n : ℕ) (stays : Decision) → refusalOf stays ≡ 0
-    → refusalOf (cond b (cond (eqb n 0) (Replace id) (Refuse n)) (cond c (Refuse 17) stays)) ≡ cond b n (cond c 17 0)
-known-tree id true c n stays z = by-test (eqb n 0) (λ e. rw e (sym (eqb-true n 0 e))) (λ e. rw e)
-known-tree id false true n stays z = refl
-known-tree id false false n stays z = z
-
 module _ (k id place : ℕ) where
   fresh-tree : (x : Bool) → answered (cond (eqb (typeRefusal k) 0) (cond x 2 0) (typeRefusal k)) id place
       ≡ cond (eqb k 4) (refused 15 place) (cond (ltb 4 k) (refused 16 place) (cond x (refused 2 place) (refused 0 0)))
@@ -311,38 +302,42 @@ module _ (k id place : ℕ) where
   stays-tree false false false = refl
 
 -- local or not; known; removed
-module _ (t : State) (r : Row) (id : SymbolId) where
+module _ (id : SymbolId) where
   abbrev holder : Bool → Bool → Holder
   holder known rm = cond known (cond rm Removed (Known id)) Nobody
 
-  abbrev either : Bool → Bool → Bool → Decision
-  either lo known rm =
-      cond lo (localOf (t .link) (t .symbols) (t .sections) r (holder known rm)) (namedOf (t .link) (t .symbols) (t .sections) r (holder known rm))
+  absent-by : (lo known rm : Bool) → not lo && known && rm ≡ true → absentUnder lo (holder known rm) ≡ true
+  absent-by true known rm e = absurd (false≢true e)
+  absent-by false true true e = refl
+  absent-by false true false e = absurd (false≢true e)
+  absent-by false false rm e = absurd (false≢true e)
 
-  either-new : (lo known rm : Bool) → lo || not known ≡ true → either lo known rm ≡ newOf (t .link) (t .symbols) (t .sections) r
-  either-new true true true e = refl
-  either-new true true false e = refl
-  either-new true false rm e = refl
-  either-new false true rm e = absurd (false≢true e)
-  either-new false false rm e = refl
+  fresh-by : (lo known rm : Bool) → lo || not known ≡ true → freshUnder lo (holder known rm) ≡ true
+  fresh-by true true true e = refl
+  fresh-by true true false e = refl
+  fresh-by true false rm e = refl
+  fresh-by false true rm e = absurd (false≢true e)
+  fresh-by false false rm e = refl
 
-  either-known : (lo known rm : Bool) → not lo && known && rm ≡ false → lo || not known ≡ false → either lo known rm ≡ knownOf (t .link .gabi) (t .symbols) r id
-  either-known true known rm k e = absurd (false≢true (sym e))
-  either-known false true true k e = absurd (false≢true (sym k))
-  either-known false true false k e = refl
-  either-known false false rm k e = absurd (false≢true (sym e))
+  known-by : (lo known rm : Bool) → not lo && known && rm ≡ false → lo || not known ≡ false → (lo ≡ false) × (holder known rm ≡ Known id)
+  known-by true known rm k e = absurd (false≢true (sym e))
+  known-by false true true k e = absurd (false≢true (sym k))
+  known-by false true false k e = (refl, refl)
+  known-by false false rm k e = absurd (false≢true (sym e))
+
+number-is : (d e : Decision) → d ≡ e → refusalOf d ≡ refusalOf e
+number-is d e q = ap (λ (x : Decision). refusalOf x) q
 
 module _ (t : State) (r : Row) (a : Asked) (st : Stands r a) where
   abbrev decided : Holder → Decision
   decided h = decideOf (t .link) (t .symbols) (t .sections) r h
 
   module _ (h : Holder) (id place : ℕ) where
-    refused-shown : (n : ℕ) → r .visibility ≡ n → leb 5 n ≡ true → refusalOf (decided h) ≡ n
-    unfolding decideOf
-    refused-shown n e l = rw (e, l)
+    refused-shown : (n : ℕ) → r .visibility ≡ n → refusesScope n ≡ true → refusalOf (decided h) ≡ n
+    refused-shown n e q = number-is _ _ (scope-refused (t .link) (t .symbols) (t .sections) r h (ap (refusesScope) e ∙ q)) ∙ e
 
-    numbered : (n : ℕ) → Upcoming.judgeOf (a .binding) (a .visibility) ≡ n → leb 5 n ≡ true → r .visibility ≡ n
-    numbered n e l = st .shows .number (ap (leb 5) e ∙ l) ∙ e
+    numbered : (n : ℕ) → Upcoming.judgeOf (a .binding) (a .visibility) ≡ n → refusesScope n ≡ true → r .visibility ≡ n
+    numbered n e l = st .shows .number (ap (refusesScope) e ∙ l) ∙ e
 
     pub shown-first : (rest : List Rule) → (Passes (a .binding) (a .visibility) → answered (refusalOf (decided h)) id place ≡ firstOf rest)
         → answered (refusalOf (decided h)) id place ≡ firstOf (shownRules t a place ++ rest)
@@ -363,7 +358,7 @@ module _ (t : State) (r : Row) (a : Asked) (st : Stands r a) where
   row = rowOf t (a .name)
 
   module _ (p : Passes (a .binding) (a .visibility)) where
-    low : leb 5 (r .visibility) ≡ false
+    low : scopeRefused r ≡ false
     low = st .shows .refuses ∙ p .low
 
     local : eqb (r .visibility) 0 ≡ isLocal t a
@@ -374,37 +369,38 @@ module _ (t : State) (r : Row) (a : Asked) (st : Stands r a) where
 
     -- a global or weak name whose row was removed
     decided-removed : not (isLocal t a) && isKnown t (a .name) && isRemoved t row ≡ true → refusalOf (decided held) ≡ 21
-    unfolding decideOf
     decided-removed e =
-        rw (low, local, holder-is t (a .name))
-        (by-test (isLocal t a) (λ f. absurd (false≢true (rw f at e)))
-        (λ f.
-        by-test (isKnown t (a .name))
-        (λ g. by-test (isRemoved t row) (λ i. rw (g, i, f)) (λ i. absurd (false≢true (rw (f, g, i) at e))))
-        (λ g. absurd (false≢true (rw (f, g) at e)))))
+        number-is _ _
+        (name-absent (t .link) (t .symbols) (t .sections) r low held
+        (rw (local, holder-is t (a .name)) (absent-by (record { 0 = row }) (isLocal t a) (isKnown t (a .name)) (isRemoved t row) e)))
 
     module _ (k : not (isLocal t a) && isKnown t (a .name) && isRemoved t row ≡ false) where
-      decided-new : isFresh t a ≡ true → decided held ≡ newOf (t .link) (t .symbols) (t .sections) r
-      unfolding decideOf
-      decided-new e =
-          rw (low, local, holder-is t (a .name)) (either-new t r (record { 0 = row }) (isLocal t a) (isKnown t (a .name)) (isRemoved t row) e)
+      fresh : isFresh t a ≡ true → freshUnder (isLocalRow r) held ≡ true
+      fresh e = rw (local, holder-is t (a .name)) (fresh-by (record { 0 = row }) (isLocal t a) (isKnown t (a .name)) (isRemoved t row) e)
 
-      decided-known : isFresh t a ≡ false → decided held ≡ knownOf (t .link .gabi) (t .symbols) r (record { 0 = row })
-      unfolding decideOf
-      decided-known e =
-          rw (low, local, holder-is t (a .name)) (either-known t r (record { 0 = row }) (isLocal t a) (isKnown t (a .name)) (isRemoved t row) k e)
+      meets : isFresh t a ≡ false → Meets r held (record { 0 = row })
+      meets e =
+          let (lo, h) = known-by (record { 0 = row }) (isLocal t a) (isKnown t (a .name)) (isRemoved t row) k e in
+          record { global = local ∙ lo; known = holder-is t (a .name) ∙ h }
 
       v : Valued t (a .value) (r .value)
       v = valued t (a .value) (r .value) (st .values)
 
       -- 13 and 14, whatever the name
-      value-number : (n : ℕ) → r .value .kind ≡ n → leb 13 n ≡ true → refusalOf (decided held) ≡ n
-      unfolding newOf knownOf
-      value-number n q l =
-          by-test (isFresh t a) (λ e. rw (decided-new e, q, l)) (λ e. rw (decided-known e, q, l))
+      value-number : (n : ℕ) → r .value .kind ≡ n → refusesValue n ≡ true → refusalOf (decided held) ≡ n
+      value-number n q j =
+          let w : valueRefused r ≡ true = ap (refusesValue) q ∙ j in
+          by-test (isFresh t a) (λ e. number-is _ _ (new-unvalued (t .link) (t .symbols) (t .sections) r low held (fresh e) w) ∙ q)
+          (λ e. number-is _ _ (known-unvalued (t .link) (t .symbols) (t .sections) r low held (record { 0 = row }) (meets e) w) ∙ q)
 
       module _ (c : isCommon (a .value) ≡ false) (d : isSectionless (a .value) ≡ false) where
-        kept : leb 13 (r .value .kind) ≡ false
+        abbrev at : SymbolId
+        at = record { 0 = row }
+
+        typed : (b : Bool) → eqb (typeRefusal (a .kind)) 0 ≡ b → eqb (typeRefusal (r .kind)) 0 ≡ b
+        typed b z = ap (λ (n : ℕ). eqb (typeRefusal n) 0) (st .kinds) ∙ z
+
+        kept : valueRefused r ≡ false
         kept = v .refused-value ∙ rw (c, d)
 
         room-is : roomOf (t .link) (t .symbols) (t .sections) r ≡ not (noSymbolRow t || isLocal t a && noSectionCell t (a .value))
@@ -414,27 +410,47 @@ module _ (t : State) (r : Row) (a : Asked) (st : Stands r a) where
         new-number : isFresh t a ≡ true
             → refusalOf (decided held)
             ≡ cond (eqb (typeRefusal (a .kind)) 0) (cond (noSymbolRow t || isLocal t a && noSectionCell t (a .value)) 2 0) (typeRefusal (a .kind))
-        unfolding newOf
         new-number e =
-            rw (decided-new e, kept, room-is, st .kinds)
-            (new-tree (eqb (typeRefusal (a .kind)) 0) (noSymbolRow t || isLocal t a && noSectionCell t (a .value)) (typeRefusal (a .kind)))
+            by-test (eqb (typeRefusal (a .kind)) 0)
+            (λ z.
+            by-test (noSymbolRow t || isLocal t a && noSectionCell t (a .value))
+            (λ m.
+            rw (z, m)
+            (number-is _ _ (new-full (t .link) (t .symbols) (t .sections) r low held (fresh e) kept (typed true z) (room-is ∙ ap not m))))
+            (λ m.
+            rw (z, m)
+            (number-is _ _ (new-appended (t .link) (t .symbols) (t .sections) r low held (fresh e) kept (typed true z) (room-is ∙ ap not m)))))
+            (λ z.
+            rw z (number-is _ _ (new-untyped (t .link) (t .symbols) (t .sections) r low held (fresh e) kept (typed false z)) ∙ ap typeRefusal (st .kinds)))
+
+        -- the ranks, by what is asked
+        yields-is : ltb (heldRank (t .link .gabi) (t .symbols) (record { 0 = row })) (rowRank r (t .link .gabi)) ≡ replaces t a
+        unfolding rankOf referenceRank
+        yields-is =
+            rw (v .undefined-value kept, weak, weak-is (getD (t .symbols) (row * 8 + 4) 0))
+            (ranks (t .link .gabi) (isUndefinedRow t row) (isWeakRow t row) (isUndefined (a .value)) (eqb (a .binding) 2))
+
+        strong-is : eqb (rowRank r (t .link .gabi)) 4 ≡ not (isUndefined (a .value)) && not (eqb (a .binding) 2)
+        unfolding rankOf referenceRank
+        strong-is = rw (v .undefined-value kept, weak) (strongest (t .link .gabi) (isUndefined (a .value)) (eqb (a .binding) 2))
 
         known-number : isFresh t a ≡ false
             → refusalOf (decided held) ≡ cond (replaces t a) (typeRefusal (a .kind)) (cond (not (isUndefined (a .value)) && not (eqb (a .binding) 2)) 17 0)
-        unfolding knownOf rankedOf replaceOf rankOf referenceRank
         known-number e =
-            rw (
-              decided-known e,
-              kept,
-              st .kinds,
-              v .undefined-value kept,
-              weak,
-              weak-is (getD (t .symbols) (row * 8 + 4) 0),
-              ranks (t .link .gabi) (isUndefinedRow t row) (isWeakRow t row) (isUndefined (a .value)) (eqb (a .binding) 2),
-              strongest (t .link .gabi) (isUndefined (a .value)) (eqb (a .binding) 2),
-            )
-            (known-tree (record { 0 = row }) (replaces t a) (not (isUndefined (a .value)) && not (eqb (a .binding) 2)) (typeRefusal (a .kind)) _
-            (kept-number (t .link .gabi) (getD (t .symbols) (row * 8 + 4) 0) (r .visibility) (record { 0 = row })))
+            by-test (replaces t a)
+            (λ y.
+            rw y
+            (by-test (eqb (typeRefusal (a .kind)) 0)
+            (λ z. number-is _ _ (known-replaced (t .link) (t .symbols) (t .sections) r low held at (meets e) kept (yields-is ∙ y) (typed true z)) ∙ sym (eqb-true _ _ z))
+            (λ z. number-is _ _ (known-untyped (t .link) (t .symbols) (t .sections) r low held at (meets e) kept (yields-is ∙ y) (typed false z)) ∙ ap typeRefusal (st .kinds))))
+            (λ y.
+            by-test (not (isUndefined (a .value)) && not (eqb (a .binding) 2))
+            (λ s. rw (y, s) (number-is _ _ (known-twice (t .link) (t .symbols) (t .sections) r low held at (meets e) kept (yields-is ∙ y) (strong-is ∙ s))))
+            (λ s.
+            rw (y, s)
+            (by-test (hides (t .link .gabi) (t .symbols) r at)
+            (λ h. number-is _ _ (known-amended (t .link) (t .symbols) (t .sections) r low held at (meets e) kept (yields-is ∙ y) (strong-is ∙ s) h))
+            (λ h. number-is _ _ (known-kept (t .link) (t .symbols) (t .sections) r low held at (meets e) kept (yields-is ∙ y) (strong-is ∙ s) h)))))
 
     -- a removed row, the value, then a new or a known name
     pub held-first : (place : ℕ) → answered (refusalOf (decided held)) (a .name) place ≡ firstOf (heldRules t a place)
@@ -448,8 +464,7 @@ module _ (t : State) (r : Row) (a : Asked) (st : Stands r a) where
         (λ e. rw (known-number k c d e, e) (stays-tree (a .kind) (a .name) place (replaces t a) (isUndefined (a .value)) (eqb (a .binding) 2))))))
 
     decided-unissued : refusalOf (decided Unissued) ≡ 21
-    unfolding decideOf
-    decided-unissued = rw low (by-test (eqb (r .visibility) 0) (λ e. rw e) (λ e. rw e))
+    decided-unissued = number-is _ _ (name-absent (t .link) (t .symbols) (t .sections) r low Unissued refl)
 
 -- ---- a direct add
 

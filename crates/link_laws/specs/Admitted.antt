@@ -7,12 +7,13 @@ use mathlib.Core.List.{List, _∷_}
 use lib.ListN.{length}
 use Rattle.gabi.specs.StringTable as Strings
 use Rattle.gabi.specs.Archive.{Named, extracts}
-use Rattle.archive_index.specs.Index.{countOf}
+use Rattle.archive_index.specs.Index.{countOf, offsetOf, nameOf}
 use Rattle.archive_walk.specs.Look.{Table}
 use Rattle.archive_walk.specs.Walk.{begunNumber, startOf}
 use Rattle.archive_laws.specs.Rounds.{among}
 use Rattle.archive_laws.specs.Runs.{Run, stepRun, history, startRun}
 use Rattle.archive_laws.specs.Walked.{inIndex, queueIn}
+use Rattle.archive_laws.specs.Terms.{start-fine, start-begins}
 use Rattle.elf_object.specs.Judge.{judgeOf}
 use Rattle.object_requirement.specs.declared.Admission.{Admission}
 use Rattle.object_requirement.specs.declared.Admission.the-variants.{Yes}
@@ -25,7 +26,8 @@ use Rattle.extraction_laws.specs.MemberWords.{symbolsOf}
 use Rattle.extraction_laws.specs.Answer as Answer
 use Rattle.extraction_laws.specs.Answer.{says, admitted}
 use Rattle.link_laws.specs.Calls.{matches, viewIn, callLeft}
-use Rattle.link_laws.specs.Walks.{nextIn, next-is}
+use Rattle.link_laws.specs.Walks.{nextIn}
+use Rattle.link_laws.specs.Proof.Walks.{next-is}
 use Rattle.link_laws.specs.Undefined.{undefined-is}
 use Rattle.link_laws.specs.Ties.{OfName}
 use Rattle.link_laws.specs.Extraction.{wantedIn, weaklyIn, strongly-wanted}
@@ -55,23 +57,23 @@ module _ (s : Linked) (past : List Entry) (inv : Inv (s .table) past) (key : ℕ
     pub let-in-queued : (on : Linked) → answerIn headers entries contents file index after e on ≡ Yes → among index e (queueIn after) ≡ true
     let-in-queued on y =
         subst (λ (r : Run). among index e (queueIn r) ≡ true) (sym (next-is index before s))
-        (Answer.let-in-queued key index cells begun ts (viewIn (s .table)) passed e low new headers entries contents file ranged listed (on .table .link)
+        (Answer.let-in-queued key index (offsetOf index) (nameOf index (countOf index)) (countOf index) (startRun key index cells) (start-fine key index cells begun) (start-begins key index cells begun) ts (viewIn (s .table)) passed e low new headers entries contents file ranged listed (on .table .link)
         (subst (λ (r : Run). answerIn headers entries contents file index r e on ≡ Yes) (next-is index before s) y))
 
     -- asked by any link
     module _ (on : Linked) where
       abbrev answer : Bool
-      answer = Answer.answer key index cells begun ts (viewIn (s .table)) passed e low new headers entries contents file ranged listed (on .table .link)
+      answer = Answer.answer key index (offsetOf index) (nameOf index (countOf index)) (countOf index) (startRun key index cells) (start-fine key index cells begun) (start-begins key index cells begun) ts (viewIn (s .table)) passed e low new headers entries contents file ranged listed (on .table .link)
 
       answer-now : answerIn headers entries contents file index after e on ≡ says answer
       answer-now =
           ap (λ (r : Run). answerIn headers entries contents file index r e on) (next-is index before s)
-          ∙ Answer.answer-is key index cells begun ts (viewIn (s .table)) passed e low new headers entries contents file ranged listed (on .table .link)
+          ∙ Answer.answer-is key index (offsetOf index) (nameOf index (countOf index)) (countOf index) (startRun key index cells) (start-fine key index cells begun) (start-begins key index cells begun) ts (viewIn (s .table)) passed e low new headers entries contents file ranged listed (on .table .link)
 
       answer-later : among index e (queueIn after) ≡ true → (us : List Table) → answerIn headers entries contents file index (history index us after) e on ≡ says answer
       answer-later q us =
           ap (λ (r : Run). answerIn headers entries contents file index (history index us r) e on) (next-is index before s)
-          ∙ Answer.answer-later key index cells begun ts (viewIn (s .table)) passed e low new headers entries contents file ranged listed (on .table .link)
+          ∙ Answer.answer-later key index (offsetOf index) (nameOf index (countOf index)) (countOf index) (startRun key index cells) (start-fine key index cells begun) (start-begins key index cells begun) ts (viewIn (s .table)) passed e low new headers entries contents file ranged listed (on .table .link)
           (subst (λ (r : Run). among index e (queueIn r) ≡ true) (next-is index before s) q) us
 
     module _ (wanted : List (List ℕ)) (same : (x : List ℕ) → lists member x ≡ true → Strings.among x wanted ≡ wantedIn s past inv x) where
@@ -79,7 +81,7 @@ module _ (s : Linked) (past : List Entry) (inv : Inv (s .table) past) (key : ℕ
       module _ (old : s .table .link .gabi ≡ false) (on : Linked) (asks : on .table .link .gabi ≡ false) where
         by-gabi : answer on ≡ admitted wanted (weaklyIn s past inv) member
         by-gabi =
-            Answer.by-gabi key index cells begun ts (viewIn (s .table)) passed e low new headers entries contents file ranged listed (on .table .link) old asks wanted
+            Answer.by-gabi key index (offsetOf index) (nameOf index (countOf index)) (countOf index) (startRun key index cells) (start-fine key index cells begun) (start-begins key index cells begun) ts (viewIn (s .table)) passed e low new headers entries contents file ranged listed (on .table .link) old asks wanted
             (weaklyIn s past inv) (λ x l. undefined-is (s .table) past inv x ∙ ap (λ (b : Bool). b || weaklyIn s past inv x) (sym (same x l)))
 
         pub matches-is : answerIn headers entries contents file index after e on ≡ says (admitted wanted (weaklyIn s past inv) member)
@@ -94,7 +96,7 @@ module _ (s : Linked) (past : List Entry) (inv : Inv (s .table) past) (key : ℕ
           (on : Linked) (asks : on .table .link .gabi ≡ true) where
         exactly : answer on ≡ extracts member wanted
         exactly =
-            Answer.exactly-gabi key index cells begun ts (viewIn (s .table)) passed e low new headers entries contents file ranged listed (on .table .link) gabi asks wanted
+            Answer.exactly-gabi key index (offsetOf index) (nameOf index (countOf index)) (countOf index) (startRun key index cells) (start-fine key index cells begun) (start-begins key index cells begun) ts (viewIn (s .table)) passed e low new headers entries contents file ranged listed (on .table .link) gabi asks wanted
             (λ x l. strongly-wanted s past inv gabi named x ∙ sym (same x l))
 
         pub matches-gabi : answerIn headers entries contents file index after e on ≡ says (extracts member wanted)

@@ -9,7 +9,7 @@ use mathlib.Core.List.{List, [], _∷_, _++_}
 use lib.Dec.{eqb, ltb}
 use lib.ListN.{getD, length}
 use borrow.Author.Tests.{ltb-true, ltb-false, lt-ltb, le-ltb, ne-eqb}
-use Rattle.cells.specs.Split.{by-test}
+use Rattle.cells.specs.Proof.Split.{by-test}
 use Rattle.gabi.specs.StringTable.{ended, nameAt}
 use Rattle.link.specs.declared.Refusal.{Refusal}
 use Rattle.link.specs.Bounds.{lesser, notLent}
@@ -29,13 +29,14 @@ use Rattle.interner_laws.specs.Good.{Chained}
 use Rattle.symbol_laws.specs.History.{State, store}
 use Rattle.merge_laws.specs.Calls.{Linked}
 use Rattle.link_laws.specs.Calls.{archiveStart, archiveNext, matches, viewIn, callRefusal}
-use Rattle.link_laws.specs.Rules.{Rule, _gives_at_, each, firstOf, over-either, numbered, numbered-both, each-numbered, first-none, first-is, follows, headed, taken, left-out, lentRows, countRules, count-rules}
+use Rattle.link_laws.specs.Rules.{Rule, _gives_at_, each, firstOf, numbered, lentRows, countRules}
+use Rattle.link_laws.specs.Proof.Rules.{over-either, numbered-both, each-numbered, first-none, first-is, follows, headed, taken, left-out, count-rules}
 use Rattle.link_laws.specs.AddExactly.{least-below}
 use Rattle.link_laws.specs.TableRules.{isKnown, isRemoved, rowOf, idIn}
-use Rattle.link_laws.specs.Exactly.{holder-is}
+use Rattle.link_laws.specs.Proof.Exactly.{holder-is}
 use Rattle.link_laws.specs.ObjectRules.{objectRules}
-use Rattle.link_laws.specs.ObjectExactly.{object-exactly, object-numbered}
-use Rattle.link_laws.specs.MergeSymbols.{find-is}
+use Rattle.link_laws.specs.Proof.ObjectExactly.{object-exactly, object-numbered}
+use Rattle.link_laws.specs.Proof.MergeSymbols.{find-is}
 use Rattle.link_laws.specs.ArchiveRules.{entriesIn, nameStart, isOffsetCut, isNameCut, emptyRules, offsetRules, nameRules, cellRules, startRules, isOtherWalk, entryName, isGone, passRules, nextRules, isNoEntry, matchesRules}
 
 true≢false : true ≡ false → ⊥

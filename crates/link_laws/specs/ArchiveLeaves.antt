@@ -7,7 +7,7 @@ use mathlib.Core.Logic.{_≢_}
 use lib.Dec.{eqb, ltb}
 use lib.ListN.{length}
 use borrow.Author.Tests.{eqb-false}
-use Rattle.byte_slices.specs.Ways.{pick}
+use Rattle.byte_slices.specs.Proof.Ways.{pick}
 use Rattle.link.specs.Bounds.{lesser}
 use Rattle.archive_index.specs.declared.Opened.{Opened}
 use Rattle.archive_index.specs.Index.{countOf, cutOf, namesAt}

@@ -5,7 +5,7 @@ use mathlib.Core.Path.{_≡_, ap, _∙_}
 use mathlib.Core.Bool.{Bool, true, false, cond}
 use mathlib.Core.List.{List}
 use lib.ListN.{length}
-use Rattle.byte_slices.specs.Ways.{apart}
+use Rattle.byte_slices.specs.Proof.Ways.{apart}
 use Rattle.link.specs.declared.Link.{Link}
 use Rattle.link.specs.declared.Lent.{Lent}
 use Rattle.link.specs.declared.SymbolId.{SymbolId}
@@ -21,11 +21,11 @@ use Rattle.symbols.specs.Add as Add
 use Rattle.symbols.specs.Add.{judgeAddOf, addOf}
 use Rattle.symbols.specs.Remove.{removeOf}
 use Rattle.section_groups.specs.Group as Group
-use Rattle.add_group.specs.AddGroup as AddGroup
-use Rattle.add_group.specs.AddGroup.{addGroupOf}
+use Rattle.section_groups.specs.AddGroup as AddGroup
+use Rattle.section_groups.specs.AddGroup.{addGroupOf}
 use Rattle.merge_stages.specs.Stages as Stages
 use Rattle.merge_elf.specs.Merge as Merge
-use Rattle.library_head.specs.Head as Head
+use Rattle.shared_objects.specs.Head as Head
 use Rattle.shared_objects.specs.Load as Shared
 use Rattle.shared_objects.specs.Load.{loadOf}
 use Rattle.gc_sections.specs.declared.EntryPoint.{EntryPoint}
@@ -34,26 +34,20 @@ use Rattle.gc_sections.specs.Run.{runOf}
 use Rattle.symbol_laws.specs.History.{store, table}
 use Rattle.merge_laws.specs.ByNumber as ByNumber
 use Rattle.merge_laws.specs.Calls.{Linked, allIn}
-use Rattle.link_laws.specs.Calls.{Call, intern, resolve, add, remove, get, getGlobal, sectionSymbol, addGroup, merge, mergeFile, load, archiveStart, archiveNext, matches, collect, plainCollect, groupIn, listsIn, callRefusal}
-use Rattle.link_laws.specs.PlainCalls.{Compared, alike, many, compared}
+use Rattle.link_laws.specs.Calls.{Call, intern, add, remove, addGroup, merge, mergeFile, load, collect, plainCollect, groupIn, listsIn, callRefusal, reads}
+use Rattle.link_laws.specs.Proof.PlainCalls.{Compared, alike, many, compared}
 use Rattle.merge_file.specs.MergeFile.{fileHeadOf, mergeFileOf}
 
 -- the calls that may change a link
 abbrev pub changes : Call → Bool
 changes (intern x) = true
-changes (resolve id) = false
+changes (reads k) = false
 changes (add conversion u) = true
 changes (remove id) = true
-changes (get id) = false
-changes (getGlobal name) = false
-changes (sectionSymbol section) = false
 changes (addGroup o work n) = true
 changes (merge o work ids) = true
 changes (mergeFile file cells work ids) = true
 changes (load o marks) = true
-changes (archiveStart key index cells) = false
-changes (archiveNext index cells w) = false
-changes (matches headers entries contents file index cells w e) = false
 changes (collect marks entry work) = true
 changes (plainCollect marks entry work) = true
 
@@ -78,7 +72,7 @@ module _ (s : Linked) (b : s .table .link .broken ≡ true) where
   remove-broken id = simp (change-broken l (Symbols.lentOf (l .chains) (length (s .table .symbols)) (sectionSlots (length (s .table .sections)))) b)
 
   group-broken : (o : Group.Object) (work : List ℕ) (n : ℕ) → callRefusal (addGroup o work n) s ≡ refused 22 0
-  unfolding addGroupOf AddGroup.headOf
+  unfolding addGroupOf AddGroup.checkOf
   group-broken o work n = simp (change-broken l (AddGroup.lent (groupIn (s .table) work)) b)
 
   merge-broken : (o : Stages.Object) (work ids : List ℕ) → callRefusal (merge o work ids) s ≡ refused 22 0
@@ -89,7 +83,7 @@ module _ (s : Linked) (b : s .table .link .broken ≡ true) where
   file-broken file cells work ids = rw b
 
   load-broken : (o : Shared.Input) (marks : List ℕ) → callRefusal (load o marks) s ≡ refused 22 0
-  unfolding loadOf Head.headOf
+  unfolding loadOf Head.checkOf
   load-broken o marks =
       simp
       (change-broken l
@@ -111,19 +105,13 @@ module _ (s : Linked) (b : s .table .link .broken ≡ true) where
 
   pub broken-refused : (k : Call) → changes k ≡ true → callRefusal k s ≡ refused 22 0
   broken-refused (intern x) c = intern-broken x
-  broken-refused (resolve id) c = absurd (apart c)
+  broken-refused (reads k) c = absurd (apart c)
   broken-refused (add conversion u) c = add-broken conversion u
   broken-refused (remove id) c = remove-broken id
-  broken-refused (get id) c = absurd (apart c)
-  broken-refused (getGlobal name) c = absurd (apart c)
-  broken-refused (sectionSymbol section) c = absurd (apart c)
   broken-refused (addGroup o work n) c = group-broken o work n
   broken-refused (merge o work ids) c = merge-broken o work ids
   broken-refused (mergeFile file cells work ids) c = file-broken file cells work ids
   broken-refused (load o marks) c = load-broken o marks
-  broken-refused (archiveStart key index cells) c = absurd (apart c)
-  broken-refused (archiveNext index cells w) c = absurd (apart c)
-  broken-refused (matches headers entries contents file index cells w e) c = absurd (apart c)
   broken-refused (collect marks entry work) c = collect-broken marks entry work
   broken-refused (plainCollect marks entry work) c = go (compared marks entry work s)
     where

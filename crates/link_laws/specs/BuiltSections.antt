@@ -14,27 +14,28 @@ use Rattle.gc_sections.specs.declared.EntryPoint.{EntryPoint}
 use Rattle.gc_sections.specs.declared.Answer.{Answer}
 use Rattle.gc_sections.specs.declared.Answer.the-variants.{Dropped, Refused}
 use Rattle.gc_laws.specs.Reached as Relocations
-use Rattle.gc_laws.specs.Demand as Collection
+use Rattle.gc_laws.specs.Terms as Collection
 use Rattle.symbol_laws.specs.History as History
 use Rattle.symbol_laws.specs.History.{State, store}
 use Rattle.symbol_laws.specs.Below.{Below}
-use Rattle.symbol_laws.specs.Writes as Writes
+use Rattle.symbol_laws.specs.Proof.Writes as WritesLaws
 use Rattle.merge_laws.specs.Steps.{Step}
-use Rattle.merge_laws.specs.More.{makes-more}
+use Rattle.merge_laws.specs.Proof.More.{makes-more}
 use Rattle.merge_laws.specs.Placed.{slots}
 use Rattle.merge_laws.specs.BuiltRow.{BuiltAs, part-same}
-use Rattle.merge_laws.specs.RowsBelow.{merge-same}
+use Rattle.merge_laws.specs.Proof.RowsBelow.{merge-same}
 use Rattle.merge_laws.specs.Calls.{Linked, allIn}
-use Rattle.load_laws.specs.Sections.{load-sections}
-use Rattle.link_laws.specs.Calls.{Call, intern, resolve, add, remove, get, getGlobal, sectionSymbol, addGroup, merge, mergeFile, load, archiveStart, archiveNext, matches, collect, plainCollect, libraryIn, listsIn, callLeft, callNext, runCalls, Drops}
-use Rattle.link_laws.specs.PlainCalls.{Compared, alike, many, compared}
+use Rattle.load_laws.specs.Proof.Sections.{load-sections}
+use Rattle.link_laws.specs.Calls.{Call, intern, add, remove, addGroup, merge, mergeFile, load, collect, plainCollect, libraryIn, listsIn, callLeft, callNext, runCalls, Drops, reads}
+use Rattle.link_laws.specs.Proof.PlainCalls.{Compared, alike, many, compared}
 use Rattle.gc_sections.specs.Run.{Left}
 use Rattle.elf_laws.specs.Object as ElfFile
-use Rattle.link_laws.specs.FileCall.{by-file}
-use Rattle.link_laws.specs.CallSteps.{callSteps, Leads, made, cleared, call-leads}
-use Rattle.link_laws.specs.Lists.{call-listed}
+use Rattle.link_laws.specs.Proof.FileCall.{by-file}
+use Rattle.link_laws.specs.CallSteps.{callSteps, Leads, made, cleared}
+use Rattle.link_laws.specs.Proof.CallSteps.{call-leads}
+use Rattle.link_laws.specs.Proof.Lists.{call-listed}
 use Rattle.link_laws.specs.Idle.{drops-nothing}
-use Rattle.link_laws.specs.NamesStay.{calls-stay}
+use Rattle.link_laws.specs.Proof.NamesStay.{calls-stay}
 use Rattle.link_laws.specs.Kept.{signatures, Lasting, lasting-on}
 
 -- row r of a link is a built section of that name, kind, flags, and names these symbols
@@ -49,19 +50,13 @@ ReachedIn s marks entry r = Relocations.Reached (s .table .link) (listsIn s mark
 -- a collection that isn't refused reaches section r; other calls drop none
 abbrev pub Spares : Call → Linked → ℕ → Type 0
 Spares (intern x) s r = Unit {0}
-Spares (resolve id) s r = Unit {0}
+Spares (reads k) s r = Unit {0}
 Spares (add conversion u) s r = Unit {0}
 Spares (remove id) s r = Unit {0}
-Spares (get id) s r = Unit {0}
-Spares (getGlobal name) s r = Unit {0}
-Spares (sectionSymbol section) s r = Unit {0}
 Spares (addGroup o work n) s r = Unit {0}
 Spares (merge o work ids) s r = Unit {0}
 Spares (mergeFile file cells work ids) s r = Unit {0}
 Spares (load o marks) s r = Unit {0}
-Spares (archiveStart key index cells) s r = Unit {0}
-Spares (archiveNext index cells w) s r = Unit {0}
-Spares (matches headers entries contents file index cells w e) s r = Unit {0}
 Spares (collect marks entry work) s r = (a b : ℕ) → callLeft (collect marks entry work) s .answer ≡ Dropped a b → ReachedIn s marks entry r
 Spares (plainCollect marks entry work) s r = (a b : ℕ) → callLeft (plainCollect marks entry work) s .answer ≡ Dropped a b → ReachedIn s marks entry r
 
@@ -89,21 +84,15 @@ module _ (s : Linked) (below : Below (s .table)) (rows-in : s .table .link .sect
 
   pub row-cell : (k : Call) → Spares k s r → Same k
   row-cell (intern x) q = refl
-  row-cell (resolve id) q = refl
-  row-cell (add conversion u) q = Writes.call-past (s .table) below (History.add conversion u) .sections (r * 8 + f) behind
-  row-cell (remove id) q = Writes.call-past (s .table) below (History.remove id) .sections (r * 8 + f) behind
-  row-cell (get id) q = refl
-  row-cell (getGlobal name) q = refl
-  row-cell (sectionSymbol section) q = refl
+  row-cell (reads k) q = refl
+  row-cell (add conversion u) q = WritesLaws.call-past (s .table) below (History.add conversion u) .sections (r * 8 + f) behind
+  row-cell (remove id) q = WritesLaws.call-past (s .table) below (History.remove id) .sections (r * 8 + f) behind
   row-cell (addGroup o work n) q = refl
   row-cell (merge o work ids) q = merge-same o (allIn s work ids) r f low small
   row-cell (mergeFile file cells work ids) q =
       by-file file cells work ids s (λ (t : Linked). field (t .table .sections) r f ≡ field (s .table .sections) r f)
       (merge-same (ElfFile.rowsOf file) (allIn s work ids) r f low small) refl
   row-cell (load o marks) q = ap (λ (l : List ℕ). field l r f) (load-sections o (libraryIn s marks))
-  row-cell (archiveStart key index cells) q = refl
-  row-cell (archiveNext index cells w) q = refl
-  row-cell (matches headers entries contents file index cells w e) q = refl
   row-cell (collect marks entry work) q = collected marks entry work q (callLeft (collect marks entry work) s .answer) refl
   row-cell (plainCollect marks entry work) q = go (compared marks entry work s)
     where

@@ -10,6 +10,7 @@ use Rattle.link.specs.Judge.{refused}
 use Rattle.link.specs.Said.{numberIn, placeIn}
 use Rattle.gabi.specs.Resolution.{duplicate, resolve}
 use Rattle.symbol.specs.declared.Row.{Row}
+use Rattle.symbol.specs.Row.{scopeRefused, valueRefused}
 use Rattle.merge_stages.specs.Stages as Stages
 use Rattle.merge_elf.specs.Merge.{mergeOf}
 use Rattle.shared_objects.specs.Load as Shared
@@ -30,8 +31,8 @@ IsDuplicate past r = resolve (symsOf (rows (only (r .name .0) past)) ++ (symOfRo
 -- a row that may be refused with 17: global, and its binding, visibility and value pass
 pub record Judges (r : Row) : Type 0 where
   pub global : r .visibility ≢ 0
-  pub passes : leb 5 (r .visibility) ≡ false
-  pub valued : leb 13 (r .value .kind) ≡ false
+  pub passes : scopeRefused r ≡ false
+  pub valued : valueRefused r ≡ false
 
 module _ (past : List Entry) (r : Row) where
   by-first : (l : List Entry) → only (r .name .0) past ≡ l → resolve (symsOf (rows l) ++ (symOfRow r ∷ [])) ≡ duplicate → IsDuplicate past r

@@ -8,8 +8,8 @@ use mathlib.Core.Logic.{_≢_}
 use lib.Dec.{eqb, ltb, leb}
 use lib.ListN.{length}
 use borrow.Author.Tests.{eqb-true, eqb-false, ltb-true, leb-false, lt-leb, le-leb, eq-eqb, ne-eqb}
-use Rattle.cells.specs.Split.{by-test}
-use Rattle.byte_slices.specs.Ways.{pick}
+use Rattle.cells.specs.Proof.Split.{by-test}
+use Rattle.byte_slices.specs.Proof.Ways.{pick}
 use Rattle.link.specs.declared.Link.{Link}
 use Rattle.link.specs.declared.Lent.{Lent}
 use Rattle.link.specs.declared.Interned.{Interned}
@@ -18,15 +18,15 @@ use Rattle.link.specs.declared.Refusal.{Refusal}
 use Rattle.link.specs.Bounds.{sectionSlots, nameRows}
 use Rattle.link.specs.Judge.{refused, changeOf}
 use Rattle.link.specs.Judge as Link
-use Rattle.link.specs.Passed.{judge-gives}
+use Rattle.link.specs.Proof.Passed.{judge-gives}
 use Rattle.link.specs.Said.{numberIn, placeIn}
 use Rattle.interner.specs.Names.{Store, findOf, fitsOf}
 use Rattle.interner.specs.Calls as Names
 use Rattle.interner.specs.Calls.{internOf, issueOf, resolveOf}
 use Rattle.symbol.specs.Row.{stateAt}
-use Rattle.symbol_rows.specs.declared.Holder.{Holder}
-use Rattle.symbol_rows.specs.declared.Holder.the-variants.{Unissued, Nobody, Removed, Known}
-use Rattle.symbol_rows.specs.Holder.{holderOf}
+use Rattle.symbol_resolution.specs.declared.rows.Holder.{Holder}
+use Rattle.symbol_resolution.specs.declared.rows.Holder.the-variants.{Unissued, Nobody, Removed, Known}
+use Rattle.symbol_resolution.specs.Holder.{holderOf}
 use Rattle.symbols.specs.declared.Found.{Found}
 use Rattle.symbols.specs.Calls.{lentOf}
 use Rattle.upcoming_symbol.specs.declared.UpcomingSymbol.{UpcomingSymbol}
@@ -36,9 +36,9 @@ use Rattle.upcoming_symbol.specs.Upcoming.{nameOf, externalRowOf, elfRowOf, row
 use Rattle.symbol.specs.declared.Row.{Row}
 use Rattle.symbol.specs.declared.SttFile.{SttFile}
 use Rattle.symbol.specs.declared.SttFile.the-variants as File
-use Rattle.symbol_rows.specs.declared.Decision.{Decision}
-use Rattle.symbol_rows.specs.Decide.{refusalOf}
-use Rattle.symbol_rows.specs.Apply as SymbolRows
+use Rattle.symbol_resolution.specs.declared.rows.Decision.{Decision}
+use Rattle.symbol_resolution.specs.Decide.{refusalOf}
+use Rattle.symbol_resolution.specs.Apply as SymbolRows
 use Rattle.symbols.specs.Calls as Symbols
 use Rattle.symbols.specs.Add as Add
 use Rattle.symbols.specs.Add.{emptyAt, fileOf, fileIssued, unissuedFile, decidedOf, committedOf, addRowOf, judgeAddOf, addOf}
@@ -59,8 +59,8 @@ use Rattle.elf_object.specs.Rows.{rowsIn, isLoaded}
 use Rattle.elf_object.specs.Judge as Elf
 use Rattle.section_groups.specs.Group as Group
 use Rattle.section_groups.specs.Group.{groupOf, groupSectionOf, go}
-use Rattle.add_group.specs.AddGroup as AddGroup
-use Rattle.add_group.specs.AddGroup.{answerOf, loadedIn, addGroupOf}
+use Rattle.section_groups.specs.AddGroup as AddGroup
+use Rattle.section_groups.specs.AddGroup.{answerOf, loadedIn, addGroupOf}
 use Rattle.link.specs.declared.Stage.{Stage}
 use Rattle.gc_sections.specs.declared.EntryPoint.{EntryPoint}
 use Rattle.gc_sections.specs.declared.Answer.{Answer}
@@ -71,15 +71,16 @@ use Rattle.gc_sections.specs.Reach as Reach
 use Rattle.gc_sections.specs.Run as Collection
 use Rattle.gc_sections.specs.Run.{judgeCells, judged, purgeOf, sweepOf, finishOf, finished, collectOf, runOf}
 use Rattle.elf_object.specs.Judge.{firstBad}
-use Rattle.gc_laws.specs.Demand as Demand
+use Rattle.gc_laws.specs.Terms as Demand
 use Rattle.symbol_laws.specs.History.{State, store, table}
-use Rattle.merge_laws.specs.Refusals.{oneOf, group-left}
+use Rattle.merge_laws.specs.Refusals.{group-left}
 use Rattle.merge_laws.specs.ByNumber.{changed, elf-gives}
 use Rattle.merge_laws.specs.Calls.{Linked}
 use Rattle.link_laws.specs.Calls.{intern, resolve, add, remove, get, getGlobal, addGroup, archiveStart, archiveNext, collect, viewIn, listsIn, groupIn, callRefusal, callNumber}
 use Rattle.link_laws.specs.FirstRow.{First, first-bad}
 use Rattle.link_laws.specs.NeverRemoved.{offered-number}
 use Rattle.link_laws.specs.CallSteps.{head-loaded, section-is}
+use Rattle.merge_laws.specs.Table.{oneOf, groupCauses, groupNumbers}
 
 -- two numbers
 pub differ : {P : Type 0} (m n : ℕ) → eqb m n ≡ false → m ≡ n → P
@@ -409,7 +410,7 @@ module _ (o : Group.Object) (t : State) (work : List ℕ) (n : ℕ) where
 
   -- past the head
   record Sectioned : Type 0 where
-    number : oneOf (addGroupOf o at n .said .number) (2 ∷ 4 ∷ 5 ∷ 6 ∷ 7 ∷ []) ≡ true
+    number : oneOf (addGroupOf o at n .said .number) groupNumbers ≡ true
     place : addGroupOf o at n .said .place ≡ n
 
   group-element : AddGroup.headIn o at n .number ≡ 0 → addGroupOf o at n .said .number ≢ 0 → Sectioned
@@ -420,13 +421,13 @@ module _ (o : Group.Object) (t : State) (work : List ℕ) (n : ℕ) where
       let e = group-left (loadedIn o) (go at) n refl (λ y. v (sym (ap (λ (g : Group.Step). g .stage .number) same) ∙ y)) in
       record {
         number =
-            ap (λ (r : Refusal). oneOf (r .number) (2 ∷ 4 ∷ 5 ∷ 6 ∷ 7 ∷ [])) said
-            ∙ sym (ap (λ (g : Group.Step). oneOf (g .stage .number) (2 ∷ 4 ∷ 5 ∷ 6 ∷ 7 ∷ [])) same) ∙ e .number;
+            ap (λ (r : Refusal). oneOf (r .number) groupNumbers) said
+            ∙ sym (ap (λ (g : Group.Step). oneOf (g .stage .number) groupNumbers) same) ∙ e .number;
         place = ap (λ (r : Refusal). r .place) said ∙ ap (λ (g : Group.Step). g .stage .place) (sym same ∙ e .as-it-was);
       }
 
   -- a number that no section gives is the head's
-  pub group-of-head : (m : ℕ) → oneOf m (0 ∷ 2 ∷ 4 ∷ 5 ∷ 6 ∷ 7 ∷ []) ≡ false → addGroupOf o at n .said .number ≡ m → addGroupOf o at n .said ≡ AddGroup.headIn o at n
+  pub group-of-head : (m : ℕ) → oneOf m (0 ∷ groupNumbers) ≡ false → addGroupOf o at n .said .number ≡ m → addGroupOf o at n .said ≡ AddGroup.headIn o at n
   group-of-head m d e =
       by-test (eqb (AddGroup.headIn o at n .number) 0)
       (λ a.
@@ -434,30 +435,30 @@ module _ (o : Group.Object) (t : State) (work : List ℕ) (n : ℕ) where
       (λ b. absurd (none (rw (b, group-element (eqb-true _ _ a) (eqb-false _ _ b) .number)))))
       (λ a. group-head (eqb-false _ _ a))
     where
-      none : oneOf (addGroupOf o at n .said .number) (0 ∷ 2 ∷ 4 ∷ 5 ∷ 6 ∷ 7 ∷ []) ≡ true → ⊥
-      none h = false≢true (sym d ∙ ap (λ (k : ℕ). oneOf k (0 ∷ 2 ∷ 4 ∷ 5 ∷ 6 ∷ 7 ∷ [])) (sym e) ∙ h)
+      none : oneOf (addGroupOf o at n .said .number) (0 ∷ groupNumbers) ≡ true → ⊥
+      none h = false≢true (sym d ∙ ap (λ (k : ℕ). oneOf k (0 ∷ groupNumbers)) (sym e) ∙ h)
 
-  head-four : oneOf (AddGroup.headIn o at n .number) (4 ∷ 5 ∷ 6 ∷ 7 ∷ []) ≡ false
-  unfolding AddGroup.headOf AddGroup.rowsRefusal AddGroup.marksRefusal
+  head-four : oneOf (AddGroup.headIn o at n .number) groupCauses ≡ false
+  unfolding AddGroup.checkOf AddGroup.rowsRefusal AddGroup.marksRefusal
   head-four =
       pick P (eqb (changeOf (t .link) (AddGroup.lent at) .number) 0) _ _
       (λ a.
-      pick P (eqb (Elf.judgeOf (o .headers) (o .entries) (length (o .contents)) (length (o .file)) .number) 0) _ _
+      pick P (eqb (Elf.judgeOf (o .headers) (o .entries) (length (o .contents)) (length (o .image)) .number) 0) _ _
       (λ b.
       pick P (isLoaded (o .headers) n 7) _ _ (λ c. pick P (ltb (length work / 8) (rowsIn (o .headers))) _ _ (λ d. refl) (λ d. refl)) (λ c. refl))
-      (λ b. elf-gives P (λ k. refl) refl (o .headers) (o .entries) (length (o .contents)) (length (o .file))))
+      (λ b. elf-gives P (λ k. refl) refl (o .headers) (o .entries) (length (o .contents)) (length (o .image))))
       (λ a. changed P refl (λ k. refl) refl (t .link) (AddGroup.lent at))
     where
       P : Refusal → Type 0
-      P r = oneOf (r .number) (4 ∷ 5 ∷ 6 ∷ 7 ∷ []) ≡ false
+      P r = oneOf (r .number) groupCauses ≡ false
 
-  group-at : oneOf (addGroupOf o at n .said .number) (4 ∷ 5 ∷ 6 ∷ 7 ∷ []) ≡ true → addGroupOf o at n .said .place ≡ n
+  group-at : oneOf (addGroupOf o at n .said .number) groupCauses ≡ true → addGroupOf o at n .said .place ≡ n
   group-at h =
       by-test (eqb (AddGroup.headIn o at n .number) 0)
-      (λ a. group-element (eqb-true _ _ a) (λ z. false≢true (ap (λ (k : ℕ). oneOf k (4 ∷ 5 ∷ 6 ∷ 7 ∷ [])) (sym z) ∙ h)) .place)
-      (λ a. absurd (false≢true (sym head-four ∙ sym (ap (λ (r : Refusal). oneOf (r .number) (4 ∷ 5 ∷ 6 ∷ 7 ∷ [])) (group-head (eqb-false _ _ a))) ∙ h)))
+      (λ a. group-element (eqb-true _ _ a) (λ z. false≢true (ap (λ (k : ℕ). oneOf k groupCauses) (sym z) ∙ h)) .place)
+      (λ a. absurd (false≢true (sym head-four ∙ sym (ap (λ (r : Refusal). oneOf (r .number) groupCauses) (group-head (eqb-false _ _ a))) ∙ h)))
 
-pub group-place : (o : Group.Object) (work : List ℕ) (n : ℕ) (s : Linked) → oneOf (callNumber (addGroup o work n) s) (4 ∷ 5 ∷ 6 ∷ 7 ∷ []) ≡ true
+pub group-place : (o : Group.Object) (work : List ℕ) (n : ℕ) (s : Linked) → oneOf (callNumber (addGroup o work n) s) groupCauses ≡ true
     → callRefusal (addGroup o work n) s .place ≡ n
 group-place o work n s = group-at o (s .table) work n
 

@@ -4,7 +4,8 @@ use Prim.Native.Nat.{_/_}
 use mathlib.Core.List.{List, [], _++_}
 use lib.ListN.{length}
 use Rattle.merge_laws.specs.Calls.{Linked, allIn}
-use Rattle.link_laws.specs.Calls.{Call, intern, resolve, add, remove, get, getGlobal, sectionSymbol, addGroup, merge, mergeFile, load, archiveStart, archiveNext, matches, collect, plainCollect, libraryIn}
+use Rattle.link_laws.specs.Read as Read
+use Rattle.link_laws.specs.Calls.{Call, intern, add, remove, addGroup, merge, mergeFile, load, collect, plainCollect, libraryIn, reads}
 use Rattle.elf_laws.specs.Object as ElfFile
 use Rattle.link_laws.specs.Rules.{Rule}
 use Rattle.link_laws.specs.TableRules.{getHead, presentRules, getGlobalHead, globalRules, removeHead, absentRules, internHead, roomRules, resolveHead, issuedAlone, addHead, addRules}
@@ -17,20 +18,20 @@ use Rattle.link_laws.specs.CollectRules.{collectRules, plainRules}
 
 abbrev pub rules : Call → Linked → List Rule
 rules (intern x) s = internHead (s .table) ++ roomRules (s .table) x
-rules (resolve id) s = resolveHead (s .table) ++ issuedAlone (s .table) (id .0)
+rules (reads (Read.resolve id)) s = resolveHead (s .table) ++ issuedAlone (s .table) (id .0)
 rules (add conversion u) s = addHead (s .table) ++ addRules (s .table) conversion u
 rules (remove id) s = removeHead (s .table) ++ absentRules (s .table) (id .0)
-rules (get id) s = getHead (s .table) ++ presentRules (s .table) (id .0)
-rules (getGlobal name) s = getGlobalHead (s .table) ++ globalRules (s .table) (name .0)
+rules (reads (Read.get id)) s = getHead (s .table) ++ presentRules (s .table) (id .0)
+rules (reads (Read.getGlobal name)) s = getGlobalHead (s .table) ++ globalRules (s .table) (name .0)
 -- "A section without a symbol answers "none"": no refusal, nor 1 where fewer cells are lent (DECISIONS 12 and h)
-rules (sectionSymbol id) s = []
+rules (reads (Read.sectionSymbol id)) s = []
 rules (addGroup o work n) s = groupHead o n (s .table) (length work / 8) ++ ownGroupRules (alone o) n (s .table) (length work / 8)
 rules (merge o work ids) s = mergeRules o (allIn s work ids)
 -- "then" its rows' own
 rules (mergeFile file cells work ids) s = fileRules (s .table .link .broken) file (length cells) ++ mergeRules (ElfFile.rowsOf file) (allIn s work ids)
 rules (load o marks) s = loadRules o (libraryIn s marks)
-rules (archiveStart key index cells) s = startRules index cells
-rules (archiveNext index cells w) s = nextRules index cells w (s .table)
-rules (matches headers entries contents file index cells w e) s = matchesRules headers entries contents file index cells w e
+rules (reads (Read.archiveStart key index cells)) s = startRules index cells
+rules (reads (Read.archiveNext index cells w)) s = nextRules index cells w (s .table)
+rules (reads (Read.matches headers entries contents file index cells w e)) s = matchesRules headers entries contents file index cells w e
 rules (collect marks entry work) s = collectRules (s .table) (s .lists) marks entry work
 rules (plainCollect marks entry work) s = plainRules (s .table) (s .lists) marks entry work

@@ -8,7 +8,7 @@ use mathlib.Core.List.{List, [], _∷_}
 use lib.Dec.{eqb, ltb}
 use lib.ListN.{getD, length}
 use borrow.Author.Tests.{eqb-true, eq-eqb, ltb-true, ltb-false, lt-ltb, ne-eqb, not-true}
-use Rattle.cells.specs.Split.{by-test}
+use Rattle.cells.specs.Proof.Split.{by-test}
 use Rattle.byte_slices.specs.Bytes.{same}
 use Rattle.link.specs.declared.Refusal.{Refusal}
 use Rattle.link.specs.Judge.{refused}
@@ -25,18 +25,19 @@ use Rattle.gc_sections.specs.Roots as Roots
 use Rattle.gc_sections.specs.Roots.{symbolId, sectionId, valueLead, leadOf, readable, nameIs, rooted}
 use Rattle.gc_sections.specs.Run as Run
 use Rattle.gc_sections.specs.Run.{Left, Lists, listsOf, judgeCells, judged, runOf}
-use Rattle.gc_laws.specs.Own.{built-own, own-built, leads-own, own-leads, root-own, own-root}
+use Rattle.gc_laws.specs.Proof.Own.{built-own, own-built, leads-own, own-leads, root-own, own-root}
 use Rattle.gc_laws.specs.Reached.{Built, Names, Reached, marked, entered, root, step, Leads}
-use Rattle.gc_laws.specs.Demand as Demand
+use Rattle.gc_laws.specs.Terms as Demand
 use Rattle.symbol_laws.specs.History.{State}
 use Rattle.merge_laws.specs.Calls.{Linked}
 use Rattle.link_laws.specs.Calls.{collect, callRefusal}
-use Rattle.link_laws.specs.Rules.{_gives_at_, some, headRules, firstOf, headed, follows, taken, left-out, not-below, head-rules}
+use Rattle.link_laws.specs.Rules.{_gives_at_, some, headRules, firstOf}
+use Rattle.link_laws.specs.Proof.Rules.{headed, follows, taken, left-out, not-below, head-rules}
 use Rattle.link_laws.specs.TableRules.{bytesOf, isRemoved}
 use Rattle.link_laws.specs.ObjectRules.{cellAt}
 use Rattle.link_laws.specs.LoadRules.{has}
-use Rattle.link_laws.specs.LoadNeeded.{both, either, some-among, among-some}
-use Rattle.link_laws.specs.CollectRounds.{still}
+use Rattle.link_laws.specs.Proof.LoadNeeded.{both, either, some-among, among-some}
+use Rattle.link_laws.specs.Proof.CollectRounds.{still}
 use Rattle.link_laws.specs.CollectRules.{collectHead, sectionOf, isPlaced, liesIn, isBuilt, ehFrame, isRoot, isEntered, isStart, namesIn, reachedIn, isReached, unbuiltFrom, unbuilt, isSome, lowestOf, lowest, reachedRules, collectRules}
 
 -- ---- the tests of the walk

@@ -10,7 +10,7 @@ use Rattle.link.specs.Bounds.{notLent}
 use Rattle.gc_sections.specs.declared.EntryPoint.{EntryPoint}
 use Rattle.gc_sections.specs.declared.EntryPoint.the-variants as Entry
 use Rattle.symbol_laws.specs.History.{State}
-use Rattle.plain_laws.specs.Plain.{howMany}
+use Rattle.plain_laws.specs.Terms.{howMany}
 use Rattle.link_laws.specs.Rules.{Rule, _gives_at_, some, lentRows, headRules}
 use Rattle.link_laws.specs.TableRules.{bytesOf, isRemoved}
 use Rattle.link_laws.specs.ObjectRules.{cellAt}

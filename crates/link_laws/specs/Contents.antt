@@ -6,7 +6,7 @@ use mathlib.Core.Bool.{true}
 use mathlib.Core.List.{List, [], _∷_, _++_}
 use lib.Dec.{eqb}
 use borrow.Author.Tests.{eqb-true, eqb-false}
-use Rattle.cells.specs.Split.{by-test}
+use Rattle.cells.specs.Proof.Split.{by-test}
 use Rattle.link.specs.Said.{numberIn}
 use Rattle.symbol.specs.declared.Row.{Row}
 use Rattle.symbol.specs.declared.SttFile.the-variants as File
@@ -20,21 +20,21 @@ use Rattle.symbol_laws.specs.History.{Entry, table, only, rows, noted, upcoming
 use Rattle.symbol_laws.specs.History as History
 use Rattle.symbol_laws.specs.Held.{Inv}
 use Rattle.symbol_laws.specs.Demand.{resolved}
-use Rattle.symbol_laws.specs.Refused.{add-accepted}
+use Rattle.symbol_laws.specs.Proof.Refused.{add-accepted}
 use Rattle.symbol_laws.specs.DirectContents.{FromAdd, from-add}
 use Rattle.merge_laws.specs.MergeSteps.{mergeSteps}
 use Rattle.merge_laws.specs.Whole.{merge-makes}
-use Rattle.merge_laws.specs.Kept.{log-rows}
+use Rattle.merge_laws.specs.Proof.Kept.{log-rows}
 use Rattle.merge_laws.specs.Marked.{Marked}
 use Rattle.merge_laws.specs.LogContents.{FromSymbol, merge-logged, all-append}
 use Rattle.merge_laws.specs.Calls.{Linked, allIn}
 use Rattle.load_laws.specs.LoadSteps.{loadSteps}
 use Rattle.load_laws.specs.Whole.{load-makes}
 use Rattle.load_laws.specs.LibraryContents.{FromLibrary, load-logged}
-use Rattle.link_laws.specs.Calls.{Call, intern, resolve, add, remove, get, getGlobal, sectionSymbol, addGroup, merge, mergeFile, load, archiveStart, archiveNext, matches, collect, plainCollect, libraryIn, callLeft, callNext, callNotes, runCalls, logCalls, isRead}
+use Rattle.link_laws.specs.Calls.{Call, intern, add, remove, addGroup, merge, mergeFile, load, collect, plainCollect, libraryIn, callLeft, callNext, callNotes, runCalls, logCalls, isRead, reads}
 use Rattle.merge_stages.specs.Stages as Stages
 use Rattle.elf_laws.specs.Object as ElfFile
-use Rattle.link_laws.specs.FileCall.{notes-read, notes-unread}
+use Rattle.link_laws.specs.Proof.FileCall.{notes-read, notes-unread}
 use Rattle.link_laws.specs.Kept.{signatures, calls-marked}
 
 -- ---- the words
@@ -42,20 +42,14 @@ use Rattle.link_laws.specs.Kept.{signatures, calls-marked}
 -- the row is that of an entry of this call, made on s, where these signatures are met
 abbrev pub FromCall : Call → Linked → List (List ℕ) → Row → Type 0
 FromCall (intern x) s met r = ⊥
-FromCall (resolve id) s met r = ⊥
+FromCall (reads k) s met r = ⊥
 FromCall (add conversion u) s met r = FromAdd (s .table .link .gabi) conversion (emptyAt (s .table .names) (nameOf u)) r u
 FromCall (remove id) s met r = ⊥
-FromCall (get id) s met r = ⊥
-FromCall (getGlobal name) s met r = ⊥
-FromCall (sectionSymbol section) s met r = ⊥
 FromCall (addGroup o work n) s met r = ⊥
 FromCall (merge o work ids) s met r = FromSymbol o (allIn s work ids) met r
 -- the file is read, and the row is that of one of its symbols
 FromCall (mergeFile file cells work ids) s met r = (isRead file cells s ≡ true) × FromSymbol (ElfFile.rowsOf file) (allIn s work ids) met r
 FromCall (load o marks) s met r = FromLibrary o (libraryIn s marks) r
-FromCall (archiveStart key index cells) s met r = ⊥
-FromCall (archiveNext index cells w) s met r = ⊥
-FromCall (matches headers entries contents file index cells w e) s met r = ⊥
 FromCall (collect marks entry work) s met r = ⊥
 FromCall (plainCollect marks entry work) s met r = ⊥
 
@@ -106,12 +100,9 @@ object-logged o work ids s met m =
 
 call-logged : (k : Call) (s : Linked) (met : List (List ℕ)) → Marked (s .table) met → Rank.All (FromCall k s met) (rows (callNotes k s))
 call-logged (intern x) s met m = tt
-call-logged (resolve id) s met m = tt
+call-logged (reads k) s met m = tt
 call-logged (add conversion u) s met m = add-logged conversion u s (callLeft (add conversion u) s) refl
 call-logged (remove id) s met m = tt
-call-logged (get id) s met m = tt
-call-logged (getGlobal name) s met m = tt
-call-logged (sectionSymbol section) s met m = tt
 call-logged (addGroup o work n) s met m = tt
 call-logged (merge o work ids) s met m = object-logged o work ids s met m
 call-logged (mergeFile file cells work ids) s met m =
@@ -124,9 +115,6 @@ call-logged (mergeFile file cells work ids) s met m =
 call-logged (load o marks) s met m =
     subst (Rank.All (FromLibrary o (libraryIn s marks)))
     (sym (log-rows (loadSteps o (libraryIn s marks)) (s .table) (load-makes o (libraryIn s marks) .accepted))) (load-logged o (libraryIn s marks) met m)
-call-logged (archiveStart key index cells) s met m = tt
-call-logged (archiveNext index cells w) s met m = tt
-call-logged (matches headers entries contents file index cells w e) s met m = tt
 call-logged (collect marks entry work) s met m = tt
 call-logged (plainCollect marks entry work) s met m = tt
 

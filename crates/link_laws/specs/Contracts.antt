@@ -23,19 +23,18 @@ use Rattle.symbols.specs.New.{NewLeft, newOutcome}
 use Rattle.symbols.specs.Remove.{RemoveLeft, rowsOf, removeOutcome}
 use Rattle.symbols.specs.Contract.{NewExit, NewMeets, AddExit, AddMeets, RemoveExit, RemoveMeets, GetMeets, GetGlobalMeets, SectionSymbolMeets}
 use Rattle.section_groups.specs.Contract.{SectionAfterMeets, FilterMeets}
-use Rattle.add_group.specs.declared.Outcome as Group
-use Rattle.add_group.specs.AddGroup as AddGroup
-use Rattle.add_group.specs.Contract as Grouping
-use Rattle.add_group.specs.Contract.{GroupMeets}
+use Rattle.section_groups.specs.declared.alone.Outcome as Group
+use Rattle.section_groups.specs.AddGroup as AddGroup
+use Rattle.section_groups.specs.AloneContract as Grouping
+use Rattle.section_groups.specs.AloneContract.{GroupMeets}
 use Rattle.merge_elf.specs.declared.Outcome as Merge
 use Rattle.merge_elf.specs.Merge as Merging
-use Rattle.merge_elf.specs.Contract as Merges
+use Rattle.merge_stages.specs.Stages as Merges
 use Rattle.merge_elf.specs.Contract.{MergeMeets}
 use Rattle.merge_file.specs.MergeFile.{FileLeft, fileLeft}
 use Rattle.merge_file.specs.Contract.{MergeFileMeets}
 use Rattle.shared_objects.specs.declared.Outcome as Shared
 use Rattle.shared_objects.specs.Load as Loading
-use Rattle.shared_objects.specs.Contract as Loads
 use Rattle.shared_objects.specs.Contract.{LoadMeets}
 use Rattle.archive_walk.specs.Walk as Archive
 use Rattle.archive_walk.specs.Contract.{StartExit, StartMeets, NextExit, NextMeets}
@@ -47,7 +46,8 @@ use Rattle.gc_sections.specs.Contract as Collects
 use Rattle.gc_sections.specs.Contract.{RunMeets}
 use Rattle.symbol_laws.specs.History.{table, store}
 use Rattle.merge_laws.specs.Calls.{Linked}
-use Rattle.link_laws.specs.Calls.{Call, intern, resolve, add, remove, get, getGlobal, sectionSymbol, addGroup, merge, mergeFile, load, archiveStart, archiveNext, matches, collect, plainCollect, LeftBy, callLeft, viewIn, groupIn, listsIn}
+use Rattle.link_laws.specs.Read as Read
+use Rattle.link_laws.specs.Calls.{Call, intern, add, remove, addGroup, merge, mergeFile, load, collect, plainCollect, LeftBy, callLeft, viewIn, groupIn, listsIn, reads}
 use Rattle.plain_collector.specs.Contract.{PlainMeets}
 use Rattle.link_laws.specs.OneOutcome.{names-answer, symbols-answer}
 
@@ -63,24 +63,24 @@ pub record FileExit : Type 0 where
   pub merged : MergeExit
 
 pub record LoadExit : Type 0 where
-  pub cells : Loads.Cells
+  pub cells : Loading.Cells
   pub result : Shared.Outcome
 
 abbrev pub Exit : Call → Type 0
 Exit (intern x) = Interning.Exit
-Exit (resolve id) = ResolveExit
+Exit (reads (Read.resolve id)) = ResolveExit
 Exit (add conversion u) = AddExit
 Exit (remove id) = RemoveExit
-Exit (get id) = Found
-Exit (getGlobal name) = Found
-Exit (sectionSymbol section) = SectionSymbol
+Exit (reads (Read.get id)) = Found
+Exit (reads (Read.getGlobal name)) = Found
+Exit (reads (Read.sectionSymbol section)) = SectionSymbol
 Exit (addGroup o work n) = Grouping.Exit
 Exit (merge o work ids) = MergeExit
 Exit (mergeFile file cells work ids) = FileExit
 Exit (load o marks) = LoadExit
-Exit (archiveStart key index cells) = StartExit
-Exit (archiveNext index cells w) = NextExit
-Exit (matches headers entries contents file index cells w e) = Admission
+Exit (reads (Read.archiveStart key index cells)) = StartExit
+Exit (reads (Read.archiveNext index cells w)) = NextExit
+Exit (reads (Read.matches headers entries contents file index cells w e)) = Admission
 Exit (collect marks entry work) = Collects.Exit
 Exit (plainCollect marks entry work) = Collects.Exit
 
@@ -94,40 +94,40 @@ mergeCells s work ids c =
       exit = c;
     }
 
-abbrev loadCells : Linked → List ℕ → Loads.Cells → Both Loads.Cells Loads.Cells
+abbrev loadCells : Linked → List ℕ → Loading.Cells → Both Loading.Cells Loading.Cells
 loadCells s marks c =
     record {
-      entry = Loads.cellsOf (s .table .bytes) (s .table .names) (s .table .symbols) (s .table .sections) (s .inputs) (s .lists) marks;
+      entry = Loading.cellsOf (s .table .bytes) (s .table .names) (s .table .symbols) (s .table .sections) (s .inputs) (s .lists) marks;
       exit = c;
     }
 
 abbrev pub Meets : (k : Call) → Linked → Exit k → Type 0
 Meets (intern x) s e = InternMeets (store (s .table)) x e
-Meets (resolve id) s e = ResolveMeets (store (s .table)) id e
+Meets (reads (Read.resolve id)) s e = ResolveMeets (store (s .table)) id e
 Meets (add conversion u) s e = AddMeets (table (s .table)) conversion u e
 Meets (remove id) s e = RemoveMeets (s .table .link) (rowsOf (s .table .symbols) (s .table .sections)) id e
-Meets (get id) s e = GetMeets (s .table .link) (s .table .symbols) id e
-Meets (getGlobal name) s e = GetGlobalMeets (s .table .link) (s .table .names) (s .table .symbols) name e
-Meets (sectionSymbol section) s e = SectionSymbolMeets (s .table .link) (s .table .sections) section e
+Meets (reads (Read.get id)) s e = GetMeets (s .table .link) (s .table .symbols) id e
+Meets (reads (Read.getGlobal name)) s e = GetGlobalMeets (s .table .link) (s .table .names) (s .table .symbols) name e
+Meets (reads (Read.sectionSymbol section)) s e = SectionSymbolMeets (s .table .link) (s .table .sections) section e
 Meets (addGroup o work n) s e = GroupMeets o (groupIn (s .table) work) n e
 Meets (merge o work ids) s e = MergeMeets o (mergeCells s work ids (e .cells)) (s .table .link) (e .result)
 Meets (mergeFile file cells work ids) s e = MergeFileMeets file cells (e .rows) (mergeCells s work ids (e .merged .cells)) (s .table .link) (e .merged .result)
 Meets (load o marks) s e = LoadMeets o (loadCells s marks (e .cells)) (s .table .link) (e .result)
-Meets (archiveStart key index cells) s e = StartMeets key index cells e
-Meets (archiveNext index cells w) s e = NextMeets index cells w (viewIn (s .table)) e
-Meets (matches headers entries contents file index cells w i) s e = MatchesMeets (s .table .link) headers entries contents file index cells w i e
+Meets (reads (Read.archiveStart key index cells)) s e = StartMeets key index cells e
+Meets (reads (Read.archiveNext index cells w)) s e = NextMeets index cells w (viewIn (s .table)) e
+Meets (reads (Read.matches headers entries contents file index cells w i)) s e = MatchesMeets (s .table .link) headers entries contents file index cells w i e
 Meets (collect marks entry work) s e = RunMeets (s .table .link) (listsIn s marks) (s .table .symbols) (s .table .sections) entry work e
 Meets (plainCollect marks entry work) s e = PlainMeets (s .table .link) (listsIn s marks) (s .table .symbols) (s .table .sections) entry work e
 
 -- the left side of the contract: what the exit is in the terms of the call's definition
 abbrev pub seen : (k : Call) → Exit k → LeftBy k
 seen (intern x) e = Names.outcome (e .bytes) (e .names) (e .result)
-seen (resolve id) e = Names.resolved (e .result) (e .number) (e .place)
+seen (reads (Read.resolve id)) e = Names.resolved (e .result) (e .number) (e .place)
 seen (add conversion u) e = Calls.outcome (e .names) (e .symbols) (e .sections) (e .result)
 seen (remove id) e = removeOutcome (e .symbols) (e .sections) (e .result)
-seen (get id) e = e
-seen (getGlobal name) e = e
-seen (sectionSymbol section) e = e
+seen (reads (Read.get id)) e = e
+seen (reads (Read.getGlobal name)) e = e
+seen (reads (Read.sectionSymbol section)) e = e
 seen (addGroup o work n) e = AddGroup.leftOf (e .bytes) (e .names) (e .work) (e .result)
 seen (merge o work ids) e =
     Merging.outcome (e .cells .bytes) (e .cells .names) (e .cells .symbols) (e .cells .sections) (e .cells .inputs) (e .cells .lists) (e .cells .work)
@@ -139,28 +139,28 @@ seen (mergeFile file cells work ids) e =
 seen (load o marks) e =
     Loading.outcome (e .cells .bytes) (e .cells .names) (e .cells .symbols) (e .cells .sections) (e .cells .inputs) (e .cells .lists) (e .cells .marks)
     (e .result)
-seen (archiveStart key index cells) e = Archive.startLeft (e .cells) (e .result)
-seen (archiveNext index cells w) e = Archive.stepMoved (e .cells) (e .result)
-seen (matches headers entries contents file index cells w i) e = e
+seen (reads (Read.archiveStart key index cells)) e = Archive.startLeft (e .cells) (e .result)
+seen (reads (Read.archiveNext index cells w)) e = Archive.stepMoved (e .cells) (e .result)
+seen (reads (Read.matches headers entries contents file index cells w i)) e = e
 seen (collect marks entry work) e = Collecting.outcome (e .symbols) (e .sections) (e .work) (e .result)
 seen (plainCollect marks entry work) e = Collecting.outcome (e .symbols) (e .sections) (e .work) (e .result)
 
 -- so all that is proved of `callLeft` is proved of every exit that meets the contract
 pub meets-left : (k : Call) (s : Linked) (e : Exit k) → Meets k s e → seen k e ≡ callLeft k s
 meets-left (intern x) s e h = h
-meets-left (resolve id) s e h = h
+meets-left (reads (Read.resolve id)) s e h = h
 meets-left (add conversion u) s e h = h
 meets-left (remove id) s e h = h
-meets-left (get id) s e h = h
-meets-left (getGlobal name) s e h = h
-meets-left (sectionSymbol section) s e h = h
+meets-left (reads (Read.get id)) s e h = h
+meets-left (reads (Read.getGlobal name)) s e h = h
+meets-left (reads (Read.sectionSymbol section)) s e h = h
 meets-left (addGroup o work n) s e h = h
 meets-left (merge o work ids) s e h = h
 meets-left (mergeFile file cells work ids) s e h = h
 meets-left (load o marks) s e h = h
-meets-left (archiveStart key index cells) s e h = h
-meets-left (archiveNext index cells w) s e h = h
-meets-left (matches headers entries contents file index cells w i) s e h = h
+meets-left (reads (Read.archiveStart key index cells)) s e h = h
+meets-left (reads (Read.archiveNext index cells w)) s e h = h
+meets-left (reads (Read.matches headers entries contents file index cells w i)) s e h = h
 meets-left (collect marks entry work) s e h = h
 meets-left (plainCollect marks entry work) s e h = h
 
@@ -248,7 +248,7 @@ file-one file cells work ids x y e =
     ∙ ap {B = FileExit} (λ (m : MergeExit). record { rows = y .rows; merged = m }) (merge-one (x .merged) (y .merged) (ap (λ (o : FileLeft). o .merged) e))
 
 abbrev loadExit : List ℕ → List ℕ → List ℕ → List ℕ → List ℕ → List ℕ → List ℕ → Shared.Outcome → LoadExit
-loadExit a b c d e f g r = record { cells = Loads.cellsOf a b c d e f g; result = r }
+loadExit a b c d e f g r = record { cells = Loading.cellsOf a b c d e f g; result = r }
 
 load-one : (x y : LoadExit) → Loading.outcome (x .cells .bytes) (x .cells .names) (x .cells .symbols) (x .cells .sections) (x .cells .inputs) (x .cells .lists) (x .cells .marks) (x .result) ≡ Loading.outcome (y .cells .bytes) (y .cells .names) (y .cells .symbols) (y .cells .sections) (y .cells .inputs) (y .cells .lists) (y .cells .marks) (y .result) → x ≡ y
 load-one x y e =
@@ -308,19 +308,19 @@ next-one x y e = ap {B = NextExit} (λ (o : Archive.Step). record { cells = o .c
 
 seen-one : (k : Call) (x y : Exit k) → seen k x ≡ seen k y → x ≡ y
 seen-one (intern b) x y e = intern-one x y e
-seen-one (resolve id) x y e = resolve-one x y e
+seen-one (reads (Read.resolve id)) x y e = resolve-one x y e
 seen-one (add conversion u) x y e = add-one x y e
 seen-one (remove id) x y e = remove-one x y e
-seen-one (get id) x y e = e
-seen-one (getGlobal name) x y e = e
-seen-one (sectionSymbol section) x y e = e
+seen-one (reads (Read.get id)) x y e = e
+seen-one (reads (Read.getGlobal name)) x y e = e
+seen-one (reads (Read.sectionSymbol section)) x y e = e
 seen-one (addGroup o work n) x y e = group-one x y e
 seen-one (merge o work ids) x y e = merge-one x y e
 seen-one (mergeFile file cells work ids) x y e = file-one file cells work ids x y e
 seen-one (load o marks) x y e = load-one x y e
-seen-one (archiveStart key index cells) x y e = start-one x y e
-seen-one (archiveNext index cells w) x y e = next-one x y e
-seen-one (matches headers entries contents file index cells w i) x y e = e
+seen-one (reads (Read.archiveStart key index cells)) x y e = start-one x y e
+seen-one (reads (Read.archiveNext index cells w)) x y e = next-one x y e
+seen-one (reads (Read.matches headers entries contents file index cells w i)) x y e = e
 seen-one (collect marks entry work) x y e = collect-one x y e
 seen-one (plainCollect marks entry work) x y e = collect-one x y e
 

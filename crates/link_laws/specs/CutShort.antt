@@ -10,8 +10,8 @@ use mathlib.Core.Logic.{_≢_}
 use lib.Dec.{eqb, ltb, leb}
 use lib.ListN.{length}
 use borrow.Author.Tests.{ltb-true, ltb-false, ne-eqb, lt-ltb, le-leb, lt-leb}
-use Rattle.cells.specs.Split.{by-test}
-use Rattle.byte_slices.specs.Ways.{pick}
+use Rattle.cells.specs.Proof.Split.{by-test}
+use Rattle.byte_slices.specs.Proof.Ways.{pick}
 use Rattle.gabi.specs.StringTable.{ended, nameAt}
 use Rattle.link.specs.Bounds.{lesser}
 use Rattle.elf_object.specs.Judge.{firstBad}

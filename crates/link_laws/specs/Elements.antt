@@ -7,13 +7,13 @@ use mathlib.Core.List.{List, [], _∷_}
 use mathlib.Core.Logic.{_≢_}
 use lib.Dec.{eqb}
 use borrow.Author.Tests.{eqb-true, eqb-false, eq-eqb}
-use Rattle.cells.specs.Split.{by-test}
+use Rattle.cells.specs.Proof.Split.{by-test}
 use Rattle.strings.specs.Lookup.{Looked}
 use Rattle.link.specs.declared.Interned.{Interned}
 use Rattle.link.specs.declared.Refusal.{Refusal}
 use Rattle.link.specs.Judge.{refused, brokenOf}
 use Rattle.link.specs.Said.{numberIn, placeIn}
-use Rattle.merge_plan.specs.Plan.{placeOf}
+use Rattle.merge_symbols.specs.Plan.{placeOf}
 use Rattle.merge_stages.specs.Stages as Stages
 use Rattle.merge_elf.specs.Merge as Merge
 use Rattle.merge_elf.specs.Merge.{mergeOf}
@@ -22,8 +22,7 @@ use Rattle.shared_objects.specs.declared.Answer.the-variants.{NotNeeded, Refuse
 use Rattle.shared_objects.specs.Stages.{Links}
 use Rattle.shared_objects.specs.Load as Shared
 use Rattle.shared_objects.specs.Load.{loadOf}
-use Rattle.shared_laws.specs.Unneeded as Unneeded
-use Rattle.merge_laws.specs.Refusals.{oneOf}
+use Rattle.load_laws.specs.NeedTerms as Unneeded
 use Rattle.merge_laws.specs.Stops as Stops
 use Rattle.merge_laws.specs.ByNumber as ByNumber
 use Rattle.merge_laws.specs.ByNumber.{disjoint, Between, Met, allLeft, nameStays, nameAt, placeAt, idIn, named}
@@ -31,9 +30,10 @@ use Rattle.merge_laws.specs.Calls.{Linked, linked, allIn, linkIn}
 use Rattle.load_laws.specs.Stops as Loading
 use Rattle.load_laws.specs.Stops.{want, ending}
 use Rattle.load_laws.specs.Whole as Loads
-use Rattle.load_laws.specs.Unbroken as Unbroken
+use Rattle.load_laws.specs.Proof.Unbroken as Unbroken
 use Rattle.link_laws.specs.Calls.{merge, load, libraryIn, callLeft, callRefusal, callNumber, callNext}
-use Rattle.link_laws.specs.LoadNumbers.{head-gives}
+use Rattle.link_laws.specs.Proof.LoadNumbers.{head-gives}
+use Rattle.merge_laws.specs.Table.{oneOf, sectionCauses, earlyCauses, mergeHeadNumbers, loadHeadNumbers}
 
 -- ---- merges
 
@@ -68,7 +68,7 @@ module _ (o : Stages.Object) (work ids : List ℕ) (s : Linked) where
   -- "Left as it was", by number
   pub data MergeLeft : Type 0 where
     -- all: 22, 1, and 2 where the work cells are too few
-    at-head : callRefusal (merge o work ids) s ≡ Merge.headIn o lentTo → oneOf number (22 ∷ 1 ∷ 2 ∷ []) ≡ true → callNext (merge o work ids) s ≡ s → MergeLeft
+    at-head : callRefusal (merge o work ids) s ≡ Merge.headIn o lentTo → oneOf number mergeHeadNumbers ≡ true → callNext (merge o work ids) s ≡ s → MergeLeft
     -- all at that element: every cell as the elements before it left it. The place of 21 is the name's id
     at-element : (b : Stages.All) (at : Between o lentTo b) → Met o lentTo at → oneOf number (allLeft o lentTo at) ≡ true
         → callRefusal (merge o work ids) s ≡ refused number (placeOf number (idIn b (nameAt o lentTo at .name)) (placeAt o lentTo at))
@@ -87,7 +87,7 @@ module _ (o : Stages.Object) (work ids : List ℕ) (s : Linked) where
       go : Merges → MergeLeft
       go (head n h) =
           let e : callRefusal (merge o work ids) s ≡ Merge.headIn o lentTo = ap (λ (x : Merge.Left). x .said) (h .all) in
-          at-head e (ap (λ (r : Refusal). oneOf (r .number) (22 ∷ 1 ∷ 2 ∷ [])) e ∙ h .number) (ap (λ (x : Merge.Left). linkIn (x .cells)) (h .all))
+          at-head e (ap (λ (r : Refusal). oneOf (r .number) mergeHeadNumbers) e ∙ h .number) (ap (λ (x : Merge.Left). linkIn (x .cells)) (h .all))
       go (accepted m) = absurd (u (ap (λ (x : Merge.Left). x .said .number) (m .all)))
       go (element z e) = left (ByNumber.refused-leaves o lentTo z)
         where
@@ -108,7 +108,7 @@ module _ (o : Stages.Object) (work ids : List ℕ) (s : Linked) where
               (ap (λ (x : Merge.Left). linkIn (x .cells)) w)
 
   -- a number that the head doesn't give
-  staged : (xs : List ℕ) → disjoint xs (22 ∷ 1 ∷ 2 ∷ []) ≡ true → oneOf 0 xs ≡ false → oneOf number xs ≡ true → (P : Stages.All → Type 0)
+  staged : (xs : List ℕ) → disjoint xs mergeHeadNumbers ≡ true → oneOf 0 xs ≡ false → oneOf number xs ≡ true → (P : Stages.All → Type 0)
       → (Stops.number o lentTo ≢ 0 → oneOf (Stops.number o lentTo) xs ≡ true → P (Merge.linkedAs (Stops.end o lentTo) (brokenOf (Stops.end o lentTo .stage .link))))
       → P (callLeft (merge o work ids) s .cells)
   staged xs d n k P p = go merges
@@ -118,22 +118,22 @@ module _ (o : Stages.Object) (work ids : List ℕ) (s : Linked) where
 
       go : Merges → P (callLeft (merge o work ids) s .cells)
       go (head u h) =
-          absurd (ByNumber.apart number xs (22 ∷ 1 ∷ 2 ∷ []) d k (ap (λ (x : Merge.Left). oneOf (x .said .number) (22 ∷ 1 ∷ 2 ∷ [])) (h .all) ∙ h .number))
+          absurd (ByNumber.apart number xs mergeHeadNumbers d k (ap (λ (x : Merge.Left). oneOf (x .said .number) mergeHeadNumbers) (h .all) ∙ h .number))
       go (accepted m) = absurd (false≢true (sym n ∙ sym (ap among (m .all)) ∙ k))
       go (element z e) = subst (λ (x : Merge.Left). P (x .cells)) (sym e) (p z (sym (ap among e) ∙ k))
 
   -- 3 to 8 and 24: symbols as before the call
-  pub symbols-left : oneOf number (3 ∷ 4 ∷ 5 ∷ 6 ∷ 7 ∷ 8 ∷ 24 ∷ []) ≡ true → ByNumber.SymbolsLeft o lentTo (callLeft (merge o work ids) s .cells)
+  pub symbols-left : oneOf number earlyCauses ≡ true → ByNumber.SymbolsLeft o lentTo (callLeft (merge o work ids) s .cells)
   symbols-left k =
-      staged (3 ∷ 4 ∷ 5 ∷ 6 ∷ 7 ∷ 8 ∷ 24 ∷ []) refl refl k (ByNumber.SymbolsLeft o lentTo)
+      staged earlyCauses refl refl k (ByNumber.SymbolsLeft o lentTo)
       (λ u h.
       let r = ByNumber.symbols-left o lentTo u h in
       record { rows = r .rows; count = r .count; long = r .long; behind = r .behind })
 
   -- 3 and 24: names too
-  pub names-left : oneOf number (3 ∷ 24 ∷ []) ≡ true → ByNumber.NamesLeft o lentTo (callLeft (merge o work ids) s .cells)
+  pub names-left : oneOf number sectionCauses ≡ true → ByNumber.NamesLeft o lentTo (callLeft (merge o work ids) s .cells)
   names-left k =
-      staged (3 ∷ 24 ∷ []) refl refl k (ByNumber.NamesLeft o lentTo)
+      staged sectionCauses refl refl k (ByNumber.NamesLeft o lentTo)
       (λ u h.
       let n = ByNumber.names-left o lentTo u h in
       let r = n .symbols in
@@ -170,7 +170,7 @@ module _ (o : Shared.Input) (marks : List ℕ) (s : Linked) where
 
   not-wanted : Shared.headIn o lentLoad .number ≡ 0 → want o lentLoad .needed ≡ false
       → loadOf o lentLoad ≡ Shared.left (Shared.marked lentLoad (want o lentLoad .marks)) NotNeeded
-  unfolding loadOf Shared.namedOf Shared.wantedOf
+  unfolding loadOf Shared.libraryNamed Shared.wantedOf
   not-wanted h w = rw (eq-eqb _ _ h, w)
 
   pub ways : Ways
@@ -187,41 +187,41 @@ module _ (o : Shared.Input) (marks : List ℕ) (s : Linked) where
   abbrev loadNumber : ℕ
   loadNumber = callNumber (load o marks) s
 
-  pub load-head-numbers : Shared.headIn o lentLoad .number ≢ 0 → oneOf (Shared.headIn o lentLoad .number) (22 ∷ 1 ∷ 25 ∷ 2 ∷ []) ≡ true
+  pub load-head-numbers : Shared.headIn o lentLoad .number ≢ 0 → oneOf (Shared.headIn o lentLoad .number) loadHeadNumbers ≡ true
   load-head-numbers =
-      head-gives (λ (r : Refusal). r .number ≢ 0 → oneOf (r .number) (22 ∷ 1 ∷ 25 ∷ 2 ∷ []) ≡ true) (λ k u. refl) (λ u. absurd (u refl)) (λ u. refl) (λ u. refl)
+      head-gives (λ (r : Refusal). r .number ≢ 0 → oneOf (r .number) loadHeadNumbers ≡ true) (λ k u. refl) (λ u. absurd (u refl)) (λ u. refl) (λ u. refl)
       (λ u. refl) o lentLoad
 
   -- an element of the library, and what is said of it
   abbrev pub Element : Links → Type 0
-  Element = Loading.Between (o .entries) (o .file) (o .needs) (Shared.linksIn lentLoad) (Shared.nameOf o)
+  Element = Loading.Between (o .entries) (o .image) (o .needs) (Shared.linksIn lentLoad) (Shared.nameOf o)
 
   abbrev pub MetAt : {b : Links} → Element b → Type 0
-  MetAt at = Loading.Met (o .entries) (o .file) (o .needs) (Shared.linksIn lentLoad) (Shared.nameOf o) at
+  MetAt at = Loading.Met (o .entries) (o .image) (o .needs) (Shared.linksIn lentLoad) (Shared.nameOf o) at
 
   abbrev pub numbersAt : {b : Links} → Element b → List ℕ
-  numbersAt at = Loading.allLeft (o .entries) (o .file) (o .needs) (Shared.linksIn lentLoad) (Shared.nameOf o) at
+  numbersAt at = Loading.allLeft (o .entries) (o .image) (o .needs) (Shared.linksIn lentLoad) (Shared.nameOf o) at
 
   abbrev pub namedAt : {b : Links} → Element b → List ℕ
-  namedAt at = Loading.nameStays (o .entries) (o .file) (o .needs) (Shared.linksIn lentLoad) (Shared.nameOf o) at
+  namedAt at = Loading.nameStays (o .entries) (o .image) (o .needs) (Shared.linksIn lentLoad) (Shared.nameOf o) at
 
   abbrev pub rowAt : {b : Links} → Element b → ℕ
-  rowAt at = Loading.placeAt (o .entries) (o .file) (o .needs) (Shared.linksIn lentLoad) (Shared.nameOf o) at
+  rowAt at = Loading.placeAt (o .entries) (o .image) (o .needs) (Shared.linksIn lentLoad) (Shared.nameOf o) at
 
   abbrev pub nameIn : {b : Links} → Element b → Looked
-  nameIn at = Loading.nameAt (o .entries) (o .file) (o .needs) (Shared.linksIn lentLoad) (Shared.nameOf o) at
+  nameIn at = Loading.nameAt (o .entries) (o .image) (o .needs) (Shared.linksIn lentLoad) (Shared.nameOf o) at
 
   abbrev pub idAt : Links → List ℕ → Interned
-  idAt = Loading.linkId (o .entries) (o .file) (o .needs) (Shared.linksIn lentLoad) (Shared.nameOf o)
+  idAt = Loading.linkId (o .entries) (o .image) (o .needs) (Shared.linksIn lentLoad) (Shared.nameOf o)
 
   -- the name issued
   abbrev pub withName : Links → List ℕ → Links
-  withName = Loading.named (o .entries) (o .file) (o .needs) (Shared.linksIn lentLoad) (Shared.nameOf o)
+  withName = Loading.named (o .entries) (o .image) (o .needs) (Shared.linksIn lentLoad) (Shared.nameOf o)
 
   -- "Left as it was", by number
   pub data LoadLeft : Type 0 where
     -- all: 22, 1, 25, and 2 where the marks are too few
-    at-head : callRefusal (load o marks) s ≡ Shared.headIn o lentLoad → oneOf loadNumber (22 ∷ 1 ∷ 25 ∷ 2 ∷ []) ≡ true → callNext (load o marks) s ≡ s → LoadLeft
+    at-head : callRefusal (load o marks) s ≡ Shared.headIn o lentLoad → oneOf loadNumber loadHeadNumbers ≡ true → callNext (load o marks) s ≡ s → LoadLeft
     -- all at that element: every cell as the elements before it left it. The place of 21 is the name's id
     at-element : (b : Links) (at : Element b) → MetAt at → oneOf loadNumber (numbersAt at) ≡ true
         → callRefusal (load o marks) s ≡ refused loadNumber (placeOf loadNumber (idAt b (nameIn at .name)) (rowAt at))
@@ -240,15 +240,15 @@ module _ (o : Shared.Input) (marks : List ℕ) (s : Linked) where
   load-leaves u = go ways
     where
       go : Ways → LoadLeft
-      go (refuses h e) = at-head (ap said e) (ap (λ (x : Shared.Left). oneOf (numberIn (x .said)) (22 ∷ 1 ∷ 25 ∷ 2 ∷ [])) e ∙ load-head-numbers h) (ap after e)
+      go (refuses h e) = at-head (ap said e) (ap (λ (x : Shared.Left). oneOf (numberIn (x .said)) loadHeadNumbers) e ∙ load-head-numbers h) (ap after e)
       go (unneeded e) = absurd (u (ap (λ (x : Shared.Left). numberIn (x .said)) e))
       go (loads m) = absurd (u (ap (λ (x : Shared.Left). numberIn (x .said)) (m .all)))
-      go (stops z e) = left (Loading.refused-leaves (o .entries) (o .file) (o .needs) (Shared.linksIn lentLoad) (Shared.nameOf o) refl z)
+      go (stops z e) = left (Loading.refused-leaves (o .entries) (o .image) (o .needs) (Shared.linksIn lentLoad) (Shared.nameOf o) refl z)
         where
           same : loadNumber ≡ ending o lentLoad .stage .number
           same = ap (λ (x : Shared.Left). numberIn (x .said)) e
 
-          left : Loading.Leaves (o .entries) (o .file) (o .needs) (Shared.linksIn lentLoad) (Shared.nameOf o) → LoadLeft
+          left : Loading.Leaves (o .entries) (o .image) (o .needs) (Shared.linksIn lentLoad) (Shared.nameOf o) → LoadLeft
           left (Loading.all b at m k f) =
               let w = e ∙ ap stopped f in
               at-element b at m (ap (λ (n : ℕ). oneOf n (numbersAt at)) same ∙ k)

@@ -7,11 +7,11 @@ use mathlib.Core.List.{List, [], _∷_, _++_}
 use native.Mathlib.Omega.{arith}
 use lib.Dec.{eqb, ltb}
 use borrow.Author.Tests.{eqb-true, ltb-true, ltb-false}
-use Rattle.cells.specs.Split.{by-test}
+use Rattle.cells.specs.Proof.Split.{by-test}
 use Rattle.gabi.specs.StringTable.{hasName, nameAt}
 use Rattle.link.specs.Said.{Said, numberIn}
 use Rattle.interner_laws.specs.Good.{Chained, Issued, count, name, find}
-use Rattle.interner_laws.specs.Find.{found}
+use Rattle.interner_laws.specs.Proof.Find.{found}
 use Rattle.symbol_laws.specs.Held.{Inv}
 use Rattle.interner_laws.specs.Histories.{issued-stays}
 use Rattle.symbol.specs.declared.Row.{Row}
@@ -26,11 +26,11 @@ use Rattle.merge_laws.specs.MergeSteps.{mergeSteps}
 use Rattle.merge_laws.specs.Marked.{Marked}
 use Rattle.merge_laws.specs.Calls.{Linked, allIn}
 use Rattle.load_laws.specs.LoadSteps.{loadSteps}
-use Rattle.link_laws.specs.Calls.{Call, intern, resolve, add, remove, get, getGlobal, sectionSymbol, addGroup, merge, mergeFile, load, archiveStart, archiveNext, matches, collect, plainCollect, libraryIn, callNext, callNotes, runCalls, logCalls, fileSteps}
+use Rattle.link_laws.specs.Calls.{Call, intern, add, remove, addGroup, merge, mergeFile, load, collect, plainCollect, libraryIn, callNext, callNotes, runCalls, logCalls, fileSteps, reads}
 use Rattle.elf_laws.specs.Object as ElfFile
-use Rattle.link_laws.specs.FileCall.{next-read}
+use Rattle.link_laws.specs.Proof.FileCall.{next-read}
 use Rattle.link_laws.specs.Kept.{signatures, calls-marked}
-use Rattle.link_laws.specs.NamesStay.{calls-stay}
+use Rattle.link_laws.specs.Proof.NamesStay.{calls-stay}
 use Rattle.link_laws.specs.Contents.{FromCall, FromCalls, here, later}
 use Rattle.link_laws.specs.OwnEntries.{AllFrom}
 
@@ -39,20 +39,14 @@ use Rattle.link_laws.specs.OwnEntries.{AllFrom}
 -- the entry that the row is from bears the name b: an object's or a library's symbol by its string, which isn't missing; a direct add is by the id that the caller gave it, n
 abbrev pub CallBears : List ℕ → ℕ → (k : Call) (s : Linked) (met : List (List ℕ)) (r : Row) → FromCall k s met r → Type 0
 CallBears b n (intern x) s met r p = ⊥
-CallBears b n (resolve id) s met r p = ⊥
+CallBears b n (reads k) s met r p = ⊥
 CallBears b n (add conversion u) s met r p = nameOf u .0 ≡ n
 CallBears b n (remove id) s met r p = ⊥
-CallBears b n (get id) s met r p = ⊥
-CallBears b n (getGlobal name) s met r p = ⊥
-CallBears b n (sectionSymbol section) s met r p = ⊥
 CallBears b n (addGroup o work i) s met r p = ⊥
-CallBears b n (merge o work ids) s met r p = Words.Bears (o .headers) (o .entries) (o .contents) (o .file) (p .number) b
+CallBears b n (merge o work ids) s met r p = Words.Bears (o .headers) (o .entries) (o .contents) (o .image) (p .number) b
 CallBears b n (mergeFile file cells work ids) s met r p =
-    Words.Bears (ElfFile.rowsOf file .headers) (ElfFile.rowsOf file .entries) (ElfFile.rowsOf file .contents) (ElfFile.rowsOf file .file) (p .1 .number) b
-CallBears b n (load o marks) s met r p = (hasName (o .file) (entryName (o .entries) (p .number)) ≡ true) × (nameAt (o .file) (entryName (o .entries) (p .number)) ≡ b)
-CallBears b n (archiveStart key index cells) s met r p = ⊥
-CallBears b n (archiveNext index cells w) s met r p = ⊥
-CallBears b n (matches headers entries contents file index cells w e) s met r p = ⊥
+    Words.Bears (ElfFile.rowsOf file .headers) (ElfFile.rowsOf file .entries) (ElfFile.rowsOf file .contents) (ElfFile.rowsOf file .image) (p .1 .number) b
+CallBears b n (load o marks) s met r p = (hasName (o .image) (entryName (o .entries) (p .number)) ≡ true) × (nameAt (o .image) (entryName (o .entries) (p .number)) ≡ b)
 CallBears b n (collect marks entry work) s met r p = ⊥
 CallBears b n (plainCollect marks entry work) s met r p = ⊥
 
@@ -73,12 +67,9 @@ module _ (b : List ℕ) (n : ℕ) (r : Row) (e : r .name .0 ≡ n) where
   call-bears : (k : Call) (s t : Linked) (met : List (List ℕ)) (p : FromCall k s met r) → ((x : List ℕ) → Issued (store (callNext k s .table)) (r .name .0) x → x ≡ b)
       → CallBears b n k s met r p
   call-bears (intern x) s t met p f = p
-  call-bears (resolve id) s t met p f = p
+  call-bears (reads k) s t met p f = p
   call-bears (add conversion u) s t met p f = ap (λ (i : _). i .0) (sym (add-id _ conversion _ r u p)) ∙ e
   call-bears (remove id) s t met p f = p
-  call-bears (get id) s t met p f = p
-  call-bears (getGlobal name) s t met p f = p
-  call-bears (sectionSymbol section) s t met p f = p
   call-bears (addGroup o work i) s t met p f = p
   call-bears (merge o work ids) s t met p f = record { found = p .bears .found; bytes = p .bears .bytes ∙ f _ (p .named) }
   call-bears (mergeFile file cells work ids) s t met p f =
@@ -88,9 +79,6 @@ module _ (b : List ℕ) (n : ℕ) (r : Row) (e : r .name .0 ≡ n) where
         bytes = p .1 .bears .bytes ∙ f x (subst (λ (u : Linked). Issued (store (u .table)) (r .name .0) x) (sym (next-read file cells work ids s (p .0))) (p .1 .named));
       }
   call-bears (load o marks) s t met p f = (p .found, f _ (p .named))
-  call-bears (archiveStart key index cells) s t met p f = p
-  call-bears (archiveNext index cells w) s t met p f = p
-  call-bears (matches headers entries contents file index cells w e) s t met p f = p
   call-bears (collect marks entry work) s t met p f = p
   call-bears (plainCollect marks entry work) s t met p f = p
 
@@ -127,19 +115,13 @@ steps-own (others x l ∷ ks) s = steps-own ks (stepNext (others x l) s)
 
 call-own : (k : Call) (s : Linked) → Own (callNotes k s)
 call-own (intern x) s = tt
-call-own (resolve id) s = tt
+call-own (reads k) s = tt
 call-own (add conversion u) s = noted-own _ _ _
 call-own (remove id) s = tt
-call-own (get id) s = tt
-call-own (getGlobal name) s = tt
-call-own (sectionSymbol section) s = tt
 call-own (addGroup o work i) s = tt
 call-own (merge o work ids) s = steps-own (mergeSteps o (allIn s work ids)) (s .table)
 call-own (mergeFile file cells work ids) s = steps-own (fileSteps file cells work ids s) (s .table)
 call-own (load o marks) s = steps-own (loadSteps o (libraryIn s marks)) (s .table)
-call-own (archiveStart key index cells) s = tt
-call-own (archiveNext index cells w) s = tt
-call-own (matches headers entries contents file index cells w e) s = tt
 call-own (collect marks entry work) s = tt
 call-own (plainCollect marks entry work) s = tt
 

@@ -10,12 +10,15 @@ use Rattle.link.specs.declared.Refusal.{Refusal}
 use Rattle.link.specs.Said.{numberIn}
 use Rattle.symbols.specs.New.{newOf}
 use Rattle.symbol_laws.specs.History.{opened}
-use Rattle.merge_laws.specs.Marked.{Marked, new-marked}
+use Rattle.merge_laws.specs.Marked.{Marked}
+use Rattle.merge_laws.specs.Proof.Marked.{new-marked}
 use Rattle.merge_laws.specs.Calls.{Linked, linked}
 use Rattle.link_laws.specs.Calls.{Call, callRefusal, callNumber}
 use Rattle.link_laws.specs.Kept.{signatures, calls-marked}
-use Rattle.link_laws.specs.Growth.{Turn, grow, turnNext, runTurns, marked-grown}
-use Rattle.link_laws.specs.Rules.{firstOf, someHolds, none-holds}
+use Rattle.link_laws.specs.Growth.{Turn, grow, turnNext, runTurns}
+use Rattle.link_laws.specs.Proof.Growth.{marked-grown}
+use Rattle.link_laws.specs.Rules.{firstOf, someHolds}
+use Rattle.link_laws.specs.Proof.Rules.{none-holds}
 use Rattle.link_laws.specs.CallRules.{rules}
 use Rattle.link_laws.specs.ExactTerms.{call-exactly, rules-numbered}
 

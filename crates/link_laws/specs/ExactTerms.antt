@@ -14,26 +14,29 @@ use Rattle.archive_walk.specs.Look.{Table}
 use Rattle.archive_walk.specs.Walk.{begunNumber, startOf}
 use Rattle.archive_laws.specs.Runs.{Run, history, startRun}
 use Rattle.symbol_laws.specs.History.{opened}
-use Rattle.merge_laws.specs.Marked.{Marked, new-marked}
+use Rattle.merge_laws.specs.Marked.{Marked}
+use Rattle.merge_laws.specs.Proof.Marked.{new-marked}
 use Rattle.merge_laws.specs.Calls.{Linked, linked, allIn}
-use Rattle.link_laws.specs.Calls.{Call, intern, resolve, add, remove, get, getGlobal, sectionSymbol, addGroup, merge, mergeFile, load, archiveStart, archiveNext, matches, collect, plainCollect, libraryIn, callRefusal, callNumber, runCalls}
+use Rattle.link_laws.specs.Read as Read
+use Rattle.link_laws.specs.Calls.{Call, intern, add, remove, addGroup, merge, mergeFile, load, archiveNext, collect, plainCollect, libraryIn, callRefusal, callNumber, runCalls, reads}
 use Rattle.elf_laws.specs.Object as ElfFile
 use Rattle.link_laws.specs.Kept.{signatures, calls-marked}
-use Rattle.link_laws.specs.Rules.{firstOf, numbered, numbered-both, someHolds, none-holds}
+use Rattle.link_laws.specs.Rules.{firstOf, numbered, someHolds}
+use Rattle.link_laws.specs.Proof.Rules.{numbered-both, none-holds}
 use Rattle.link_laws.specs.GroupRules.{alone, groupHead, ownGroupRules}
 use Rattle.link_laws.specs.CallRules.{rules}
-use Rattle.link_laws.specs.Exactly.{get-exactly, global-exactly, remove-exactly, resolve-exactly}
-use Rattle.link_laws.specs.InternExactly.{intern-exactly}
+use Rattle.link_laws.specs.Proof.Exactly.{get-exactly, global-exactly, remove-exactly, resolve-exactly}
+use Rattle.link_laws.specs.Proof.InternExactly.{intern-exactly}
 use Rattle.link_laws.specs.AddExactly.{add-exactly}
-use Rattle.link_laws.specs.GroupExactly as GroupExactly
-use Rattle.link_laws.specs.GroupExactly.{add-group-exactly}
-use Rattle.link_laws.specs.MergeWhole.{merge-exactly, merge-numbered}
+use Rattle.link_laws.specs.Proof.GroupExactly as GroupExactly
+use Rattle.link_laws.specs.Proof.GroupExactly.{add-group-exactly}
+use Rattle.link_laws.specs.Proof.MergeWhole.{merge-exactly, merge-numbered}
 use Rattle.link_laws.specs.MergeRules.{mergeRules}
 use Rattle.link_laws.specs.FileRules.{fileRules}
 use Rattle.link_laws.specs.FileExactly.{file-exactly, file-numbered}
-use Rattle.link_laws.specs.LoadWhole.{load-exactly, load-numbered}
+use Rattle.link_laws.specs.Proof.LoadWhole.{load-exactly, load-numbered}
 use Rattle.link_laws.specs.ArchiveRules.{indexedRules}
-use Rattle.link_laws.specs.ArchiveIndexed.{next-indexed}
+use Rattle.link_laws.specs.Proof.ArchiveIndexed.{next-indexed}
 use Rattle.link_laws.specs.ArchiveExactly.{start-exactly, start-numbered, next-exactly, next-numbered, matches-exactly, matches-numbered}
 use Rattle.link_laws.specs.CollectExactly.{collect-exactly}
 use Rattle.link_laws.specs.PlainExactly.{plain-exactly}
@@ -41,31 +44,31 @@ use Rattle.link_laws.specs.PlainExactly.{plain-exactly}
 -- over a link whose names are as every link has them
 pub call-exactly : (k : Call) (s : Linked) (met : List (List ℕ)) → Marked (s .table) met → callRefusal k s ≡ firstOf (rules k s)
 call-exactly (intern x) s met m = intern-exactly x s (m .good .chained)
-call-exactly (resolve id) s met m = resolve-exactly s id
+call-exactly (reads (Read.resolve id)) s met m = resolve-exactly s id
 call-exactly (add conversion u) s met m = add-exactly conversion u s
 call-exactly (remove id) s met m = remove-exactly s id
-call-exactly (get id) s met m = get-exactly s id
-call-exactly (getGlobal name) s met m = global-exactly s name
-call-exactly (sectionSymbol id) s met m = refl
+call-exactly (reads (Read.get id)) s met m = get-exactly s id
+call-exactly (reads (Read.getGlobal name)) s met m = global-exactly s name
+call-exactly (reads (Read.sectionSymbol id)) s met m = refl
 call-exactly (addGroup o work n) s met m = add-group-exactly o work n s (m .good .chained)
 call-exactly (merge o work ids) s met m = merge-exactly o (allIn s work ids) met m
 call-exactly (mergeFile file cells work ids) s met m = file-exactly file cells work ids s met m
 call-exactly (load o marks) s met m = load-exactly o (libraryIn s marks) (m .good)
-call-exactly (archiveStart key index cells) s met m = start-exactly key index cells s
-call-exactly (archiveNext index cells w) s met m = next-exactly index cells w s (m .good .chained)
-call-exactly (matches headers entries contents file index cells w e) s met m = matches-exactly headers entries contents file index cells w e s
+call-exactly (reads (Read.archiveStart key index cells)) s met m = start-exactly key index cells s
+call-exactly (reads (Read.archiveNext index cells w)) s met m = next-exactly index cells w s (m .good .chained)
+call-exactly (reads (Read.matches headers entries contents file index cells w e)) s met m = matches-exactly headers entries contents file index cells w e s
 call-exactly (collect marks entry work) s met m = collect-exactly marks entry work s
 call-exactly (plainCollect marks entry work) s met m = plain-exactly marks entry work s
 
 -- no rule has the number of a result
 pub rules-numbered : (k : Call) (s : Linked) → numbered (rules k s) ≡ true
 rules-numbered (intern x) s = refl
-rules-numbered (resolve id) s = refl
+rules-numbered (reads (Read.resolve id)) s = refl
 rules-numbered (add conversion u) s = refl
 rules-numbered (remove id) s = refl
-rules-numbered (get id) s = refl
-rules-numbered (getGlobal name) s = refl
-rules-numbered (sectionSymbol id) s = refl
+rules-numbered (reads (Read.get id)) s = refl
+rules-numbered (reads (Read.getGlobal name)) s = refl
+rules-numbered (reads (Read.sectionSymbol id)) s = refl
 rules-numbered (addGroup o work n) s =
     numbered-both (groupHead o n (s .table) (length work / 8)) (ownGroupRules (alone o) n (s .table) (length work / 8)) (GroupExactly.head-numbered o work n s) refl
 rules-numbered (merge o work ids) s = merge-numbered o (allIn s work ids)
@@ -73,9 +76,9 @@ rules-numbered (mergeFile file cells work ids) s =
     numbered-both (fileRules (s .table .link .broken) file (length cells)) (mergeRules (ElfFile.rowsOf file) (allIn s work ids))
     (file-numbered (s .table .link .broken) file (length cells)) (merge-numbered (ElfFile.rowsOf file) (allIn s work ids))
 rules-numbered (load o marks) s = load-numbered o (libraryIn s marks)
-rules-numbered (archiveStart key index cells) s = start-numbered index cells
-rules-numbered (archiveNext index cells w) s = next-numbered index cells w (s .table)
-rules-numbered (matches headers entries contents file index cells w e) s = matches-numbered headers entries contents file index cells w e
+rules-numbered (reads (Read.archiveStart key index cells)) s = start-numbered index cells
+rules-numbered (reads (Read.archiveNext index cells w)) s = next-numbered index cells w (s .table)
+rules-numbered (reads (Read.matches headers entries contents file index cells w e)) s = matches-numbered headers entries contents file index cells w e
 rules-numbered (collect marks entry work) s = refl
 rules-numbered (plainCollect marks entry work) s = refl
 

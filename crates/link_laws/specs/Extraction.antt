@@ -19,12 +19,13 @@ use Rattle.symbol_laws.specs.Rank.{firstOf}
 use Rattle.symbol_laws.specs.History.{Entry, only, rows}
 use Rattle.symbol_laws.specs.Held.{Inv}
 use Rattle.merge_laws.specs.Calls.{Linked}
-use Rattle.extraction_laws.specs.Some.{or-none}
+use Rattle.extraction_laws.specs.Proof.Some.{or-none}
 use Rattle.extraction_laws.specs.Member.{memberOf}
 use Rattle.extraction_laws.specs.Taken.{lists, taken, weakOffers, wantedNames, wanted-names}
 use Rattle.extraction_laws.specs.Terms as Extraction
 use Rattle.link_laws.specs.Calls.{viewIn}
-use Rattle.link_laws.specs.Walks.{nextIn, next-is}
+use Rattle.link_laws.specs.Walks.{nextIn}
+use Rattle.link_laws.specs.Proof.Walks.{next-is}
 use Rattle.link_laws.specs.Undefined.{symbolsUnder, weakReferences, undefined-is}
 use Rattle.link_laws.specs.Ties.{OfName, ties-is}
 

@@ -6,23 +6,24 @@ use mathlib.Core.Bool.{Bool, true, false, cond, not, _&&_, _||_}
 use mathlib.Core.List.{List, [], _∷_, _++_}
 use lib.Dec.{eqb, ltb}
 use lib.ListN.{length}
-use Rattle.cells.specs.Split.{by-test}
+use Rattle.cells.specs.Proof.Split.{by-test}
 use Rattle.link.specs.declared.Refusal.{Refusal}
 use Rattle.link.specs.Judge.{refused}
-use Rattle.gabi_file.specs.File.{eMagic, elfMagic, eClass, elfClass64, eData, elfData2Lsb, eType, etRel, eShoff, sectionCount, headerTable, shtGroup}
+use Rattle.gabi.specs.File.{eMagic, elfMagic, eClass, elfClass64, eData, elfData2Lsb, eType, etRel, eShoff, sectionCount, headerTable, shtGroup}
 use Rattle.elf_file.specs.declared.Header.{Header}
 use Rattle.elf_file.specs.File.{headerAt}
-use Rattle.elf_check.specs.Check.{isObject, headersFit, excluded, entrySize, entriesOk, sectionOk, tableOk, badTable, fileRefusal}
+use Rattle.elf_file.specs.Check.{isObject, headersFit, excluded, entrySize, entriesOk, sectionOk, tableOk, badTable, fileRefusal}
 use Rattle.elf_laws.specs.Object.{rowsOf, cellsOf}
 use Rattle.merge_file.specs.MergeFile.{fileHeadOf}
 use Rattle.merge_laws.specs.Marked.{Marked}
 use Rattle.merge_laws.specs.Calls.{Linked, allIn}
 use Rattle.link_laws.specs.Calls.{mergeFile, callRefusal, fileHead}
-use Rattle.link_laws.specs.FileCall.{refusal-read, refusal-unread}
-use Rattle.link_laws.specs.Rules.{Rule, _gives_at_, each, firstOf, numbered, numbered-both, each-numbered, past, stop, follows}
-use Rattle.link_laws.specs.ObjectExactly.{from-zero}
+use Rattle.link_laws.specs.Proof.FileCall.{refusal-read, refusal-unread}
+use Rattle.link_laws.specs.Rules.{Rule, _gives_at_, each, firstOf, numbered}
+use Rattle.link_laws.specs.Proof.Rules.{numbered-both, each-numbered, past, stop, follows}
+use Rattle.link_laws.specs.Proof.ObjectExactly.{from-zero}
 use Rattle.link_laws.specs.MergeRules.{mergeRules}
-use Rattle.link_laws.specs.MergeWhole.{merge-exactly}
+use Rattle.link_laws.specs.Proof.MergeWhole.{merge-exactly}
 use Rattle.link_laws.specs.FileRules.{isNoObject, isHeadersCut, isBadSection, isBadTable, tableRules, fileRules}
 
 five : (a b c d e : Bool) → cond a false (cond b (cond c (cond d (cond e true false) false) false) false) ≡ not (a || (not b || (not c || (not d || not e))))

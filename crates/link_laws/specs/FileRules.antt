@@ -6,10 +6,10 @@ use mathlib.Core.Bool.{Bool, not, _&&_, _||_}
 use mathlib.Core.List.{List, [], _∷_, _++_}
 use lib.Dec.{eqb, ltb}
 use lib.ListN.{length}
-use Rattle.gabi_file.specs.File.{eMagic, elfMagic, eClass, elfClass64, eData, elfData2Lsb, eType, etRel, eShoff, sectionCount, headerTable, shtGroup}
+use Rattle.gabi.specs.File.{eMagic, elfMagic, eClass, elfClass64, eData, elfData2Lsb, eType, etRel, eShoff, sectionCount, headerTable, shtGroup}
 use Rattle.elf_file.specs.declared.Header.{Header}
 use Rattle.elf_file.specs.File.{headerAt}
-use Rattle.elf_check.specs.Check.{excluded, entrySize}
+use Rattle.elf_file.specs.Check.{excluded, entrySize}
 use Rattle.elf_laws.specs.Object.{cellsOf}
 use Rattle.link_laws.specs.Rules.{Rule, _gives_at_, each}
 

@@ -8,8 +8,8 @@ use mathlib.Core.List.{List}
 use mathlib.Core.Logic.{_≢_}
 use lib.Dec.{eqb, ltb}
 use borrow.Author.Tests.{eqb-true, eqb-false, ltb-true, ltb-false}
-use Rattle.cells.specs.Split.{by-test}
-use Rattle.byte_slices.specs.Ways.{pick}
+use Rattle.cells.specs.Proof.Split.{by-test}
+use Rattle.byte_slices.specs.Proof.Ways.{pick}
 use Rattle.link.specs.declared.Refusal.{Refusal}
 use Rattle.elf_object.specs.Rows.{rowsIn}
 use Rattle.elf_object.specs.Judge.{firstBad, headerOk, entryOk, badHeader, badEntry}

@@ -11,38 +11,38 @@ use lib.Dec.{eqb}
 use lib.ListN.{length, getD}
 use lib.Seq.{getD-set-same}
 use borrow.Author.Tests.{eqb-true, eqb-false, eq-eqb, ne-eqb, lt-leb, lt-ltb, ltb-false}
-use Rattle.cells.specs.Split.{by-test}
+use Rattle.cells.specs.Proof.Split.{by-test}
 use Rattle.gabi.specs.SymbolTable.{stbLocal}
 use Rattle.link.specs.declared.SymbolId.{SymbolId}
 use Rattle.link.specs.Said.{numberIn, valueIn}
 use Rattle.interner.specs.Names.{fitsOf}
 use Rattle.interner.specs.Calls.{resolved}
 use Rattle.interner_laws.specs.Good.{Issued, Stays, count, name, find}
-use Rattle.interner_laws.specs.Find.{find-known}
+use Rattle.interner_laws.specs.Proof.Find.{find-known}
 use Rattle.interner_laws.specs.Histories.{stays-both, issued-stays}
 use Rattle.interner_laws.specs.Interns.{keep-issued}
-use Rattle.interner_laws.specs.Judged as Judged
+use Rattle.interner_laws.specs.Proof.Judged as Judged
 use Rattle.symbol.specs.declared.Row.{Row}
 use Rattle.symbol.specs.declared.SttFile.the-variants as File
 use Rattle.symbol.specs.Codes.{successor}
 use Rattle.symbol.specs.Row.{stateAt, visibilityCodeAt, symbolAt}
-use Rattle.symbol_rows.specs.declared.Holder.the-variants.{Removed, Known}
-use Rattle.symbol_rows.specs.declared.Decision.{Decision}
-use Rattle.symbol_rows.specs.Holder.{globalAt, heldBy, holderOf}
-use Rattle.symbol_rows.specs.Decide.{refusalOf}
-use Rattle.symbol_rows.specs.Apply.{noteName, appendOf, applyOf}
+use Rattle.symbol_resolution.specs.declared.rows.Holder.the-variants.{Removed, Known}
+use Rattle.symbol_resolution.specs.declared.rows.Decision.{Decision}
+use Rattle.symbol_resolution.specs.Holder.{globalAt, heldBy, holderOf}
+use Rattle.symbol_resolution.specs.Decide.{refusalOf}
+use Rattle.symbol_resolution.specs.Apply.{noteName, appendOf, applyOf}
 use Rattle.symbols.specs.declared.Found.the-variants as Fd
 use Rattle.symbols.specs.Calls.{Left}
 use Rattle.symbols.specs.Add.{committedOf, addRowOf}
 use Rattle.symbols.specs.Lookup.{notFound}
 use Rattle.strings.specs.Lookup.{Looked}
 use Rattle.elf_object.specs.Rows.{rowsIn}
-use Rattle.merge_plan.specs.Plan.{inputOf}
+use Rattle.merge_symbols.specs.Plan.{inputOf}
 use Rattle.merge_symbols.specs.Stage as Symbols
 use Rattle.merge_stages.specs.Stages as Stages
 use Rattle.symbol_laws.specs.ObjectWords.{entriesIn, entry}
 use Rattle.symbol_laws.specs.View.{Free, View, refused, kept, amended, replaced, appended, local, view, decided, held}
-use Rattle.symbol_laws.specs.Rows.{rowAt, stored-row}
+use Rattle.symbol_laws.specs.Proof.Rows.{rowAt, stored-row}
 use Rattle.symbol_laws.specs.Within as Within
 use Rattle.symbol_laws.specs.History.{State, table, store, issue, put, putOf, idOf, partNext, object}
 use Rattle.merge_laws.specs.Steps.{part, Makes}
@@ -51,7 +51,8 @@ use Rattle.merge_elf.specs.Merge.{headIn}
 use Rattle.merge_build.specs.Relocations.{idIn}
 use Rattle.merge_laws.specs.MergeSteps.{adds}
 use Rattle.merge_laws.specs.MergeWords as Words
-use Rattle.merge_laws.specs.Marked.{Marked, steps-marked, marksOf}
+use Rattle.merge_laws.specs.Marked.{Marked, marksOf}
+use Rattle.merge_laws.specs.Proof.Marked.{steps-marked}
 use Rattle.merge_laws.specs.WorkGroups.{symbols-are, bears-own}
 use Rattle.merge_laws.specs.FileNames.{IsFile, file-stays, row-file}
 use Rattle.merge_laws.specs.ObjectContents as Contents
@@ -68,14 +69,14 @@ use Rattle.merge_laws.specs.BuiltNames.{AllGive, Gives, null, answered}
 use Rattle.merge_laws.specs.Calls.{Linked, allIn}
 use Rattle.link_laws.specs.Calls.{Call, resolve, get, getGlobal, merge, callLeft, callNumber, callNext, runCalls}
 use Rattle.link_laws.specs.Kept.{signatures, Lasting, lasting-within, lasting-on}
-use Rattle.merge_laws.specs.NamesOn.{steps-stay}
-use Rattle.merge_laws.specs.SymbolNames as SymbolNames
-use Rattle.link_laws.specs.NamesStay as NamesStay
+use Rattle.merge_laws.specs.Proof.NamesOn.{steps-stay}
+use Rattle.merge_laws.specs.Proof.SymbolNames as SymbolNames
+use Rattle.link_laws.specs.Proof.NamesStay as NamesStay
 use Rattle.link_laws.specs.Removal.{Ready, Onward, steps-onward}
 use Rattle.link_laws.specs.LookedUp as LookedUp
 use Rattle.link_laws.specs.LookedUp.{Later, calls-later}
 use Rattle.link_laws.specs.Words.{lookup}
-use Rattle.link_laws.specs.LocalRows.{Shown, Onto, onto-both, steps-onto, Stay, stay-both, stands-local, calls-stay}
+use Rattle.link_laws.specs.LocalRows.{Shown, Onto, onto-both, steps-onto, Stay, onto-stay, stay-both, stands-local, calls-stay}
 
 -- ---- the words
 
@@ -87,25 +88,25 @@ pub data NameHas (b : List ℕ) (t : Linked) (id : SymbolId) : Type 0 where
 -- an object that is merged into s, where these signatures are met; t is a later link
 module _ (o : Stages.Object) (s : Linked) (met : List (List ℕ)) (t : Linked) where
   abbrev pub symbols : List ℕ
-  symbols = Words.symbolsOf (o .headers) (o .entries) (o .contents) (o .file)
+  symbols = Words.symbolsOf (o .headers) (o .entries) (o .contents) (o .image)
 
   abbrev pub nameBytes : ℕ → List ℕ
-  nameBytes = Words.symbolName (o .headers) (o .entries) (o .contents) (o .file)
+  nameBytes = Words.symbolName (o .headers) (o .entries) (o .contents) (o .image)
 
   -- its name isn't missing
   abbrev pub isNamed : ℕ → Bool
-  isNamed = Words.isNamed (o .headers) (o .entries) (o .contents) (o .file)
+  isNamed = Words.isNamed (o .headers) (o .entries) (o .contents) (o .image)
 
   -- the row of an id has what the entry of the local symbol k says: type, value through the object's sections, its name's bytes, its file (IsFile, merge_laws)
   pub record LocalRow (k id : ℕ) : Type 0 where
     pub counted : id < t .table .link .symbols
-    pub content : Contents.LocalContent (o .headers) (o .entries) (o .contents) (o .file) (s .table .link .sections) met symbols k (rowAt (t .table .symbols) id)
+    pub content : Contents.LocalContent (o .headers) (o .entries) (o .contents) (o .image) (s .table .link .sections) met symbols k (rowAt (t .table .symbols) id)
     pub named : callLeft (resolve (rowAt (t .table .symbols) id .name)) t ≡ resolved (nameBytes k) 0 0
-    pub filed : IsFile (store (t .table)) symbols (Words.Bears (o .headers) (o .entries) (o .contents) (o .file)) k (rowAt (t .table .symbols) id .file)
+    pub filed : IsFile (store (t .table)) symbols (Words.Bears (o .headers) (o .entries) (o .contents) (o .image)) k (rowAt (t .table .symbols) id .file)
 
   pub data Stands (k id : ℕ) : Type 0 where
     -- "maps to id 0"
-    first : Contents.IsNull (o .headers) (o .entries) (o .contents) (o .file) (s .table .link .sections) met symbols k → id ≡ 0 → Stands k id
+    first : Contents.IsNull (o .headers) (o .entries) (o .contents) (o .image) (s .table .link .sections) met symbols k → id ≡ 0 → Stands k id
     -- local: the row has what the symbol's entry says
     own : entry symbols k .binding ≡ stbLocal → isNamed k ≡ true → LocalRow k id → Stands k id
     -- else: the name has that id
@@ -306,7 +307,7 @@ module _ (s : Linked) (met : List (List ℕ)) (g : Lasting s met) (ready : Ready
 
       stays : Stay then (last .table)
       stays =
-          stay-both then (merged .table) (last .table) (record { shown = on-onto .shown; more = on-onto .more; stands = on-onto .stands })
+          stay-both then (merged .table) (last .table) (onto-stay then (merged .table) on-onto)
           (calls-stay ls merged (on-onward .ready) (on-onto .shown))
 
       last-issued : Issued (store (last .table)) (r .name .0) x
@@ -359,15 +360,15 @@ module _ (s : Linked) (met : List (List ℕ)) (g : Lasting s met) (ready : Ready
           (ap (λ (i : ℕ). callLeft (getGlobal (record { 0 = i })) last) q
           ∙ Within.looked t fit (lasting-within last _ lasting) n (Known (record { 0 = id })) (holder-known t n (last-issued .low) id k u low (eqb-false _ _ c))))
 
-      bears : Words.Bears (o .headers) (o .entries) (o .contents) (o .file) k x
+      bears : Words.Bears (o .headers) (o .entries) (o .contents) (o .image) k x
       bears = bears-own o a head-goes (sections-going o a whole) k low found
 
       name-own : x ≡ nameBytes o s met last k
       name-own = sym (bears .bytes)
 
-      filed : IsFile (store (last .table)) (symbols o s met last) (Words.Bears (o .headers) (o .entries) (o .contents) (o .file)) k (r .file)
+      filed : IsFile (store (last .table)) (symbols o s met last) (Words.Bears (o .headers) (o .entries) (o .contents) (o .image)) k (r .file)
       filed =
-          file-stays (store (merged .table)) (symbols o s met last) (Words.Bears (o .headers) (o .entries) (o .contents) (o .file)) k (r .file) (store (last .table))
+          file-stays (store (merged .table)) (symbols o s met last) (Words.Bears (o .headers) (o .entries) (o .contents) (o .image)) k (r .file) (store (last .table))
           (NamesStay.calls-stay ls merged (met ++ signatures (merge o work ids ∷ []) s) (lasting-on (merge o work ids ∷ []) s met g .marked))
           (row-file o a met (g .marked) head-goes (sections-going o a whole) (groups-pass o a whole) (filter-passes o a ok) k low (comes .going))
 
@@ -382,10 +383,10 @@ module _ (s : Linked) (met : List (List ℕ)) (g : Lasting s met) (ready : Ready
           own (c .bound) (bears .found)
           (record {
             counted = h;
-            content = subst (Contents.LocalContent (o .headers) (o .entries) (o .contents) (o .file) (s .table .link .sections) met (symbols o s met last) k) (sym e) c;
+            content = subst (Contents.LocalContent (o .headers) (o .entries) (o .contents) (o .image) (s .table .link .sections) met (symbols o s met last) k) (sym e) c;
             named =
                 ap (λ (r : Row). callLeft (resolve (r .name)) last) e ∙ resolves ∙ ap (λ (b : List ℕ). resolved b 0 0) name-own;
-            filed = subst (λ (r : Row). IsFile (store (last .table)) (symbols o s met last) (Words.Bears (o .headers) (o .entries) (o .contents) (o .file)) k (r .file)) (sym e) filed;
+            filed = subst (λ (r : Row). IsFile (store (last .table)) (symbols o s met last) (Words.Bears (o .headers) (o .entries) (o .contents) (o .image)) k (r .file)) (sym e) filed;
           })
 
       pub answered-stands : Stands o s met last k id
@@ -419,7 +420,7 @@ module _ (s : Linked) (met : List (List ℕ)) (g : Lasting s met) (ready : Ready
         ap (λ (x : Merge.Left). x .cells .ids) (accepted-stays o a head-goes whole .all)
         ∙ ap (λ (x : Stages.All). x .ids)
         (Stops.sections-pass o a (sections-going o a whole) ∙ Stops.filter-pass o a (groups-pass o a whole) (filter-passes o a ok)
-        ∙ ap (Stages.withSymbols (marked o a)) (Stops.symbols-pass o a (symbols-going o a ok)))
+        ∙ ap (Stages.putSymbols (marked o a)) (Stops.symbols-pass o a (symbols-going o a ok)))
 
     pub cell-stands : (k id : ℕ) → k < entriesIn (symbols o s met end) → getD (callLeft (merge o work ids) s .cells .ids) k 0 ≡ id + 1 → Stands o s met end k id
     unfolding idIn

@@ -9,7 +9,7 @@ use mathlib.Core.List.{List, [], _∷_, _++_}
 use lib.Dec.{eqb, leb}
 use lib.ListN.{getD, length}
 use borrow.Author.Tests.{eqb-true, eqb-false, eq-eqb, ne-eqb, le-leb}
-use Rattle.cells.specs.Split.{by-test}
+use Rattle.cells.specs.Proof.Split.{by-test}
 use Rattle.gabi.specs.StringTable.{among}
 use Rattle.gabi.specs.Groups as Gabi
 use Rattle.link.specs.declared.Stage.{Stage}
@@ -17,11 +17,11 @@ use Rattle.link.specs.Judge.{refused}
 use Rattle.elf_object.specs.Rows.{comdatAt, linkAt, infoAt, firstAt, countAt, isLoaded}
 use Rattle.section_groups.specs.Group as Group
 use Rattle.section_groups.specs.Group.{markGroupOf, markRemovedOf, shapeOf, shapedOf, groupOf, groupSectionOf, signatureOf, go}
-use Rattle.add_group.specs.AddGroup as AddGroup
-use Rattle.add_group.specs.AddGroup.{headIn, answerOf, tableIn, loadedIn, addGroupOf}
+use Rattle.section_groups.specs.AddGroup as AddGroup
+use Rattle.section_groups.specs.AddGroup.{headIn, answerOf, tableIn, loadedIn, addGroupOf}
 use Rattle.symbol_laws.specs.History.{State}
 use Rattle.merge_laws.specs.Marked.{marksOf, Marked}
-use Rattle.merge_laws.specs.GroupMarks.{kept-new, group-marks, group-signature}
+use Rattle.merge_laws.specs.Proof.GroupMarks.{kept-new, group-marks, group-signature}
 use Rattle.link_laws.specs.Calls.{groupIn}
 use Rattle.link_laws.specs.CallSteps.{groupSteps, head-loaded, section-is}
 
@@ -31,7 +31,7 @@ not-not false = refl
 
 -- its signature, and the one section that it lists
 abbrev pub signature : Group.Object → ℕ → List ℕ
-signature o n = signatureOf (o .headers) (o .entries) (o .file) (o .table) n .name
+signature o n = signatureOf (o .headers) (o .entries) (o .image) (o .table) n .name
 
 abbrev pub listed : Group.Object → ℕ → ℕ
 listed o n = getD (o .contents) (firstAt (o .headers) n) 0

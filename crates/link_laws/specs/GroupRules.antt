@@ -18,7 +18,7 @@ isMet t x = isAmong (bytesOf t) x 0 (t .link .names) && eqb (cellAt (t .names) (
 
 -- a group added by itself: "Excluded sections vanish first", so the entries are there if their table's section is a symbol table and isn't excluded
 abbrev pub alone : Object → Object
-alone o = objectOf (o .headers) (cond (isSection (o .headers) (o .table) 3) (o .entries) []) (o .contents) (o .file) (o .table)
+alone o = objectOf (o .headers) (cond (isSection (o .headers) (o .table) 3) (o .entries) []) (o .contents) (o .image) (o .table)
 
 module _ (o : Object) (n : ℕ) where
   -- the group's link is the loaded symbol table, its info a symbol of that
@@ -27,10 +27,10 @@ module _ (o : Object) (n : ℕ) where
 
   -- the name of that symbol, in the strings that the table links to
   abbrev pub signatureFound : Bool
-  signatureFound = isNamed (o .headers) (o .file) (linkAt (o .headers) (o .table)) (symbolName (o .entries) (infoAt (o .headers) n))
+  signatureFound = isNamed (o .headers) (o .image) (linkAt (o .headers) (o .table)) (symbolName (o .entries) (infoAt (o .headers) n))
 
   abbrev pub signature : List ℕ
-  signature = nameIn (o .headers) (o .file) (linkAt (o .headers) (o .table)) (symbolName (o .entries) (infoAt (o .headers) n))
+  signature = nameIn (o .headers) (o .image) (linkAt (o .headers) (o .table)) (symbolName (o .entries) (infoAt (o .headers) n))
 
   -- the one section
   abbrev pub listed : ℕ
@@ -52,5 +52,5 @@ module _ (o : Object) (n : ℕ) where
   abbrev pub groupHead : State → ℕ → List Rule
   groupHead t marks =
       headRules (t .link) (lentRows (length (t .names) / 9) (length (t .bytes)) notLent (t .link .slots) notLent notLent)
-      ++ (objectRules (o .headers) (o .entries) (o .contents) (o .file)
+      ++ (objectRules (o .headers) (o .entries) (o .contents) (o .image)
       ++ ((not (isSection (o .headers) n 7) gives 1 at n) ∷ (ltb marks (length (o .headers) / 8) gives 2 at 0) ∷ []))

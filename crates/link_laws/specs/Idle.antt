@@ -8,8 +8,8 @@ use mathlib.Core.List.{List}
 use mathlib.Core.Logic.{_≢_}
 use lib.Dec.{eqb}
 use lib.ListN.{getD}
-use Rattle.cells.specs.Split.{by-test}
-use Rattle.byte_slices.specs.Ways.{pick}
+use Rattle.cells.specs.Proof.Split.{by-test}
+use Rattle.byte_slices.specs.Proof.Ways.{pick}
 use Rattle.link.specs.declared.Link.{Link}
 use Rattle.symbols.specs.Remove.{Rows, rowsOf}
 use Rattle.sections.specs.Rows.{isBuilt}
@@ -28,7 +28,7 @@ use Rattle.gc_sections.specs.Run.{Left, Lists, numberOf, judged, purgeOf, sweep
 use Rattle.symbol_laws.specs.History.{withRows}
 use Rattle.merge_laws.specs.Calls.{Linked, linked}
 use Rattle.link_laws.specs.Calls.{Drops, collect, plainCollect, listsIn, callLeft, callNext, Removes}
-use Rattle.link_laws.specs.PlainCalls.{Compared, alike, many, compared, many-next}
+use Rattle.link_laws.specs.Proof.PlainCalls.{Compared, alike, many, compared, many-next}
 
 -- ---- a loop whose turns either leave all or count one more
 

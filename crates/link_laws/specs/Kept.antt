@@ -7,7 +7,7 @@ use mathlib.Core.Bool.{Bool, true, false, false≢true}
 use mathlib.Core.List.{List, [], _∷_, _++_, append-nil, append-assoc}
 use lib.Dec.{eqb}
 use lib.ListN.{length}
-use Rattle.cells.specs.Split.{by-test}
+use Rattle.cells.specs.Proof.Split.{by-test}
 use Rattle.link.specs.Bounds.{notLent}
 use Rattle.symbols.specs.Remove.{Rows}
 use Rattle.symbol_laws.specs.History.{State, Entry, withRows}
@@ -15,17 +15,19 @@ use Rattle.symbol_laws.specs.Below.{Below}
 use Rattle.symbol_laws.specs.Held.{Inv}
 use Rattle.symbol_laws.specs.Within.{Within}
 use Rattle.merge_laws.specs.Steps.{Step, logSteps}
-use Rattle.merge_laws.specs.Past.{steps-below}
-use Rattle.merge_laws.specs.Kept.{steps-keep}
-use Rattle.merge_laws.specs.Marked.{marksOf, Marked, steps-marked}
-use Rattle.merge_laws.specs.Markless.{marks-none}
+use Rattle.merge_laws.specs.Proof.Past.{steps-below}
+use Rattle.merge_laws.specs.Proof.Kept.{steps-keep}
+use Rattle.merge_laws.specs.Marked.{marksOf, Marked}
+use Rattle.merge_laws.specs.Proof.Marked.{steps-marked}
+use Rattle.merge_laws.specs.Proof.Markless.{marks-none}
 use Rattle.load_laws.specs.LoadSteps.{loadSteps}
-use Rattle.load_laws.specs.Unmarked.{load-markless}
-use Rattle.merge_laws.specs.Lookups.{CountedIn, steps-counted, within}
+use Rattle.load_laws.specs.Proof.Unmarked.{load-markless}
+use Rattle.merge_laws.specs.Proof.Lookups.{CountedIn, steps-counted, within}
 use Rattle.merge_laws.specs.Calls.{Linked}
-use Rattle.link_laws.specs.Calls.{Call, intern, resolve, add, remove, get, getGlobal, sectionSymbol, addGroup, merge, mergeFile, load, archiveStart, archiveNext, matches, collect, plainCollect, libraryIn, callNumber, callNext, callNotes, runCalls, logCalls, Removes, RemovesNothing}
-use Rattle.link_laws.specs.CallSteps.{callSteps, call-makes, call-log, Leads, made, cleared, call-leads}
-use Rattle.link_laws.specs.Lists.{call-listed}
+use Rattle.link_laws.specs.Calls.{Call, intern, add, remove, addGroup, merge, mergeFile, load, collect, plainCollect, libraryIn, callNumber, callNext, callNotes, runCalls, logCalls, Removes, RemovesNothing, reads}
+use Rattle.link_laws.specs.CallSteps.{callSteps, Leads, made, cleared}
+use Rattle.link_laws.specs.Proof.CallSteps.{call-makes, call-log, call-leads}
+use Rattle.link_laws.specs.Proof.Lists.{call-listed}
 use Rattle.merge_laws.specs.Lists.{ListsPast, lists-none, lists-both}
 
 -- ---- who holds each name
@@ -53,37 +55,25 @@ signatures (k ∷ ks) s = callMarks k s ++ signatures ks (callNext k s)
 -- whether a call may meet a group
 abbrev pub meetsGroups : Call → Bool
 meetsGroups (intern x) = false
-meetsGroups (resolve id) = false
+meetsGroups (reads k) = false
 meetsGroups (add conversion u) = false
 meetsGroups (remove id) = false
-meetsGroups (get id) = false
-meetsGroups (getGlobal name) = false
-meetsGroups (sectionSymbol section) = false
 meetsGroups (addGroup o work n) = true
 meetsGroups (merge o work ids) = true
 meetsGroups (mergeFile file cells work ids) = true
 meetsGroups (load o marks) = false
-meetsGroups (archiveStart key index cells) = false
-meetsGroups (archiveNext index cells w) = false
-meetsGroups (matches headers entries contents file index cells w e) = false
 meetsGroups (collect marks entry work) = false
 meetsGroups (plainCollect marks entry work) = false
 
 pub no-signatures : (k : Call) (s : Linked) → meetsGroups k ≡ false → signatures (k ∷ []) s ≡ []
 no-signatures (intern x) s q = by-test (eqb (callNumber (intern x) s) 0) (λ a. rw a) (λ a. rw a)
-no-signatures (resolve id) s q = refl
+no-signatures (reads k) s q = refl
 no-signatures (add conversion u) s q = by-test (eqb (callNumber (add conversion u) s) 0) (λ a. rw a) (λ a. rw a)
 no-signatures (remove id) s q = refl
-no-signatures (get id) s q = refl
-no-signatures (getGlobal name) s q = refl
-no-signatures (sectionSymbol section) s q = refl
 no-signatures (addGroup o work n) s q = absurd (false≢true (sym q))
 no-signatures (merge o work ids) s q = absurd (false≢true (sym q))
 no-signatures (mergeFile file cells work ids) s q = absurd (false≢true (sym q))
 no-signatures (load o marks) s q = append-nil _ ∙ marks-none (loadSteps o (libraryIn s marks)) (s .table) (load-markless o (libraryIn s marks))
-no-signatures (archiveStart key index cells) s q = refl
-no-signatures (archiveNext index cells w) s q = refl
-no-signatures (matches headers entries contents file index cells w e) s q = refl
 no-signatures (collect marks entry work) s q = refl
 no-signatures (plainCollect marks entry work) s q = refl
 

@@ -5,7 +5,7 @@ use Prim.Native.Nat.{ℕ}
 use mathlib.Core.Path.{_≡_, refl, ap, sym, _∙_, subst}
 use mathlib.Core.Bool.{Bool, true, false}
 use mathlib.Core.List.{List, [], _∷_}
-use Rattle.cells.specs.Split.{by-test}
+use Rattle.cells.specs.Proof.Split.{by-test}
 use Rattle.link.specs.declared.Link.{Link}
 use Rattle.link.specs.declared.Refusal.{Refusal}
 use Rattle.link.specs.Said.{Said, numberIn}
@@ -17,7 +17,7 @@ use Rattle.symbols.specs.Calls as Symbols
 use Rattle.symbols.specs.New.{NewLeft, newOf}
 use Rattle.symbols.specs.Remove.{Rows, RemoveLeft, rowsOf, removeOf}
 use Rattle.symbols.specs.Lookup as Lookup
-use Rattle.add_group.specs.AddGroup as AddGroup
+use Rattle.section_groups.specs.AddGroup as AddGroup
 use Rattle.merge_stages.specs.Stages as Stages
 use Rattle.merge_elf.specs.Merge as Merge
 use Rattle.shared_objects.specs.Load as Shared
@@ -28,19 +28,21 @@ use Rattle.symbol_laws.specs.History.{table, store, withTable, withStore, withR
 use Rattle.merge_laws.specs.Calls.{Linked, linked, allIn, linkIn}
 use Rattle.load_laws.specs.Whole as Loads
 use Rattle.key_laws.specs.Rekeyed.{keyed, Rekeyed}
-use Rattle.key_laws.specs.Tables.{intern-moved, resolve-same, add-moved, remove-keyed, remove-link, get-keyed, global-same, section-symbol-keyed}
+use Rattle.key_laws.specs.Proof.Tables.{intern-moved, resolve-same, add-moved, remove-keyed, remove-link, get-keyed, global-same, section-symbol-keyed}
 use Rattle.key_laws.specs.SectionNames.{Named}
-use Rattle.key_laws.specs.Reads.{next-same, matches-same, collect-same, collect-link}
-use Rattle.key_laws.specs.Groups.{add-group-moved}
-use Rattle.key_laws.specs.Merge.{merge-moved}
-use Rattle.key_laws.specs.Load.{load-moved}
-use Rattle.key_laws.specs.SectionCalls.{intern-named, add-named, remove-named, group-named, merge-named, load-named, collect-named}
-use Rattle.key_laws.specs.NewTables.{new-said, new-moved, new-named}
-use Rattle.link_laws.specs.Calls.{Call, intern, resolve, add, remove, get, getGlobal, sectionSymbol, addGroup, merge, mergeFile, load, archiveStart, archiveNext, matches, collect, plainCollect, LeftBy, callLeft, refusalIn, refusalBy, callRefusal, callNext, runCalls, groupIn, libraryIn, listsIn, viewIn, isRead}
-use Rattle.link_laws.specs.PlainCalls.{plain-link}
-use Rattle.key_laws.specs.PlainReads.{plain-same, plain-named}
+use Rattle.key_laws.specs.Proof.Reads.{next-same, matches-same, collect-same, collect-link}
+use Rattle.key_laws.specs.Proof.Groups.{add-group-moved}
+use Rattle.key_laws.specs.Proof.Merge.{merge-moved}
+use Rattle.key_laws.specs.Proof.Load.{load-moved}
+use Rattle.key_laws.specs.Proof.SectionCalls.{intern-named, add-named, remove-named, group-named, merge-named, load-named, collect-named}
+use Rattle.key_laws.specs.Proof.NewTables.{new-said, new-moved, new-named}
+use Rattle.link_laws.specs.Read.{ReadLeft}
+use Rattle.link_laws.specs.Read as Read
+use Rattle.link_laws.specs.Calls.{Call, intern, add, remove, addGroup, merge, mergeFile, load, archiveNext, matches, collect, plainCollect, LeftBy, callLeft, refusalIn, refusalBy, callRefusal, callNext, runCalls, groupIn, libraryIn, listsIn, viewIn, isRead, reads}
+use Rattle.link_laws.specs.Proof.PlainCalls.{plain-link}
+use Rattle.key_laws.specs.Proof.PlainReads.{plain-same, plain-named}
 use Rattle.elf_laws.specs.Object as ElfFile
-use Rattle.link_laws.specs.FileCall.{left-read, left-unread, next-read, next-unread, refusal-read, refusal-unread}
+use Rattle.link_laws.specs.Proof.FileCall.{left-read, left-unread, next-read, next-unread, refusal-read, refusal-unread}
 
 -- ---- two links
 
@@ -63,37 +65,25 @@ pub record Alike (k : ℕ) (s t : Linked) : Type 0 where
 -- number, place and value; and the cells that a call is lent beside the link's own
 abbrev pub AnswerBy : Call → Type 0
 AnswerBy (intern x) = Said
-AnswerBy (resolve id) = Names.Resolved
+AnswerBy (reads k) = ReadLeft k
 AnswerBy (add conversion u) = Said
 AnswerBy (remove id) = Said
-AnswerBy (get id) = Found
-AnswerBy (getGlobal name) = Found
-AnswerBy (sectionSymbol section) = SectionSymbol
 AnswerBy (addGroup o work n) = List ℕ × Refusal
 AnswerBy (merge o work ids) = List ℕ × List ℕ × Refusal
 AnswerBy (mergeFile file cells work ids) = List ℕ × List ℕ × List ℕ × Refusal
 AnswerBy (load o marks) = List ℕ × Said
-AnswerBy (archiveStart walkKey index cells) = Archive.Start
-AnswerBy (archiveNext index cells w) = Archive.Step
-AnswerBy (matches headers entries contents file index cells w e) = Admission
 AnswerBy (collect marks entry work) = List ℕ × Collection.Said
 AnswerBy (plainCollect marks entry work) = List ℕ × Collection.Said
 
 abbrev pub answerIn : (k : Call) → LeftBy k → AnswerBy k
 answerIn (intern x) o = o .said
-answerIn (resolve id) o = o
+answerIn (reads k) o = o
 answerIn (add conversion u) o = o .said
 answerIn (remove id) o = o .said
-answerIn (get id) o = o
-answerIn (getGlobal name) o = o
-answerIn (sectionSymbol section) o = o
 answerIn (addGroup o work n) x = (x .work, x .said)
 answerIn (merge o work ids) x = (x .cells .work, x .cells .ids, x .said)
 answerIn (mergeFile file cells work ids) x = (x .rows, x .merged .cells .work, x .merged .cells .ids, x .merged .said)
 answerIn (load o marks) x = (x .cells .marks, x .said)
-answerIn (archiveStart walkKey index cells) o = o
-answerIn (archiveNext index cells w) o = o
-answerIn (matches headers entries contents file index cells w e) o = o
 answerIn (collect marks entry work) o = (o .work, o .said)
 answerIn (plainCollect marks entry work) o = (o .work, o .said)
 
@@ -170,7 +160,7 @@ module _ (key : ℕ) (s : Linked) (n : List ℕ) (e : Rekeyed key (store (s .tab
           named = intern-named (store (s .table)) x (s .table .sections) h;
         };
       }
-  under-same (resolve id) =
+  under-same (reads (Read.resolve id)) =
       let q = resolve-same key (store (s .table)) n e id in
       record { answer = q; refusal = ap (λ (o : Names.Resolved). o .refusal) q; next = stays }
   under-same (add conversion u) =
@@ -200,13 +190,13 @@ module _ (key : ℕ) (s : Linked) (n : List ℕ) (e : Rekeyed key (store (s .tab
           named = subst (λ (m : Link). Named m (removeOf l x id .rows .sections)) (sym (remove-link l x id)) g;
         };
       }
-  under-same (get id) =
+  under-same (reads (Read.get id)) =
       let q = get-keyed key (s .table .link) (s .table .symbols) id in
       record { answer = q; refusal = ap Lookup.refusalOf q; next = stays }
-  under-same (getGlobal name) =
+  under-same (reads (Read.getGlobal name)) =
       let q = global-same key (store (s .table)) n (s .table .symbols) e name in
       record { answer = q; refusal = ap Lookup.refusalOf q; next = stays }
-  under-same (sectionSymbol section) = record { answer = section-symbol-keyed key (s .table .link) (s .table .sections) section; refusal = refl; next = stays }
+  under-same (reads (Read.sectionSymbol section)) = record { answer = section-symbol-keyed key (s .table .link) (s .table .sections) section; refusal = refl; next = stays }
   under-same (addGroup o work i) =
       let m = add-group-moved key (groupIn (s .table) work) n e o i in
       record {
@@ -233,11 +223,11 @@ module _ (key : ℕ) (s : Linked) (n : List ℕ) (e : Rekeyed key (store (s .tab
           named = load-named o (libraryIn s marks) h;
         };
       }
-  under-same (archiveStart walkKey index cells) = record { answer = refl; refusal = refl; next = stays }
-  under-same (archiveNext index cells w) =
+  under-same (reads (Read.archiveStart walkKey index cells)) = record { answer = refl; refusal = refl; next = stays }
+  under-same (reads (Read.archiveNext index cells w)) =
       let q = next-same key (viewIn (s .table)) n e index cells w in
       record { answer = q; refusal = ap (refusalIn (archiveNext index cells w)) q; next = stays }
-  under-same (matches headers entries contents file index cells w i) =
+  under-same (reads (Read.matches headers entries contents file index cells w i)) =
       let q = matches-same key (s .table .link) headers entries contents file index cells w i in
       record { answer = q; refusal = ap (refusalIn (matches headers entries contents file index cells w i)) q; next = stays }
   under-same (collect marks entry work) =

@@ -7,15 +7,15 @@ use mathlib.Core.List.{List}
 use mathlib.Core.Logic.{_≢_}
 use lib.Dec.{eqb}
 use borrow.Author.Tests.{eqb-true, eqb-false}
-use Rattle.cells.specs.Split.{by-test}
-use Rattle.byte_slices.specs.Ways.{pick, apart}
+use Rattle.cells.specs.Proof.Split.{by-test}
+use Rattle.byte_slices.specs.Proof.Ways.{pick, apart}
 use Rattle.link.specs.Said.{numberIn}
 use Rattle.link.specs.declared.Refusal.{Refusal}
 use Rattle.link.specs.declared.Stage.{Stage}
 use Rattle.section_groups.specs.Group as Group
 use Rattle.section_groups.specs.Group.{groupOf, groupSectionOf, go}
-use Rattle.add_group.specs.AddGroup as AddGroup
-use Rattle.add_group.specs.AddGroup.{answerOf, loadedIn, addGroupOf}
+use Rattle.section_groups.specs.AddGroup as AddGroup
+use Rattle.section_groups.specs.AddGroup.{answerOf, loadedIn, addGroupOf}
 use Rattle.merge_stages.specs.Stages as Stages
 use Rattle.merge_elf.specs.Merge as Merge
 use Rattle.shared_objects.specs.declared.Answer.{Answer}
@@ -24,15 +24,15 @@ use Rattle.shared_objects.specs.Load as Shared
 use Rattle.shared_objects.specs.Load.{loadOf}
 use Rattle.symbol_laws.specs.History as History
 use Rattle.symbol_laws.specs.History.{State}
-use Rattle.symbol_laws.specs.Calls.{call-refused}
+use Rattle.symbol_laws.specs.Proof.Calls.{call-refused}
 use Rattle.merge_laws.specs.Stops as Stops
 use Rattle.merge_laws.specs.ByNumber as ByNumber
 use Rattle.merge_laws.specs.Refusals.{group-left}
 use Rattle.merge_laws.specs.Calls.{Linked, linked, allIn, linkIn}
 use Rattle.load_laws.specs.Whole as Loads
-use Rattle.shared_laws.specs.Unneeded as Unneeded
-use Rattle.link_laws.specs.Calls.{Call, intern, resolve, add, remove, get, getGlobal, sectionSymbol, addGroup, merge, mergeFile, load, archiveStart, archiveNext, matches, collect, plainCollect, groupIn, libraryIn, listsIn, callLeft, callNumber, callNext}
-use Rattle.link_laws.specs.PlainCalls.{Compared, alike, many, compared, many-next}
+use Rattle.load_laws.specs.NeedTerms as Unneeded
+use Rattle.link_laws.specs.Calls.{Call, intern, add, remove, addGroup, merge, mergeFile, load, collect, plainCollect, groupIn, libraryIn, listsIn, callLeft, callNumber, callNext, reads}
+use Rattle.link_laws.specs.Proof.PlainCalls.{Compared, alike, many, compared, many-next}
 use Rattle.link_laws.specs.Idle.{drops-nothing, refused-drops}
 use Rattle.link_laws.specs.CallSteps.{grouped, head-loaded, section-is, answered-is}
 
@@ -41,19 +41,13 @@ use Rattle.link_laws.specs.CallSteps.{grouped, head-loaded, section-is, 
 -- one element after the other: these leave "that call's earlier elements"
 abbrev pub byElements : Call → Bool
 byElements (intern x) = false
-byElements (resolve id) = false
+byElements (reads k) = false
 byElements (add conversion u) = false
 byElements (remove id) = false
-byElements (get id) = false
-byElements (getGlobal name) = false
-byElements (sectionSymbol section) = false
 byElements (addGroup o work n) = false
 byElements (merge o work ids) = true
 byElements (mergeFile file cells work ids) = true
 byElements (load o marks) = true
-byElements (archiveStart key index cells) = false
-byElements (archiveNext index cells w) = false
-byElements (matches headers entries contents file index cells w e) = false
 byElements (collect marks entry work) = false
 byElements (plainCollect marks entry work) = false
 
@@ -90,19 +84,13 @@ module _ (o : Group.Object) (t : State) (work : List ℕ) (n : ℕ) where
 
 pub refused-leaves : (k : Call) (s : Linked) → byElements k ≡ false → callNumber k s ≢ 0 → callNext k s ≡ s
 refused-leaves (intern x) s g u = direct-leaves (History.intern x) s u
-refused-leaves (resolve id) s g u = refl
+refused-leaves (reads k) s g u = refl
 refused-leaves (add conversion u) s g z = direct-leaves (History.add conversion u) s z
 refused-leaves (remove id) s g u = direct-leaves (History.remove id) s u
-refused-leaves (get id) s g u = refl
-refused-leaves (getGlobal name) s g u = refl
-refused-leaves (sectionSymbol section) s g u = refl
 refused-leaves (addGroup o work n) s g u = ap (λ (t : State). linked t (s .inputs) (s .lists)) (group-refused o (s .table) work n u .0)
 refused-leaves (merge o work ids) s g u = absurd (apart (sym g))
 refused-leaves (mergeFile file cells work ids) s g u = absurd (apart (sym g))
 refused-leaves (load o marks) s g u = absurd (apart (sym g))
-refused-leaves (archiveStart key index cells) s g u = refl
-refused-leaves (archiveNext index cells w) s g u = refl
-refused-leaves (matches headers entries contents file index cells w e) s g u = refl
 refused-leaves (collect marks entry work) s g u =
     drops-nothing marks entry work s (refused-drops (s .table .link) (s .table .symbols) (s .table .sections) (listsIn s marks) entry work u)
 refused-leaves (plainCollect marks entry work) s g u = go (compared marks entry work s)
@@ -137,11 +125,11 @@ merge-breaks o work ids s h u =
     (λ z. ap (λ (x : Merge.Left). x .cells .stage .link .broken) (ByNumber.refused-breaks o (allIn s work ids) h (eqb-false _ _ z)))
 
 load-said : (o : Shared.Input) (a : Shared.All) → numberIn (loadOf o a .said) ≡ numberIn (Shared.saidOf (loadOf o a .answer))
-unfolding loadOf Shared.namedOf Shared.wantedOf
+unfolding loadOf Shared.libraryNamed Shared.wantedOf
 load-said o a =
     pick P (eqb (Shared.headIn o a .number) 0) _ _
     (λ h.
-    pick P (Shared.wantOf (o .asneeded) (a .link) (a .bytes) (a .names) (a .symbols) (a .inputs) (a .lists) (a .marks) (o .entries) (o .file) (Shared.nameOf o) .needed) _ _
+    pick P (Shared.wantOf (o .asneeded) (a .link) (a .bytes) (a .names) (a .symbols) (a .inputs) (a .lists) (a .marks) (o .entries) (o .image) (Shared.nameOf o) .needed) _ _
     (λ w. refl) (λ w. refl))
     (λ h. refl)
   where

@@ -12,18 +12,19 @@ use Rattle.link.specs.Bounds.{notLent}
 use Rattle.interner_laws.specs.Good.{Issued, Stays, count, name}
 use Rattle.interner_laws.specs.Histories.{issued-stays}
 use Rattle.elf_object.specs.Rows.{rowsIn, field}
-use Rattle.library_need.specs.Need.{inputKindAt, dependenciesAt, undefinedAt}
+use Rattle.shared_objects.specs.Need.{inputKindAt, dependenciesAt, undefinedAt}
 use Rattle.shared_objects.specs.declared.Answer.the-variants.{Loaded}
 use Rattle.shared_objects.specs.Load as Shared
 use Rattle.shared_objects.specs.Load.{nameOf}
-use Rattle.shared_laws.specs.Names.{Each, each-stays, undefinedNames, dependencyNames}
-use Rattle.shared_laws.specs.LibraryRow.{self, undefineds, dependencies, library-row, library-names}
+use Rattle.load_laws.specs.Names.{Each, undefinedNames, dependencyNames}
+use Rattle.load_laws.specs.Proof.LawsNames.{each-stays}
+use Rattle.load_laws.specs.LibraryRow.{self, undefineds, dependencies, library-row, library-names}
 use Rattle.symbol_laws.specs.History.{store}
 use Rattle.merge_laws.specs.Calls.{Linked}
 use Rattle.link_laws.specs.Calls.{Call, load, libraryIn, callLeft, callNext, runCalls}
-use Rattle.link_laws.specs.Lists.{call-listed}
+use Rattle.link_laws.specs.Proof.Lists.{call-listed}
 use Rattle.link_laws.specs.Kept.{signatures, Lasting, lasting-on}
-use Rattle.link_laws.specs.NamesStay.{calls-stay}
+use Rattle.link_laws.specs.Proof.NamesStay.{calls-stay}
 
 -- ---- counted inputs and lists stay, over any calls
 
@@ -78,8 +79,8 @@ module _ (o : Shared.Input) (a : Shared.All) (t : Linked) where
   -- what these ids stand for
   pub record Named : Type 0 where
     pub own : Issued (store (t .table)) (self o a) (nameOf o)
-    pub lacked : Each (store (t .table)) (undefineds o a) (undefinedNames (o .entries) (o .file) (rowsIn (o .entries)) 0)
-    pub listed : Each (store (t .table)) (dependencies o a) (dependencyNames (o .file) (o .needs) (length (o .needs)) 0)
+    pub lacked : Each (store (t .table)) (undefineds o a) (undefinedNames (o .entries) (o .image) (rowsIn (o .entries)) 0)
+    pub listed : Each (store (t .table)) (dependencies o a) (dependencyNames (o .image) (o .needs) (length (o .needs)) 0)
 
 module _ (s : Linked) (met : List (List ℕ)) (g : Lasting s met) (o : Shared.Input) (marks : List ℕ)
     (ok : callLeft (load o marks) s .answer ≡ Loaded) (ls : List Call) where

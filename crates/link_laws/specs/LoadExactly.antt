@@ -7,7 +7,7 @@ use mathlib.Core.List.{List, [], _∷_, _++_}
 use lib.Dec.{eqb, ltb}
 use lib.ListN.{getD, length}
 use borrow.Author.Tests.{eqb-true, eq-eqb}
-use Rattle.cells.specs.Split.{by-test}
+use Rattle.cells.specs.Proof.Split.{by-test}
 use Rattle.gabi.specs.StringTable.{hasName, nameAt}
 use Rattle.link.specs.declared.Refusal.{Refusal}
 use Rattle.link.specs.Counts.{lentOf}
@@ -17,33 +17,35 @@ use Rattle.interner_laws.specs.Good.{Good, Chained}
 use Rattle.symbol.specs.declared.SttFile.the-variants as File
 use Rattle.symbol.specs.declared.Row.{Row}
 use Rattle.upcoming_symbol.specs.Upcoming.{externalRowOf}
-use Rattle.symbol_rows.specs.Holder.{holderOf}
-use Rattle.symbol_rows.specs.Decide as Decide
-use Rattle.symbol_rows.specs.Decide.{decideOf}
+use Rattle.symbol_resolution.specs.Holder.{holderOf}
+use Rattle.symbol_resolution.specs.Decide as Decide
+use Rattle.symbol_resolution.specs.Decide.{decideOf}
 use Rattle.elf_object.specs.Judge.{badEntry}
-use Rattle.merge_plan.specs.Plan.{placeOf}
-use Rattle.library_head.specs.Head as Head
-use Rattle.library_head.specs.Head.{needOk, badNeed, sonameMissing, rowsOf, unnamedOf, marksShort, nameRefusal, afterRows}
-use Rattle.library_lists.specs.Record as Lists
-use Rattle.library_lists.specs.Record.{recordFits, recordAs, recordOf, keepName, dependencyOf, dependenciesFrom, dependenciesOf}
-use Rattle.library_symbols.specs.declared.Definition.{Definition}
-use Rattle.library_symbols.specs.Define as Define
-use Rattle.library_symbols.specs.Define.{Added, judgedOf, rowedOf, externalOf, planOf, acceptOf, commitOf, defineOf, view}
-use Rattle.library_symbols.specs.Load as Symbols
-use Rattle.library_symbols.specs.Load.{lookedOf, symbolOf, symbolsFrom, symbolsOf}
+use Rattle.merge_symbols.specs.Plan.{placeOf}
+use Rattle.shared_objects.specs.Head as Head
+use Rattle.shared_objects.specs.Head.{dependenciesOk, badNeed, sonameMissing, rowsOf, unnamedOf, marksShort, nameRefusal, afterRows}
+use Rattle.shared_objects.specs.Record as Lists
+use Rattle.shared_objects.specs.Record.{recordFits, recordAs, recordOf, keepName, dependencyOf, dependenciesFrom, dependenciesOf}
+use Rattle.shared_objects.specs.declared.symbols.Definition.{Definition}
+use Rattle.shared_objects.specs.Define as Define
+use Rattle.shared_objects.specs.Define.{Added, judgedOf, rowedOf, externalOf, planOf, acceptOf, commitOf, defineOf, view}
+use Rattle.shared_objects.specs.SymbolsLoad as Symbols
+use Rattle.shared_objects.specs.SymbolsLoad.{lookedOf, symbolOf, symbolsFrom, symbolsOf}
 use Rattle.shared_objects.specs.Load as Load
 use Rattle.shared_objects.specs.Load.{Input, All}
-use Rattle.shared_laws.specs.Names.{recordStore, dependencies-names, stateStore, symbols-names}
+use Rattle.load_laws.specs.Names.{recordStore, stateStore}
+use Rattle.load_laws.specs.Proof.LawsNames.{dependencies-names, symbols-names}
 use Rattle.load_laws.specs.Whole.{tableIn, symbols-loop, dependencies-loop}
 use Rattle.symbol_laws.specs.History.{State, store}
-use Rattle.link_laws.specs.Rules.{Rule, _gives_at_, inTurn, headRules, firstOf, numbered, numbered-both, each-numbered, follows, headed, first-is, head-rules}
+use Rattle.link_laws.specs.Rules.{Rule, _gives_at_, inTurn, headRules, firstOf, numbered}
+use Rattle.link_laws.specs.Proof.Rules.{numbered-both, each-numbered, follows, headed, first-is, head-rules}
 use Rattle.link_laws.specs.TableRules.{idIn, isUnroomed, namesOf, Asked, askedOf, defined, shownRules, heldRules}
-use Rattle.link_laws.specs.InternExactly.{fits-is}
+use Rattle.link_laws.specs.Proof.InternExactly.{fits-is}
 use Rattle.link_laws.specs.AddExactly.{Stands, shown-library, answered, shown-first, held-first}
 use Rattle.link_laws.specs.ObjectRules.{cellAt, entryRules}
-use Rattle.link_laws.specs.ObjectExactly.{from-zero, entries-exactly, entries-numbered}
-use Rattle.link_laws.specs.MergeExactly.{stage-exactly}
-use Rattle.link_laws.specs.MergeSymbols.{find-is}
+use Rattle.link_laws.specs.Proof.ObjectExactly.{from-zero, entries-exactly, entries-numbered}
+use Rattle.link_laws.specs.Proof.MergeExactly.{stage-exactly}
+use Rattle.link_laws.specs.Proof.MergeSymbols.{find-is}
 use Rattle.link_laws.specs.LoadRules.{isNamed, bytes, isDefined, isGlobal, needRules, nameRules, loadHead, tableAt, isUnrecorded, symbolRules, dependencyRules}
 
 -- ---- the head
@@ -52,16 +54,16 @@ module _ (o : Input) (a : All) where
   abbrev t : State
   t = tableIn a
 
-  needs-exactly : cond (ltb (badNeed (o .file) (o .needs)) (length (o .needs))) (refused 1 (badNeed (o .file) (o .needs))) (refused 0 0) ≡ firstOf (needRules o)
-  unfolding badNeed needOk
-  needs-exactly = from-zero (λ j. not (hasName (o .file) (getD (o .needs) j 0))) (needOk (o .file) (o .needs)) 1 agree (length (o .needs))
+  needs-exactly : cond (ltb (badNeed (o .image) (o .needs)) (length (o .needs))) (refused 1 (badNeed (o .image) (o .needs))) (refused 0 0) ≡ firstOf (needRules o)
+  unfolding badNeed dependenciesOk
+  needs-exactly = from-zero (λ j. not (hasName (o .image) (getD (o .needs) j 0))) (dependenciesOk (o .image) (o .needs)) 1 agree (length (o .needs))
     where
       twice : (b : Bool) → b ≡ not (not b)
       twice true = refl
       twice false = refl
 
-      agree : (j : ℕ) → needOk (o .file) (o .needs) j ≡ not (not (hasName (o .file) (getD (o .needs) j 0)))
-      agree j = twice (hasName (o .file) (getD (o .needs) j 0))
+      agree : (j : ℕ) → dependenciesOk (o .image) (o .needs) j ≡ not (not (hasName (o .image) (getD (o .needs) j 0)))
+      agree j = twice (hasName (o .image) (getD (o .needs) j 0))
 
   names-exactly : nameRefusal (a .link) (o .archived) (o .sonamed) (o .asneeded) (length (a .marks)) ≡ firstOf (nameRules o t (length (a .marks)))
   unfolding nameRefusal unnamedOf marksShort
@@ -81,11 +83,11 @@ module _ (o : Input) (a : All) where
       tree false false false w = refl
 
   abbrev unsaid : Bool
-  unsaid = o .sonamed && not (hasName (o .file) (o .soname))
+  unsaid = o .sonamed && not (hasName (o .image) (o .soname))
 
-  missing-is : sonameMissing (o .file) (o .sonamed) (o .soname) ≡ unsaid
+  missing-is : sonameMissing (o .image) (o .sonamed) (o .soname) ≡ unsaid
   unfolding sonameMissing
-  missing-is = tree (o .sonamed) (hasName (o .file) (o .soname))
+  missing-is = tree (o .sonamed) (hasName (o .image) (o .soname))
     where
       tree : (x y : Bool) → cond x (cond y false true) false ≡ x && not y
       tree true true = refl
@@ -95,14 +97,14 @@ module _ (o : Input) (a : All) where
   abbrev strings : List Rule
   strings = (unsaid gives 1 at 0) ∷ needRules o
 
-  strings-exactly : cond (sonameMissing (o .file) (o .sonamed) (o .soname)) (refused 1 0)
-      (cond (ltb (badNeed (o .file) (o .needs)) (length (o .needs))) (refused 1 (badNeed (o .file) (o .needs))) (refused 0 0)) ≡ firstOf strings
+  strings-exactly : cond (sonameMissing (o .image) (o .sonamed) (o .soname)) (refused 1 0)
+      (cond (ltb (badNeed (o .image) (o .needs)) (length (o .needs))) (refused 1 (badNeed (o .image) (o .needs))) (refused 0 0)) ≡ firstOf strings
   strings-exactly = rw missing-is (first-is unsaid _ _ (λ e. rw e) (λ e. rw e needs-exactly))
 
   strings-numbered : numbered strings ≡ true
-  strings-numbered = each-numbered (λ j. not (hasName (o .file) (getD (o .needs) j 0))) 1 refl (length (o .needs)) 0
+  strings-numbered = each-numbered (λ j. not (hasName (o .image) (getD (o .needs) j 0))) 1 refl (length (o .needs)) 0
 
-  rows-exactly : rowsOf (o .entries) (o .file) (o .needs) (o .sonamed) (o .soname) ≡ firstOf (entryRules (o .entries) ++ strings)
+  rows-exactly : rowsOf (o .entries) (o .image) (o .needs) (o .sonamed) (o .soname) ≡ firstOf (entryRules (o .entries) ++ strings)
   unfolding rowsOf
   rows-exactly =
       let bad = badEntry (o .entries) in
@@ -116,13 +118,13 @@ module _ (o : Input) (a : All) where
   abbrev rest : List Rule
   rest = (entryRules (o .entries) ++ strings) ++ nameRules o t (length (a .marks))
 
-  after-exactly : afterRows (a .link) (o .archived) (o .sonamed) (o .asneeded) (length (a .marks)) (rowsOf (o .entries) (o .file) (o .needs) (o .sonamed) (o .soname)) ≡ firstOf rest
+  after-exactly : afterRows (a .link) (o .archived) (o .sonamed) (o .asneeded) (length (a .marks)) (rowsOf (o .entries) (o .image) (o .needs) (o .sonamed) (o .soname)) ≡ firstOf rest
   unfolding afterRows
   after-exactly =
       headed (nameRules o t (length (a .marks))) (λ (r : Refusal). r) (entryRules (o .entries) ++ strings) _ _ _ rows-numbered rows-exactly refl (λ e. names-exactly)
 
   pub head-exactly : Load.headIn o a ≡ firstOf (loadHead o t (a .inputs) (a .lists) (length (a .marks)))
-  unfolding Head.headOf
+  unfolding Head.checkOf
   head-exactly =
       headed rest (λ (r : Refusal). r)
       (headRules (a .link) (lentOf (length (a .names)) (length (a .bytes)) (length (a .symbols)) (length (a .sections)) (length (a .inputs)) (length (a .lists)))) _ _ _ refl
@@ -214,10 +216,10 @@ module _ (o : Input) (s : Symbols.State) (i : ℕ) (c : Chained (stateStore s)) 
       external-exactly (findOf (now .bytes) (now .names) (now .link) x) x (fits-is now x c)
       ∙ ap (λ (id : ℕ). firstOf ((isUnroomed now x gives 2 at i) ∷ shownRules now (want id) i ++ heldRules now (want id) i)) (find-is now c x)
 
-  named-exactly : (x : List ℕ) → symbolSaid (Symbols.namedOf (o .entries) s x i)
+  named-exactly : (x : List ℕ) → symbolSaid (Symbols.librarySymbolNamed (o .entries) s x i)
       ≡ firstOf (cond (isDefined o i) ((isUnroomed now x gives 2 at i) ∷ shownRules now (want (idIn now x)) i ++ heldRules now (want (idIn now x)) i)
       (cond (isGlobal o i) ((isUnrecorded now (length (s .lists)) x gives 2 at i) ∷ []) []))
-  unfolding Symbols.namedOf
+  unfolding Symbols.librarySymbolNamed
   named-exactly x =
       by-test (eqb (cellAt (o .entries) i 4) 0)
       (λ e.
@@ -226,8 +228,8 @@ module _ (o : Input) (s : Symbols.State) (i : ℕ) (c : Chained (stateStore s)) 
       (λ f. rw (e, f)))
       (λ e. rw e (define-exactly x))
 
-  symbol-exactly : symbolSaid (symbolOf (o .entries) (o .file) s i) ≡ firstOf (symbolRules o s i)
-  unfolding symbolOf lookedOf Symbols.namedOf
+  symbol-exactly : symbolSaid (symbolOf (o .entries) (o .image) s i) ≡ firstOf (symbolRules o s i)
+  unfolding symbolOf lookedOf Symbols.librarySymbolNamed
   symbol-exactly = by-test (isNamed o i) (λ e. rw e (named-exactly (bytes o i))) (λ e. rw e)
 
 module _ (o : Input) where
@@ -238,58 +240,58 @@ module _ (o : Input) where
   symbol-rules-numbered s i = by-test (isDefined o i) (λ e. rw e) (λ e. rw e (by-test (isGlobal o i) (λ f. rw f) (λ f. rw f)))
 
   -- one of them as a loop of one
-  alone : (s : Symbols.State) (i : ℕ) → symbolOf (o .entries) (o .file) s i .stage .number ≡ 0 → symbolsFrom (o .entries) (o .file) (suc zero) i s ≡ symbolOf (o .entries) (o .file) s i
+  alone : (s : Symbols.State) (i : ℕ) → symbolOf (o .entries) (o .image) s i .stage .number ≡ 0 → symbolsFrom (o .entries) (o .image) (suc zero) i s ≡ symbolOf (o .entries) (o .image) s i
   unfolding symbolsFrom
   alone s i z = rw (eq-eqb _ _ z)
 
-  stays : (s : Symbols.State) (i : ℕ) → Named s i → symbolOf (o .entries) (o .file) s i .stage .number ≡ 0 → Named (symbolOf (o .entries) (o .file) s i) (i + 1)
+  stays : (s : Symbols.State) (i : ℕ) → Named s i → symbolOf (o .entries) (o .image) s i .stage .number ≡ 0 → Named (symbolOf (o .entries) (o .image) s i) (i + 1)
   stays s i h z =
       record {
         good =
             subst (λ (r : Symbols.State). Good (stateStore r)) (alone s i z)
-            (symbols-names (o .entries) (o .file) (suc zero) i s (h .good) (ap (λ (r : Symbols.State). r .stage .number) (alone s i z) ∙ z) .0 .good);
+            (symbols-names (o .entries) (o .image) (suc zero) i s (h .good) (ap (λ (r : Symbols.State). r .stage .number) (alone s i z) ∙ z) .0 .good);
       }
 
   pub symbols-exactly : (s : Symbols.State) → Good (stateStore s) → symbolSaid s ≡ refused 0 0
-      → symbolSaid (symbolsOf (o .entries) (o .file) s) ≡ firstOf (inTurn (symbolRules o) (symbolOf (o .entries) (o .file)) (length (o .entries) / 8) 0 s)
+      → symbolSaid (symbolsOf (o .entries) (o .image) s) ≡ firstOf (inTurn (symbolRules o) (symbolOf (o .entries) (o .image)) (length (o .entries) / 8) 0 s)
   unfolding symbolsOf
   symbols-exactly s g z =
-      ap symbolSaid (symbols-loop (o .entries) (o .file) (length (o .entries) / 8) 0 s)
-      ∙ stage-exactly (symbolRules o) (symbolOf (o .entries) (o .file)) symbolSaid Named symbol-rules-numbered (λ s i h. symbol-exactly o s i (h .good .chained)) stays
+      ap symbolSaid (symbols-loop (o .entries) (o .image) (length (o .entries) / 8) 0 s)
+      ∙ stage-exactly (symbolRules o) (symbolOf (o .entries) (o .image)) symbolSaid Named symbol-rules-numbered (λ s i h. symbol-exactly o s i (h .good .chained)) stays
       (length (o .entries) / 8) 0 s (record { good = g }) z
 
-  pub symbols-good : (s : Symbols.State) → Good (stateStore s) → symbolsOf (o .entries) (o .file) s .stage .number ≡ 0 → Good (stateStore (symbolsOf (o .entries) (o .file) s))
+  pub symbols-good : (s : Symbols.State) → Good (stateStore s) → symbolsOf (o .entries) (o .image) s .stage .number ≡ 0 → Good (stateStore (symbolsOf (o .entries) (o .image) s))
   unfolding symbolsOf
-  symbols-good s g z = symbols-names (o .entries) (o .file) (length (o .entries) / 8) 0 s g z .0 .good
+  symbols-good s g z = symbols-names (o .entries) (o .image) (length (o .entries) / 8) 0 s g z .0 .good
 
   -- ---- dependencies
 
   pub record Recorded (s : Lists.Recorded) (j : ℕ) : Type 0 where
     pub good : Good (recordStore s)
 
-  dependency-exactly : (s : Lists.Recorded) (j : ℕ) → Recorded s j → recordSaid (dependencyOf (o .file) (o .needs) s j) ≡ firstOf (dependencyRules o s j)
+  dependency-exactly : (s : Lists.Recorded) (j : ℕ) → Recorded s j → recordSaid (dependencyOf (o .image) (o .needs) s j) ≡ firstOf (dependencyRules o s j)
   unfolding dependencyOf
   dependency-exactly s j h =
-      record-exactly (Lists.recordedOf (s .bytes) (s .names) (s .lists) (goingOf (s .stage .link))) (nameAt (o .file) (getD (o .needs) j 0)) j (h .good .chained)
+      record-exactly (Lists.recordedOf (s .bytes) (s .names) (s .lists) (goingOf (s .stage .link))) (nameAt (o .image) (getD (o .needs) j 0)) j (h .good .chained)
 
-  dependency-alone : (s : Lists.Recorded) (j : ℕ) → dependencyOf (o .file) (o .needs) s j .stage .number ≡ 0
-      → dependenciesFrom (o .file) (o .needs) (suc zero) j s ≡ dependencyOf (o .file) (o .needs) s j
+  dependency-alone : (s : Lists.Recorded) (j : ℕ) → dependencyOf (o .image) (o .needs) s j .stage .number ≡ 0
+      → dependenciesFrom (o .image) (o .needs) (suc zero) j s ≡ dependencyOf (o .image) (o .needs) s j
   unfolding dependenciesFrom
   dependency-alone s j z = rw (eq-eqb _ _ z)
 
-  dependency-stays : (s : Lists.Recorded) (j : ℕ) → Recorded s j → dependencyOf (o .file) (o .needs) s j .stage .number ≡ 0
-      → Recorded (dependencyOf (o .file) (o .needs) s j) (j + 1)
+  dependency-stays : (s : Lists.Recorded) (j : ℕ) → Recorded s j → dependencyOf (o .image) (o .needs) s j .stage .number ≡ 0
+      → Recorded (dependencyOf (o .image) (o .needs) s j) (j + 1)
   dependency-stays s j h z =
       record {
         good =
             subst (λ (r : Lists.Recorded). Good (recordStore r)) (dependency-alone s j z)
-            (dependencies-names (o .file) (o .needs) (suc zero) j s (h .good) (ap (λ (r : Lists.Recorded). r .stage .number) (dependency-alone s j z) ∙ z) .0 .good);
+            (dependencies-names (o .image) (o .needs) (suc zero) j s (h .good) (ap (λ (r : Lists.Recorded). r .stage .number) (dependency-alone s j z) ∙ z) .0 .good);
       }
 
   pub dependencies-exactly : (s : Lists.Recorded) → Good (recordStore s) → recordSaid s ≡ refused 0 0
-      → recordSaid (dependenciesOf (o .file) (o .needs) s) ≡ firstOf (inTurn (dependencyRules o) (dependencyOf (o .file) (o .needs)) (length (o .needs)) 0 s)
+      → recordSaid (dependenciesOf (o .image) (o .needs) s) ≡ firstOf (inTurn (dependencyRules o) (dependencyOf (o .image) (o .needs)) (length (o .needs)) 0 s)
   unfolding dependenciesOf
   dependencies-exactly s g z =
-      ap recordSaid (dependencies-loop (o .file) (o .needs) (length (o .needs)) 0 s)
-      ∙ stage-exactly (dependencyRules o) (dependencyOf (o .file) (o .needs)) recordSaid Recorded (λ s j. refl) dependency-exactly dependency-stays (length (o .needs)) 0 s
+      ap recordSaid (dependencies-loop (o .image) (o .needs) (length (o .needs)) 0 s)
+      ∙ stage-exactly (dependencyRules o) (dependencyOf (o .image) (o .needs)) recordSaid Recorded (λ s j. refl) dependency-exactly dependency-stays (length (o .needs)) 0 s
       (record { good = g }) z

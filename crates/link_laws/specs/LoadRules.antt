@@ -8,8 +8,8 @@ use lib.ListN.{getD, length}
 use Rattle.byte_slices.specs.Bytes.{part}
 use Rattle.gabi.specs.StringTable.{hasName, nameAt}
 use Rattle.symbol.specs.declared.SttFile.the-variants as File
-use Rattle.library_lists.specs.Record as Lists
-use Rattle.library_symbols.specs.Load as Symbols
+use Rattle.shared_objects.specs.Record as Lists
+use Rattle.shared_objects.specs.SymbolsLoad as Symbols
 use Rattle.shared_objects.specs.Load.{Input, All, linksIn}
 use Rattle.load_laws.specs.LoadSteps.{listFirst, listsIn}
 use Rattle.load_laws.specs.Stops.{first, added, recorded}
@@ -25,13 +25,13 @@ use Rattle.link_laws.specs.MergeRules.{inputRules}
 module _ (o : Input) where
   -- the soname, else the library name
   abbrev pub libraryName : List ℕ
-  libraryName = cond (o .sonamed) (nameAt (o .file) (o .soname)) (o .path)
+  libraryName = cond (o .sonamed) (nameAt (o .image) (o .soname)) (o .path)
 
   abbrev pub isNamed : ℕ → Bool
-  isNamed i = hasName (o .file) (symbolName (o .entries) i)
+  isNamed i = hasName (o .image) (symbolName (o .entries) i)
 
   abbrev pub bytes : ℕ → List ℕ
-  bytes i = nameAt (o .file) (symbolName (o .entries) i)
+  bytes i = nameAt (o .image) (symbolName (o .entries) i)
 
   abbrev pub isDefined : ℕ → Bool
   isDefined i = not (eqb (sectionAt (o .entries) i) 0)
@@ -46,7 +46,7 @@ module _ (o : Input) where
 
   -- an offset that gives no name is out of range (DECISIONS 50)
   abbrev pub needRules : List Rule
-  needRules = each (λ j. not (hasName (o .file) (getD (o .needs) j 0)) gives 1 at j) 0 (length (o .needs))
+  needRules = each (λ j. not (hasName (o .image) (getD (o .needs) j 0)) gives 1 at j) 0 (length (o .needs))
 
   abbrev pub nameRules : State → ℕ → List Rule
   nameRules t marks = (o .archived && not (o .sonamed) gives 25 at 0) ∷ (o .asneeded && ltb marks (t .link .names) gives 2 at 0) ∷ []
@@ -54,7 +54,7 @@ module _ (o : Input) where
   abbrev pub loadHead : State → List ℕ → List ℕ → ℕ → List Rule
   loadHead t inputs lists marks =
       headRules (t .link) (lentRows (length (t .names) / 9) (length (t .bytes)) (length (t .symbols)) (length (t .sections) / 9) (length inputs) (length lists))
-      ++ ((entryRules (o .entries) ++ ((o .sonamed && not (hasName (o .file) (o .soname)) gives 1 at 0) ∷ needRules)) ++ nameRules t marks)
+      ++ ((entryRules (o .entries) ++ ((o .sonamed && not (hasName (o .image) (o .soname)) gives 1 at 0) ∷ needRules)) ++ nameRules t marks)
 
 -- ---- "Needed: it defines, global or weak, a name undefined and strong in the table, or one that an earlier loaded library, not listing it as a
 -- dependency, names by an undefined symbol of binding 1, since defined or not"
@@ -118,22 +118,22 @@ module _ (o : Input) where
 
   abbrev pub dependencyRules : Lists.Recorded → ℕ → List Rule
   dependencyRules s j =
-      (isUnrecorded (namesOf (s .bytes) (s .names) (s .stage .link)) (length (s .lists)) (nameAt (o .file) (getD (o .needs) j 0)) gives 2 at j) ∷ []
+      (isUnrecorded (namesOf (s .bytes) (s .names) (s .stage .link)) (length (s .lists)) (nameAt (o .image) (getD (o .needs) j 0)) gives 2 at j) ∷ []
 
 -- ---- the load: its name, its symbols, its dependencies; "An input's row is taken last (2, place 0)". What names, rows and lists the elements before
 -- have added is what their own definitions leave.
 
 module _ (o : Input) (a : All) where
   abbrev pub symbolList : List Rule
-  symbolList = inTurn (symbolRules o) (Symbols.symbolOf (o .entries) (o .file)) (length (o .entries) / 8) 0 (first (o .entries) (o .file) (o .needs) (linksIn a) (libraryName o))
+  symbolList = inTurn (symbolRules o) (Symbols.symbolOf (o .entries) (o .image)) (length (o .entries) / 8) 0 (first (o .entries) (o .image) (o .needs) (linksIn a) (libraryName o))
 
   abbrev pub dependencyList : List Rule
   dependencyList =
-      inTurn (dependencyRules o) (Lists.dependencyOf (o .file) (o .needs)) (length (o .needs)) 0
-      (listFirst (listsIn (a .inputs) (added (o .entries) (o .file) (o .needs) (linksIn a) (libraryName o))))
+      inTurn (dependencyRules o) (Lists.dependencyOf (o .image) (o .needs)) (length (o .needs)) 0
+      (listFirst (listsIn (a .inputs) (added (o .entries) (o .image) (o .needs) (linksIn a) (libraryName o))))
 
   abbrev pub inputList : List Rule
-  inputList = inputRules (recorded (o .entries) (o .file) (o .needs) (linksIn a) (libraryName o) .stage .link) (a .inputs)
+  inputList = inputRules (recorded (o .entries) (o .image) (o .needs) (linksIn a) (libraryName o) .stage .link) (a .inputs)
 
   abbrev pub libraryRules : List Rule
   libraryRules = (isUnroomed (tableIn a) (libraryName o) gives 2 at 0) ∷ (symbolList ++ (dependencyList ++ inputList))

@@ -12,51 +12,52 @@ use lib.Dec.{eqb, leb, ltb}
 use lib.ListN.{length, getD, set, length-set, List·getD-eq-default, take, drop}
 use lib.Seq.{getD-set-same, getD-set-other, length-take-le, getD-append-add, getD-drop}
 use borrow.Author.Tests.{eq-eqb, ne-eqb, eqb-true, eqb-false, leb-true, leb-false, lt-ltb, ltb-true, ltb-false}
-use Rattle.cells.specs.Split.{by-test}
+use Rattle.cells.specs.Proof.Split.{by-test}
 use Rattle.link.specs.declared.Link.{Link}
 use Rattle.link.specs.declared.Interned.{Interned}
 use Rattle.link.specs.declared.SymbolId.{SymbolId}
 use Rattle.link.specs.Judge.{changeOf}
-use Rattle.link.specs.Bounds.{symbolRows, sectionSlots}
+use Rattle.link.specs.Bounds.{sectionSlots}
 use Rattle.interner.specs.Names.{roomOf, added, keepOf}
 use Rattle.symbol.specs.declared.Row.{Row}
 use Rattle.symbol.specs.declared.SttFile.the-variants as File
 use Rattle.symbol.specs.Codes.{successor}
 use Rattle.symbol.specs.Row.{field, stateAt, visibilityCodeAt, setRow}
-use Rattle.symbol.specs.Hidden.{hiddenCode, hideCode, passes, hideIf, passHidden}
+use Rattle.symbol.specs.Hidden.{hideCode, passes, hideIf, passHidden}
 use Rattle.symbol_laws.specs.Standing.{pass-none}
-use Rattle.symbol_rows.specs.declared.Holder.{Holder}
-use Rattle.symbol_rows.specs.declared.Holder.the-variants.{Unissued, Nobody, Removed, Known}
-use Rattle.symbol_rows.specs.declared.Decision.{Decision}
-use Rattle.symbol_rows.specs.declared.Decision.the-variants.{Refuse, Keep, Append, Replace, Amend}
-use Rattle.symbol_rows.specs.Holder.{globalAt}
-use Rattle.symbol_rows.specs.Decide as Decide
-use Rattle.symbol_rows.specs.Decide.{refusalOf, typeRefusal, sectionCell, sectionRoom, newOf, replaceOf, keptOf, rankedOf, knownOf, namedOf, localOf, decideOf}
-use Rattle.symbol_rows.specs.Apply.{Table, tableOf, noteName, setSectionSymbol, noteSection, appendOf, replacedIn, amendedIn, applyOf}
+use Rattle.symbol_resolution.specs.declared.rows.Decision.{Decision}
+use Rattle.symbol_resolution.specs.declared.rows.Decision.the-variants.{Refuse, Append, Replace, Amend}
+use Rattle.symbol_resolution.specs.Holder.{globalAt}
+use Rattle.symbol_resolution.specs.Decide as Decide
+use Rattle.symbol_resolution.specs.Decide.{refusalOf, sectionCell, sectionRoom}
+use Rattle.symbol_resolution.specs.Proof.Outcomes.{appended-room}
+use Rattle.symbol_resolution.specs.Apply.{Table, tableOf, noteName, setSectionSymbol, noteSection, appendOf, replacedIn, amendedIn, applyOf}
 use Rattle.symbols.specs.Calls.{Left, lentOf}
 use Rattle.symbols.specs.Add.{directHolderOf, decidedOf, committedOf, addRowOf}
 use Rattle.symbols.specs.Lookup.{sectionSymbolAt}
-use Rattle.symbols.specs.Remove.{Rows, rowsOf, removeRowOf, removeOf}
+use Rattle.symbols.specs.Remove.{Rows, rowsOf, dropSection, removeRowOf, removeOf}
 use Rattle.gc_sections.specs.declared.EntryPoint.{EntryPoint}
 use Rattle.gc_sections.specs.declared.Answer.{Answer}
 use Rattle.gc_sections.specs.declared.Answer.the-variants.{Dropped, Refused}
-use Rattle.gc_laws.specs.Demand as Collection
+use Rattle.gc_laws.specs.Terms as Collection
+use Rattle.gc_laws.specs.Proof.Paint.{set-falls}
 use Rattle.symbol_laws.specs.View.{Named, Free, View, refused, kept, amended, replaced, appended, local, view, decided, held}
 use Rattle.symbol_laws.specs.ContentWords.{decided-passes}
-use Rattle.symbol_laws.specs.Refused.{commit-refused, remove-link}
-use Rattle.symbol_laws.specs.Rows.{rowAt, stored-there, stored-row, there-kept, row-kept}
+use Rattle.symbol_laws.specs.Proof.Refused.{commit-refused, remove-link}
+use Rattle.symbol_laws.specs.Proof.Rows.{rowAt, stored-there, stored-row, there-kept, row-kept}
 use Rattle.symbol_laws.specs.Held.{Inv}
-use Rattle.symbol_laws.specs.Issue.{FreeRow, linked-new, linked-old, room-free}
+use Rattle.symbol_laws.specs.Proof.Issue.{FreeRow, linked-new, linked-old, room-free}
 use Rattle.symbol_laws.specs.History.{State, table, store, withTable, withStore, issue, put, putOf, idOf}
 use Rattle.merge_laws.specs.Steps.{Step, part, mark, others, rowsFrom, countsFrom, stepNext, runSteps, Goes, AllGo}
-use Rattle.merge_laws.specs.Past.{rows-all, rows-long}
+use Rattle.merge_laws.specs.Proof.Past.{rows-all, rows-long}
 use Rattle.merge_laws.specs.Calls.{Linked}
-use Rattle.link_laws.specs.Calls.{Call, intern, resolve, add, remove, get, getGlobal, sectionSymbol, addGroup, merge, mergeFile, load, archiveStart, archiveNext, matches, collect, plainCollect, listsIn, Drops, callLeft, callNext, runCalls, Removes, RemovesNothing}
-use Rattle.link_laws.specs.PlainCalls.{Compared, alike, many, compared, many-drops}
-use Rattle.link_laws.specs.CallSteps.{callSteps, call-makes}
+use Rattle.link_laws.specs.Calls.{Call, intern, add, remove, addGroup, merge, mergeFile, load, collect, plainCollect, listsIn, Drops, callLeft, callNext, runCalls, Removes, RemovesNothing, reads}
+use Rattle.link_laws.specs.Proof.PlainCalls.{Compared, alike, many, compared, many-drops}
+use Rattle.link_laws.specs.CallSteps.{callSteps}
+use Rattle.link_laws.specs.Proof.CallSteps.{call-makes}
 use Rattle.link_laws.specs.Removal.{Ready, steps-onward}
 use Rattle.link_laws.specs.LookedUp.{call-onward, calls-later}
-use Rattle.link_laws.specs.CollectPast.{run-past}
+use Rattle.link_laws.specs.Proof.CollectPast.{run-past}
 use Rattle.link_laws.specs.Idle.{drops-nothing}
 
 -- ---- the words
@@ -75,6 +76,10 @@ symbolIn s y = sectionSymbolAt (s .link) (s .sections) y
 -- no name is held by a local row
 abbrev pub Shown : State → Type 0
 Shown s = (n : ℕ) → n < s .link .names → globalAt (s .names) n ≢ 0 → visibilityCodeAt (s .symbols) (globalAt (s .names) n) ≢ 0
+
+-- each section's symbol is one of the rows counted
+abbrev pub Counted : State → Type 0
+Counted s = (y : ℕ) → symbolIn s y < s .link .symbols
 
 -- row i, counted in s: as it was, or a name's row before and after
 pub data Stands (s t : State) (i : ℕ) : Type 0 where
@@ -158,72 +163,10 @@ module _ (s t u : State) (a : Onto s t) (b : Onto t u) where
 
 -- ---- what an appended row has passed
 
-module _ (l : Link) (symbols sections : List ℕ) (r : Row) where
-  abbrev Roomy : Decision → Type 0
-  Roomy d = d ≡ Append → sectionRoom l sections r ≡ true
-
-  unlike : {P : Type 0} (n : ℕ) → Refuse n ≡ Append → P
-  unlike n q = absurd (differ q)
-    where
-      differ : Refuse n ≡ Append → ⊥
-      differ q = let z : _≡_ {A = ℕ} 0 1 = cc in omega arith
-
-  new-roomy : Roomy (newOf l symbols sections r)
-  unfolding newOf Decide.roomOf
-  new-roomy e =
-      by-test (leb 13 (r .value .kind)) (λ a. unlike _ (rw a at e))
-      (λ a.
-      by-test (eqb (typeRefusal (r .kind)) 0)
-      (λ b.
-      by-test (leb (symbolRows (length symbols)) (l .symbols)) (λ c. unlike 2 (rw (a, b, c) at e))
-      (λ c. by-test (sectionRoom l sections r) (λ d. d) (λ d. unlike 2 (rw (a, b, c, d) at e))))
-      (λ b. unlike _ (rw (a, b) at e)))
-
-  known-roomy : (id : ℕ) → Roomy (knownOf (l .gabi) symbols r (record { 0 = id }))
-  unfolding knownOf rankedOf replaceOf keptOf
-  known-roomy id e =
-      by-test (leb 13 (r .value .kind)) (λ a. unlike _ (rw a at e))
-      (λ a.
-      by-test (ltb (Decide.rankOf (l .gabi) (visibilityCodeAt symbols id) (field symbols id 5)) (Decide.rankOf (l .gabi) (r .visibility) (r .value .kind)))
-      (λ b. by-test (eqb (typeRefusal (r .kind)) 0) (λ c. absurd (replaced-not (rw (a, b, c) at e))) (λ c. unlike _ (rw (a, b, c) at e)))
-      (λ b. by-test (eqb (Decide.rankOf (l .gabi) (r .visibility) (r .value .kind)) 4) (λ c. unlike 17 (rw (a, b, c) at e))
-      (λ c.
-      by-test (passes (l .gabi) (r .visibility))
-      (λ p.
-      by-test (hiddenCode (visibilityCodeAt symbols id)) (λ h. absurd (kept-not (rw (a, b, c, p, h) at e))) (λ h. absurd (amended-not (rw (a, b, c, p, h) at e))))
-      (λ p. absurd (kept-not (rw (a, b, c, p) at e))))))
-    where
-      replaced-not : Replace (record { 0 = id }) ≡ Append → ⊥
-      replaced-not q = let z : _≡_ {A = ℕ} 0 1 = cc in omega arith
-
-      kept-not : Keep (record { 0 = id }) ≡ Append → ⊥
-      kept-not q = let z : _≡_ {A = ℕ} 0 1 = cc in omega arith
-
-      amended-not : Amend (record { 0 = id }) ≡ Append → ⊥
-      amended-not q = let z : _≡_ {A = ℕ} 0 1 = cc in omega arith
-
-  decide-roomy : (h : Holder) → Roomy (decideOf l symbols sections r h)
-  unfolding decideOf
-  decide-roomy h e =
-      by-test (leb 5 (r .visibility)) (λ a. unlike _ (rw a at e))
-      (λ a. by-test (eqb (r .visibility) 0) (λ b. by-local h (rw (a, b) at e)) (λ b. by-named h (rw (a, b) at e)))
-    where
-      by-local : (h : Holder) → Roomy (localOf l symbols sections r h)
-      by-local Unissued e = unlike 21 e
-      by-local Nobody e = new-roomy e
-      by-local Removed e = new-roomy e
-      by-local (Known id) e = new-roomy e
-
-      by-named : (h : Holder) → Roomy (namedOf l symbols sections r h)
-      by-named Unissued e = unlike 21 e
-      by-named Nobody e = new-roomy e
-      by-named Removed e = unlike 21 e
-      by-named (Known id) e = known-roomy (id .0) e
-
 module _ (s : State) (r : Row) where
   roomy : decided (table s) r ≡ Append → sectionRoom (s .link) (s .sections) r ≡ true
   unfolding decidedOf
-  roomy e = decide-roomy (s .link) (s .symbols) (s .sections) r (directHolderOf (s .link) (s .names) (s .symbols) (r .name) File.None) e
+  roomy e = appended-room (s .link) (s .symbols) (s .sections) r (directHolderOf (s .link) (s .names) (s .symbols) (r .name) File.None) e
 
   -- what isn't refused has a visibility that passes
   coded-by : (d : Decision) → decided (table s) r ≡ d → refusalOf d ≡ 0 → r .visibility < 5
@@ -631,9 +574,14 @@ pub record Stay (s t : State) : Type 0 where
   pub shown : Shown t
   pub more : s .link .symbols ≤ t .link .symbols
   pub stands : (i : ℕ) → i < s .link .symbols → Stands s t i
+  pub counted : Counted s → Counted t
 
-onto-stay : (s t : State) → Onto s t → Stay s t
-onto-stay s t o = record { shown = o .shown; more = o .more; stands = o .stands }
+pub onto-stay : (s t : State) → Onto s t → Stay s t
+onto-stay s t o = record { shown = o .shown; more = o .more; stands = o .stands; counted = λ c y. go c y (o .since y) }
+  where
+    go : Counted s → (y : ℕ) → Since s t y → symbolIn t y < t .link .symbols
+    go c y (none e f) = omega (arith, e, c y, o .more)
+    go c y (newest i h k q f e) = omega (arith, e, k)
 
 pub stay-both : (s t u : State) → Stay s t → Stay t u → Stay s u
 stay-both s t u a b =
@@ -641,11 +589,13 @@ stay-both s t u a b =
       shown = b .shown;
       more = le-trans (a .more) (b .more);
       stands = λ i h. stands-both s t i u (a .stands i h) (b .stands i (omega (arith, h, a .more)));
+      counted = λ c. b .counted (a .counted c);
     }
 
--- every row but for its state, and the names, as they were
-rows-stay : (s t : State) → Shown s → t .names ≡ s .names → t .link ≡ s .link → ((i : ℕ) → rowAt (t .symbols) i ≡ rowAt (s .symbols) i) → Stay s t
-rows-stay s t w n l r =
+-- every row but for its state, and the names, as they were; a section's symbol may go
+rows-stay : (s t : State) → Shown s → t .names ≡ s .names → t .link ≡ s .link → ((i : ℕ) → rowAt (t .symbols) i ≡ rowAt (s .symbols) i)
+    → ((y : ℕ) → symbolIn t y ≤ symbolIn s y) → Stay s t
+rows-stay s t w n l r f =
     record {
       shown = λ m h u.
           let q : globalAt (t .names) m ≡ globalAt (s .names) m = ap (λ (x : List ℕ). globalAt x m) n in
@@ -653,7 +603,11 @@ rows-stay s t w n l r =
           (λ z. w m (subst (λ (k : Link). m < k .names) l h) (λ y. u (q ∙ y)) (sym (ap (λ (r : Row). r .visibility) (r (globalAt (s .names) m))) ∙ z));
       more = rw l (le-refl _);
       stands = λ i h. same (r i);
+      counted = λ c y. omega (arith, f y, c y, ap (λ (k : Link). k .symbols) l);
     }
+
+cell-falls : (l : Link) (x : List ℕ) (c y : ℕ) → sectionSymbolAt l (set x c 0) y ≤ sectionSymbolAt l x y
+cell-falls l x c y = rw (length-set x c 0) (set-falls x c (sectionCell l (length x) y))
 
 state-row : (symbols : List ℕ) (id v i : ℕ) → rowAt (set symbols (id * 8 + 0) v) i ≡ rowAt symbols i
 state-row symbols id v i =
@@ -682,11 +636,28 @@ module _ (s : State) (id : SymbolId) where
       (λ b. by-test (eqb (stateAt (s .symbols) (id .0)) 2) (λ c. rw (a, b, c)) (λ c. rw (a, b, c) (state-row (s .symbols) (id .0) 2 i))))
       (λ a. rw a)
 
+  remove-falls : (y : ℕ) → sectionSymbolAt (s .link) (removeOf (s .link) x id .rows .sections) y ≤ symbolIn s y
+  unfolding removeOf removeRowOf dropSection setSectionSymbol
+  remove-falls y =
+      by-test (eqb (changeOf (s .link) (lentOf (s .link .chains) (length (s .symbols)) (sectionSlots (length (s .sections)))) .number) 0)
+      (λ a.
+      by-test (leb (s .link .symbols) (id .0)) (λ b. rw (a, b) (le-refl _))
+      (λ b.
+      by-test (eqb (stateAt (s .symbols) (id .0)) 2) (λ c. rw (a, b, c) (le-refl _))
+      (λ c.
+      by-test (eqb (field (s .symbols) (id .0) 5) 2)
+      (λ d. rw (a, b, c, d) (cell-falls (s .link) (s .sections) (sectionCell (s .link) (length (s .sections)) (field (s .symbols) (id .0) 6)) y))
+      (λ d. rw (a, b, c, d) (le-refl _)))))
+      (λ a. rw a (le-refl _))
+
 module _ (s : Linked) (w : Shown (s .table)) where
   remove-stay : (id : SymbolId) → Stay (s .table) (callNext (remove id) s .table)
   remove-stay id =
       rows-stay (s .table) (callNext (remove id) s .table) w refl (remove-link (s .table .link) (rowsOf (s .table .symbols) (s .table .sections)) id)
       (remove-row (s .table) id)
+      (λ y.
+      subst (λ (l : Link). sectionSymbolAt l (callNext (remove id) s .table .sections) y ≤ symbolIn (s .table) y)
+      (sym (remove-link (s .table .link) (rowsOf (s .table .symbols) (s .table .sections)) id)) (remove-falls (s .table) id y))
 
   module _ (marks : List ℕ) (entry : EntryPoint) (work : List ℕ) where
     abbrev after : State
@@ -709,10 +680,28 @@ module _ (s : Linked) (w : Shown (s .table)) where
         ap (λ (t : Linked). rowAt (t .table .symbols) i)
         (drops-nothing marks entry work s (λ (d : Drops (callLeft (collect marks entry work) s .answer)). subst Drops e d))
 
+    collect-falls : (a : Answer) → callLeft (collect marks entry work) s .answer ≡ a → (y : ℕ) → symbolIn after y ≤ symbolIn (s .table) y
+    collect-falls (Dropped a b) e y =
+        let l : Link = s .table .link in
+        let n : ℕ = length (s .table .sections) in
+        let d = Collection.removes l (listsIn s marks) (s .table .symbols) (s .table .sections) entry work a b e in
+        let p = run-past l (s .table .symbols) (s .table .sections) (listsIn s marks) entry work in
+        let same : sectionCell (after .link) (length (after .sections)) y ≡ sectionCell l n y =
+        ap (λ (m : Link). sectionCell m (length (after .sections)) y) (p .link) ∙ ap (λ (m : ℕ). sectionCell l m y) (p .sections-long) in
+        rw same
+        (by-test (ltb (sectionCell l n y) n) (λ b. rw (cell-at l n y (ltb-true _ _ b)) (d .entryFalls y))
+        (λ b.
+        omega (arith, List·getD-eq-default (after .sections) 0 {n = sectionCell l n y} (omega (arith, p .sections-long, ltb-false (sectionCell l n y) n b)))))
+    collect-falls (Refused r) e y =
+        let q : symbolIn after y ≡ symbolIn (s .table) y =
+        ap (λ (t : Linked). symbolIn (t .table) y)
+        (drops-nothing marks entry work s (λ (d : Drops (callLeft (collect marks entry work) s .answer)). subst Drops e d)) in
+        omega (arith, q)
+
     collect-stay : Stay (s .table) after
     collect-stay =
         rows-stay (s .table) after w refl (run-past (s .table .link) (s .table .symbols) (s .table .sections) (listsIn s marks) entry work .link)
-        (collect-row (callLeft (collect marks entry work) s .answer) refl)
+        (collect-row (callLeft (collect marks entry work) s .answer) refl) (collect-falls (callLeft (collect marks entry work) s .answer) refl)
 
 call-stay : (k : Call) (s : Linked) → Ready (s .table) → Shown (s .table) → Stay (s .table) (callNext k s .table)
 call-stay k s g w = go k
@@ -726,24 +715,18 @@ call-stay k s g w = go k
 
     go : (k : Call) → Stay (s .table) (callNext k s .table)
     go (intern x) = quiet (intern x) (λ (e : ⊥). e)
-    go (resolve id) = quiet (resolve id) (λ (e : ⊥). e)
+    go (reads k) = quiet (reads k) (λ (e : ⊥). e)
     go (add conversion u) = quiet (add conversion u) (λ (e : ⊥). e)
     go (remove id) = remove-stay s w id
-    go (get id) = quiet (get id) (λ (e : ⊥). e)
-    go (getGlobal name) = quiet (getGlobal name) (λ (e : ⊥). e)
-    go (sectionSymbol section) = quiet (sectionSymbol section) (λ (e : ⊥). e)
     go (addGroup o work n) = quiet (addGroup o work n) (λ (e : ⊥). e)
     go (merge o work ids) = quiet (merge o work ids) (λ (e : ⊥). e)
     go (mergeFile file cells work ids) = quiet (mergeFile file cells work ids) (λ (e : ⊥). e)
     go (load o marks) = quiet (load o marks) (λ (e : ⊥). e)
-    go (archiveStart key index cells) = quiet (archiveStart key index cells) (λ (e : ⊥). e)
-    go (archiveNext index cells w) = quiet (archiveNext index cells w) (λ (e : ⊥). e)
-    go (matches headers entries contents file index cells w e) = quiet (matches headers entries contents file index cells w e) (λ (e : ⊥). e)
     go (collect marks entry work) = collect-stay s w marks entry work
     go (plainCollect marks entry work) = plain-stay marks entry work (compared marks entry work s)
 
 pub calls-stay : (ks : List Call) (s : Linked) → Ready (s .table) → Shown (s .table) → Stay (s .table) (runCalls ks s .table)
-calls-stay [] s g w = record { shown = w; more = le-refl _; stands = λ i h. same refl }
+calls-stay [] s g w = record { shown = w; more = le-refl _; stands = λ i h. same refl; counted = λ c. c }
 calls-stay (k ∷ ks) s g w =
     let a = call-stay k s g w in
     stay-both (s .table) (callNext k s .table) (runCalls ks (callNext k s) .table) a (calls-stay ks (callNext k s) (calls-later (k ∷ []) s g .ready) (a .shown))

@@ -11,7 +11,7 @@ use lib.Dec.{eqb, leb}
 use lib.ListN.{length, getD, set, length-set}
 use lib.Seq.{getD-set-same, getD-set-other}
 use borrow.Author.Tests.{eq-eqb, ne-eqb, eqb-true, eqb-false, lt-leb, leb-false}
-use Rattle.cells.specs.Split.{by-test}
+use Rattle.cells.specs.Proof.Split.{by-test}
 use Rattle.link.specs.declared.Link.{Link}
 use Rattle.link.specs.declared.SymbolId.{SymbolId}
 use Rattle.link.specs.Judge.{changeOf}
@@ -21,8 +21,8 @@ use Rattle.interner.specs.Calls as Names
 use Rattle.interner_laws.specs.Interns.{id}
 use Rattle.symbol.specs.Row.{stateAt, symbolAt, setRow}
 use Rattle.symbol.specs.RowLaws.{symbolOf}
-use Rattle.symbol_rows.specs.declared.Holder.the-variants.{Removed}
-use Rattle.symbol_rows.specs.Holder.{globalAt, heldBy, holderOf}
+use Rattle.symbol_resolution.specs.declared.rows.Holder.the-variants.{Removed}
+use Rattle.symbol_resolution.specs.Holder.{globalAt, heldBy, holderOf}
 use Rattle.symbols.specs.declared.Found.{Found}
 use Rattle.symbols.specs.declared.Found.the-variants as Fd
 use Rattle.symbols.specs.Calls.{lentOf}
@@ -33,23 +33,25 @@ use Rattle.symbols.specs.Remove.{Rows, rowsOf, removeRowOf, removeOf}
 use Rattle.gc_sections.specs.declared.EntryPoint.{EntryPoint}
 use Rattle.gc_sections.specs.declared.Answer.{Answer}
 use Rattle.gc_sections.specs.declared.Answer.the-variants.{Dropped, Refused}
-use Rattle.gc_laws.specs.Demand as Collection
+use Rattle.gc_laws.specs.Terms as Collection
 use Rattle.symbol_laws.specs.History as History
 use Rattle.symbol_laws.specs.History.{State, Entry, only, rows, opened}
 use Rattle.symbol_laws.specs.Rank.{firstOf}
 use Rattle.symbol_laws.specs.Standing.{hiddenBy}
-use Rattle.symbol_laws.specs.Rows.{stored-there}
+use Rattle.symbol_laws.specs.Proof.Rows.{stored-there}
 use Rattle.symbol_laws.specs.View.{lesser-second}
 use Rattle.symbol_laws.specs.Held.{Holds, Held, Inv}
-use Rattle.symbol_laws.specs.Below.{Below, inv-below}
-use Rattle.symbol_laws.specs.Refused.{remove-link}
+use Rattle.symbol_laws.specs.Below.{Below}
+use Rattle.symbol_laws.specs.Proof.Below.{inv-below}
+use Rattle.symbol_laws.specs.Proof.Refused.{remove-link}
 use Rattle.symbol_laws.specs.Within as Within
 use Rattle.merge_laws.specs.Steps.{Step, Makes, runSteps}
 use Rattle.merge_laws.specs.Calls.{Linked}
-use Rattle.link_laws.specs.Calls.{Call, intern, resolve, add, remove, get, getGlobal, sectionSymbol, addGroup, merge, mergeFile, load, archiveStart, archiveNext, matches, collect, plainCollect, listsIn, Drops, callLeft, callNumber, callNext, runCalls, Removes, RemovesNothing}
-use Rattle.link_laws.specs.PlainCalls.{Compared, alike, many, compared, many-next}
-use Rattle.link_laws.specs.CallSteps.{callSteps, call-makes}
-use Rattle.link_laws.specs.CollectPast.{run-past, remove-past}
+use Rattle.link_laws.specs.Calls.{Call, intern, add, remove, get, getGlobal, addGroup, merge, mergeFile, load, collect, plainCollect, listsIn, Drops, callLeft, callNumber, callNext, runCalls, Removes, RemovesNothing, reads}
+use Rattle.link_laws.specs.Proof.PlainCalls.{Compared, alike, many, compared, many-next}
+use Rattle.link_laws.specs.CallSteps.{callSteps}
+use Rattle.link_laws.specs.Proof.CallSteps.{call-makes}
+use Rattle.link_laws.specs.Proof.CollectPast.{run-past, remove-past}
 use Rattle.link_laws.specs.Idle.{drops-nothing}
 use Rattle.link_laws.specs.Kept.{signatures, Lasting, lasting-within, lasting-on, Reached, reached-within, reached-on}
 use Rattle.link_laws.specs.Removal.{Ready, Kept, Onward, steps-onward}
@@ -191,19 +193,13 @@ quiet-later k s q g = onward-later (s .table) (callNext k s .table) (call-onward
 
 call-later : (k : Call) (s : Linked) → Ready (s .table) → Later (s .table) (callNext k s .table)
 call-later (intern x) s g = quiet-later (intern x) s (λ (e : ⊥). e) g
-call-later (resolve id) s g = later-none (s .table) g
+call-later (reads k) s g = later-none (s .table) g
 call-later (add conversion u) s g = quiet-later (add conversion u) s (λ (e : ⊥). e) g
 call-later (remove id) s g = remove-later (s .table) g id
-call-later (get id) s g = later-none (s .table) g
-call-later (getGlobal name) s g = later-none (s .table) g
-call-later (sectionSymbol section) s g = later-none (s .table) g
 call-later (addGroup o work n) s g = quiet-later (addGroup o work n) s (λ (e : ⊥). e) g
 call-later (merge o work ids) s g = quiet-later (merge o work ids) s (λ (e : ⊥). e) g
 call-later (mergeFile file cells work ids) s g = quiet-later (mergeFile file cells work ids) s (λ (e : ⊥). e) g
 call-later (load o marks) s g = quiet-later (load o marks) s (λ (e : ⊥). e) g
-call-later (archiveStart key index cells) s g = later-none (s .table) g
-call-later (archiveNext index cells w) s g = later-none (s .table) g
-call-later (matches headers entries contents file index cells w e) s g = later-none (s .table) g
 call-later (collect marks entry work) s g = collect-later s g marks entry work
 call-later (plainCollect marks entry work) s g = go (compared marks entry work s)
   where

@@ -7,22 +7,23 @@ use mathlib.Core.List.{List, _++_}
 use lib.Dec.{eqb, ltb}
 use lib.ListN.{length}
 use borrow.Author.Tests.{eqb-true, eqb-false, eq-eqb, ne-eqb}
-use Rattle.cells.specs.Split.{by-test}
+use Rattle.cells.specs.Proof.Split.{by-test}
 use Rattle.link.specs.declared.Link.{Link}
 use Rattle.link.specs.declared.Refusal.{Refusal}
 use Rattle.link.specs.Judge.{refused, changeOf}
 use Rattle.elf_object.specs.Judge as Object
 use Rattle.section_groups.specs.Filter.{symbolOk, filterOf}
-use Rattle.merge_finish.specs.Finish.{inputOf}
+use Rattle.merge_build.specs.Finish.{inputRowOf}
 use Rattle.merge_stages.specs.Stages.{All, Object}
-use Rattle.merge_elf.specs.Merge.{workRefusal, rowsRefusal, headOf, headIn, lent}
-use Rattle.link_laws.specs.Rules.{Rule, firstOf, numbered, each-numbered, headed, head-rules}
+use Rattle.merge_elf.specs.Merge.{workRefusal, rowsRefusal, checkOf, headIn, lent}
+use Rattle.link_laws.specs.Rules.{Rule, firstOf, numbered}
+use Rattle.link_laws.specs.Proof.Rules.{each-numbered, headed, head-rules}
 use Rattle.link_laws.specs.AddExactly.{least-below}
 use Rattle.link_laws.specs.ObjectRules.{cellAt, objectRules}
-use Rattle.link_laws.specs.ObjectExactly.{from-zero, object-exactly, object-numbered}
+use Rattle.link_laws.specs.Proof.ObjectExactly.{from-zero, object-exactly, object-numbered}
 use Rattle.link_laws.specs.MergeRules.{Reading, isRemovedIn, changeRules, workRules, filterRules, inputRules}
-use Rattle.link_laws.specs.MergeExactly.{atWork}
-use Rattle.link_laws.specs.MergeSymbols.{after-is}
+use Rattle.link_laws.specs.Proof.MergeExactly.{atWork}
+use Rattle.link_laws.specs.Proof.MergeSymbols.{after-is}
 
 -- ---- the filter
 
@@ -54,8 +55,8 @@ filters-numbered k entries =
 
 -- ---- the input's row
 
-pub input-exactly : (l : Link) (inputs : List ℕ) → refused (inputOf inputs l .stage .number) (inputOf inputs l .stage .place) ≡ firstOf (inputRules l inputs)
-unfolding inputOf
+pub input-exactly : (l : Link) (inputs : List ℕ) → refused (inputRowOf inputs l .stage .number) (inputRowOf inputs l .stage .place) ≡ firstOf (inputRules l inputs)
+unfolding inputRowOf
 input-exactly l inputs =
     rw (least-below 4095 (length inputs / 8) (l .inputs))
     (by-test (ltb (l .inputs) 4095 && ltb (l .inputs) (length inputs / 8)) (λ e. rw e) (λ e. rw e))
@@ -64,17 +65,17 @@ input-exactly l inputs =
 
 module _ (o : Object) (a : All) where
   abbrev rows : List Rule
-  rows = objectRules (o .headers) (o .entries) (o .contents) (o .file)
+  rows = objectRules (o .headers) (o .entries) (o .contents) (o .image)
 
-  own : rowsRefusal (o .headers) (o .entries) (length (a .work)) (length (a .ids)) (Object.judgeOf (o .headers) (o .entries) (length (o .contents)) (length (o .file)))
+  own : rowsRefusal (o .headers) (o .entries) (length (a .work)) (length (a .ids)) (Object.judgeOf (o .headers) (o .entries) (length (o .contents)) (length (o .image)))
       ≡ firstOf (rows ++ workRules o a)
   unfolding rowsRefusal workRefusal
   own =
-      headed (workRules o a) (λ (r : Refusal). r) rows (Object.judgeOf (o .headers) (o .entries) (length (o .contents)) (length (o .file))) _ _
-      (object-numbered (o .headers) (o .entries) (o .contents) (o .file)) (object-exactly (o .headers) (o .entries) (o .contents) (o .file)) refl (λ e. refl)
+      headed (workRules o a) (λ (r : Refusal). r) rows (Object.judgeOf (o .headers) (o .entries) (length (o .contents)) (length (o .image))) _ _
+      (object-numbered (o .headers) (o .entries) (o .contents) (o .image)) (object-exactly (o .headers) (o .entries) (o .contents) (o .image)) refl (λ e. refl)
 
   pub head-exactly : headIn o a ≡ firstOf (changeRules o a ++ (rows ++ workRules o a))
-  unfolding headOf
+  unfolding checkOf
   head-exactly =
       headed (rows ++ workRules o a) (λ (r : Refusal). r) (changeRules o a) (changeOf (a .stage .link) (lent a)) _ _ refl
       (head-rules (a .stage .link) (lent a)) refl (λ e. own)

@@ -15,7 +15,7 @@ use Rattle.section_groups.specs.Group as Group
 use Rattle.merge_symbols.specs.Stage as Symbols
 use Rattle.merge_build.specs.Build as Build
 use Rattle.merge_stages.specs.Stages as Stages
-use Rattle.merge_finish.specs.Finish.{building}
+use Rattle.merge_build.specs.Finish.{building}
 use Rattle.symbol_laws.specs.History.{State}
 use Rattle.merge_laws.specs.Whole.{tableIn}
 use Rattle.merge_laws.specs.MergeSteps.{groupFirst, symbolFirst}
@@ -89,8 +89,8 @@ loaded o =
       headers = o .headers;
       entries = entriesIn (o .headers) (o .entries) (loadedTable (o .headers));
       contents = o .contents;
-      file = o .file;
-      strings = o .strings;
+      image = o .image;
+      sectionNames = o .sectionNames;
       table = numberIn (loadedTable (o .headers));
     }
 
@@ -161,10 +161,10 @@ module _ (k : Reading) (o : Stages.Tabled) (i : ℕ) where
 
   -- the table links to its strings
   abbrev pub named : Bool
-  named = isNamed (o .headers) (o .file) (linkAt (o .headers) (o .table)) (symbolName (o .entries) i)
+  named = isNamed (o .headers) (o .image) (linkAt (o .headers) (o .table)) (symbolName (o .entries) i)
 
   abbrev pub bytes : List ℕ
-  bytes = nameIn (o .headers) (o .file) (linkAt (o .headers) (o .table)) (symbolName (o .entries) i)
+  bytes = nameIn (o .headers) (o .image) (linkAt (o .headers) (o .table)) (symbolName (o .entries) i)
 
   -- "The first symbol, if named empty, undefined and of type 0, maps to id 0"
   abbrev pub isFirst : Bool
@@ -229,8 +229,8 @@ module _ (k : Reading) (identified : ℕ → Bool) (o : Stages.Tabled) (kind n :
 
   abbrev pub ownBuildRules : Build.State → List Rule
   ownBuildRules s =
-      (not (isNamed (o .headers) (o .file) (o .strings) (nameOffset (o .headers) n)) gives 18 at n)
-      ∷ (isUnroomed (namesOf (s .bytes) (s .names) (s .stage .link)) (nameIn (o .headers) (o .file) (o .strings) (nameOffset (o .headers) n)) gives 2 at n)
+      (not (isNamed (o .headers) (o .image) (o .sectionNames) (nameOffset (o .headers) n)) gives 18 at n)
+      ∷ (isUnroomed (namesOf (s .bytes) (s .names) (s .stage .link)) (nameIn (o .headers) (o .image) (o .sectionNames) (nameOffset (o .headers) n)) gives 2 at n)
       ∷ (lacksId identified (nameableIn (o .headers) (o .table) (length (o .entries) / 8) tableFor) relocations gives 19 at n)
       ∷ (ltb (length (s .lists)) (s .stage .link .lists + length relocations) gives 2 at n)
       ∷ []
@@ -254,7 +254,7 @@ module _ (o : Stages.Object) (a : Stages.All) where
   isIdentified i = isFirst k d i || not (isIdless k d i)
 
   abbrev pub headList : List Rule
-  headList = changeRules o a ++ (objectRules (o .headers) (o .entries) (o .contents) (o .file) ++ workRules o a)
+  headList = changeRules o a ++ (objectRules (o .headers) (o .entries) (o .contents) (o .image) ++ workRules o a)
 
   abbrev pub sectionList : List Rule
   sectionList =

@@ -10,7 +10,7 @@ use mathlib.Core.Logic.{_≢_, _↔_, _⊎_, inl, inr}
 use lib.Dec.{eqb, leb, ltb}
 use lib.ListN.{getD, length}
 use borrow.Author.Tests.{eq-eqb, eqb-true, eqb-false, leb-false, ltb-true, ltb-false}
-use Rattle.cells.specs.Split.{by-test}
+use Rattle.cells.specs.Proof.Split.{by-test}
 use Rattle.gabi.specs.StringTable.{hasName, nameAt}
 use Rattle.gabi.specs.SymbolTable.{stbGlobal, shnUndef}
 use Rattle.link.specs.declared.Link.{Link}
@@ -18,29 +18,30 @@ use Rattle.link.specs.declared.SymbolId.{SymbolId}
 use Rattle.link.specs.Bounds.{notLent}
 use Rattle.interner.specs.Names.{Store}
 use Rattle.interner_laws.specs.Good.{Issued, name, count, find}
-use Rattle.interner_laws.specs.Find.{found, find-known}
+use Rattle.interner_laws.specs.Proof.Find.{found, find-known}
 use Rattle.symbol.specs.declared.Symbol.{Symbol}
 use Rattle.symbol.specs.Row.{symbolAt}
-use Rattle.symbol_rows.specs.declared.Holder.{Holder}
-use Rattle.symbol_rows.specs.declared.Holder.the-variants.{Unissued, Nobody, Removed, Known}
-use Rattle.symbol_rows.specs.Holder.{heldBy, holderOf}
+use Rattle.symbol_resolution.specs.declared.rows.Holder.{Holder}
+use Rattle.symbol_resolution.specs.declared.rows.Holder.the-variants.{Unissued, Nobody, Removed, Known}
+use Rattle.symbol_resolution.specs.Holder.{heldBy, holderOf}
 use Rattle.symbols.specs.declared.Found.the-variants.{Row, Refused}
 use Rattle.symbols.specs.Lookup.{notFound, heldOf}
 use Rattle.elf_object.specs.Rows.{rowsIn, field, elfAt}
-use Rattle.library_need.specs.Need.{inputKindAt, dependenciesAt, undefinedAt}
+use Rattle.shared_objects.specs.Need.{inputKindAt, dependenciesAt, undefinedAt}
 use Rattle.shared_objects.specs.Load as Shared
 use Rattle.shared_objects.specs.Load.{nameOf}
-use Rattle.shared_laws.specs.Needed as Rows
-use Rattle.shared_laws.specs.Needed.{Defines, StrongUndefined, Holds, Records, Lacked, libraryKind, Needed}
-use Rattle.shared_laws.specs.Names.{Each, none, one, newNames, undefinedNames, dependencyNames}
-use Rattle.shared_laws.specs.LibraryRow.{undefineds, dependencies}
+use Rattle.load_laws.specs.Needed as Rows
+use Rattle.load_laws.specs.Needed.{Defines, StrongUndefined, Holds, Records, Lacked, libraryKind, Needed}
+use Rattle.load_laws.specs.Names.{Each, none, one, newNames, undefinedNames, dependencyNames}
+use Rattle.load_laws.specs.LibraryRow.{undefineds, dependencies}
 use Rattle.symbol_laws.specs.History.{store, run-append}
 use Rattle.symbol_laws.specs.Within as Within
 use Rattle.merge_laws.specs.Calls.{Linked}
 use Rattle.link_laws.specs.Calls.{Call, load, libraryIn, callLeft, callNext, callNotes, runCalls}
 use Rattle.link_laws.specs.Kept.{signatures, Lasting, lasting-within, lasting-on}
 use Rattle.link_laws.specs.Libraries.{Remembered, Named, library-remembered, library-named}
-use Rattle.link_laws.specs.LibraryLoads.{LoadedAt, from-loads}
+use Rattle.link_laws.specs.LibraryLoads.{LoadedAt}
+use Rattle.link_laws.specs.Proof.LibraryLoads.{from-loads}
 use Rattle.link_laws.specs.Removal.{Ready}
 use Rattle.link_laws.specs.LookedUp.{calls-later}
 use Rattle.link_laws.specs.Words.{lookup}
@@ -52,8 +53,8 @@ pub record DefinesName (o : Shared.Input) (b : List ℕ) : Type 0 where
   pub symbol : ℕ
   pub within : symbol < rowsIn (o .entries)
   pub defines : Defines (o .entries) symbol
-  pub named : hasName (o .file) (field (o .entries) symbol 0) ≡ true
-  pub is : nameAt (o .file) (field (o .entries) symbol 0) ≡ b
+  pub named : hasName (o .image) (field (o .entries) symbol 0) ≡ true
+  pub is : nameAt (o .image) (field (o .entries) symbol 0) ≡ b
 
 -- "names by an undefined symbol of binding 1"
 pub record LacksName (o : Shared.Input) (b : List ℕ) : Type 0 where
@@ -61,13 +62,13 @@ pub record LacksName (o : Shared.Input) (b : List ℕ) : Type 0 where
   pub within : symbol < rowsIn (o .entries)
   pub undefined : elfAt (o .entries) symbol .section ≡ shnUndef
   pub global : elfAt (o .entries) symbol .binding ≡ stbGlobal
-  pub is : nameAt (o .file) (field (o .entries) symbol 0) ≡ b
+  pub is : nameAt (o .image) (field (o .entries) symbol 0) ≡ b
 
 -- it lists the name as a dependency
 pub record DependsOn (o : Shared.Input) (b : List ℕ) : Type 0 where
   pub at : ℕ
   pub within : at < length (o .needs)
-  pub is : nameAt (o .file) (getD (o .needs) at 0) ≡ b
+  pub is : nameAt (o .image) (getD (o .needs) at 0) ≡ b
 
 -- "it defines, global or weak, a name undefined and strong in the table, or one that an earlier loaded library, not listing it as a dependency, names by an
 -- undefined symbol of binding 1, since defined or not": of the library o after the calls ks, begun with the link s0
@@ -120,7 +121,7 @@ module _ (o : Shared.Input) (b : List ℕ) where
   e = o .entries
 
   abbrev f : List ℕ
-  f = o .file
+  f = o .image
 
   lacks-in : (n i : ℕ) (k : ℕ) → i ≤ k → k < i + n → field e k 4 ≡ 0 → field e k 1 ≡ 1 → nameAt f (field e k 0) ≡ b → In b (undefinedNames e f n i)
   unfolding undefinedNames newNames
@@ -229,15 +230,15 @@ module _ (s0 : Linked) (met : List (List ℕ)) (k0 : Lasting s0 met) (g0 : Ready
       (lasting-within end _ lasting) (find (store (end .table)) b) h
 
   abbrev lackedBy : {k : ℕ} → LoadedAt k ks s0 → List (List ℕ)
-  lackedBy l = undefinedNames (l .library .entries) (l .library .file) (rowsIn (l .library .entries)) 0
+  lackedBy l = undefinedNames (l .library .entries) (l .library .image) (rowsIn (l .library .entries)) 0
 
   abbrev neededBy : {k : ℕ} → LoadedAt k ks s0 → List (List ℕ)
-  neededBy l = dependencyNames (l .library .file) (l .library .needs) (length (l .library .needs)) 0
+  neededBy l = dependencyNames (l .library .image) (l .library .needs) (length (l .library .needs)) 0
 
   -- a loaded library's row at the end, and the names that it has
   record Row·of (k : ℕ) (l : LoadedAt k ks s0) : Type 0 where
-    lacks : Each (store (end .table)) (undefinedAt (end .inputs) (end .lists) k) (undefinedNames (l .library .entries) (l .library .file) (rowsIn (l .library .entries)) 0)
-    needs : Each (store (end .table)) (dependenciesAt (end .inputs) (end .lists) k) (dependencyNames (l .library .file) (l .library .needs) (length (l .library .needs)) 0)
+    lacks : Each (store (end .table)) (undefinedAt (end .inputs) (end .lists) k) (undefinedNames (l .library .entries) (l .library .image) (rowsIn (l .library .entries)) 0)
+    needs : Each (store (end .table)) (dependenciesAt (end .inputs) (end .lists) k) (dependencyNames (l .library .image) (l .library .needs) (length (l .library .needs)) 0)
     kind : inputKindAt (end .inputs) k ≡ libraryKind
     counted : k < end .table .link .inputs
 
@@ -250,8 +251,8 @@ module _ (s0 : Linked) (met : List (List ℕ)) (k0 : Lasting s0 met) (g0 : Ready
       let n = library-named s _ before (l .library) (l .marks) (l .loaded) (l .behind) in
       let e : t ≡ end = sym (ap (λ (c : List Call). runCalls c s0) (l .split) ∙ run-append callNext callNotes (l .before) (load (l .library) (l .marks) ∷ l .behind) s0) in
       let p : s .table .link .inputs ≡ k = l .place in
-      let us : List (List ℕ) = undefinedNames (l .library .entries) (l .library .file) (rowsIn (l .library .entries)) 0 in
-      let ds : List (List ℕ) = dependencyNames (l .library .file) (l .library .needs) (length (l .library .needs)) 0 in
+      let us : List (List ℕ) = undefinedNames (l .library .entries) (l .library .image) (rowsIn (l .library .entries)) 0 in
+      let ds : List (List ℕ) = dependencyNames (l .library .image) (l .library .needs) (length (l .library .needs)) 0 in
       record {
         lacks =
             subst (λ (u : Linked). Each (store (u .table)) (undefinedAt (u .inputs) (u .lists) k) us) e
@@ -268,7 +269,7 @@ module _ (s0 : Linked) (met : List (List ℕ)) (k0 : Lasting s0 met) (g0 : Ready
     st = store (end .table)
 
     abbrev ByRows : Type 0
-    ByRows = Needed (end .table .link) (end .table .bytes) (end .table .names) (end .table .symbols) (end .inputs) (end .lists) (o .entries) (o .file) (nameOf o)
+    ByRows = Needed (end .table .link) (end .table .bytes) (end .table .names) (end .table .symbols) (end .inputs) (end .lists) (o .entries) (o .image) (nameOf o)
 
     -- an id is a name's just if it is found under it
     found-name : (b : List ℕ) → find st b < count st → name st (find st b) ≡ b
@@ -281,7 +282,7 @@ module _ (s0 : Linked) (met : List (List ℕ)) (k0 : Lasting s0 met) (g0 : Ready
     by-rows n = go (n .lacked)
       where
         b : List ℕ
-        b = nameAt (o .file) (field (o .entries) (n .symbol) 0)
+        b = nameAt (o .image) (field (o .entries) (n .symbol) 0)
 
         defined : DefinesName o b
         defined = record { symbol = n .symbol; within = n .within; defines = n .defines; named = n .found; is = refl }

@@ -9,23 +9,22 @@ use mathlib.Core.List.{List, [], _∷_}
 use lib.Dec.{eqb, ltb}
 use lib.ListN.{length}
 use borrow.Author.Tests.{eq-eqb, eqb-false, le-ltb}
-use Rattle.cells.specs.Split.{by-test}
-use Rattle.byte_slices.specs.Ways.{pick, apart}
+use Rattle.cells.specs.Proof.Split.{by-test}
+use Rattle.byte_slices.specs.Proof.Ways.{pick, apart}
 use Rattle.link.specs.Bounds.{notLent, lesser, nameRows, nameBytes}
 use Rattle.link.specs.Judge.{none, judgeOf, judgeSections, judgeNames, judgeLists}
-use Rattle.link.specs.Ways as Link
+use Rattle.link.specs.Proof.Ways as Link
 use Rattle.interner.specs.Names.{findOf}
-use Rattle.symbol_rows.specs.Holder.{holderOf}
+use Rattle.symbol_resolution.specs.Holder.{holderOf}
 use Rattle.archive_index.specs.Rows.{storedName}
-use Rattle.archive_index.specs.Index.{nameOf}
 use Rattle.archive_walk.specs.declared.Walk.{Walk}
 use Rattle.archive_walk.specs.Look.{Table, lentOf, judgeTable, nameHolder, wasRemoved, removedName}
 use Rattle.archive_walk.specs.Walk.{Step, numberOf, offerOf, removedOf, makeOf, searchOf, passOf, walkFits, goOf, nextOf}
-use Rattle.archive_laws.specs.Rounds.{View, Rounds, frontOf, passRound, round, rounds, members, fresh}
-use Rattle.archive_laws.specs.Counts.{any-none, once-members}
+use Rattle.archive_laws.specs.Members.{View, Rounds, frontOf, passRound, round, rounds, members, fresh}
+use Rattle.archive_laws.specs.Proof.Counts.{any-none, once-members}
 use Rattle.archive_laws.specs.RoundLaws.{Kept, kept-fresh, kept-did, did}
-use Rattle.archive_laws.specs.Runs.{viewOf, viewsOf, Run}
-use Rattle.archive_laws.specs.Walked.{Walked}
+use Rattle.archive_laws.specs.Runs.{viewBy, viewsBy, Run}
+use Rattle.archive_laws.specs.ByKey.{Walked}
 use Rattle.symbol_laws.specs.History.{State, Entry, only}
 use Rattle.symbol_laws.specs.Held.{Inv}
 use Rattle.symbol_laws.specs.Demand.{holder-known, holder-none}
@@ -111,12 +110,12 @@ module _ (t : Table) (whole : Whole t) where
       P : Step → Type 0
       P x = numberOf (x .moved .offer) ≡ 0
 
-  pub view-accepted : (s : List ℕ) (c : ℕ) → viewOf s c t .refused ≡ false
-  view-accepted s c = rw (eq-eqb _ _ (whole .judged)) (any-none (λ k. removedName t (nameOf s c k)) c (λ j h. whole .kept (nameOf s c j)))
+  pub view-accepted : (named : ℕ → List ℕ) (c : ℕ) → viewBy named c t .refused ≡ false
+  view-accepted named c = rw (eq-eqb _ _ (whole .judged)) (any-none (λ k. removedName t (named k)) c (λ j h. whole .kept (named j)))
 
 -- ---- the end of a walk
 
-module _ (s : List ℕ) (c : ℕ) where
+module _ (keys : ℕ → ℕ) (c : ℕ) where
   abbrev Unrefused : List View → Type 0
   Unrefused [] = Unit {0}
   Unrefused (v ∷ vs) = (v .refused ≡ false) × Unrefused vs
@@ -127,7 +126,7 @@ module _ (s : List ℕ) (c : ℕ) where
   front-moves q o p =
       pick (λ (r : Rounds). r .done ≡ false → o + 1 ≤ r .offered) (ltb o (length q)) _ _ (λ a e. omega arith) (λ a e. absurd (apart (sym e)))
 
-  round-moves : (v : View) (a : Rounds) → v .refused ≡ false → round s c v a .done ≡ false → a .offered + 1 ≤ round s c v a .offered
+  round-moves : (v : View) (a : Rounds) → v .refused ≡ false → round keys c v a .done ≡ false → a .offered + 1 ≤ round keys c v a .offered
   unfolding round passRound
   round-moves v a u =
       pick P (a .done) _ _ (λ d e. absurd (apart (sym e ∙ d)))
@@ -138,50 +137,52 @@ module _ (s : List ℕ) (c : ℕ) where
       P : Rounds → Type 0
       P r = r .done ≡ false → a .offered + 1 ≤ r .offered
 
-  round-still : (v : View) (a : Rounds) → a .done ≡ true → round s c v a .done ≡ true
+  round-still : (v : View) (a : Rounds) → a .done ≡ true → round keys c v a .done ≡ true
   unfolding round
   round-still v a d = pick (λ (r : Rounds). r .done ≡ true) (a .done) _ _ (λ t. d) (λ t. absurd (apart (sym t ∙ d)))
 
-  rounds-still : (vs : List View) (a : Rounds) → a .done ≡ true → rounds s c vs a .done ≡ true
+  rounds-still : (vs : List View) (a : Rounds) → a .done ≡ true → rounds keys c vs a .done ≡ true
   unfolding rounds
   rounds-still [] a d = d
-  rounds-still (v ∷ vs) a d = rounds-still vs (round s c v a) (round-still v a d)
+  rounds-still (v ∷ vs) a d = rounds-still vs (round keys c v a) (round-still v a d)
 
-  rounds-move : (vs : List View) (a : Rounds) → Unrefused vs → rounds s c vs a .done ≡ false → a .offered + length vs ≤ rounds s c vs a .offered
+  rounds-move : (vs : List View) (a : Rounds) → Unrefused vs → rounds keys c vs a .done ≡ false → a .offered + length vs ≤ rounds keys c vs a .offered
   unfolding rounds
   rounds-move [] a u e = omega arith
   rounds-move (v ∷ vs) a u e =
-      by-test (round s c v a .done) (λ d. absurd (apart (sym e ∙ rounds-still vs (round s c v a) d)))
-      (λ d. omega (arith, round-moves v a (u .0) d, rounds-move vs (round s c v a) (u .1) e))
+      by-test (round keys c v a .done) (λ d. absurd (apart (sym e ∙ rounds-still vs (round keys c v a) d)))
+      (λ d. omega (arith, round-moves v a (u .0) d, rounds-move vs (round keys c v a) (u .1) e))
 
-  rounds-kept : (vs : List View) (a : Rounds) → Kept s c a → Kept s c (rounds s c vs a)
+  rounds-kept : (vs : List View) (a : Rounds) → Kept keys c a → Kept keys c (rounds keys c vs a)
   unfolding rounds
   rounds-kept [] a k = k
-  rounds-kept (v ∷ vs) a k = rounds-kept vs (round s c v a) (kept-did s c v a (round s c v a) k (did s c v a))
+  rounds-kept (v ∷ vs) a k = rounds-kept vs (round keys c v a) (kept-did keys c v a (round keys c v a) k (did keys c v a))
 
-  rounds-end : (vs : List View) → Unrefused vs → members s c < length vs → rounds s c vs fresh .done ≡ true
+  rounds-end : (vs : List View) → Unrefused vs → members keys c < length vs → rounds keys c vs fresh .done ≡ true
   rounds-end vs u h =
-      by-test (rounds s c vs fresh .done) (λ d. d)
+      by-test (rounds keys c vs fresh .done) (λ d. d)
       (λ d.
-      let k = rounds-kept vs fresh (kept-fresh s c) in
-      absurd (omega (arith, rounds-move vs fresh u d, k .some, once-members s c (rounds s c vs fresh .queue) (k .once) (k .below))))
+      let k = rounds-kept vs fresh (kept-fresh keys c) in
+      absurd (omega (arith, rounds-move vs fresh u d, k .some, once-members keys c (rounds keys c vs fresh .queue) (k .once) (k .below))))
 
-  -- over tables of which nothing was removed
-  abbrev pub AllWhole : List Table → Type 0
-  AllWhole [] = Unit {0}
-  AllWhole (t ∷ ts) = Whole t × AllWhole ts
+-- over tables of which nothing was removed
+abbrev pub AllWhole : List Table → Type 0
+AllWhole [] = Unit {0}
+AllWhole (t ∷ ts) = Whole t × AllWhole ts
 
-  views-accepted : (ts : List Table) → AllWhole ts → Unrefused (viewsOf s c ts)
-  unfolding viewsOf
+-- of entries with any keys and names: a walk over more tables than there are members is done
+module _ (s : List ℕ) (keys : ℕ → ℕ) (named : ℕ → List ℕ) (c : ℕ) where
+  views-accepted : (ts : List Table) → AllWhole ts → Unrefused keys c (viewsBy named c ts)
+  unfolding viewsBy
   views-accepted [] w = tt
-  views-accepted (t ∷ ts) w = (view-accepted t (w .0) s c, views-accepted ts (w .1))
+  views-accepted (t ∷ ts) w = (view-accepted t (w .0) named c, views-accepted ts (w .1))
 
-  views-long : (ts : List Table) → length (viewsOf s c ts) ≡ length ts
-  unfolding viewsOf
+  views-long : (ts : List Table) → length (viewsBy named c ts) ≡ length ts
+  unfolding viewsBy
   views-long [] = refl
   views-long (t ∷ ts) = ap suc (views-long ts)
 
-  pub walk-ends : (ts : List Table) (r : Run) → Walked s c ts r → AllWhole ts → members s c < length ts → r .walk .done ≡ true
+  pub walk-ends : (ts : List Table) (r : Run) → Walked s keys named c ts r → AllWhole ts → members keys c < length ts → r .walk .done ≡ true
   walk-ends ts r w a h =
       ap (λ (x : Rounds). x .done) (w .same-rounds)
-      ∙ rounds-end (viewsOf s c ts) (views-accepted ts a) (omega (arith, views-long ts))
+      ∙ rounds-end keys c (viewsBy named c ts) (views-accepted ts a) (omega (arith, views-long ts))

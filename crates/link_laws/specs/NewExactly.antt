@@ -9,14 +9,15 @@ use lib.Dec.{eqb, ltb}
 use lib.ListN.{length}
 use borrow.Author.Tests.{eq-eqb, ne-eqb, ltb-true, ltb-false}
 use Rattle.link.specs.declared.Refusal.{Refusal}
-use Rattle.cells.specs.Split.{by-test}
+use Rattle.cells.specs.Proof.Split.{by-test}
 use Rattle.link.specs.Bounds.{lesser, nameRows, symbolRows}
 use Rattle.link.specs.Said.{numberIn}
 use Rattle.interner.specs.Calls as Names
 use Rattle.interner_laws.specs.Interns as Interns
 use Rattle.symbols.specs.New.{nullOf, newOf}
 use Rattle.link_laws.specs.Calls.{refusalBy}
-use Rattle.link_laws.specs.Rules.{Rule, _gives_at_, firstOf, someHolds, none-holds}
+use Rattle.link_laws.specs.Rules.{Rule, _gives_at_, firstOf, someHolds}
+use Rattle.link_laws.specs.Proof.Rules.{none-holds}
 
 -- "Two rows lent: null and one undefined name fit": a symbol's row of 8 cells for null, a name's of 8 and its chain's for the empty name. "no free row" (2), "else 0"
 abbrev pub newRules : List ℕ → List ℕ → List Rule

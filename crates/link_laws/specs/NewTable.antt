@@ -9,16 +9,16 @@ use mathlib.Core.Logic.{_≢_}
 use lib.Dec.{eqb}
 use lib.ListN.{length}
 use borrow.Author.Tests.{eqb-true, eqb-false}
-use Rattle.cells.specs.Split.{by-test}
-use Rattle.byte_slices.specs.Ways.{pick}
+use Rattle.cells.specs.Proof.Split.{by-test}
+use Rattle.byte_slices.specs.Proof.Ways.{pick}
 use Rattle.link.specs.Bounds.{symbolRows}
 use Rattle.link.specs.Judge.{refused}
 use Rattle.link.specs.Said.{numberIn, refusing}
+use Rattle.link.specs.Counts.{noRows}
 use Rattle.interner.specs.Names.{Store, storeOf}
 use Rattle.interner.specs.Calls as Names
 use Rattle.interner_laws.specs.Interns as Interns
-use Rattle.symbol_rows.specs.Apply.{tableOf}
-use Rattle.symbols.specs.Calls.{noRows}
+use Rattle.symbol_resolution.specs.Apply.{tableOf}
 use Rattle.symbols.specs.New.{NewLeft, newLeft, nullOf, newOf}
 
 module _ (key : ℕ) (gabi : Bool) (bytes names symbols sections : List ℕ) where

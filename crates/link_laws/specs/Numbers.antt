@@ -8,8 +8,8 @@ use mathlib.Core.Logic.{_≢_}
 use borrow.Author.Tests.{ne-eqb}
 use lib.Dec.{eqb, ltb, leb}
 use lib.ListN.{length}
-use Rattle.cells.specs.Split.{by-test}
-use Rattle.byte_slices.specs.Ways.{pick}
+use Rattle.cells.specs.Proof.Split.{by-test}
+use Rattle.byte_slices.specs.Proof.Ways.{pick}
 use Rattle.link.specs.declared.Link.{Link}
 use Rattle.link.specs.declared.Lent.{Lent}
 use Rattle.link.specs.declared.Refusal.{Refusal}
@@ -19,7 +19,7 @@ use Rattle.link.specs.Bounds.{symbolRows, sectionSlots, nameRows}
 use Rattle.link.specs.Judge.{refused, changeOf}
 use Rattle.link.specs.Judge as Link
 use Rattle.link.specs.Said.{numberIn}
-use Rattle.link.specs.Passed.{judge-gives}
+use Rattle.link.specs.Proof.Passed.{judge-gives}
 use Rattle.interner.specs.Names.{Store, findOf, fitsOf}
 use Rattle.interner.specs.Calls as Names
 use Rattle.interner.specs.Calls.{internOf, issueOf, resolveOf}
@@ -29,12 +29,12 @@ use Rattle.symbol.specs.declared.SttFile.{SttFile}
 use Rattle.upcoming_symbol.specs.declared.UpcomingSymbol.{UpcomingSymbol}
 use Rattle.upcoming_symbol.specs.Judge.{inRange}
 use Rattle.upcoming_symbol.specs.Upcoming.{nameOf, rowOf}
-use Rattle.symbol_rows.specs.declared.Holder.{Holder}
-use Rattle.symbol_rows.specs.declared.Holder.the-variants.{Unissued, Nobody, Removed, Known}
-use Rattle.symbol_rows.specs.declared.Decision.{Decision}
-use Rattle.symbol_rows.specs.Holder.{holderOf}
-use Rattle.symbol_rows.specs.Decide.{refusalOf}
-use Rattle.symbol_rows.specs.Apply.{Table}
+use Rattle.symbol_resolution.specs.declared.rows.Holder.{Holder}
+use Rattle.symbol_resolution.specs.declared.rows.Holder.the-variants.{Unissued, Nobody, Removed, Known}
+use Rattle.symbol_resolution.specs.declared.rows.Decision.{Decision}
+use Rattle.symbol_resolution.specs.Holder.{holderOf}
+use Rattle.symbol_resolution.specs.Decide.{refusalOf}
+use Rattle.symbol_resolution.specs.Apply.{Table}
 use Rattle.symbols.specs.declared.Found.{Found}
 use Rattle.symbols.specs.Calls as Symbols
 use Rattle.symbols.specs.Calls.{lentOf}
@@ -52,24 +52,25 @@ use Rattle.gc_sections.specs.Reach as Reach
 use Rattle.gc_sections.specs.Run as Collection
 use Rattle.gc_sections.specs.Run.{judgeCells, judged, purgeOf, sweepOf, finishOf, finished, collectOf, runOf}
 use Rattle.symbol_laws.specs.History.{store, table}
-use Rattle.merge_laws.specs.Refusals.{oneOf}
 use Rattle.merge_laws.specs.Calls.{Linked, allIn}
-use Rattle.link_laws.specs.Calls.{Call, intern, resolve, add, remove, get, getGlobal, sectionSymbol, addGroup, merge, mergeFile, load, archiveStart, archiveNext, matches, collect, plainCollect, viewIn, libraryIn, listsIn, callNumber, fileHead, isRead}
-use Rattle.link_laws.specs.PlainCalls.{Compared, alike, many, compared, many-refusal}
+use Rattle.link_laws.specs.Read as Read
+use Rattle.link_laws.specs.Calls.{Call, intern, add, remove, addGroup, merge, mergeFile, load, collect, plainCollect, viewIn, libraryIn, listsIn, callNumber, fileHead, isRead, reads, resolve, get, getGlobal}
+use Rattle.link_laws.specs.Proof.PlainCalls.{Compared, alike, many, compared, many-refusal}
 use Rattle.elf_laws.specs.Object as ElfFile
-use Rattle.link_laws.specs.FileCall.{refusal-read, refusal-unread, head-numbers}
-use Rattle.link_laws.specs.Table.{refusals, callNumbers, within}
-use Rattle.link_laws.specs.AddNumbers as AddNumbers
+use Rattle.link_laws.specs.Proof.FileCall.{refusal-read, refusal-unread, head-numbers}
+use Rattle.link_laws.specs.Table.{callNumbers, addNumbers}
+use Rattle.link_laws.specs.Proof.AddNumbers as AddNumbers
 use Rattle.merge_laws.specs.ByNumber.{changed}
-use Rattle.link_laws.specs.Among.{one-within, Among}
-use Rattle.link_laws.specs.GroupNumbers.{group-numbers}
-use Rattle.link_laws.specs.MergeNumbers.{merge-numbers}
-use Rattle.link_laws.specs.LoadNumbers.{load-numbers}
-use Rattle.link_laws.specs.ArchiveNumbers.{start-numbers, next-numbers, matches-numbers}
+use Rattle.link_laws.specs.Proof.Among.{one-within, Among}
+use Rattle.link_laws.specs.Proof.GroupNumbers.{group-numbers}
+use Rattle.link_laws.specs.Proof.MergeNumbers.{merge-numbers}
+use Rattle.link_laws.specs.Proof.LoadNumbers.{load-numbers}
+use Rattle.link_laws.specs.Proof.ArchiveNumbers.{start-numbers, next-numbers, matches-numbers}
+use Rattle.merge_laws.specs.Table.{oneOf, within, fileHeadNumbers, refusals}
 
 -- ---- names
 
-intern-numbers : (s : Store) (x : List ℕ) → Among (22 ∷ 1 ∷ 2 ∷ []) (numberIn (internOf s x .said))
+intern-numbers : (s : Store) (x : List ℕ) → Among (callNumbers (intern x)) (numberIn (internOf s x .said))
 unfolding internOf issueOf
 intern-numbers s x =
     pick (λ (o : Names.Left). P (numberIn (o .said))) (eqb (changeOf (s .link) (Names.lent s) .number) 0) _ _
@@ -79,9 +80,9 @@ intern-numbers s x =
     (λ a. changed (λ (r : Refusal). P (r .number)) refl (λ k. refl) refl (s .link) (Names.lent s))
   where
     P : ℕ → Type 0
-    P = Among (22 ∷ 1 ∷ 2 ∷ [])
+    P = Among (callNumbers (intern x))
 
-resolve-numbers : (s : Store) (id : Interned) → Among (1 ∷ 23 ∷ []) (resolveOf s id .refusal .number)
+resolve-numbers : (s : Store) (id : Interned) → Among (callNumbers (resolve id)) (resolveOf s id .refusal .number)
 unfolding resolveOf
 resolve-numbers s id =
     pick (λ (o : Names.Resolved). P (o .refusal .number)) (eqb (Link.judgeOf (s .link) (Names.lent s) .number) 0) _ _
@@ -89,12 +90,9 @@ resolve-numbers s id =
     (λ a. judge-gives (λ (r : Refusal). P (r .number)) (λ k. refl) refl (s .link) (Names.lent s))
   where
     P : ℕ → Type 0
-    P = Among (1 ∷ 23 ∷ [])
+    P = Among (callNumbers (resolve id))
 
 -- ---- adds
-
-abbrev addNumbers : List ℕ
-addNumbers = 22 ∷ 1 ∷ 10 ∷ 11 ∷ 12 ∷ 21 ∷ 13 ∷ 14 ∷ 15 ∷ 16 ∷ 2 ∷ 17 ∷ []
 
 judge-add-numbers : (l : Link) (n : Lent) (u : UpcomingSymbol) → Among addNumbers (judgeAddOf l n u .number)
 unfolding judgeAddOf
@@ -127,35 +125,35 @@ add-numbers t conversion u =
 
 -- ---- the table's other calls
 
-remove-numbers : (l : Link) (x : Rows) (id : SymbolId) → Among (22 ∷ 1 ∷ 21 ∷ []) (numberIn (removeOf l x id .said))
+remove-numbers : (l : Link) (x : Rows) (id : SymbolId) → Among (callNumbers (remove id)) (numberIn (removeOf l x id .said))
 unfolding removeOf
 remove-numbers l x id =
     pick P (eqb (changeOf l (lentOf (l .chains) (length (x .symbols)) (sectionSlots (length (x .sections)))) .number) 0) _ _
     (λ a. pick P (leb (l .symbols) (id .0)) _ _ (λ b. refl) (λ b. refl))
-    (λ a. changed (λ (r : Refusal). Among (22 ∷ 1 ∷ 21 ∷ []) (r .number)) refl (λ k. refl) refl l _)
+    (λ a. changed (λ (r : Refusal). Among (callNumbers (remove id)) (r .number)) refl (λ k. refl) refl l _)
   where
     P : RemoveLeft → Type 0
-    P o = Among (22 ∷ 1 ∷ 21 ∷ []) (numberIn (o .said))
+    P o = Among (callNumbers (remove id)) (numberIn (o .said))
 
-get-numbers : (l : Link) (symbols : List ℕ) (id : SymbolId) → Among (1 ∷ 21 ∷ []) (Lookup.refusalOf (getOf l symbols id) .number)
+get-numbers : (l : Link) (symbols : List ℕ) (id : SymbolId) → Among (callNumbers (get id)) (Lookup.refusalOf (getOf l symbols id) .number)
 unfolding getOf foundAt
 get-numbers l symbols id =
     pick P (eqb (Link.judgeOf l (lentOf (l .chains) (length symbols) (l .slots)) .number) 0) _ _
     (λ a. pick P (leb (l .symbols) (id .0)) _ _ (λ b. refl) (λ b. pick P (eqb (stateAt symbols (id .0)) 2) _ _ (λ c. refl) (λ c. refl)))
-    (λ a. judge-gives (λ (r : Refusal). Among (1 ∷ 21 ∷ []) (r .number)) (λ k. refl) refl l _)
+    (λ a. judge-gives (λ (r : Refusal). Among (callNumbers (get id)) (r .number)) (λ k. refl) refl l _)
   where
     P : Found → Type 0
-    P f = Among (1 ∷ 21 ∷ []) (Lookup.refusalOf f .number)
+    P f = Among (callNumbers (get id)) (Lookup.refusalOf f .number)
 
-global-numbers : (l : Link) (names symbols : List ℕ) (name : Interned) → Among (1 ∷ 23 ∷ 21 ∷ []) (Lookup.refusalOf (getGlobalOf l names symbols name) .number)
+global-numbers : (l : Link) (names symbols : List ℕ) (name : Interned) → Among (callNumbers (getGlobal name)) (Lookup.refusalOf (getGlobalOf l names symbols name) .number)
 unfolding getGlobalOf
 global-numbers l names symbols name =
     pick P (eqb (Link.judgeOf l (lentOf (nameRows (length names)) (length symbols) (l .slots)) .number) 0) _ _
     (λ a. held (holderOf l names symbols name))
-    (λ a. judge-gives (λ (r : Refusal). Among (1 ∷ 23 ∷ 21 ∷ []) (r .number)) (λ k. refl) refl l _)
+    (λ a. judge-gives (λ (r : Refusal). Among (callNumbers (getGlobal name)) (r .number)) (λ k. refl) refl l _)
   where
     P : Found → Type 0
-    P f = Among (1 ∷ 23 ∷ 21 ∷ []) (Lookup.refusalOf f .number)
+    P f = Among (callNumbers (getGlobal name)) (Lookup.refusalOf f .number)
 
     held : (h : Holder) → P (heldOf symbols name h)
     held Unissued = refl
@@ -166,7 +164,7 @@ global-numbers l names symbols name =
 -- ---- collection
 
 collect-numbers : (l : Link) (x : Collection.Lists) (symbols sections : List ℕ) (entry : EntryPoint) (work : List ℕ)
-    → Among (22 ∷ 1 ∷ 2 ∷ 21 ∷ []) (runOf l x symbols sections entry work .said .number)
+    → Among (callNumbers (collect (x .marks) entry work)) (runOf l x symbols sections entry work .said .number)
 unfolding runOf collectOf finished sweepOf purgeOf Collection.judgeOf judgeCells
 collect-numbers l x symbols sections entry work =
     pick P (eqb (judged l x symbols sections work .number) 0) _ _ (λ a. go (w .visitor .unbuilt))
@@ -184,10 +182,10 @@ collect-numbers l x symbols sections entry work =
     lent = Collection.lentOf (length (x .bytes)) (length (x .names)) (length symbols) (length sections) (length (x .lists))
 
     P : Collection.Left → Type 0
-    P o = Among (22 ∷ 1 ∷ 2 ∷ 21 ∷ []) (o .said .number)
+    P o = Among (callNumbers (collect (x .marks) entry work)) (o .said .number)
 
     Q : Refusal → Type 0
-    Q r = Among (22 ∷ 1 ∷ 2 ∷ 21 ∷ []) (r .number)
+    Q r = Among (callNumbers (collect (x .marks) entry work)) (r .number)
 
     go : (u : Unbuilt) → P (finishOf l symbols sections (w .work) u)
     go Unbuilts.None = refl
@@ -197,14 +195,14 @@ plain-numbers : (marks : List ℕ) (entry : EntryPoint) (work : List ℕ) (s : L
     → oneOf (callNumber (plainCollect marks entry work) s) (0 ∷ callNumbers (plainCollect marks entry work)) ≡ true
 plain-numbers marks entry work s = go (compared marks entry work s)
   where
-    first : oneOf (callNumber (collect marks entry work) s) (0 ∷ 22 ∷ 1 ∷ 2 ∷ 21 ∷ []) ≡ true
+    first : oneOf (callNumber (collect marks entry work) s) (0 ∷ callNumbers (collect marks entry work)) ≡ true
     first = collect-numbers (s .table .link) (listsIn s marks) (s .table .symbols) (s .table .sections) entry work
 
-    go : Compared marks entry work s → oneOf (callNumber (plainCollect marks entry work) s) (0 ∷ 22 ∷ 1 ∷ 30 ∷ 2 ∷ 21 ∷ []) ≡ true
+    go : Compared marks entry work s → oneOf (callNumber (plainCollect marks entry work) s) (0 ∷ callNumbers (plainCollect marks entry work)) ≡ true
     go (alike r t a) =
-        ap (λ (x : Refusal). oneOf (x .number) (0 ∷ 22 ∷ 1 ∷ 30 ∷ 2 ∷ 21 ∷ [])) r
-        ∙ one-within (callNumber (collect marks entry work) s) (0 ∷ 22 ∷ 1 ∷ 2 ∷ 21 ∷ []) (0 ∷ 22 ∷ 1 ∷ 30 ∷ 2 ∷ 21 ∷ []) refl first
-    go (many m u v e) = ap (λ (x : Refusal). oneOf (x .number) (0 ∷ 22 ∷ 1 ∷ 30 ∷ 2 ∷ 21 ∷ [])) (many-refusal marks entry work s e)
+        ap (λ (x : Refusal). oneOf (x .number) (0 ∷ callNumbers (plainCollect marks entry work))) r
+        ∙ one-within (callNumber (collect marks entry work) s) (0 ∷ callNumbers (collect marks entry work)) (0 ∷ callNumbers (plainCollect marks entry work)) refl first
+    go (many m u v e) = ap (λ (x : Refusal). oneOf (x .number) (0 ∷ callNumbers (plainCollect marks entry work))) (many-refusal marks entry work s e)
 
 -- ---- every call
 
@@ -217,42 +215,42 @@ file-numbers file cells work ids s =
     (merge-numbers (ElfFile.rowsOf file) (allIn s work ids))))
     (λ t.
     subst (λ (r : Refusal). Among (callNumbers (mergeFile file cells work ids)) (r .number)) (sym (refusal-unread file cells work ids s t))
-    (one-within (fileHead file cells s .number) (0 ∷ 22 ∷ 26 ∷ 27 ∷ 2 ∷ []) (0 ∷ callNumbers (mergeFile file cells work ids)) refl (head-numbers file cells s)))
+    (one-within (fileHead file cells s .number) (0 ∷ fileHeadNumbers) (0 ∷ callNumbers (mergeFile file cells work ids)) refl (head-numbers file cells s)))
 
 pub numbers : (k : Call) (s : Linked) → oneOf (callNumber k s) (0 ∷ callNumbers k) ≡ true
 numbers (intern x) s = intern-numbers (store (s .table)) x
-numbers (resolve id) s = resolve-numbers (store (s .table)) id
+numbers (reads (Read.resolve id)) s = resolve-numbers (store (s .table)) id
 numbers (add conversion u) s = add-numbers (table (s .table)) conversion u
 numbers (remove id) s = remove-numbers (s .table .link) _ id
-numbers (get id) s = get-numbers (s .table .link) (s .table .symbols) id
-numbers (getGlobal name) s = global-numbers (s .table .link) (s .table .names) (s .table .symbols) name
-numbers (sectionSymbol section) s = refl
+numbers (reads (Read.get id)) s = get-numbers (s .table .link) (s .table .symbols) id
+numbers (reads (Read.getGlobal name)) s = global-numbers (s .table .link) (s .table .names) (s .table .symbols) name
+numbers (reads (Read.sectionSymbol section)) s = refl
 numbers (addGroup o work n) s = group-numbers o (s .table) work n
 numbers (merge o work ids) s = merge-numbers o (allIn s work ids)
 numbers (mergeFile file cells work ids) s = file-numbers file cells work ids s
 numbers (load o marks) s = load-numbers o (libraryIn s marks)
-numbers (archiveStart key index cells) s = start-numbers key index cells
-numbers (archiveNext index cells w) s = next-numbers index cells w (viewIn (s .table))
-numbers (matches headers entries contents file index cells w e) s = matches-numbers (s .table .link) headers entries contents file index cells w e
+numbers (reads (Read.archiveStart key index cells)) s = start-numbers key index cells
+numbers (reads (Read.archiveNext index cells w)) s = next-numbers index cells w (viewIn (s .table))
+numbers (reads (Read.matches headers entries contents file index cells w e)) s = matches-numbers (s .table .link) headers entries contents file index cells w e
 numbers (collect marks entry work) s = collect-numbers (s .table .link) (listsIn s marks) (s .table .symbols) (s .table .sections) entry work
 numbers (plainCollect marks entry work) s = plain-numbers marks entry work s
 
 -- all of the refusal table
 pub in-table : (k : Call) → within (callNumbers k) refusals ≡ true
 in-table (intern x) = refl
-in-table (resolve id) = refl
+in-table (reads (Read.resolve id)) = refl
 in-table (add conversion u) = refl
 in-table (remove id) = refl
-in-table (get id) = refl
-in-table (getGlobal name) = refl
-in-table (sectionSymbol section) = refl
+in-table (reads (Read.get id)) = refl
+in-table (reads (Read.getGlobal name)) = refl
+in-table (reads (Read.sectionSymbol section)) = refl
 in-table (addGroup o work n) = refl
 in-table (merge o work ids) = refl
 in-table (mergeFile file cells work ids) = refl
 in-table (load o marks) = refl
-in-table (archiveStart key index cells) = refl
-in-table (archiveNext index cells w) = refl
-in-table (matches headers entries contents file index cells w e) = refl
+in-table (reads (Read.archiveStart key index cells)) = refl
+in-table (reads (Read.archiveNext index cells w)) = refl
+in-table (reads (Read.matches headers entries contents file index cells w e)) = refl
 in-table (collect marks entry work) = refl
 in-table (plainCollect marks entry work) = refl
 

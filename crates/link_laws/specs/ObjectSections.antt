@@ -65,7 +65,7 @@ module _ (o : Stages.Object) (work ids : List ℕ) (s t : Linked) (n kind : ℕ)
 
 module _ (s : Linked) (met : List (List ℕ)) (g : Lasting s met)
     (o : Stages.Object) (work ids : List ℕ) (ok : callNumber (merge o work ids) s ≡ 0) (n : ℕ)
-    (kept : isRemoved (o .headers) (o .entries) (o .contents) (o .file) met (sectionsIn (o .headers)) n ≡ false) (ls : List Call)
+    (kept : isRemoved (o .headers) (o .entries) (o .contents) (o .image) met (sectionsIn (o .headers)) n ≡ false) (ls : List Call)
     (spared : SparesAll ls (callNext (merge o work ids) s) (sectionId o s n)) where
   abbrev then : Linked
   then = callNext (merge o work ids) s
@@ -100,5 +100,5 @@ rows-taken s met g o work ids ok = Built.rows-taken o (allIn s work ids) ok met 
 
 -- the signatures that later merges find met: those of the object's own groups, in order
 pub signatures-own : (s : Linked) (met : List (List ℕ)) → Lasting s met → (o : Stages.Object) (work ids : List ℕ) → callNumber (merge o work ids) s ≡ 0
-    → signatures (merge o work ids ∷ []) s ≡ ownSignatures (o .headers) (o .entries) (o .contents) (o .file) (sectionsIn (o .headers))
+    → signatures (merge o work ids ∷ []) s ≡ ownSignatures (o .headers) (o .entries) (o .contents) (o .image) (sectionsIn (o .headers))
 signatures-own s met g o work ids ok = append-nil _ ∙ Built.signatures-own o (allIn s work ids) ok met (g .marked) (g .inside)

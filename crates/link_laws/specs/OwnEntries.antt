@@ -6,7 +6,7 @@ use mathlib.Core.Bool.{Bool, true, false, cond, not, _&&_, false≢true}
 use mathlib.Core.List.{List, [], _∷_, _++_}
 use lib.Dec.{eqb, ltb}
 use borrow.Author.Tests.{eqb-true, eq-eqb, ne-eqb, lt-ltb}
-use Rattle.cells.specs.Split.{by-test}
+use Rattle.cells.specs.Proof.Split.{by-test}
 use Rattle.gabi.specs.SymbolTable.{Sym, stbGlobal, stbWeak, stvDefault, stvHidden, shnUndef, shnAbs, shnLoreserve, isReference, isWeak, isGlobal}
 use Rattle.gabi.specs.Groups.{undefine}
 use Rattle.symbol.specs.declared.Row.{Row}
@@ -15,7 +15,7 @@ use Rattle.symbol.specs.declared.SymbolVisibility.{SymbolVisibility}
 use Rattle.symbol.specs.declared.SymbolVisibility.the-variants.{Local, Global}
 use Rattle.symbol.specs.declared.SymbolValue.{SymbolValue}
 use Rattle.symbol.specs.Codes.{visibilityAt, valueAt}
-use Rattle.symbol_rows.specs.Decide.{weakOf}
+use Rattle.symbol_resolution.specs.Decide.{weakOf}
 use Rattle.upcoming_symbol.specs.declared.ElfSymbol.{ElfSymbol}
 use Rattle.upcoming_symbol.specs.declared.UpcomingSymbol.{UpcomingSymbol}
 use Rattle.upcoming_symbol.specs.Upcoming.{nameOf}
@@ -34,7 +34,7 @@ use Rattle.merge_laws.specs.LogContents.{FromSymbol}
 use Rattle.merge_laws.specs.Calls.{Linked, allIn}
 use Rattle.shared_objects.specs.Load as Shared
 use Rattle.load_laws.specs.LibraryContents.{FromLibrary}
-use Rattle.link_laws.specs.Calls.{Call, intern, resolve, add, remove, get, getGlobal, sectionSymbol, addGroup, merge, mergeFile, load, archiveStart, archiveNext, matches, collect, plainCollect, libraryIn, callNext}
+use Rattle.link_laws.specs.Calls.{Call, intern, add, remove, addGroup, merge, mergeFile, load, collect, plainCollect, libraryIn, callNext, reads}
 use Rattle.elf_laws.specs.Object as ElfFile
 use Rattle.link_laws.specs.Kept.{signatures}
 use Rattle.link_laws.specs.Contents.{FromCall, FromCalls, here, later}
@@ -44,8 +44,8 @@ use Rattle.link_laws.specs.Contents.{FromCall, FromCalls, here, later}
 -- of an object: undefined by now, as the gABI has it, if a repeated group lists its section
 abbrev pub objectEntry : (o : Stages.Object) (a : Stages.All) (met : List (List ℕ)) → ℕ → Sym
 objectEntry o a met i =
-    let table = Words.symbolsOf (o .headers) (o .entries) (o .contents) (o .file) in
-    cond (ltb (entry table i .section) shnLoreserve && Objects.isDiscarded (o .headers) (o .entries) (o .contents) (o .file) (a .stage .link .sections) met table i) (undefine (entry table i)) (entry table i)
+    let table = Words.symbolsOf (o .headers) (o .entries) (o .contents) (o .image) in
+    cond (ltb (entry table i .section) shnLoreserve && Objects.isDiscarded (o .headers) (o .entries) (o .contents) (o .image) (a .stage .link .sections) met table i) (undefine (entry table i)) (entry table i)
 
 -- of a direct add, ExternallyDefined as a shared object's: a definition other than an Elf symbol's counts as absolute
 abbrev pub addEntry : {gabi : Bool} {conversion : List ℕ} {empty : Bool} {r : Row} {u : UpcomingSymbol} → FromAdd gabi conversion empty r u → Sym
@@ -108,7 +108,7 @@ module _ (o : Stages.Object) (a : Stages.All) (met : List (List ℕ)) (r : Row) 
   object-stands : (p : FromSymbol o a met r) → Stands r (objectEntry o a met (p .number))
   unfolding undefine
   object-stands p =
-      let table : List ℕ = Words.symbolsOf (o .headers) (o .entries) (o .contents) (o .file) in
+      let table : List ℕ = Words.symbolsOf (o .headers) (o .entries) (o .contents) (o .image) in
       let e : Sym = entry table (p .number) in
       let c = p .content in
       by-test (ltb (e .section) shnLoreserve && gone)
@@ -116,16 +116,16 @@ module _ (o : Stages.Object) (a : Stages.All) (met : List (List ℕ)) (r : Row) 
       (λ t. rw t (stands r e (c .shown) (c .passed .bound) (c .passed .seen) (left t (valueAt (r .value)) (c .value))))
     where
       abbrev-table : List ℕ
-      abbrev-table = Words.symbolsOf (o .headers) (o .entries) (o .contents) (o .file)
+      abbrev-table = Words.symbolsOf (o .headers) (o .entries) (o .contents) (o .image)
 
       gone : Bool
-      gone = Objects.isDiscarded (o .headers) (o .entries) (o .contents) (o .file) (a .stage .link .sections) met abbrev-table (p .number)
+      gone = Objects.isDiscarded (o .headers) (o .entries) (o .contents) (o .image) (a .stage .link .sections) met abbrev-table (p .number)
 
       sec : ℕ
       sec = entry abbrev-table (p .number) .section
 
       IsValue : SymbolValue → Type 0
-      IsValue = Objects.IsValue (o .headers) (o .entries) (o .contents) (o .file) (a .stage .link .sections) met abbrev-table (p .number)
+      IsValue = Objects.IsValue (o .headers) (o .entries) (o .contents) (o .image) (a .stage .link .sections) met abbrev-table (p .number)
 
       out : (x y : Bool) → x && y ≡ true → y ≡ false → ⊥
       out true true q z = false≢true (sym z)
@@ -189,37 +189,25 @@ add-stands gabi conversion empty r u (Direct.elf e name file p a b c d) = stands
 
 abbrev pub callEntry : (k : Call) (s : Linked) (met : List (List ℕ)) (r : Row) → FromCall k s met r → Sym
 callEntry (intern x) s met r p = absurd p
-callEntry (resolve id) s met r p = absurd p
+callEntry (reads k) s met r p = absurd p
 callEntry (add conversion u) s met r p = addEntry p
 callEntry (remove id) s met r p = absurd p
-callEntry (get id) s met r p = absurd p
-callEntry (getGlobal name) s met r p = absurd p
-callEntry (sectionSymbol section) s met r p = absurd p
 callEntry (addGroup o work n) s met r p = absurd p
 callEntry (merge o work ids) s met r p = objectEntry o (allIn s work ids) met (p .number)
 callEntry (mergeFile file cells work ids) s met r p = objectEntry (ElfFile.rowsOf file) (allIn s work ids) met (p .1 .number)
 callEntry (load o marks) s met r p = sharedEntry (s .table .link .gabi) (entry (o .entries) (p .number))
-callEntry (archiveStart key index cells) s met r p = absurd p
-callEntry (archiveNext index cells w) s met r p = absurd p
-callEntry (matches headers entries contents file index cells w e) s met r p = absurd p
 callEntry (collect marks entry work) s met r p = absurd p
 callEntry (plainCollect marks entry work) s met r p = absurd p
 
 call-stands : (k : Call) (s : Linked) (met : List (List ℕ)) (r : Row) (p : FromCall k s met r) → Stands r (callEntry k s met r p)
 call-stands (intern x) s met r p = absurd p
-call-stands (resolve id) s met r p = absurd p
+call-stands (reads k) s met r p = absurd p
 call-stands (add conversion u) s met r p = add-stands (s .table .link .gabi) conversion (emptyAt (s .table .names) (nameOf u)) r u p
 call-stands (remove id) s met r p = absurd p
-call-stands (get id) s met r p = absurd p
-call-stands (getGlobal name) s met r p = absurd p
-call-stands (sectionSymbol section) s met r p = absurd p
 call-stands (addGroup o work n) s met r p = absurd p
 call-stands (merge o work ids) s met r p = object-stands o (allIn s work ids) met r p
 call-stands (mergeFile file cells work ids) s met r p = object-stands (ElfFile.rowsOf file) (allIn s work ids) met r (p .1)
 call-stands (load o marks) s met r p = library-stands o (libraryIn s marks) r p
-call-stands (archiveStart key index cells) s met r p = absurd p
-call-stands (archiveNext index cells w) s met r p = absurd p
-call-stands (matches headers entries contents file index cells w e) s met r p = absurd p
 call-stands (collect marks entry work) s met r p = absurd p
 call-stands (plainCollect marks entry work) s met r p = absurd p
 

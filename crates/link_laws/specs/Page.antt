@@ -46,13 +46,13 @@ use Rattle.archive_laws.specs.Runs.{Run, startRun}
 use Rattle.archive_laws.specs.PassList.{isIn, without, firstSeen, offered, Over, among-in}
 use Rattle.gc_sections.specs.declared.EntryPoint.{EntryPoint}
 use Rattle.gc_sections.specs.declared.Answer.the-variants.{Dropped}
-use Rattle.gc_laws.specs.Demand as Collection
+use Rattle.gc_laws.specs.Terms as Collection
 use Rattle.gc_laws.specs.Reached as Roots
 use Rattle.merge_stages.specs.Stages as Stages
 use Rattle.symbol_laws.specs.Rank.{firstOf}
 use Rattle.symbol_laws.specs.Hidden.{isHidden, someHidden}
 use Rattle.symbol_laws.specs.Standing.{SameButHidden, hiddenBy}
-use Rattle.symbol_laws.specs.Rows.{rowAt}
+use Rattle.symbol_laws.specs.Proof.Rows.{rowAt}
 use Rattle.symbol_laws.specs.ObjectWords.{sectionsIn, program, loadedAs}
 use Rattle.symbol_laws.specs.Agreement as Agreement
 use Rattle.symbol_laws.specs.History.{Entry, opened, rows}
@@ -64,13 +64,15 @@ use Rattle.link_laws.specs.Leaves.{byElements}
 use Rattle.link_laws.specs.Elements as Elements
 use Rattle.link_laws.specs.Contracts.{Exit, Meets}
 use Rattle.link_laws.specs.Kept.{signatures}
-use Rattle.link_laws.specs.Profile.{calls-profile}
-use Rattle.link_laws.specs.Walks.{nextIn, withWalk, walkAfter, tablesAt, joined, walk-is}
+use Rattle.link_laws.specs.Proof.Profile.{calls-profile}
+use Rattle.link_laws.specs.Walks.{nextIn, withWalk, walkAfter, tablesAt, joined}
+use Rattle.link_laws.specs.Proof.Walks.{walk-is}
 use Rattle.link_laws.specs.WalkIn as WalkIn
 use Rattle.link_laws.specs.SectionSymbols.{SectionRow, LocalSection, LastOf}
 use Rattle.link_laws.specs.Growth.{Turn, Quiet, runTurns}
 use Rattle.link_laws.specs.NeededIn.{NeededIn}
-use Rattle.link_laws.specs.Words.{idOf, lookup, undefined, strong, ties, adds, tied, ties-seen, tied-seen}
+use Rattle.link_laws.specs.Words.{idOf, lookup, undefined, strong, ties, adds, tied}
+use Rattle.link_laws.specs.Proof.Words.{ties-seen, tied-seen}
 use Rattle.link_laws.specs.Rules as Rules
 use Rattle.link_laws.specs.CallRules.{rules}
 use Rattle.link_laws.specs.ExactTerms as ExactTerms
@@ -283,7 +285,7 @@ module _ (key : ℕ) (gabi : Bool) (bytes names symbols sections inputs lists : 
     -- an object's relocations: after an accepted merge and calls whose collections reach it, a loaded program section n that no repeated group lists is built
     -- with its name, kind, retain and read, and names the ids that the symbols of its last loaded relocation table were given, in order
     pub relocations : (o : Stages.Object) (work ids : List ℕ) → callNumber (merge o work ids) end ≡ 0 → (n : ℕ)
-        → isRemoved (o .headers) (o .entries) (o .contents) (o .file) (signatures ks s0) (sectionsIn (o .headers)) n ≡ false → (ls : List Call)
+        → isRemoved (o .headers) (o .entries) (o .contents) (o .image) (signatures ks s0) (sectionsIn (o .headers)) n ≡ false → (ls : List Call)
         → SparesAll ls (callNext (merge o work ids) end) (sectionId o end n) → loadedAs (o .headers) n program ≡ true
         → ObjectSections.ObjectSection o work ids end (runCalls ls (callNext (merge o work ids) end)) n program
         (namedBy (o .headers) (o .contents) n (sectionsIn (o .headers)))
@@ -293,7 +295,7 @@ module _ (key : ℕ) (gabi : Bool) (bytes names symbols sections inputs lists : 
     -- and these ids stand for the object's symbols to the end: id 0 for a null first one; a local's row has its entry's type, its value through the object's sections, its
     -- name, its file; any other id is the one that the symbol's name has (Stands, GivenRows.antt)
     pub relocation-symbols : (o : Stages.Object) (work ids : List ℕ) (ok : callNumber (merge o work ids) end ≡ 0) (n : ℕ)
-        → isRemoved (o .headers) (o .entries) (o .contents) (o .file) (signatures ks s0) (sectionsIn (o .headers)) n ≡ false → (ls : List Call)
+        → isRemoved (o .headers) (o .entries) (o .contents) (o .image) (signatures ks s0) (sectionsIn (o .headers)) n ≡ false → (ls : List Call)
         → SparesAll ls (callNext (merge o work ids) end) (sectionId o end n) → (kind : ℕ) (named : List ℕ)
         → let then = runCalls ls (callNext (merge o work ids) end) in
         (x : ObjectSections.ObjectSection o work ids end then n kind named) → AllStand o end (signatures ks s0) then named (x .given)

@@ -8,15 +8,15 @@ use mathlib.Core.Logic.{_≢_}
 use lib.Dec.{eqb, ltb, leb}
 use lib.ListN.{length}
 use borrow.Author.Tests.{eqb-true}
-use Rattle.cells.specs.Split.{by-test}
-use Rattle.byte_slices.specs.Ways.{pick, apart}
+use Rattle.cells.specs.Proof.Split.{by-test}
+use Rattle.byte_slices.specs.Proof.Ways.{pick, apart}
 use Rattle.link.specs.declared.Link.{Link}
 use Rattle.link.specs.declared.Lent.{Lent}
 use Rattle.link.specs.declared.SymbolId.{SymbolId}
 use Rattle.link.specs.declared.Refusal.{Refusal}
 use Rattle.link.specs.Bounds.{sectionSlots}
 use Rattle.link.specs.Judge.{changeOf}
-use Rattle.link.specs.Passed.{judge-gives}
+use Rattle.link.specs.Proof.Passed.{judge-gives}
 use Rattle.link.specs.Said.{numberIn, placeIn}
 use Rattle.interner.specs.Names.{Store, findOf, fitsOf}
 use Rattle.interner.specs.Calls as Names
@@ -25,9 +25,9 @@ use Rattle.symbol.specs.declared.Row.{Row}
 use Rattle.upcoming_symbol.specs.declared.UpcomingSymbol.{UpcomingSymbol}
 use Rattle.upcoming_symbol.specs.Judge.{inRange}
 use Rattle.upcoming_symbol.specs.Upcoming.{nameOf, rowOf}
-use Rattle.symbol_rows.specs.declared.Decision.{Decision}
-use Rattle.symbol_rows.specs.Decide.{refusalOf}
-use Rattle.symbol_rows.specs.Apply.{Table}
+use Rattle.symbol_resolution.specs.declared.rows.Decision.{Decision}
+use Rattle.symbol_resolution.specs.Decide.{refusalOf}
+use Rattle.symbol_resolution.specs.Apply.{Table}
 use Rattle.symbols.specs.Calls as Symbols
 use Rattle.symbols.specs.Calls.{lentOf}
 use Rattle.symbols.specs.Add as Add
@@ -36,14 +36,14 @@ use Rattle.symbols.specs.Remove.{Rows, RemoveLeft, removeOf}
 use Rattle.elf_object.specs.Rows.{rowsIn, isLoaded}
 use Rattle.elf_object.specs.Judge as Elf
 use Rattle.section_groups.specs.Group as Group
-use Rattle.add_group.specs.AddGroup as AddGroup
-use Rattle.add_group.specs.AddGroup.{addGroupOf}
+use Rattle.section_groups.specs.AddGroup as AddGroup
+use Rattle.section_groups.specs.AddGroup.{addGroupOf}
 use Rattle.merge_stages.specs.Stages as Stages
 use Rattle.merge_elf.specs.Merge as Merge
-use Rattle.merge_elf.specs.Merge.{workRefusal, rowsRefusal, headOf, headIn}
-use Rattle.library_head.specs.Head as Head
+use Rattle.merge_elf.specs.Merge.{workRefusal, rowsRefusal, checkOf, headIn}
+use Rattle.shared_objects.specs.Head as Head
 use Rattle.shared_objects.specs.Load as Shared
-use Rattle.shared_laws.specs.Unneeded as Unneeded
+use Rattle.load_laws.specs.NeedTerms as Unneeded
 use Rattle.gc_sections.specs.declared.EntryPoint.{EntryPoint}
 use Rattle.gc_sections.specs.declared.Unbuilt.{Unbuilt}
 use Rattle.gc_sections.specs.declared.Unbuilt.the-variants as Unbuilts
@@ -51,26 +51,27 @@ use Rattle.gc_sections.specs.Reach as Reach
 use Rattle.gc_sections.specs.Run as Collection
 use Rattle.gc_sections.specs.Run.{judgeCells, judged, purgeOf, sweepOf, finishOf, finished, collectOf, runOf}
 use Rattle.symbol_laws.specs.History.{State, store, table}
-use Rattle.merge_laws.specs.Refusals.{oneOf}
 use Rattle.merge_laws.specs.ByNumber as ByNumber
 use Rattle.merge_laws.specs.ByNumber.{disjoint, changed, elf-gives}
 use Rattle.merge_laws.specs.Calls.{Linked, allIn}
-use Rattle.link_laws.specs.Calls.{Call, intern, resolve, add, remove, get, getGlobal, sectionSymbol, addGroup, merge, mergeFile, load, archiveStart, archiveNext, matches, collect, plainCollect, libraryIn, listsIn, groupIn, callRefusal, callNumber, fileHead, isRead}
-use Rattle.link_laws.specs.PlainCalls.{Compared, alike, many, compared, many-refusal}
+use Rattle.link_laws.specs.Read as Read
+use Rattle.link_laws.specs.Calls.{Call, intern, resolve, add, remove, get, getGlobal, addGroup, merge, mergeFile, load, archiveStart, archiveNext, matches, collect, plainCollect, libraryIn, listsIn, groupIn, callRefusal, callNumber, fileHead, isRead, reads}
+use Rattle.link_laws.specs.Proof.PlainCalls.{Compared, alike, many, compared, many-refusal}
 use Rattle.merge_file.specs.MergeFile.{fileHeadOf}
 use Rattle.elf_laws.specs.Object as ElfFile
-use Rattle.link_laws.specs.FileCall.{refusal-read, refusal-unread, whole-gives}
-use Rattle.link_laws.specs.FileCall as Files
-use Rattle.link_laws.specs.Table.{starred, placeless, callNumbers, within}
-use Rattle.link_laws.specs.Among.{one-within}
-use Rattle.link_laws.specs.AddNumbers as AddNumbers
+use Rattle.link_laws.specs.Proof.FileCall.{refusal-read, refusal-unread, whole-gives}
+use Rattle.link_laws.specs.Proof.FileCall as Files
+use Rattle.link_laws.specs.Table.{callNumbers}
+use Rattle.link_laws.specs.Proof.Among.{one-within}
+use Rattle.link_laws.specs.Proof.AddNumbers as AddNumbers
 use Rattle.link_laws.specs.Numbers.{numbers}
-use Rattle.link_laws.specs.LoadNumbers.{lentIn, rows-give, head-gives}
+use Rattle.link_laws.specs.Proof.LoadNumbers.{lentIn, rows-give, head-gives}
 use Rattle.link_laws.specs.Leaves.{byElements}
 use Rattle.link_laws.specs.Broken.{changes, broken-refused}
 use Rattle.link_laws.specs.Places.{add-place}
 use Rattle.link_laws.specs.CallPlaces.{differ, intern-place, resolve-place, start-place, global-at, group-of-head}
 use Rattle.link_laws.specs.Starred.{headRefusal, Stopped, at-head, at-element, stopped, some}
+use Rattle.merge_laws.specs.Table.{oneOf, within, groupNumbers, starred, placeless}
 
 -- ---- 22 only on a broken link
 
@@ -146,29 +147,29 @@ module _ (o : Group.Object) (s : Group.State) (n : ℕ) where
   Only r = r .number ≡ 22 → s .link .broken ≡ true
 
   group-head-only : Only (AddGroup.headIn o s n)
-  unfolding AddGroup.headOf AddGroup.rowsRefusal AddGroup.marksRefusal
+  unfolding AddGroup.checkOf AddGroup.rowsRefusal AddGroup.marksRefusal
   group-head-only =
       pick Only (eqb (changeOf (s .link) (AddGroup.lent s) .number) 0) _ _
       (λ a.
-      pick Only (eqb (Elf.judgeOf (o .headers) (o .entries) (length (o .contents)) (length (o .file)) .number) 0) _ _
+      pick Only (eqb (Elf.judgeOf (o .headers) (o .entries) (length (o .contents)) (length (o .image)) .number) 0) _ _
       (λ b.
       pick Only (isLoaded (o .headers) n 7) _ _
       (λ c. pick Only (ltb (length (s .work) / 8) (rowsIn (o .headers))) _ _ (λ d e. differ 2 22 refl e) (λ d e. differ 0 22 refl e))
       (λ c e. differ 1 22 refl e))
       (λ b.
-      elf-gives Only (λ k e. differ 1 22 refl e) (λ e. differ 0 22 refl e) (o .headers) (o .entries) (length (o .contents)) (length (o .file))))
+      elf-gives Only (λ k e. differ 1 22 refl e) (λ e. differ 0 22 refl e) (o .headers) (o .entries) (length (o .contents)) (length (o .image))))
       (λ a. change-only (s .link) (AddGroup.lent s))
 
 merge-head-only : (o : Stages.Object) (a : Stages.All) → headIn o a .number ≡ 22 → a .stage .link .broken ≡ true
-unfolding headOf rowsRefusal workRefusal
+unfolding checkOf rowsRefusal workRefusal
 merge-head-only o a =
     pick P (eqb (changeOf (a .stage .link) (Merge.lent a) .number) 0) _ _
     (λ b.
-    pick P (eqb (Elf.judgeOf (o .headers) (o .entries) (length (o .contents)) (length (o .file)) .number) 0) _ _
+    pick P (eqb (Elf.judgeOf (o .headers) (o .entries) (length (o .contents)) (length (o .image)) .number) 0) _ _
     (λ c.
     pick P (ltb (length (a .work) / 8) (rowsIn (o .headers))) _ _ (λ d e. differ 2 22 refl e)
     (λ d. pick P (ltb (length (a .ids)) (rowsIn (o .entries))) _ _ (λ f e. differ 2 22 refl e) (λ f e. differ 0 22 refl e)))
-    (λ c. elf-gives P (λ k e. differ 1 22 refl e) (λ e. differ 0 22 refl e) (o .headers) (o .entries) (length (o .contents)) (length (o .file))))
+    (λ c. elf-gives P (λ k e. differ 1 22 refl e) (λ e. differ 0 22 refl e) (o .headers) (o .entries) (length (o .contents)) (length (o .image))))
     (λ b. change-only (a .stage .link) (Merge.lent a))
   where
     P : Refusal → Type 0
@@ -203,15 +204,15 @@ collect-only l x symbols sections entry work =
     end (Unbuilts.Lowest id) e = differ 21 22 refl e
 
 load-head-only : (o : Shared.Input) (a : Shared.All) → Shared.headIn o a .number ≡ 22 → a .link .broken ≡ true
-unfolding Head.headOf Head.afterRows Head.nameRefusal
+unfolding Head.checkOf Head.afterRows Head.nameRefusal
 load-head-only o a =
     pick P (eqb (changeOf (a .link) (lentIn a) .number) 0) _ _
     (λ t.
-    pick P (eqb (Head.rowsOf (o .entries) (o .file) (o .needs) (o .sonamed) (o .soname) .number) 0) _ _
+    pick P (eqb (Head.rowsOf (o .entries) (o .image) (o .needs) (o .sonamed) (o .soname) .number) 0) _ _
     (λ b.
     pick P (Head.unnamedOf (o .archived) (o .sonamed)) _ _ (λ c e. differ 25 22 refl e)
     (λ c. pick P (Head.marksShort (o .asneeded) (length (a .marks)) (a .link .names)) _ _ (λ d e. differ 2 22 refl e) (λ d e. differ 0 22 refl e)))
-    (λ b. rows-give P (λ k e. differ 1 22 refl e) (λ e. differ 0 22 refl e) (o .entries) (o .file) (o .needs) (o .sonamed) (o .soname)))
+    (λ b. rows-give P (λ k e. differ 1 22 refl e) (λ e. differ 0 22 refl e) (o .entries) (o .image) (o .needs) (o .sonamed) (o .soname)))
     (λ t. change-only (a .link) (lentIn a))
   where
     P : Refusal → Type 0
@@ -250,19 +251,19 @@ never k s m d e = absurd (false≢true (sym d ∙ ap (λ (n : ℕ). oneOf n (0 �
 
 pub broken-only : (k : Call) (s : Linked) → callNumber k s ≡ 22 → (changes k ≡ true) × (s .table .link .broken ≡ true)
 broken-only (intern x) s e = (refl, intern-only (store (s .table)) x e)
-broken-only (resolve id) s e = never (resolve id) s 22 refl e
+broken-only (reads (Read.resolve id)) s e = never (resolve id) s 22 refl e
 broken-only (add conversion u) s e = (refl, add-only (table (s .table)) conversion u e)
 broken-only (remove id) s e = (refl, remove-only (s .table .link) _ id e)
-broken-only (get id) s e = never (get id) s 22 refl e
-broken-only (getGlobal name) s e = never (getGlobal name) s 22 refl e
-broken-only (sectionSymbol section) s e = differ 0 22 refl e
+broken-only (reads (Read.get id)) s e = never (get id) s 22 refl e
+broken-only (reads (Read.getGlobal name)) s e = never (getGlobal name) s 22 refl e
+broken-only (reads (Read.sectionSymbol section)) s e = differ 0 22 refl e
 broken-only (addGroup o work n) s e = (refl, group-only o (s .table) work n e)
 broken-only (merge o work ids) s e = (refl, stopped-only (merge o work ids) s refl (merge-head-only o (allIn s work ids)) e)
 broken-only (mergeFile file cells work ids) s e = (refl, file-only file cells work ids s e)
 broken-only (load o marks) s e = (refl, stopped-only (load o marks) s refl (load-head-only o (libraryIn s marks)) e)
-broken-only (archiveStart key index cells) s e = never (archiveStart key index cells) s 22 refl e
-broken-only (archiveNext index cells w) s e = never (archiveNext index cells w) s 22 refl e
-broken-only (matches headers entries contents file index cells w x) s e = never (matches headers entries contents file index cells w x) s 22 refl e
+broken-only (reads (Read.archiveStart key index cells)) s e = never (archiveStart key index cells) s 22 refl e
+broken-only (reads (Read.archiveNext index cells w)) s e = never (archiveNext index cells w) s 22 refl e
+broken-only (reads (Read.matches headers entries contents file index cells w x)) s e = never (matches headers entries contents file index cells w x) s 22 refl e
 broken-only (collect marks entry work) s e =
     (refl, collect-only (s .table .link) (listsIn s marks) (s .table .symbols) (s .table .sections) entry work e)
 broken-only (plainCollect marks entry work) s e = go (compared marks entry work s)
@@ -319,22 +320,22 @@ file-at file cells work ids s p =
 
 pub zero-places : (k : Call) (s : Linked) → oneOf (callNumber k s) placeless ≡ true → callRefusal k s .place ≡ 0
 zero-places (intern x) s p = intern-place x s (other (callNumber (intern x) s) 1 refl p)
-zero-places (resolve id) s p = resolve-place id s (other (callNumber (resolve id) s) 1 refl p)
+zero-places (reads (Read.resolve id)) s p = resolve-place id s (other (callNumber (resolve id) s) 1 refl p)
 zero-places (add conversion u) s p = add-place conversion u s (other (callNumber (add conversion u) s) 21 refl p)
 zero-places (remove id) s p = only-22 (remove id) s (0 ∷ 1 ∷ 21 ∷ []) refl refl p
-zero-places (get id) s p = none-of (get id) s refl p
-zero-places (getGlobal name) s p =
+zero-places (reads (Read.get id)) s p = none-of (get id) s refl p
+zero-places (reads (Read.getGlobal name)) s p =
     global-at (s .table .link) (s .table .names) (s .table .symbols) name .1
     (sole (callNumber (getGlobal name) s) 23 (0 ∷ 1 ∷ 21 ∷ []) refl
     (one-within (callNumber (getGlobal name) s) (0 ∷ callNumbers (getGlobal name)) (23 ∷ 0 ∷ 1 ∷ 21 ∷ []) refl (numbers (getGlobal name) s)) p)
-zero-places (sectionSymbol section) s p = refl
-zero-places (addGroup o work n) s p = only-22 (addGroup o work n) s (0 ∷ 1 ∷ 2 ∷ 4 ∷ 5 ∷ 6 ∷ 7 ∷ []) refl refl p
+zero-places (reads (Read.sectionSymbol section)) s p = refl
+zero-places (addGroup o work n) s p = only-22 (addGroup o work n) s (0 ∷ 1 ∷ groupNumbers) refl refl p
 zero-places (merge o work ids) s p = only-22 (merge o work ids) s (0 ∷ 1 ∷ 2 ∷ starred) refl refl p
 zero-places (mergeFile file cells work ids) s p = file-at file cells work ids s p
 zero-places (load o marks) s p = load-at o marks s p
-zero-places (archiveStart key index cells) s p = start-place key index cells s (other (callNumber (archiveStart key index cells) s) 1 refl p)
-zero-places (archiveNext index cells w) s p = none-of (archiveNext index cells w) s refl p
-zero-places (matches headers entries contents file index cells w e) s p = none-of (matches headers entries contents file index cells w e) s refl p
+zero-places (reads (Read.archiveStart key index cells)) s p = start-place key index cells s (other (callNumber (archiveStart key index cells) s) 1 refl p)
+zero-places (reads (Read.archiveNext index cells w)) s p = none-of (archiveNext index cells w) s refl p
+zero-places (reads (Read.matches headers entries contents file index cells w e)) s p = none-of (matches headers entries contents file index cells w e) s refl p
 zero-places (collect marks entry work) s p = only-22 (collect marks entry work) s (0 ∷ 1 ∷ 2 ∷ 21 ∷ []) refl refl p
 zero-places (plainCollect marks entry work) s p = go (compared marks entry work s)
   where
@@ -346,15 +347,15 @@ zero-places (plainCollect marks entry work) s p = go (compared marks entry work 
 -- ---- 2 of a head at 0: no element is met
 
 merge-head-two : (o : Stages.Object) (a : Stages.All) → headIn o a .number ≡ 2 → headIn o a .place ≡ 0
-unfolding headOf rowsRefusal workRefusal
+unfolding checkOf rowsRefusal workRefusal
 merge-head-two o a =
     pick P (eqb (changeOf (a .stage .link) (Merge.lent a) .number) 0) _ _
     (λ b.
-    pick P (eqb (Elf.judgeOf (o .headers) (o .entries) (length (o .contents)) (length (o .file)) .number) 0) _ _
+    pick P (eqb (Elf.judgeOf (o .headers) (o .entries) (length (o .contents)) (length (o .image)) .number) 0) _ _
     (λ c.
     pick P (ltb (length (a .work) / 8) (rowsIn (o .headers))) _ _ (λ d e. refl)
     (λ d. pick P (ltb (length (a .ids)) (rowsIn (o .entries))) _ _ (λ f e. refl) (λ f e. refl)))
-    (λ c. elf-gives P (λ k e. differ 1 2 refl e) (λ e. refl) (o .headers) (o .entries) (length (o .contents)) (length (o .file))))
+    (λ c. elf-gives P (λ k e. differ 1 2 refl e) (λ e. refl) (o .headers) (o .entries) (length (o .contents)) (length (o .image))))
     (λ b. changed P (λ e. refl) (λ k e. differ 1 2 refl e) (λ e. refl) (a .stage .link) (Merge.lent a))
   where
     P : Refusal → Type 0
@@ -377,20 +378,14 @@ file-two file cells work ids s e =
 
 pub head-two-place : (k : Call) (s : Linked) → headRefusal k s .number ≡ 2 → callRefusal k s .place ≡ 0
 head-two-place (intern x) s e = differ 0 2 refl e
-head-two-place (resolve id) s e = differ 0 2 refl e
+head-two-place (reads k) s e = differ 0 2 refl e
 head-two-place (add conversion u) s e = differ 0 2 refl e
 head-two-place (remove id) s e = differ 0 2 refl e
-head-two-place (get id) s e = differ 0 2 refl e
-head-two-place (getGlobal name) s e = differ 0 2 refl e
-head-two-place (sectionSymbol section) s e = differ 0 2 refl e
 head-two-place (addGroup o work n) s e = differ 0 2 refl e
 head-two-place (merge o work ids) s e = object-two o work ids s e
 head-two-place (mergeFile file cells work ids) s e = file-two file cells work ids s e
 head-two-place (load o marks) s e =
     ap (λ (x : Shared.Left). placeIn (x .said)) (Unneeded.head-leaves o (libraryIn s marks) (λ z. differ 0 2 refl (sym z ∙ e)))
     ∙ head-gives (λ (r : Refusal). r .number ≡ 2 → r .place ≡ 0) (λ k q. differ 1 2 refl q) (λ q. refl) (λ q. refl) (λ q. refl) (λ q. refl) o (libraryIn s marks) e
-head-two-place (archiveStart key index cells) s e = differ 0 2 refl e
-head-two-place (archiveNext index cells w) s e = differ 0 2 refl e
-head-two-place (matches headers entries contents file index cells w x) s e = differ 0 2 refl e
 head-two-place (collect marks entry work) s e = differ 0 2 refl e
 head-two-place (plainCollect marks entry work) s e = differ 0 2 refl e

@@ -6,7 +6,7 @@ use mathlib.Core.List.{List}
 use mathlib.Core.Logic.{_≢_}
 use lib.Dec.{eqb}
 use borrow.Author.Tests.{eqb-true, eqb-false}
-use Rattle.byte_slices.specs.Ways.{pick}
+use Rattle.byte_slices.specs.Proof.Ways.{pick}
 use Rattle.link.specs.declared.Link.{Link}
 use Rattle.link.specs.declared.Lent.{Lent}
 use Rattle.link.specs.declared.Refusal.{Refusal}
@@ -17,9 +17,9 @@ use Rattle.symbol.specs.declared.SttFile.{SttFile}
 use Rattle.upcoming_symbol.specs.declared.UpcomingSymbol.{UpcomingSymbol}
 use Rattle.upcoming_symbol.specs.Judge.{inRange}
 use Rattle.upcoming_symbol.specs.Upcoming.{nameOf, rowOf}
-use Rattle.symbol_rows.specs.declared.Decision.{Decision}
-use Rattle.symbol_rows.specs.Decide.{refusalOf}
-use Rattle.symbol_rows.specs.Apply as SymbolRows
+use Rattle.symbol_resolution.specs.declared.rows.Decision.{Decision}
+use Rattle.symbol_resolution.specs.Decide.{refusalOf}
+use Rattle.symbol_resolution.specs.Apply as SymbolRows
 use Rattle.symbols.specs.Calls as Symbols
 use Rattle.symbols.specs.Add as Add
 use Rattle.symbols.specs.Add.{emptyAt, fileOf, decidedOf, committedOf, addRowOf, judgeAddOf, addOf}

@@ -7,17 +7,17 @@ use mathlib.Core.List.{List, [], _∷_, _++_}
 use lib.Dec.{eqb, ltb}
 use lib.ListN.{length}
 use borrow.Author.Tests.{eqb-true, eqb-false, ne-eqb, lt-ltb, le-ltb, ltb-true, ltb-false}
-use Rattle.cells.specs.Split.{by-test}
+use Rattle.cells.specs.Proof.Split.{by-test}
 use Rattle.link.specs.declared.Refusal.{Refusal}
 use Rattle.link.specs.Bounds.{notLent}
 use Rattle.link.specs.Judge.{refused}
 use Rattle.gc_sections.specs.declared.EntryPoint.{EntryPoint}
 use Rattle.gc_sections.specs.Run.{Left, Said, judged}
-use Rattle.plain_laws.specs.Plain.{builtRows, plain-agrees, plain-broken, plain-short, plain-thirty}
+use Rattle.plain_laws.specs.Terms.{builtRows, plain-agrees, plain-broken, plain-short, plain-thirty}
 use Rattle.symbol_laws.specs.History.{State}
 use Rattle.merge_laws.specs.Calls.{Linked}
 use Rattle.link_laws.specs.Calls.{collect, plainCollect, listsIn, callRefusal}
-use Rattle.link_laws.specs.PlainCalls.{many-refusal}
+use Rattle.link_laws.specs.Proof.PlainCalls.{many-refusal}
 use Rattle.link_laws.specs.Rules.{Rule, _gives_at_, lentRows, headRules, firstOf}
 use Rattle.link_laws.specs.CollectRules.{collectHead, reachedRules, collectRules, plainHead, plainRules}
 use Rattle.link_laws.specs.CollectExactly.{head-exactly, collect-exactly}

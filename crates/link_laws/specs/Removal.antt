@@ -11,7 +11,7 @@ use lib.Dec.{eqb, leb, ltb}
 use lib.ListN.{length, getD, set}
 use lib.Seq.{getD-set-same, getD-set-other}
 use borrow.Author.Tests.{eq-eqb, ne-eqb, eqb-true, eqb-false, lt-leb, leb-true, leb-false, lt-ltb, ltb-true, ltb-false}
-use Rattle.cells.specs.Split.{by-test}
+use Rattle.cells.specs.Proof.Split.{by-test}
 use Rattle.link.specs.declared.Link.{Link}
 use Rattle.link.specs.declared.SymbolId.{SymbolId}
 use Rattle.link.specs.Judge.{changeOf}
@@ -22,24 +22,25 @@ use Rattle.symbol.specs.declared.Row.{Row}
 use Rattle.symbol.specs.declared.SttFile.the-variants as File
 use Rattle.symbol.specs.Codes.{successor}
 use Rattle.symbol.specs.Row.{stateAt, setRow}
-use Rattle.symbol.specs.RowLaws.{length-setRow}
-use Rattle.symbol_rows.specs.declared.Decision.{Decision}
-use Rattle.symbol_rows.specs.declared.Decision.the-variants.{Refuse, Replace, Amend}
-use Rattle.symbol_rows.specs.Holder.{globalAt, heldBy, holderOf}
-use Rattle.symbol_rows.specs.Decide.{decideOf}
-use Rattle.symbol_rows.specs.Apply.{Table, tableOf, noteName, appendOf, replacedIn, amendedIn, applyOf}
+use Rattle.symbol.specs.Proof.RowLaws.{length-setRow}
+use Rattle.symbol_resolution.specs.declared.rows.Holder.the-variants.{Removed}
+use Rattle.symbol_resolution.specs.declared.rows.Decision.{Decision}
+use Rattle.symbol_resolution.specs.declared.rows.Decision.the-variants.{Refuse, Replace, Amend}
+use Rattle.symbol_resolution.specs.Holder.{globalAt, heldBy, holderOf}
+use Rattle.symbol_resolution.specs.Apply.{Table, tableOf, noteName, appendOf, replacedIn, amendedIn, applyOf}
 use Rattle.symbols.specs.Calls as Symbols
 use Rattle.symbols.specs.Calls.{Left}
 use Rattle.symbols.specs.Add.{issuedOf, directHolderOf, decidedOf, committedOf, addRowOf}
 use Rattle.symbols.specs.Remove.{Rows, rowsOf, removeRowOf, removeOf}
-use Rattle.symbol_laws.specs.View.{Named, Free, Refuses, View, refused, kept, amended, replaced, appended, local, view, decided, held}
-use Rattle.symbol_laws.specs.Refused.{commit-refused}
-use Rattle.symbol_laws.specs.Rows.{stored-there, there-kept}
+use Rattle.symbol_laws.specs.View.{Named, Free, Refuses, View, refused, kept, amended, replaced, appended, local, view, decided, held, holder}
+use Rattle.symbol_laws.specs.Proof.View.{absent-refused}
+use Rattle.symbol_laws.specs.Proof.Refused.{commit-refused}
+use Rattle.symbol_laws.specs.Proof.Rows.{stored-there, there-kept}
 use Rattle.symbol_laws.specs.Below.{Below}
-use Rattle.symbol_laws.specs.Issue.{FreeRow, linked-old, room-free}
+use Rattle.symbol_laws.specs.Proof.Issue.{FreeRow, linked-old, room-free}
 use Rattle.symbol_laws.specs.History.{State, table, store, withTable, withStore, Part, issue, put, putOf, idOf, partNext}
 use Rattle.merge_laws.specs.Steps.{Step, part, mark, others, stepNext, runSteps}
-use Rattle.merge_laws.specs.Past.{step-below}
+use Rattle.merge_laws.specs.Proof.Past.{step-below}
 
 -- between two states: the row stands as it stood, or it was written, and wasn't a removed one
 pub data Stood (s t : State) (i : ℕ) : Type 0 where
@@ -68,18 +69,15 @@ module _ (s : State) (g : Ready s) (r : Row) where
   abbrev id : ℕ
   id = held (table s) r
 
+  removed-holder : Named (table s) r → id ≢ 0 → stateAt (s .symbols) id ≡ 2 → holder (table s) r ≡ Removed
+  unfolding directHolderOf issuedOf holderOf heldBy
+  removed-holder n z e =
+      rw (lt-leb (s .link .names) (r .name .0) (n .issued), ne-eqb id 0 z, lt-leb (s .link .symbols) id (g .below .held (r .name .0) (n .issued) z), eq-eqb (stateAt (s .symbols) id) 2 e)
+
   -- under a removed name nothing is decided but a refusal
   removed-refuses : Named (table s) r → id ≢ 0 → stateAt (s .symbols) id ≡ 2 → Refuses (decided (table s) r)
-  unfolding decidedOf decideOf directHolderOf issuedOf holderOf heldBy
-  removed-refuses n z e =
-      by-test (leb 5 (r .visibility))
-      (λ v. record { number = r .visibility; is = rw v; real = λ q. omega (arith, leb-true 5 (r .visibility) v) })
-      (λ v.
-      record {
-        number = 21;
-        is = rw (v, ne-eqb (r .visibility) 0 (n .global), lt-leb (s .link .names) (r .name .0) (n .issued), ne-eqb id 0 z, lt-leb (s .link .symbols) id (g .below .held (r .name .0) (n .issued) z), eq-eqb (stateAt (s .symbols) id) 2 e);
-        real = λ q. omega arith;
-      })
+  unfolding decidedOf
+  removed-refuses n z e = absent-refused (table s) r (holder (table s) r) (rw (removed-holder n z e, ne-eqb (r .visibility) 0 (n .global)))
 
   written-present : (d : Decision) → ((k : ℕ) → d ≡ Refuse k → ⊥) → Named (table s) r → id ≢ 0 → decided (table s) r ≡ d → stateAt (s .symbols) id ≢ 2
   written-present d differ n z p e = differ (removed-refuses n z e .number) (sym p ∙ removed-refuses n z e .is)

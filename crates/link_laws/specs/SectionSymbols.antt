@@ -11,7 +11,7 @@ use lib.Dec.{eqb, leb, ltb}
 use lib.ListN.{length, getD, set, length-set, take, replicate, length-replicate, getD-replicate, List·getD-eq-default}
 use lib.Seq.{length-take-le, getD-append-add, getD-set-same, getD-set-other}
 use borrow.Author.Tests.{eqb-true, eqb-false, eq-eqb, ne-eqb, lt-leb, leb-true, leb-false, ltb-true, ltb-false}
-use Rattle.cells.specs.Split.{by-test}
+use Rattle.cells.specs.Proof.Split.{by-test}
 use Rattle.link.specs.declared.Link.{Link}
 use Rattle.link.specs.declared.SymbolId.{SymbolId}
 use Rattle.link.specs.declared.SectionId.{SectionId}
@@ -28,8 +28,8 @@ use Rattle.symbol.specs.declared.SymbolValue.{SymbolValue}
 use Rattle.symbol.specs.declared.SymbolValue.the-variants as Val
 use Rattle.symbol.specs.Codes.{visibilityAt, valueAt}
 use Rattle.symbol.specs.Row.{field, stateAt, visibilityCodeAt, valueWordsAt, symbolAt}
-use Rattle.symbol_rows.specs.Decide.{sectionCell}
-use Rattle.symbol_rows.specs.Apply.{setSectionSymbol}
+use Rattle.symbol_resolution.specs.Decide.{sectionCell}
+use Rattle.symbol_resolution.specs.Apply.{setSectionSymbol}
 use Rattle.symbols.specs.declared.Found.the-variants as Fd
 use Rattle.symbols.specs.declared.SectionSymbol.{SectionSymbol}
 use Rattle.symbols.specs.declared.SectionSymbol.the-variants as Answer
@@ -39,19 +39,19 @@ use Rattle.symbols.specs.Remove.{Rows, rowsOf, dropSection, removeRowOf, remove
 use Rattle.symbols.specs.New.{nullRow, clearSymbols, nullOf, newOf}
 use Rattle.gc_sections.specs.declared.EntryPoint.{EntryPoint}
 use Rattle.gc_sections.specs.declared.Answer.the-variants.{Dropped}
-use Rattle.gc_laws.specs.Demand as Collection
+use Rattle.gc_laws.specs.Terms as Collection
 use Rattle.gc_laws.specs.Reached as Roots
-use Rattle.symbol_laws.specs.Refused.{remove-link}
-use Rattle.symbol_laws.specs.Rows.{rowAt, stored-row}
+use Rattle.symbol_laws.specs.Proof.Refused.{remove-link}
+use Rattle.symbol_laws.specs.Proof.Rows.{rowAt, stored-row}
 use Rattle.symbol_laws.specs.View.{lesser-second}
 use Rattle.symbol_laws.specs.History.{State, opened}
 use Rattle.merge_laws.specs.Calls.{Linked}
 use Rattle.link_laws.specs.Calls.{Call, get, remove, sectionSymbol, collect, listsIn, callLeft, callNumber, callNext, runCalls, RemovesNothing}
-use Rattle.link_laws.specs.CollectPast.{run-past}
+use Rattle.link_laws.specs.Proof.CollectPast.{run-past}
 use Rattle.link_laws.specs.Kept.{Lasting}
 use Rattle.link_laws.specs.Removal.{Ready}
 use Rattle.link_laws.specs.LookedUp as LookedUp
-use Rattle.link_laws.specs.LocalRows.{ownOf, isOwn, symbolIn, Shown, Since, none, newest, Onto, calls-onto, own-parts, cell-at, cells-apart, stands-local}
+use Rattle.link_laws.specs.LocalRows.{ownOf, isOwn, symbolIn, Shown, Counted, Since, none, newest, Onto, calls-onto, own-parts, cell-at, cells-apart, stands-local}
 
 -- ---- the words
 
@@ -148,15 +148,26 @@ answer-none : (s : Linked) (y : SectionId) → symbolIn (s .table) (y .0) ≡ 0 
 unfolding sectionSymbolOf
 answer-none s y e = rw (eq-eqb _ _ e)
 
-answer-some : (s : Linked) (y : SectionId) (i : SymbolId) → symbolIn (s .table) (y .0) ≡ i .0 → i .0 ≢ 0 → callLeft (sectionSymbol y) s ≡ Answer.Symbol i
+answer-some : (s : Linked) (y : SectionId) (i : SymbolId) → symbolIn (s .table) (y .0) ≡ i .0 → i .0 ≢ 0 → i .0 < s .table .link .symbols
+    → callLeft (sectionSymbol y) s ≡ Answer.Symbol i
 unfolding sectionSymbolOf
-answer-some s y i e u =
+answer-some s y i e u h =
     let n : symbolIn (s .table) (y .0) ≢ 0 = λ z. u (sym e ∙ z) in
-    rw (ne-eqb _ _ n) (ap (λ (k : ℕ). Answer.Symbol (record { 0 = k })) e)
+    let m : symbolIn (s .table) (y .0) < s .table .link .symbols = omega (arith, e, h) in
+    rw (ne-eqb _ _ n, lt-leb _ _ m) (ap (λ (k : ℕ). Answer.Symbol (record { 0 = k })) e)
 
-answer-same : (s t : Linked) (y : SectionId) → symbolIn (t .table) (y .0) ≡ symbolIn (s .table) (y .0) → callLeft (sectionSymbol y) t ≡ callLeft (sectionSymbol y) s
+-- the same cell and as many rows; or no fewer, with the id among those before
+answer-same : (s t : Linked) (y : SectionId) → symbolIn (t .table) (y .0) ≡ symbolIn (s .table) (y .0) → t .table .link .symbols ≡ s .table .link .symbols
+    → callLeft (sectionSymbol y) t ≡ callLeft (sectionSymbol y) s
 unfolding sectionSymbolOf
-answer-same s t y e = rw e
+answer-same s t y e n = rw (e, n)
+
+answer-later : (s t : Linked) (y : SectionId) → symbolIn (t .table) (y .0) ≡ symbolIn (s .table) (y .0) → s .table .link .symbols ≤ t .table .link .symbols
+    → symbolIn (s .table) (y .0) < s .table .link .symbols → callLeft (sectionSymbol y) t ≡ callLeft (sectionSymbol y) s
+unfolding sectionSymbolOf
+answer-later s t y e n h =
+    let m : symbolIn (s .table) (y .0) < t .table .link .symbols = omega (arith, n, h) in
+    rw (e, lt-leb _ _ h, lt-leb _ _ m)
 
 abbrev symbolNumber : SectionSymbol → ℕ
 symbolNumber Answer.None = 0
@@ -206,9 +217,12 @@ module _ (s : Linked) (met : List (List ℕ)) (k : Lasting s met) (g : Ready (s 
 
 -- ---- calls that remove nothing, from any link on
 
-module _ (s t : Linked) (met : List (List ℕ)) (k : Lasting t met) (g : Ready (t .table)) (o : Onto (s .table) (t .table)) (some : 1 ≤ s .table .link .symbols) (y : SectionId) where
+module _ (s t : Linked) (met : List (List ℕ)) (k : Lasting t met) (g : Ready (t .table)) (o : Onto (s .table) (t .table)) (counted : Counted (s .table)) (y : SectionId) where
   abbrev before : ℕ
   before = s .table .link .symbols
+
+  some : 1 ≤ before
+  some = omega (arith, counted 0)
 
   new-of : (i : ℕ) → before ≤ i → i < t .table .link .symbols → isOwn (t .table) i (y .0) ≡ true → LocalSection t y (record { 0 = i })
   new-of i h l q = of-own t met k g y (record { 0 = i }) l (o .present i l (λ n. absurd (omega arith))) q
@@ -229,14 +243,14 @@ module _ (s t : Linked) (met : List (List ℕ)) (k : Lasting t met) (g : Ready (
           (λ c. absurd (false≢true (sym (f (i .0) (ltb-true _ _ c) (got-is t met k g i _ (q .own .its .got) .counted)) ∙ own-new i h (q .own))))
           (λ c.
           let same : j ≡ i .0 = omega (arith, low, ltb-false j (i .0) c) in
-          answer-some t y i (e ∙ same) (λ z. omega (arith, h, z, some)))
+          answer-some t y i (e ∙ same) (λ z. omega (arith, h, z, some)) (got-is t met k g i _ (q .own .its .got) .counted))
 
   -- none: the answer is what it was
   pub since-none : ((i : SymbolId) → before ≤ i .0 → LocalSection t y i → ⊥) → callLeft (sectionSymbol y) t ≡ callLeft (sectionSymbol y) s
   since-none q = go (o .since (y .0))
     where
       go : Since (s .table) (t .table) (y .0) → callLeft (sectionSymbol y) t ≡ callLeft (sectionSymbol y) s
-      go (none e f) = answer-same s t y e
+      go (none e f) = answer-later s t y e (o .more) (counted (y .0))
       go (newest j l m u f e) = absurd (q (record { 0 = j }) l (new-of j l m u))
 
   -- where there was none before, and no such row: exactly
@@ -250,7 +264,7 @@ module _ (s t : Linked) (met : List (List ℕ)) (k : Lasting t met) (g : Ready (
         go : callLeft (sectionSymbol y) t ≡ Answer.Symbol i → Since (s .table) (t .table) (y .0) → LastOf t y i
         go a (none e f) = let z : 0 ≡ i .0 + 1 = ap symbolNumber (sym (answer-none t y (e ∙ clear)) ∙ a) in absurd (omega (arith, z))
         go a (newest j l m u f e) =
-            let z : j + 1 ≡ i .0 + 1 = ap symbolNumber (sym (answer-some t y (record { 0 = j }) e (λ n. omega (arith, l, n, some))) ∙ a) in
+            let z : j + 1 ≡ i .0 + 1 = ap symbolNumber (sym (answer-some t y (record { 0 = j }) e (λ n. omega (arith, l, n, some)) m) ∙ a) in
             let same : j ≡ i .0 = omega (arith, z) in
             subst (λ (n : ℕ). LastOf t y (record { 0 = n })) same
             (record {
@@ -268,7 +282,7 @@ module _ (s t : Linked) (met : List (List ℕ)) (k : Lasting t met) (g : Ready (
         go : callLeft (sectionSymbol y) t ≡ Answer.None → Since (s .table) (t .table) (y .0) → (i : SymbolId) → LocalSection t y i → ⊥
         go a (none e f) i q = false≢true (sym (f (i .0) (not-old i q) (got-is t met k g i _ (q .its .got) .counted)) ∙ own-new i (not-old i q) q)
         go a (newest j l m u f e) i q =
-            let z : j + 1 ≡ 0 = ap symbolNumber (sym (answer-some t y (record { 0 = j }) e (λ n. omega (arith, l, n, some))) ∙ a) in omega (arith, z)
+            let z : j + 1 ≡ 0 = ap symbolNumber (sym (answer-some t y (record { 0 = j }) e (λ n. omega (arith, l, n, some)) m) ∙ a) in omega (arith, z)
 
 -- ---- a new table: no section has a symbol, and its one row is null
 
@@ -319,6 +333,9 @@ new-fresh key gabi bytes names symbols sections e =
     by-test (eqb (symbolRows (length symbols)) 0) (λ a. let q : _≡_ {A = ℕ} 2 0 = rw a at e in absurd (omega arith))
     (λ a. rw a (null-fresh gabi symbols sections (Names.newOf key bytes names .store) (eqb-false _ _ a) (rw a at e)))
 
+pub fresh-counted : (s : State) → Fresh s → Counted s
+fresh-counted s f y = omega (arith, f .clear y, f .one)
+
 -- ---- a history that removes nothing, from a new table on
 
 module _ (s : Linked) (f : Fresh (s .table)) (ready : Ready (s .table)) (w : Shown (s .table)) (ks : List Call) (quiet : RemovesNothing ks s)
@@ -340,10 +357,10 @@ module _ (s : Linked) (f : Fresh (s .table)) (ready : Ready (s .table)) (w : Sho
       false≢true (sym (ap (λ (r : Row). ownOf r (y .0)) e) ∙ own-of end met k g y i (omega (arith, c)) q)
 
   pub last-of : (i : SymbolId) → (callLeft (sectionSymbol y) end ≡ Answer.Symbol i) ↔ LastOf end y i
-  last-of = is-last s end met k g onto (omega (arith, f .one)) y (f .clear (y .0)) bare
+  last-of = is-last s end met k g onto (fresh-counted (s .table) f) y (f .clear (y .0)) bare
 
   pub none-of : (callLeft (sectionSymbol y) end ≡ Answer.None) ↔ ((i : SymbolId) → LocalSection end y i → ⊥)
-  none-of = is-none s end met k g onto (omega (arith, f .one)) y (f .clear (y .0)) bare
+  none-of = is-none s end met k g onto (fresh-counted (s .table) f) y (f .clear (y .0)) bare
 
 -- ---- a removal
 
@@ -435,7 +452,8 @@ module _ (s : Linked) (met : List (List ℕ)) (k : Lasting s met) (g : Ready (s 
 
     -- and no other
     pub removed-other : (SectionRow s y i → ⊥) → callLeft (sectionSymbol y) then ≡ callLeft (sectionSymbol y) s
-    removed-other q = answer-same s then y (by-link (λ (v : ℕ). v ≡ symbolIn (s .table) (y .0)) (kept-cell q))
+    removed-other q =
+        answer-same s then y (by-link (λ (v : ℕ). v ≡ symbolIn (s .table) (y .0)) (kept-cell q)) (ap (λ (l : Link). l .symbols) (remove-link (s .table .link) rows i))
 
   -- ---- a collection
 
@@ -501,3 +519,4 @@ module _ (s : Linked) (met : List (List ℕ)) (k : Lasting s met) (g : Ready (s 
         ap (λ (m : ℕ). getD (collected .table .sections) m 0) same-cell
         ∙ List·getD-eq-default (collected .table .sections) 0 {n = sectionCell l n (y .0)} (omega (arith, long, h))
         ∙ sym (List·getD-eq-default x 0 {n = sectionCell l n (y .0)} h)))
+        (ap (λ (m : Link). m .symbols) (run-past l (s .table .symbols) x (listsIn s marks) entry work .link))

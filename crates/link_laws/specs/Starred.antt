@@ -9,8 +9,8 @@ use mathlib.Core.Logic.{_≢_}
 use lib.Dec.{eqb, leb}
 use lib.ListN.{length}
 use borrow.Author.Tests.{eqb-true, eqb-false}
-use Rattle.cells.specs.Split.{by-test}
-use Rattle.byte_slices.specs.Ways.{pick, apart}
+use Rattle.cells.specs.Proof.Split.{by-test}
+use Rattle.byte_slices.specs.Proof.Ways.{pick, apart}
 use Rattle.link.specs.declared.Link.{Link}
 use Rattle.link.specs.declared.Interned.{Interned}
 use Rattle.link.specs.declared.SymbolId.{SymbolId}
@@ -25,9 +25,9 @@ use Rattle.upcoming_symbol.specs.declared.UpcomingSymbol.{UpcomingSymbol}
 use Rattle.upcoming_symbol.specs.Upcoming.{nameOf, rowOf}
 use Rattle.symbol.specs.declared.Row.{Row}
 use Rattle.symbol.specs.declared.SttFile.{SttFile}
-use Rattle.symbol_rows.specs.declared.Decision.{Decision}
-use Rattle.symbol_rows.specs.Decide.{refusalOf}
-use Rattle.symbol_rows.specs.Apply.{Table}
+use Rattle.symbol_resolution.specs.declared.rows.Decision.{Decision}
+use Rattle.symbol_resolution.specs.Decide.{refusalOf}
+use Rattle.symbol_resolution.specs.Apply.{Table}
 use Rattle.symbols.specs.Calls as Symbols
 use Rattle.symbols.specs.Calls.{lentOf}
 use Rattle.symbols.specs.Add.{emptyAt, fileOf, decidedOf, committedOf, addRowOf, judgeAddOf, addOf}
@@ -45,24 +45,23 @@ use Rattle.gc_sections.specs.Run as Collection
 use Rattle.gc_sections.specs.Run.{judged, purgeOf, sweepOf, finishOf, finished, collectOf, runOf}
 use Rattle.symbol_laws.specs.History.{store, table}
 use Rattle.merge_laws.specs.Issue.{keeps}
-use Rattle.merge_laws.specs.SymbolStage.{applied-count}
-use Rattle.merge_laws.specs.Refusals.{oneOf}
+use Rattle.merge_laws.specs.Proof.SymbolStage.{applied-count}
 use Rattle.merge_laws.specs.ByNumber as ByNumber
 use Rattle.merge_laws.specs.ByNumber.{Between, allLeft, nameStays}
 use Rattle.merge_laws.specs.Calls.{Linked, allIn}
 use Rattle.load_laws.specs.Stops as Loading
-use Rattle.link_laws.specs.Calls.{Call, intern, resolve, add, remove, get, getGlobal, sectionSymbol, addGroup, merge, mergeFile, load, archiveStart, archiveNext, matches, collect, plainCollect, libraryIn, listsIn, callRefusal, callNumber, callNext, runCalls, fileHead, isRead}
-use Rattle.link_laws.specs.PlainCalls.{plain-link}
+use Rattle.link_laws.specs.Calls.{Call, intern, add, remove, addGroup, merge, mergeFile, load, collect, plainCollect, libraryIn, listsIn, callRefusal, callNumber, callNext, runCalls, fileHead, isRead, reads}
+use Rattle.link_laws.specs.Proof.PlainCalls.{plain-link}
 use Rattle.elf_laws.specs.Object as ElfFile
-use Rattle.link_laws.specs.FileCall.{next-read, next-unread, refusal-read, refusal-unread, head-numbers}
-use Rattle.link_laws.specs.Table.{unstarred, starred, within}
-use Rattle.link_laws.specs.Among.{one-within}
+use Rattle.link_laws.specs.Proof.FileCall.{next-read, next-unread, refusal-read, refusal-unread, head-numbers}
+use Rattle.link_laws.specs.Proof.Among.{one-within}
 use Rattle.link_laws.specs.CallSteps.{group-count}
 use Rattle.link_laws.specs.Leaves as Leaves
 use Rattle.link_laws.specs.Leaves.{byElements}
 use Rattle.link_laws.specs.Broken.{changes, broken-refused}
 use Rattle.link_laws.specs.Elements.{lentTo, MergeLeft, Merges, merges, merge-leaves, Ways, ways, Element, numbersAt, namedAt, LoadLeft, load-leaves}
 use Rattle.link_laws.specs.Elements as Elements
+use Rattle.merge_laws.specs.Table.{oneOf, within, mergeHeadNumbers, loadHeadNumbers, fileHeadNumbers, unstarred, starred}
 
 -- ---- the numbers of an element
 
@@ -103,19 +102,13 @@ module _ (o : Shared.Input) (marks : List ℕ) (s : Linked) where
 -- the refusal of a merge's or a load's head, before its first element
 abbrev pub headRefusal : Call → Linked → Refusal
 headRefusal (intern x) s = none
-headRefusal (resolve id) s = none
+headRefusal (reads k) s = none
 headRefusal (add conversion u) s = none
 headRefusal (remove id) s = none
-headRefusal (get id) s = none
-headRefusal (getGlobal name) s = none
-headRefusal (sectionSymbol section) s = none
 headRefusal (addGroup o work n) s = none
 headRefusal (merge o work ids) s = Merge.headIn o (allIn s work ids)
 headRefusal (mergeFile file cells work ids) s = cond (isRead file cells s) (Merge.headIn (ElfFile.rowsOf file) (allIn s work ids)) (fileHead file cells s)
 headRefusal (load o marks) s = Shared.headIn o (libraryIn s marks)
-headRefusal (archiveStart key index cells) s = none
-headRefusal (archiveNext index cells w) s = none
-headRefusal (matches headers entries contents file index cells w e) s = none
 headRefusal (collect marks entry work) s = none
 headRefusal (plainCollect marks entry work) s = none
 
@@ -127,7 +120,7 @@ abbrev broke : Linked → Bool
 broke t = t .table .link .broken
 
 merge-stopped : (o : Stages.Object) (work ids : List ℕ) (s : Linked) → MergeLeft o work ids s → Stopped (merge o work ids) s
-merge-stopped o work ids s (Elements.at-head r h e) = at-head r (one-within (callNumber (merge o work ids) s) (22 ∷ 1 ∷ 2 ∷ []) (2 ∷ unstarred) refl h) e
+merge-stopped o work ids s (Elements.at-head r h e) = at-head r (one-within (callNumber (merge o work ids) s) mergeHeadNumbers (2 ∷ unstarred) refl h) e
 merge-stopped o work ids s (Elements.at-element b at m h r e) =
     at-element (one-within (callNumber (merge o work ids) s) (allLeft o (lentTo o work ids s) at) (2 ∷ starred) (all-starred o work ids s at) h) (ap broke e)
 merge-stopped o work ids s (Elements.but-its-name b at found m h r e) =
@@ -144,7 +137,7 @@ file-stopped file cells work ids s u =
     let r = refusal-unread file cells work ids s t in
     at-head (r ∙ sym (ap (λ (b : Bool). cond b (Merge.headIn (ElfFile.rowsOf file) (allIn s work ids)) (fileHead file cells s)) t))
     (subst (λ (x : Refusal). oneOf (x .number) (2 ∷ unstarred) ≡ true) (sym r)
-    (one-within (fileHead file cells s .number) (22 ∷ 26 ∷ 27 ∷ 2 ∷ []) (2 ∷ unstarred) refl (subst (λ (b : Bool). cond b true (oneOf (fileHead file cells s .number) (22 ∷ 26 ∷ 27 ∷ 2 ∷ [])) ≡ true) t (head-numbers file cells s))))
+    (one-within (fileHead file cells s .number) fileHeadNumbers (2 ∷ unstarred) refl (subst (λ (b : Bool). cond b true (oneOf (fileHead file cells s .number) fileHeadNumbers) ≡ true) t (head-numbers file cells s))))
     (next-unread file cells work ids s t))
   where
     go : isRead file cells s ≡ true → Stopped (merge (ElfFile.rowsOf file) work ids) s → Stopped (mergeFile file cells work ids) s
@@ -157,7 +150,7 @@ file-stopped file cells work ids s u =
         (ap broke (next-read file cells work ids s t) ∙ e)
 
 load-stopped : (o : Shared.Input) (marks : List ℕ) (s : Linked) → LoadLeft o marks s → Stopped (load o marks) s
-load-stopped o marks s (Elements.at-head r h e) = at-head r (one-within (callNumber (load o marks) s) (22 ∷ 1 ∷ 25 ∷ 2 ∷ []) (2 ∷ unstarred) refl h) e
+load-stopped o marks s (Elements.at-head r h e) = at-head r (one-within (callNumber (load o marks) s) loadHeadNumbers (2 ∷ unstarred) refl h) e
 load-stopped o marks s (Elements.at-element b at m h r e) =
     at-element (one-within (callNumber (load o marks) s) (numbersAt o marks s at) (2 ∷ starred) (load-starred o marks s at) h) (ap broke e)
 load-stopped o marks s (Elements.but-its-name b at found m h r e) =
@@ -165,19 +158,13 @@ load-stopped o marks s (Elements.but-its-name b at found m h r e) =
 
 pub stopped : (k : Call) (s : Linked) → byElements k ≡ true → callNumber k s ≢ 0 → Stopped k s
 stopped (intern x) s g u = absurd (apart g)
-stopped (resolve id) s g u = absurd (apart g)
+stopped (reads k) s g u = absurd (apart g)
 stopped (add conversion x) s g u = absurd (apart g)
 stopped (remove id) s g u = absurd (apart g)
-stopped (get id) s g u = absurd (apart g)
-stopped (getGlobal name) s g u = absurd (apart g)
-stopped (sectionSymbol section) s g u = absurd (apart g)
 stopped (addGroup o work n) s g u = absurd (apart g)
 stopped (merge o work ids) s g u = merge-stopped o work ids s (merge-leaves o work ids s u)
 stopped (mergeFile file cells work ids) s g u = file-stopped file cells work ids s u
 stopped (load o marks) s g u = load-stopped o marks s (load-leaves o marks s u)
-stopped (archiveStart key index cells) s g u = absurd (apart g)
-stopped (archiveNext index cells w) s g u = absurd (apart g)
-stopped (matches headers entries contents file index cells w e) s g u = absurd (apart g)
 stopped (collect marks entry work) s g u = absurd (apart g)
 stopped (plainCollect marks entry work) s g u = absurd (apart g)
 
@@ -274,19 +261,13 @@ collect-same l x symbols sections entry work =
 
 direct-same : (k : Call) (s : Linked) → byElements k ≡ false → callNext k s .table .link .broken ≡ s .table .link .broken
 direct-same (intern x) s g = intern-same (store (s .table)) x
-direct-same (resolve id) s g = refl
+direct-same (reads k) s g = refl
 direct-same (add conversion u) s g = add-same (table (s .table)) conversion u
 direct-same (remove id) s g = ap (λ (l : Link). l .broken) (remove-same (s .table .link) _ id)
-direct-same (get id) s g = refl
-direct-same (getGlobal name) s g = refl
-direct-same (sectionSymbol section) s g = refl
 direct-same (addGroup o work n) s g = group-count o (s .table) work n (λ (l : Link). l .broken) keep-broken
 direct-same (merge o work ids) s g = absurd (apart (sym g))
 direct-same (mergeFile file cells work ids) s g = absurd (apart (sym g))
 direct-same (load o marks) s g = absurd (apart (sym g))
-direct-same (archiveStart key index cells) s g = refl
-direct-same (archiveNext index cells w) s g = refl
-direct-same (matches headers entries contents file index cells w e) s g = refl
 direct-same (collect marks entry work) s g =
     ap (λ (l : Link). l .broken) (collect-same (s .table .link) (listsIn s marks) (s .table .symbols) (s .table .sections) entry work)
 direct-same (plainCollect marks entry work) s g = ap (λ (l : Link). l .broken) (plain-link marks entry work s)
@@ -307,12 +288,9 @@ load-whole o marks s (Elements.stops n q) w z = absurd (n (sym (ap (λ (x : Shar
 
 accepted-whole : (k : Call) (s : Linked) → s .table .link .broken ≡ false → callNumber k s ≡ 0 → callNext k s .table .link .broken ≡ false
 accepted-whole (intern x) s w z = direct-same (intern x) s refl ∙ w
-accepted-whole (resolve id) s w z = w
+accepted-whole (reads k) s w z = w
 accepted-whole (add conversion u) s w z = direct-same (add conversion u) s refl ∙ w
 accepted-whole (remove id) s w z = direct-same (remove id) s refl ∙ w
-accepted-whole (get id) s w z = w
-accepted-whole (getGlobal name) s w z = w
-accepted-whole (sectionSymbol section) s w z = w
 accepted-whole (addGroup o work n) s w z = direct-same (addGroup o work n) s refl ∙ w
 accepted-whole (merge o work ids) s w z = merge-whole o work ids s (merges o work ids s) w z
 accepted-whole (mergeFile file cells work ids) s w z =
@@ -322,9 +300,6 @@ accepted-whole (mergeFile file cells work ids) s w z =
     ∙ merge-whole (ElfFile.rowsOf file) work ids s (merges (ElfFile.rowsOf file) work ids s) w (ap (λ (r : Refusal). r .number) (sym (refusal-read file cells work ids s t)) ∙ z))
     (λ t. ap broke (next-unread file cells work ids s t) ∙ w)
 accepted-whole (load o marks) s w z = load-whole o marks s (ways o marks s) w z
-accepted-whole (archiveStart key index cells) s w z = w
-accepted-whole (archiveNext index cells x) s w z = w
-accepted-whole (matches headers entries contents file index cells x e) s w z = w
 accepted-whole (collect marks entry work) s w z = direct-same (collect marks entry work) s refl ∙ w
 accepted-whole (plainCollect marks entry work) s w z = direct-same (plainCollect marks entry work) s refl ∙ w
 
@@ -349,19 +324,13 @@ broken-leaves k s b =
   where
     idle : (k : Call) (s : Linked) → changes k ≡ false → callNext k s ≡ s
     idle (intern x) s c = absurd (apart (sym c))
-    idle (resolve id) s c = refl
+    idle (reads k) s c = refl
     idle (add conversion u) s c = absurd (apart (sym c))
     idle (remove id) s c = absurd (apart (sym c))
-    idle (get id) s c = refl
-    idle (getGlobal name) s c = refl
-    idle (sectionSymbol section) s c = refl
     idle (addGroup o work n) s c = absurd (apart (sym c))
     idle (merge o work ids) s c = absurd (apart (sym c))
     idle (mergeFile file cells work ids) s c = absurd (apart (sym c))
     idle (load o marks) s c = absurd (apart (sym c))
-    idle (archiveStart key index cells) s c = refl
-    idle (archiveNext index cells w) s c = refl
-    idle (matches headers entries contents file index cells w e) s c = refl
     idle (collect marks entry work) s c = absurd (apart (sym c))
     idle (plainCollect marks entry work) s c = absurd (apart (sym c))
 

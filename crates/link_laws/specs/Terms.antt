@@ -7,7 +7,7 @@ use mathlib.Core.Path.{_≡_, sym, ap, _∙_, subst}
 use mathlib.Core.Bool.{Bool, true, false, cond, not, _&&_, _||_}
 use mathlib.Core.List.{List, [], _∷_, _++_, append-nil}
 use mathlib.Core.Logic.{_≢_, _↔_}
-use lib.Dec.{eqb, leb}
+use lib.Dec.{eqb}
 use lib.ListN.{getD, length}
 use borrow.Author.Tests.{eq-eqb, ne-eqb}
 use Rattle.gabi.specs.StringTable as Strings
@@ -27,12 +27,12 @@ use Rattle.interner_laws.specs.Good.{find}
 use Rattle.interner_laws.specs.Interns.{Accepted, id}
 use Rattle.symbol.specs.declared.Row.{Row}
 use Rattle.symbol.specs.declared.SttFile.the-variants as File
-use Rattle.symbol.specs.Row.{symbolAt}
+use Rattle.symbol.specs.Row.{symbolAt, scopeRefused, valueRefused}
 use Rattle.symbol.specs.RowLaws.{symbolOf}
 use Rattle.upcoming_symbol.specs.declared.UpcomingSymbol.{UpcomingSymbol}
 use Rattle.upcoming_symbol.specs.Judge.{inRange}
 use Rattle.upcoming_symbol.specs.Upcoming.{nameOf}
-use Rattle.symbol_rows.specs.Holder.{globalAt}
+use Rattle.symbol_resolution.specs.Holder.{globalAt}
 use Rattle.symbols.specs.declared.Found.the-variants as Fd
 use Rattle.symbols.specs.declared.SectionSymbol.the-variants as Answers
 use Rattle.symbols.specs.New.{newOf}
@@ -44,14 +44,14 @@ use Rattle.sections.specs.Rows.{stateAt}
 use Rattle.merge_sections.specs.Reserve.{classOf}
 use Rattle.section_groups.specs.Group as Group
 use Rattle.section_groups.specs.Group.{markGroupOf, markRemovedOf, groupSectionOf}
-use Rattle.add_group.specs.AddGroup as AddGroup
+use Rattle.section_groups.specs.AddGroup as AddGroup
 use Rattle.merge_stages.specs.Stages as Stages
 use Rattle.merge_elf.specs.Merge as Merge
 use Rattle.shared_objects.specs.declared.Answer.the-variants.{Loaded, NotNeeded}
 use Rattle.shared_objects.specs.Load as Shared
-use Rattle.library_need.specs.Need.{inputKindAt}
-use Rattle.shared_laws.specs.Needed.{libraryKind, Needed}
-use Rattle.shared_laws.specs.Unneeded as Unneeded
+use Rattle.shared_objects.specs.Need.{inputKindAt}
+use Rattle.load_laws.specs.Needed.{libraryKind, Needed}
+use Rattle.load_laws.specs.NeedTerms as Unneeded
 use Rattle.archive_index.specs.Index.{countOf}
 use Rattle.archive_walk.specs.declared.Walk.{Walk}
 use Rattle.archive_walk.specs.Look.{Table, undefinedName, tiedName}
@@ -60,25 +60,26 @@ use Rattle.archive_laws.specs.Profiles.{tied-old}
 use Rattle.archive_laws.specs.Rounds.{among, members}
 use Rattle.archive_laws.specs.Runs.{Run, history, startRun}
 use Rattle.archive_laws.specs.Walked.{inIndex, queueIn, Walked}
-use Rattle.archive_laws.specs.WalkLaws.{walked}
+use Rattle.archive_laws.specs.Terms.{walked}
 use Rattle.archive_laws.specs.PassList.{Over, offered, without, firstSeen, tiedMembers}
 use Rattle.object_requirement.specs.declared.Admission.the-variants.{Yes}
 use Rattle.gc_sections.specs.declared.EntryPoint.{EntryPoint}
 use Rattle.gc_sections.specs.declared.Answer.{Answer}
 use Rattle.gc_sections.specs.declared.Answer.the-variants.{Dropped, Refused}
-use Rattle.gc_laws.specs.Demand as Collection
+use Rattle.gc_laws.specs.Terms as Collection
 use Rattle.gc_laws.specs.Reached as Roots
 use Rattle.symbol_laws.specs.Rank.{ranked, FirstOfGreatestRank, firstOf}
-use Rattle.symbol_laws.specs.Rows.{rowAt}
+use Rattle.symbol_laws.specs.Proof.Rows.{rowAt}
 use Rattle.symbol_laws.specs.History.{opened, Entry, only, rows, store, upcoming}
-use Rattle.symbol_laws.specs.Start.{new-inv}
+use Rattle.symbol_laws.specs.Proof.Start.{new-inv}
 use Rattle.symbol_laws.specs.Held.{Inv}
-use Rattle.symbol_laws.specs.Below.{inv-below}
+use Rattle.symbol_laws.specs.Proof.Below.{inv-below}
 use Rattle.symbol_laws.specs.Standing.{SameButHidden, hiddenBy}
-use Rattle.symbol_laws.specs.Profile.{new-profile}
+use Rattle.symbol_laws.specs.Proof.Profile.{new-profile}
 use Rattle.symbol_laws.specs.Demand as Demand
 use Rattle.symbol_laws.specs.Within as Within
 use Rattle.symbol_laws.specs.Writes as Writes
+use Rattle.symbol_laws.specs.Proof.Writes as WritesLaws
 use Rattle.symbol_laws.specs.Gabi.{Means, AllMean, symOf, symOfRow, means-own, symsOf, all-mean-own}
 use Rattle.symbol_laws.specs.Duplicate as Duplicate
 use Rattle.symbol_laws.specs.Hidden as Hidden
@@ -93,37 +94,37 @@ use Rattle.extraction_laws.specs.MemberWords.{symbolsOf}
 use Rattle.extraction_laws.specs.Answer.{says, admitted}
 use Rattle.extraction_laws.specs.Admission as Admission
 use Rattle.extraction_laws.specs.Admission.{bearsOne, definesOne}
-use Rattle.merge_laws.specs.Refusals.{oneOf}
 use Rattle.merge_laws.specs.Stops as Merging
 use Rattle.merge_laws.specs.Stops.{object, groupsTo}
 use Rattle.merge_laws.specs.ByNumber as ByNumber
-use Rattle.merge_laws.specs.Marked.{Marked, new-marked}
+use Rattle.merge_laws.specs.Marked.{Marked}
+use Rattle.merge_laws.specs.Proof.Marked.{new-marked}
 use Rattle.merge_laws.specs.FirstKept as FirstKept
 use Rattle.merge_laws.specs.FirstKept.{reader, metTo, signature, listed}
 use Rattle.merge_laws.specs.Discarded as Discarded
 use Rattle.merge_laws.specs.Accepted as Merged
 use Rattle.merge_laws.specs.Placed.{rowOf}
-use Rattle.merge_laws.specs.RowStays as RowStays
+use Rattle.merge_laws.specs.Proof.RowStays as RowStays
 use Rattle.merge_laws.specs.Terms as MergeTerms
 use Rattle.merge_laws.specs.MergeWords.{namedBy, ownSignatures, isRemoved}
 use Rattle.merge_laws.specs.MergeWords as ObjectWords
 use Rattle.load_laws.specs.Accepted as LoadRows
 use Rattle.load_laws.specs.Terms as LoadTerms
-use Rattle.merge_laws.specs.Lookups as Lookups
-use Rattle.merge_laws.specs.Lookups.{new-lists}
+use Rattle.merge_laws.specs.Proof.Lookups as Lookups
+use Rattle.merge_laws.specs.Proof.Lookups.{new-lists}
 use Rattle.merge_laws.specs.Past as Past
 use Rattle.merge_laws.specs.Calls.{Linked, linked, allIn}
 use Rattle.merge_laws.specs.SymbolDuplicates as InMerge
 use Rattle.load_laws.specs.SymbolDuplicates as InLoad
 use Rattle.plain_laws.specs.Agrees.{Agrees}
-use Rattle.plain_laws.specs.Plain as Plain
-use Rattle.plain_laws.specs.Plain.{builtRows}
+use Rattle.plain_laws.specs.Terms as Plain
+use Rattle.plain_laws.specs.Terms.{builtRows}
 use Rattle.link_laws.specs.Calls.{Call, intern, resolve, add, remove, get, getGlobal, sectionSymbol, addGroup, merge, mergeFile, load, archiveStart, archiveNext, matches, collect, plainCollect, viewIn, groupIn, libraryIn, listsIn, LeftBy, callLeft, refusalBy, callRefusal, callNumber, callNext, callNotes, runCalls, logCalls, Removes, RemovesNothing, fileHead}
-use Rattle.link_laws.specs.FileCall as FileCall
+use Rattle.link_laws.specs.Proof.FileCall as FileCall
 use Rattle.elf_laws.specs.Object as ElfFile
 use Rattle.elf_laws.specs.Object.{laid}
 use Rattle.merge_file.specs.MergeFile.{fileLeft, unread}
-use Rattle.link_laws.specs.Table.{refusals, callNumbers}
+use Rattle.link_laws.specs.Table.{callNumbers}
 use Rattle.link_laws.specs.Rules as Rules
 use Rattle.link_laws.specs.CallRules.{rules}
 use Rattle.link_laws.specs.ExactTerms as ExactTerms
@@ -138,10 +139,11 @@ use Rattle.link_laws.specs.Broken.{changes}
 use Rattle.link_laws.specs.ArchiveLeaves as ArchiveLeaves
 use Rattle.link_laws.specs.NewTable as NewTable
 use Rattle.link_laws.specs.NewTable.{unopened}
-use Rattle.link_laws.specs.AddCall as AddCall
+use Rattle.link_laws.specs.Proof.AddCall as AddCall
 use Rattle.link_laws.specs.CallDuplicates as CallDuplicates
 use Rattle.link_laws.specs.CallDuplicates.{IsDuplicate, Judges}
-use Rattle.link_laws.specs.SectionCount.{Sectioned, calls-sectioned, new-sectioned, sections-judged}
+use Rattle.link_laws.specs.SectionCount.{Sectioned}
+use Rattle.link_laws.specs.Proof.SectionCount.{calls-sectioned, new-sectioned, sections-judged}
 use Rattle.link_laws.specs.GroupAlone as GroupAlone
 use Rattle.link_laws.specs.Elements as Elements
 use Rattle.link_laws.specs.Starred as Starred
@@ -162,28 +164,33 @@ use Rattle.section_groups.specs.Contract.{FilterMeets}
 use Rattle.link_laws.specs.KeyFree as KeyFree
 use Rattle.link_laws.specs.KeyFree.{Alike, SameAnswers}
 use Rattle.link_laws.specs.Idle as Idle
-use Rattle.link_laws.specs.CallPast as CallPast
+use Rattle.link_laws.specs.Proof.CallPast as CallPast
 use Rattle.link_laws.specs.Lists as Lists
+use Rattle.link_laws.specs.Proof.Lists as ListsLaws
 use Rattle.link_laws.specs.Kept as Kept
 use Rattle.link_laws.specs.Kept.{signatures, meetsGroups, calls-keep, calls-marked, calls-below, Lasting, lasting-on, Reached, reached-within, reached-on}
-use Rattle.link_laws.specs.NamesStay as NamesStay
+use Rattle.link_laws.specs.Proof.NamesStay as NamesStay
 use Rattle.link_laws.specs.Libraries as Libraries
-use Rattle.link_laws.specs.LibraryLoads as LibraryLoads
-use Rattle.link_laws.specs.LibraryLoads.{LoadedAt, new-inputs}
+use Rattle.link_laws.specs.Proof.LibraryLoads as LibraryLoadsLaws
+use Rattle.link_laws.specs.LibraryLoads.{LoadedAt}
+use Rattle.link_laws.specs.Proof.LibraryLoads.{new-inputs}
 use Rattle.link_laws.specs.Removal.{Ready}
 use Rattle.link_laws.specs.LookedUp as LookedUp
 use Rattle.link_laws.specs.LookedUp.{calls-later, calls-whole, inv-ready, new-whole}
-use Rattle.link_laws.specs.LocalRows.{Shown, calls-onto, calls-stay, inv-shown}
+use Rattle.link_laws.specs.LocalRows.{Shown, Counted, calls-onto, calls-stay, inv-shown}
 use Rattle.link_laws.specs.SectionSymbols as SectionSymbols
 use Rattle.link_laws.specs.SectionSymbols.{SectionRow, LocalSection, LastOf}
-use Rattle.link_laws.specs.Growth.{Turn, Quiet, runTurns, logTurns, Some, turns-reached}
+use Rattle.link_laws.specs.Growth.{Turn, Quiet, runTurns, logTurns, Some}
+use Rattle.link_laws.specs.Proof.Growth.{turns-reached}
 use Rattle.link_laws.specs.NeededIn as NeededIn
 use Rattle.link_laws.specs.NeededIn.{NeededIn}
 use Rattle.link_laws.specs.Walks as Walks
+use Rattle.link_laws.specs.Proof.Walks as WalksLaws
 use Rattle.link_laws.specs.Walks.{nextIn, withWalk, walkAfter, tablesAt, joined}
 use Rattle.link_laws.specs.WalkIn as WalkIn
-use Rattle.merge_laws.specs.Origin.{fromObjects, hidden-objects, only-shown}
-use Rattle.link_laws.specs.Profile.{call-profile, calls-profile, calls-shown, turns-profile, turns-shown}
+use Rattle.merge_laws.specs.Origin.{fromObjects}
+use Rattle.merge_laws.specs.Proof.Origin.{hidden-objects, only-shown}
+use Rattle.link_laws.specs.Proof.Profile.{call-profile, calls-profile, calls-shown, turns-profile, turns-shown}
 use Rattle.link_laws.specs.Undefined as Undefined
 use Rattle.link_laws.specs.Undefined.{isUndefinedRow, weakReferences}
 use Rattle.link_laws.specs.Ties as Ties
@@ -200,6 +207,7 @@ use Rattle.link_laws.specs.EntryNames as EntryNames
 use Rattle.link_laws.specs.OwnEntries.{entryOf, AllFrom, entriesOf, all-mean, all-show}
 use Rattle.link_laws.specs.Admitted as Admitted
 use Rattle.link_laws.specs.Admitted.{answerIn}
+use Rattle.merge_laws.specs.Table.{oneOf, sectionCauses, groupCauses, earlyCauses, unstarred, starred, placeless, refusals}
 
 -- ---- 1. "The answer to every call is a result or, exactly where document 01's rules in their order give it, one of the refusals 1 to 25"; document 02 adds
 -- 26, 27 and 30
@@ -219,7 +227,7 @@ pub add-place : (conversion : List ℕ) (u : UpcomingSymbol) (s : Linked) → ca
 add-place = Places.add-place
 
 -- the table's column "Returned": 20, 22, 23, 25, and document 02's 26 and 30, at 0
-pub zero-places : (k : Call) (s : Linked) → oneOf (callNumber k s) (20 ∷ 22 ∷ 23 ∷ 25 ∷ 26 ∷ 30 ∷ []) ≡ true → callRefusal k s .place ≡ 0
+pub zero-places : (k : Call) (s : Linked) → oneOf (callNumber k s) placeless ≡ true → callRefusal k s .place ≡ 0
 zero-places = Placeless.zero-places
 
 -- 2 at 0 where no element is met: an intern, a start over an index, a collection, a merge's work cells, a load's marks; a new
@@ -267,7 +275,7 @@ pub pass-place : (index cells : List ℕ) (w : Walk) (s : Linked) → callNumber
 pass-place = CallPlaces.pass-place
 
 -- 4 to 7 of a group that is added by itself: its section; past the head, 2 too
-pub group-place : (o : Group.Object) (work : List ℕ) (n : ℕ) (s : Linked) → oneOf (callNumber (addGroup o work n) s) (4 ∷ 5 ∷ 6 ∷ 7 ∷ []) ≡ true
+pub group-place : (o : Group.Object) (work : List ℕ) (n : ℕ) (s : Linked) → oneOf (callNumber (addGroup o work n) s) groupCauses ≡ true
     → callRefusal (addGroup o work n) s .place ≡ n
 group-place = CallPlaces.group-place
 
@@ -344,7 +352,7 @@ pub walk-leaves : (index cells : List ℕ) (w : Walk) (s : Linked) → callNumbe
 walk-leaves index cells w s = ArchiveLeaves.walk-leaves index cells w _
 
 -- 1, 15, 20, 22, 23, 25, 26, 27 and 30 leave "all", whichever call gives them
-pub leaves-all : (k : Call) (s : Linked) → oneOf (callNumber k s) (1 ∷ 15 ∷ 20 ∷ 22 ∷ 23 ∷ 25 ∷ 26 ∷ 27 ∷ 30 ∷ []) ≡ true → callNext k s ≡ s
+pub leaves-all : (k : Call) (s : Linked) → oneOf (callNumber k s) unstarred ≡ true → callNext k s ≡ s
 leaves-all = Starred.leaves-all
 
 -- a merge or a load that is refused at its head leaves all: 22, 1, 25, missing work cells or marks
@@ -378,18 +386,18 @@ pub load-leaves : (o : Shared.Input) (marks : List ℕ) (s : Linked) → callNum
 load-leaves = Elements.load-leaves
 
 -- 3 and 24: "names, symbols" as before the call
-pub merge-names-left : (o : Stages.Object) (work ids : List ℕ) (s : Linked) → oneOf (callNumber (merge o work ids) s) (3 ∷ 24 ∷ []) ≡ true
+pub merge-names-left : (o : Stages.Object) (work ids : List ℕ) (s : Linked) → oneOf (callNumber (merge o work ids) s) sectionCauses ≡ true
     → ByNumber.NamesLeft o (allIn s work ids) (callLeft (merge o work ids) s .cells)
 merge-names-left = Elements.names-left
 
 -- 3 to 8 and 24: symbols; 8 leaves the "table"
-pub merge-symbols-left : (o : Stages.Object) (work ids : List ℕ) (s : Linked) → oneOf (callNumber (merge o work ids) s) (3 ∷ 4 ∷ 5 ∷ 6 ∷ 7 ∷ 8 ∷ 24 ∷ []) ≡ true
+pub merge-symbols-left : (o : Stages.Object) (work ids : List ℕ) (s : Linked) → oneOf (callNumber (merge o work ids) s) earlyCauses ≡ true
     → ByNumber.SymbolsLeft o (allIn s work ids) (callLeft (merge o work ids) s .cells)
 merge-symbols-left = Elements.symbols-left
 
 -- "Those marked * break the link when met inside an object or shared object"
 pub starred-breaks : (k : Call) (s : Linked) → byElements k ≡ true
-    → oneOf (callNumber k s) (3 ∷ 4 ∷ 5 ∷ 6 ∷ 7 ∷ 8 ∷ 9 ∷ 10 ∷ 11 ∷ 12 ∷ 13 ∷ 14 ∷ 16 ∷ 17 ∷ 18 ∷ 19 ∷ 21 ∷ 24 ∷ []) ≡ true
+    → oneOf (callNumber k s) starred ≡ true
     → callNext k s .table .link .broken ≡ true
 starred-breaks = Starred.starred-breaks
 
@@ -408,7 +416,7 @@ load-breaks = Leaves.load-breaks
 -- nothing else breaks it
 pub breaks-only : (k : Call) (s : Linked) → s .table .link .broken ≡ false → callNext k s .table .link .broken ≡ true
     → (byElements k ≡ true)
-    × (oneOf (callNumber k s) (2 ∷ 3 ∷ 4 ∷ 5 ∷ 6 ∷ 7 ∷ 8 ∷ 9 ∷ 10 ∷ 11 ∷ 12 ∷ 13 ∷ 14 ∷ 16 ∷ 17 ∷ 18 ∷ 19 ∷ 21 ∷ 24 ∷ []) ≡ true)
+    × (oneOf (callNumber k s) (2 ∷ starred) ≡ true)
 breaks-only = Starred.breaks-only
 
 -- "changing call on a broken link": 22 at place 0, first of all
@@ -594,7 +602,7 @@ module _ (key : ℕ) (gabi : Bool) (bytes names symbols sections inputs lists : 
     merge-log-whole o work ids = MergeTerms.merge-log-whole o (allIn after work ids)
 
     pub load-log-whole : (o : Shared.Input) (marks : List ℕ) → callLeft (load o marks) after .answer ≡ Loaded
-        → rows (callNotes (load o marks) after) ≡ LoadRows.symbolRows (o .entries) (o .file) (o .needs) (Shared.linksIn (libraryIn after marks)) (Shared.nameOf o) (rowsIn (o .entries))
+        → rows (callNotes (load o marks) after) ≡ LoadRows.symbolRows (o .entries) (o .image) (o .needs) (Shared.linksIn (libraryIn after marks)) (Shared.nameOf o) (rowsIn (o .entries))
     load-log-whole o marks = LoadTerms.load-log-whole o (libraryIn after marks)
 
     -- a lent list has fewer than 2^64 cells
@@ -652,8 +660,13 @@ module _ (key : ℕ) (gabi : Bool) (bytes names symbols sections inputs lists : 
         section-uncollected = SectionSymbols.collected-other after _ lasting ready y marks entry work a b ok
 
       -- "A local `Section` row becomes its section's symbol, the last one winning": one that was added since; else the answer is what it was
+      counted : Counted (after .table)
+      counted =
+          calls-stay ks start start-ready start-shown .counted
+          (SectionSymbols.fresh-counted (start .table) (SectionSymbols.new-fresh key gabi bytes names symbols sections new))
+
       some-symbol : 1 ≤ after .table .link .symbols
-      some-symbol = omega (arith, calls-stay ks start start-ready start-shown .more, SectionSymbols.new-fresh key gabi bytes names symbols sections new .one)
+      some-symbol = omega (arith, counted 0)
 
       shown : Shown (after .table)
       shown = calls-stay ks start start-ready start-shown .shown
@@ -664,16 +677,16 @@ module _ (key : ℕ) (gabi : Bool) (bytes names symbols sections inputs lists : 
 
         pub section-newest : (i : SymbolId) → after .table .link .symbols ≤ i .0 → LastOf onward y i → callLeft (sectionSymbol y) onward ≡ Answers.Symbol i
         section-newest =
-            SectionSymbols.since-last after onward _ (lasting-on ls after _ lasting) (calls-later ls after ready .ready) (calls-onto ls after quiet ready shown) some-symbol y
+            SectionSymbols.since-last after onward _ (lasting-on ls after _ lasting) (calls-later ls after ready .ready) (calls-onto ls after quiet ready shown) counted y
 
         pub section-unchanged : ((i : SymbolId) → after .table .link .symbols ≤ i .0 → LocalSection onward y i → ⊥)
             → callLeft (sectionSymbol y) onward ≡ callLeft (sectionSymbol y) after
         section-unchanged =
-            SectionSymbols.since-none after onward _ (lasting-on ls after _ lasting) (calls-later ls after ready .ready) (calls-onto ls after quiet ready shown) some-symbol y
+            SectionSymbols.since-none after onward _ (lasting-on ls after _ lasting) (calls-later ls after ready .ready) (calls-onto ls after quiet ready shown) counted y
 
       -- "Rows past the count are never written", of inputs and lists; and one that was counted before the call isn't written either
       pub lists-past : (k : Call) → Lists.ListsLeft after (callNext k after)
-      lists-past k = Lists.call-listed k after (lasting .lent)
+      lists-past k = ListsLaws.call-listed k after (lasting .lent)
 
       -- ---- "Shared objects": a library that was loaded, after any calls
 
@@ -684,12 +697,12 @@ module _ (key : ℕ) (gabi : Bool) (bytes names symbols sections inputs lists : 
 
       -- and no other call takes a library's row: it comes from a load that was answered "loaded"
       pub library-loaded : (k : ℕ) → k < after .table .link .inputs → inputKindAt (after .inputs) k ≡ libraryKind → LoadedAt k ks start
-      library-loaded k = LibraryLoads.from-loads ks start lent k (new-inputs key gabi bytes names symbols sections k)
+      library-loaded k = LibraryLoadsLaws.from-loads ks start lent k (new-inputs key gabi bytes names symbols sections k)
 
       -- so need, which goes by the link's rows (IsNeeded, below), can be told without a cell: by what a lookup answers for a name that the library defines, and
       -- by the libraries that were loaded, their undefined symbols of binding 1 and their dependencies
       pub needed-in : (o : Shared.Input)
-          → Needed (after .table .link) (after .table .bytes) (after .table .names) (after .table .symbols) (after .inputs) (after .lists) (o .entries) (o .file) (Shared.nameOf o)
+          → Needed (after .table .link) (after .table .bytes) (after .table .names) (after .table .symbols) (after .inputs) (after .lists) (o .entries) (o .image) (Shared.nameOf o)
           ↔ NeededIn start ks o
       needed-in =
           NeededIn.needed-in start []
@@ -716,16 +729,16 @@ module _ (key : ℕ) (gabi : Bool) (bytes names symbols sections inputs lists : 
         rows-taken = ObjectSections.rows-taken after _ lasting o work ids ok
 
         -- and later merges find the signatures of its groups met
-        pub signatures-own : signatures (merge o work ids ∷ []) after ≡ ownSignatures (o .headers) (o .entries) (o .contents) (o .file) (sectionsIn (o .headers))
+        pub signatures-own : signatures (merge o work ids ∷ []) after ≡ ownSignatures (o .headers) (o .entries) (o .contents) (o .image) (sectionsIn (o .headers))
         signatures-own = ObjectSections.signatures-own after _ lasting o work ids ok
 
         -- the ids that it gave the symbols stand for them after any calls: of a local one the row has what the symbol's entry says, any other is its name's
         pub cell-stands : (ls : List Call) (k id : ℕ)
-            → k < entriesIn (ObjectWords.symbolsOf (o .headers) (o .entries) (o .contents) (o .file)) → getD (callLeft (merge o work ids) after .cells .ids) k 0 ≡ id + 1
+            → k < entriesIn (ObjectWords.symbolsOf (o .headers) (o .entries) (o .contents) (o .image)) → getD (callLeft (merge o work ids) after .cells .ids) k 0 ≡ id + 1
             → Stands o after (signatures ks start) (runCalls ls (callNext (merge o work ids) after)) k id
         cell-stands = GivenRows.cell-stands after _ lasting ready shown some-symbol o work ids ok
 
-        module _ (n : ℕ) (unremoved : isRemoved (o .headers) (o .entries) (o .contents) (o .file) (signatures ks start) (sectionsIn (o .headers)) n ≡ false) (ls : List Call)
+        module _ (n : ℕ) (unremoved : isRemoved (o .headers) (o .entries) (o .contents) (o .image) (signatures ks start) (sectionsIn (o .headers)) n ≡ false) (ls : List Call)
             (spared : SparesAll ls (callNext (merge o work ids) after) (sectionId o after n)) where
           abbrev pub then : Linked
           then = runCalls ls (callNext (merge o work ids) after)
@@ -885,7 +898,7 @@ module _ (key : ℕ) (gabi : Bool) (bytes names symbols sections inputs lists : 
     -- an id once given to a name stays its own
     pub ids-stay : (ls : List Call) → RemovesNothing ls end → (n : ℕ) → n < end .table .link .names → globalAt (end .table .names) n ≢ 0
         → Writes.Bears (runCalls ls end .table) n (globalAt (end .table .names) n)
-    ids-stay ls q n i z = Writes.stays (end .table) (runCalls ls end .table) _ _ held (calls-keep ls end _ q held) n i z
+    ids-stay ls q n i z = WritesLaws.stays (end .table) (runCalls ls end .table) _ _ held (calls-keep ls end _ q held) n i z
 
     -- "a collection that drops nothing removes nothing": it leaves the link
     pub drops-nothing : (marks : List ℕ) (entry : EntryPoint) (work : List ℕ) → (Removes (collect marks entry work) end → ⊥)
@@ -957,8 +970,8 @@ module _ (key : ℕ) (gabi : Bool) (bytes names symbols sections inputs lists : 
       abbrev pub row : Row
       row = upcoming (end .table) conversion u
 
-      module _ (e : acceptedAdds (row .name .0) ≡ x ∷ xs) (global : row .visibility ≢ 0) (passes : leb 5 (row .visibility) ≡ false)
-          (valued : leb 13 (row .value .kind) ≡ false) where
+      module _ (e : acceptedAdds (row .name .0) ≡ x ∷ xs) (global : row .visibility ≢ 0) (passes : scopeRefused row ≡ false)
+          (valued : valueRefused row ≡ false) where
         -- whichever symbols the rows mean
         module _ (s : Sym) (ss : List Sym) (m : AllMean (rows (x ∷ xs)) (s ∷ ss)) (g : Sym) (own : Means row g) where
           pub refused-duplicate-any : callNumber (add conversion u) end ≡ 17 → Resolution.resolve ((s ∷ ss) ++ (g ∷ [])) ≡ Resolution.duplicate
@@ -1096,7 +1109,7 @@ module _ (key : ℕ) (gabi : Bool) (bytes names symbols sections inputs lists : 
       -- names by an undefined symbol of binding 1, since defined or not": by the link's rows; what those of loaded libraries have is in
       -- library-remembered and library-named
       abbrev pub IsNeeded : Type 0
-      IsNeeded = Needed (end .table .link) (end .table .bytes) (end .table .names) (end .table .symbols) (end .inputs) (end .lists) (o .entries) (o .file) (Shared.nameOf o)
+      IsNeeded = Needed (end .table .link) (end .table .bytes) (end .table .names) (end .table .symbols) (end .inputs) (end .lists) (o .entries) (o .image) (Shared.nameOf o)
 
       pub not-needed-only : callLeft (load o marks) end .answer ≡ NotNeeded
           → (Shared.headIn o (libraryIn end marks) .number ≡ 0) × (o .asneeded ≡ true) × (IsNeeded → ⊥)
@@ -1171,7 +1184,7 @@ module _ (key : ℕ) (gabi : Bool) (bytes names symbols sections inputs lists : 
 
       -- "walks don't change a link": the history with its calls leads where the history without them does
       pub walk-aside : (kss : List (List Call)) → runCalls (withWalk index kss (startRun walkKey index cells) end) end ≡ runCalls (joined kss) end
-      walk-aside kss = Walks.walk-aside index kss (startRun walkKey index cells) end
+      walk-aside kss = WalksLaws.walk-aside index kss (startRun walkKey index cells) end
 
       -- against the gABI: one more call for the next member, over this link, that makes a pass. The walk's earlier calls were lent whatever tables; where
       -- they stand in the history, those are tablesAt, and before is walkAfter (walk-is, Walks.antt). The member of entry e, not offered before, is this

@@ -6,7 +6,7 @@ use mathlib.Core.Bool.{Bool, true, false, not, _&&_, _||_, false≢true}
 use mathlib.Core.List.{List, [], _∷_}
 use lib.Dec.{eqb}
 use borrow.Author.Tests.{eqb-true}
-use Rattle.cells.specs.Split.{by-test}
+use Rattle.cells.specs.Proof.Split.{by-test}
 use Rattle.gabi.specs.SymbolTable.{Sym}
 use Rattle.gabi.specs.Resolution as Resolution
 use Rattle.gabi.specs.Resolution.{has}
@@ -16,14 +16,14 @@ use Rattle.symbol.specs.declared.SymbolVisibility.{SymbolVisibility}
 use Rattle.symbol.specs.declared.SymbolVisibility.the-variants.{Local, Global}
 use Rattle.symbol.specs.Codes.{visibilityAt}
 use Rattle.symbol.specs.Hidden.{hideCode, hideIf}
-use Rattle.symbol_rows.specs.Decide.{weakOf}
+use Rattle.symbol_resolution.specs.Decide.{weakOf}
 use Rattle.interner_laws.specs.Good.{find}
 use Rattle.archive_walk.specs.Look.{isUndefined, nameHolder, undefinedName, tiedName}
 use Rattle.archive_laws.specs.Profiles.{isStrong, strongName, tied-gabi}
 use Rattle.symbol_laws.specs.Rank.{weak, firstOf}
 use Rattle.symbol_laws.specs.Hidden.{someHidden}
 use Rattle.symbol_laws.specs.Standing.{hiddenBy}
-use Rattle.symbol_laws.specs.Rows.{rowAt}
+use Rattle.symbol_laws.specs.Proof.Rows.{rowAt}
 use Rattle.symbol_laws.specs.History.{State, store, Entry, only, rows}
 use Rattle.symbol_laws.specs.Held.{Inv}
 use Rattle.symbol_laws.specs.Demand.{Resolved, content-apart, resolved, holder-known}
@@ -34,7 +34,7 @@ use Rattle.symbol_laws.specs.DirectContents.{FromAdd}
 use Rattle.upcoming_symbol.specs.declared.UpcomingSymbol.{UpcomingSymbol}
 use Rattle.merge_laws.specs.Calls.{Linked}
 use Rattle.extraction_laws.specs.Wanted.{row-strong}
-use Rattle.link_laws.specs.Calls.{Call, intern, resolve, add, remove, get, getGlobal, sectionSymbol, addGroup, merge, mergeFile, load, archiveStart, archiveNext, matches, collect, plainCollect, viewIn, callNext}
+use Rattle.link_laws.specs.Calls.{Call, intern, add, remove, addGroup, merge, mergeFile, load, collect, plainCollect, viewIn, callNext, reads}
 use Rattle.link_laws.specs.Contents.{FromCall, FromCalls, here, later}
 use Rattle.link_laws.specs.Undefined.{isUndefinedRow, symbolsUnder, undefined-none}
 
@@ -55,19 +55,13 @@ add-of-name r u (Direct.elf e name file p a b c d) = ap isOfName c
 
 call-of-name : (k : Call) (s : Linked) (met : List (List ℕ)) (r : Row) → FromCall k s met r → OfName r
 call-of-name (intern x) s met r p = absurd p
-call-of-name (resolve id) s met r p = absurd p
+call-of-name (reads k) s met r p = absurd p
 call-of-name (add conversion u) s met r p = add-of-name r u p
 call-of-name (remove id) s met r p = absurd p
-call-of-name (get id) s met r p = absurd p
-call-of-name (getGlobal name) s met r p = absurd p
-call-of-name (sectionSymbol section) s met r p = absurd p
 call-of-name (addGroup o work n) s met r p = absurd p
 call-of-name (merge o work ids) s met r p = ap isOfName (p .content .shown)
 call-of-name (mergeFile file cells work ids) s met r p = ap isOfName (p .1 .content .shown)
 call-of-name (load o marks) s met r p = ap isOfName (p .shown)
-call-of-name (archiveStart key index cells) s met r p = absurd p
-call-of-name (archiveNext index cells w) s met r p = absurd p
-call-of-name (matches headers entries contents file index cells w e) s met r p = absurd p
 call-of-name (collect marks entry work) s met r p = absurd p
 call-of-name (plainCollect marks entry work) s met r p = absurd p
 

@@ -14,7 +14,7 @@ use Rattle.symbol.specs.declared.Words.{Words}
 use Rattle.interner_laws.specs.Good.{find}
 use Rattle.archive_walk.specs.Look.{isUndefined, nameHolder, undefinedName}
 use Rattle.symbol_laws.specs.Rank.{firstOf}
-use Rattle.symbol_laws.specs.Rows.{rowAt}
+use Rattle.symbol_laws.specs.Proof.Rows.{rowAt}
 use Rattle.symbol_laws.specs.History.{State, store, Entry, only, rows}
 use Rattle.symbol_laws.specs.Held.{Inv}
 use Rattle.symbol_laws.specs.Demand.{content-apart, resolved, holder-known, holder-none}

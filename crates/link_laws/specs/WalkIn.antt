@@ -6,19 +6,20 @@ use mathlib.Core.Path.{_≡_, refl, sym, ap, subst, _∙_}
 use mathlib.Core.Bool.{true, false}
 use mathlib.Core.List.{List, [], _∷_, _++_}
 use lib.ListN.{length}
-use Rattle.archive_index.specs.Index.{countOf, nameOf}
+use Rattle.archive_index.specs.Index.{countOf, offsetOf, nameOf}
 use Rattle.archive_walk.specs.Look.{Table, tiedName}
 use Rattle.archive_walk.specs.Walk.{begunNumber, startOf}
 use Rattle.archive_laws.specs.Rounds.{among, members}
 use Rattle.archive_laws.specs.Runs.{Run, stepRun, history, startRun}
 use Rattle.archive_laws.specs.Walked.{Walked}
-use Rattle.archive_laws.specs.WalkLaws.{walked}
+use Rattle.archive_laws.specs.Terms.{walked}
 use Rattle.archive_laws.specs.PassList.{Over, offered, without, firstSeen, tiedMembers, pass-offers}
 use Rattle.symbol_laws.specs.History.{Entry}
 use Rattle.merge_laws.specs.Calls.{Linked}
 use Rattle.link_laws.specs.Calls.{Call, archiveNext, viewIn, callNext, callNumber, runCalls, logCalls, RemovesNothing}
 use Rattle.link_laws.specs.Kept.{signatures, Reached, reached-within, reached-on}
-use Rattle.link_laws.specs.Walks.{nextIn, withWalk, walkAfter, tablesAt, joined, next-is, walk-is}
+use Rattle.link_laws.specs.Walks.{nextIn, withWalk, walkAfter, tablesAt, joined}
+use Rattle.link_laws.specs.Proof.Walks.{next-is, walk-is}
 use Rattle.link_laws.specs.NeverRemoved.{Whole, table-whole, next-accepted, AllWhole, walk-ends}
 
 quiet-front : (ks ls : List Call) (s : Linked) → RemovesNothing (ks ++ ls) s → RemovesNothing ks s
@@ -34,7 +35,7 @@ reached-whole s past met r = table-whole (s .table) past (r .held) met (r .marke
 
 module _ (index : List ℕ) where
   tables-whole : (kss : List (List Call)) (r : Run) (s : Linked) (past : List Entry) (met : List (List ℕ)) → RemovesNothing (withWalk index kss r s) s → Reached s past met
-      → AllWhole index (countOf index) (tablesAt kss s)
+      → AllWhole (tablesAt kss s)
   tables-whole [] r s past met q g = tt
   tables-whole (ks ∷ kss) r s past met q g =
       let t : Linked = runCalls ks s in
@@ -124,5 +125,5 @@ module _ (index : List ℕ) where
       pub walk-done : (kss : List (List Call)) → RemovesNothing (withWalk index kss (startRun key index cells) s) s → members index (countOf index) < length kss
           → walkAfter index kss (startRun key index cells) s .walk .done ≡ true
       walk-done kss q h =
-          walk-ends index (countOf index) (tablesAt kss s) (walkAfter index kss (startRun key index cells) s) (walked-in kss)
+          walk-ends index (offsetOf index) (nameOf index (countOf index)) (countOf index) (tablesAt kss s) (walkAfter index kss (startRun key index cells) s) (walked-in kss)
           (tables-whole kss (startRun key index cells) s past met q g) (omega (arith, tables-long kss s))

@@ -1,5 +1,5 @@
--- A history with every call in it, but the merge of a file, that meets the premises of the page, by computation: its links, answers and walk are not empty. Beside it what the page says of one
--- more call: as-needed, refused merges and loads, removals; and a history whose lists grow.
+-- A history with every call in it, but the merge of a file, that meets the
+-- premises of the page, by computation: its links, answers and walk are not empty. Beside it what the page says of one more call: as-needed, refused merges and loads, removals; and a history whose lists grow.
 -- Assumes nothing.
 use Prim.Native.Nat.{ℕ, _+_}
 use native.Mathlib.Omega.{arith}
@@ -52,10 +52,10 @@ use Rattle.symbol.specs.Offset as Symbol·Offset
 use Rattle.symbol.specs.Row as Symbol·Row
 use Rattle.upcoming_symbol.specs.Judge as UpcomingSymbol·Judge
 use Rattle.upcoming_symbol.specs.Upcoming as UpcomingSymbol·Upcoming
-use Rattle.symbol_rows.specs.Apply as SymbolRows·Apply
-use Rattle.symbol_rows.specs.Decide as SymbolRows·Decide
-use Rattle.symbol_rows.specs.Holder as SymbolRows·Holder
-use Rattle.symbol_rows.specs.Undefined as SymbolRows·Undefined
+use Rattle.symbol_resolution.specs.Apply as SymbolRows·Apply
+use Rattle.symbol_resolution.specs.Decide as SymbolRows·Decide
+use Rattle.symbol_resolution.specs.Holder as SymbolRows·Holder
+use Rattle.symbol_resolution.specs.RowsUndefined as SymbolRows·Undefined
 use Rattle.symbols.specs.Add as Symbols·Add
 use Rattle.symbols.specs.Lookup as Symbols·Lookup
 use Rattle.symbols.specs.New as Symbols·New
@@ -68,10 +68,11 @@ use Rattle.archive_walk.specs.Look as ArchiveWalk·Look
 use Rattle.archive_walk.specs.Names as ArchiveWalk·Names
 use Rattle.elf_object.specs.Judge as ElfObject·Judge
 use Rattle.elf_object.specs.Rows as ElfObject·Rows
-use Rattle.library_lists.specs.Record as LibraryLists·Record
-use Rattle.library_head.specs.Head as LibraryHead·Head
-use Rattle.library_need.specs.Lists as LibraryNeed·Lists
-use Rattle.library_need.specs.Need as LibraryNeed·Need
+use Rattle.shared_objects.specs.Record as LibraryLists·Record
+use Rattle.shared_objects.specs.Head as LibraryHead·Head
+use Rattle.cells.specs.Search as Cells·Search
+use Rattle.shared_objects.specs.Lists as LibraryNeed·Lists
+use Rattle.shared_objects.specs.Need as LibraryNeed·Need
 use Rattle.object_requirement.specs.Matches as ObjectRequirement·Matches
 use Rattle.merge_sections.specs.Notes as MergeSections·Notes
 use Rattle.merge_sections.specs.Reserve as MergeSections·Reserve
@@ -83,15 +84,15 @@ use Rattle.gc_sections.specs.Run as GcSections·Run
 use Rattle.gc_sections.specs.Sweep as GcSections·Sweep
 use Rattle.plain_collector.specs.Visit as PlainCollector·Visit
 use Rattle.plain_collector.specs.Run as PlainCollector·Run
-use Rattle.merge_plan.specs.Plan as MergePlan·Plan
-use Rattle.library_symbols.specs.Define as LibrarySymbols·Define
-use Rattle.library_symbols.specs.Load as LibrarySymbols·Load
+use Rattle.merge_symbols.specs.Plan as MergePlan·Plan
+use Rattle.shared_objects.specs.Define as LibrarySymbols·Define
+use Rattle.shared_objects.specs.SymbolsLoad as LibrarySymbols·Load
 use Rattle.shared_objects.specs.Stages as SharedObjects·Stages
 use Rattle.merge_symbols.specs.Stage as MergeSymbols·Stage
 use Rattle.merge_build.specs.Build as MergeBuild·Build
 use Rattle.merge_build.specs.Relocations as MergeBuild·Relocations
-use Rattle.add_group.specs.AddGroup as AddGroup·AddGroup
-use Rattle.merge_finish.specs.Finish as MergeFinish·Finish
+use Rattle.section_groups.specs.AddGroup as AddGroup·AddGroup
+use Rattle.merge_build.specs.Finish as MergeFinish·Finish
 use Rattle.merge_elf.specs.Merge as MergeElf·Merge
 use Rattle.archive_laws.specs.Runs as ArchiveLaws·Runs
 use Rattle.symbol_laws.specs.History as SymbolLaws·History
@@ -278,7 +279,7 @@ pub record Meets (gabi : Bool) : Type 0 where
   pub calm : Quiet turns (tight gabi)
 
 pub witness : (gabi : Bool) → Meets gabi
-unfolding AddGroup·AddGroup.tableIn Gabi·Archive.isUnresolved Gabi·Archive.wants Gabi·Archive.offers Gabi·Archive.extracts Gabi·Groups.kept Gabi·Groups.undefine Gabi·Groups.afterDiscard Gabi·Resolution.isGlobalDefinition Gabi·Resolution.isWeakDefinition Gabi·Resolution.isGlobalReference Gabi·Resolution.count Gabi·Resolution.has Gabi·Resolution.first Gabi·Resolution.resolve Gabi·StringTable.beforeZero Gabi·StringTable.hasName Gabi·StringTable.nameAt Gabi·StringTable.ended Gabi·StringTable.sameName Gabi·StringTable.among Gabi·SymbolTable.isLocal Gabi·SymbolTable.isGlobal Gabi·SymbolTable.isWeak Gabi·SymbolTable.isReference Gabi·SymbolTable.isDefinition Gabi·Visibility.rank Gabi·Visibility.combine Gabi·Visibility.combined Cells·Rows.putRow Cells·Rows.frontOf Cells·Rows.backOf ByteSlices·Bytes.wordAt ByteSlices·Bytes.sameWord ByteSlices·Bytes.same ByteSlices·Bytes.copied Link·Bounds.lesser Link·Judge.judgeSections Link·Judge.judgeNames Link·Judge.judgeLists Link·Judge.afterSymbols Link·Judge.afterSections Link·Judge.judgeOf Link·Judge.changeOf KeyedHash·Keyed.folded KeyedHash·Keyed.mixed KeyedHash·Keyed.hashFrom KeyedHash·Keyed.pointOf KeyedHash·Keyed.hashOf Interner·Calls.issueOf Interner·Calls.internOf Interner·Calls.clearHeads Interner·Calls.newOf Interner·Calls.resolveOf Interner·Hash.spread Interner·Hash.headCell Interner·Names.chase Interner·Names.seekOf Interner·Names.findFrom Interner·Names.findOf Interner·Names.roomOf Interner·Names.fitsOf Interner·Names.linked Interner·Names.keepAt Interner·Names.keepOf Symbol·Codes.typeAt Symbol·Codes.successor Symbol·Codes.fileAt Symbol·Codes.visibilityAt Symbol·Codes.valueAt Symbol·Offset.offsetOf Symbol·Offset.wordOf Symbol·Row.symbolAt Symbol·Row.setRow UpcomingSymbol·Judge.sectionInRange UpcomingSymbol·Judge.elfInRange UpcomingSymbol·Judge.externalInRange UpcomingSymbol·Judge.shownOf UpcomingSymbol·Judge.hiddenOf UpcomingSymbol·Judge.judgeOf UpcomingSymbol·Upcoming.inSection UpcomingSymbol·Upcoming.conversionFrom UpcomingSymbol·Upcoming.convertedOf UpcomingSymbol·Upcoming.undefinedOf UpcomingSymbol·Upcoming.valueOf UpcomingSymbol·Upcoming.elfRowOf UpcomingSymbol·Upcoming.externalRowOf SymbolRows·Apply.noteName SymbolRows·Apply.setSectionSymbol SymbolRows·Apply.noteSection SymbolRows·Apply.appendOf SymbolRows·Apply.applyOf SymbolRows·Decide.weakOf SymbolRows·Decide.referenceRank SymbolRows·Decide.rankOf SymbolRows·Decide.typeRefusal SymbolRows·Decide.sectionCell SymbolRows·Decide.sectionRoom SymbolRows·Decide.roomOf SymbolRows·Decide.newOf SymbolRows·Decide.replaceOf SymbolRows·Decide.rankedOf SymbolRows·Decide.knownOf SymbolRows·Decide.decideOf SymbolRows·Holder.heldBy SymbolRows·Holder.holderOf Symbols·Add.judgeAddOf Symbols·Add.issuedOf Symbols·Add.directHolderOf Symbols·Add.placeOf Symbols·Add.decidedOf Symbols·Add.committedOf Symbols·Add.addRowOf Symbols·Add.addOf Symbols·Lookup.foundAt Symbols·Lookup.getOf Symbols·Lookup.getGlobalOf Symbols·Lookup.sectionSymbolOf Symbols·New.clearSymbols Symbols·New.nullOf Symbols·New.newOf Symbols·Remove.dropSection Symbols·Remove.removeRowOf Symbols·Remove.removeOf Sections·Rows.roomOf Sections·Rows.reserveOf Sections·Rows.builtOf Sections·Rows.isBuilt ArchiveIndex·Index.countOf ArchiveIndex·Index.offsetOf ArchiveIndex·Index.afterOf ArchiveIndex·Index.placeOf ArchiveIndex·Index.nameOf ArchiveIndex·Index.cutOf ArchiveIndex·Open.openRowsOf ArchiveIndex·Open.openNamesOf ArchiveIndex·Open.openEntriesOf ArchiveIndex·Open.openOf ArchiveIndex·Rows.descend ArchiveIndex·Rows.spotOf ArchiveIndex·Rows.enterOf ArchiveIndex·Rows.enterAll ArchiveIndex·Rows.rowsOf ArchiveIndex·Rows.noHeads ArchiveWalk·Look.judgeTable ArchiveWalk·Look.nameHolder ArchiveWalk·Look.removedName ArchiveWalk·Look.undefinedName ArchiveWalk·Names.nameChain ArchiveWalk·Names.along ArchiveWalk·Names.bearsOf ArchiveWalk·Names.requiredOf Archive.begunOf Archive.startOf Archive.offerOf Archive.marked Archive.enqueue Archive.tieOf Archive.tieAll Archive.removedOf Archive.makeOf Archive.searchOf Archive.passOf Archive.walkFits Archive.goOf Archive.nextOf ElfObject·Judge.rangeOk ElfObject·Judge.contentsOk ElfObject·Judge.headerOk ElfObject·Judge.entryOk ElfObject·Judge.firstBad ElfObject·Judge.badHeader ElfObject·Judge.badEntry ElfObject·Judge.judgeOf ElfObject·Rows.isExcluded ElfObject·Rows.isLoaded ElfObject·Rows.nameIn ElfObject·Rows.sectionOf ElfObject·Rows.entriesFrom ElfObject·Rows.tableEntries LibraryLists·Record.recordFits LibraryLists·Record.keepName LibraryLists·Record.recordAs LibraryLists·Record.recordOf LibraryLists·Record.dependencyOf LibraryLists·Record.dependenciesFrom LibraryLists·Record.dependenciesOf LibraryHead·Head.needOk LibraryHead·Head.badNeed LibraryHead·Head.sonameMissing LibraryHead·Head.rowsOf LibraryHead·Head.unnamedOf LibraryHead·Head.marksShort LibraryHead·Head.nameRefusal LibraryHead·Head.afterRows LibraryHead·Head.headOf LibraryNeed·Lists.hasId LibraryNeed·Lists.anyFrom LibraryNeed·Need.libraryName LibraryNeed·Need.dependsOn LibraryNeed·Need.markNames LibraryNeed·Need.markLibrary LibraryNeed·Need.markFrom LibraryNeed·Need.markAll LibraryNeed·Need.provides LibraryNeed·Need.clearNamed LibraryNeed·Need.clearMark LibraryNeed·Need.clearFrom LibraryNeed·Need.clearAll LibraryNeed·Need.wantedIn LibraryNeed·Need.nameWanted LibraryNeed·Need.symbolWanted LibraryNeed·Need.someWanted LibraryNeed·Need.markedOf LibraryNeed·Need.needOf ObjectRequirement·Matches.isSection ObjectRequirement·Matches.nameAnywhere ObjectRequirement·Matches.isRequired ObjectRequirement·Matches.someFrom ObjectRequirement·Matches.bearsRequired ObjectRequirement·Matches.inTable ObjectRequirement·Matches.isTable ObjectRequirement·Matches.inSection ObjectRequirement·Matches.hasGlobalSymbol ObjectRequirement·Matches.offeredIn ObjectRequirement·Matches.matchesOf MergeSections·Notes.eachFrom MergeSections·Notes.isTable MergeSections·Notes.noteTableOf MergeSections·Notes.noteTablesOf MergeSections·Notes.clearOneOf MergeSections·Notes.clearAllOf MergeSections·Reserve.kindClass MergeSections·Reserve.classOf MergeSections·Reserve.refusalOf MergeSections·Reserve.conversionOf MergeSections·Reserve.tableAfter MergeSections·Reserve.noteOf MergeSections·Reserve.takeRowOf MergeSections·Reserve.reserveClassOf MergeSections·Reserve.reserveOneOf MergeSections·Reserve.reserveFrom MergeSections·Reserve.reserveAllOf SectionGroups·Filter.sectionAfter SectionGroups·Filter.symbolOk SectionGroups·Filter.filterOf Group.shapeOf Group.signatureOf Group.repeatedOf Group.markRefusal Group.planWith Group.planOf Group.markGroupOf Group.markRemovedOf Group.admitOf Group.decidedOf Group.namedOf Group.signedOf Group.shapedOf Group.groupOf Group.groupSectionOf Group.groupsFrom Group.groupsOf GcSections·Each.each GcSections·Reach.saveOf GcSections·Reach.reachOf GcSections·Reach.addOf GcSections·Reach.rootSymbol GcSections·Reach.rootSection GcSections·Reach.endOf GcSections·Reach.relocation GcSections·Reach.relocations GcSections·Reach.follow GcSections·Reach.visit GcSections·Reach.clearCell GcSections·Reach.startOf GcSections·Reach.rootsOf GcSections·Reach.processOf GcSections·Reach.walked GcSections·Roots.valueLead GcSections·Roots.leadOf GcSections·Roots.readable GcSections·Roots.nameIs GcSections·Roots.rooted GcSections·Roots.isRoot GcSections·Run.judgeCells GcSections·Run.judgeOf GcSections·Run.purgeOf GcSections·Run.sweepOf GcSections·Run.finished GcSections·Run.collectOf GcSections·Run.runOf GcSections·Sweep.dropUnreached GcSections·Sweep.droppedNow GcSections·Sweep.purgeSymbol GcSections·Sweep.sweepSections GcSections·Sweep.purgeSymbols PlainCollector·Visit.unvisited PlainCollector·Visit.visitOf PlainCollector·Visit.visited PlainCollector·Visit.markedLead PlainCollector·Visit.rootLead PlainCollector·Visit.rootSymbol PlainCollector·Visit.rootSection PlainCollector·Visit.reachedOf PlainCollector·Run.countOne PlainCollector·Run.countBuilt PlainCollector·Run.judgePlain PlainCollector·Run.finished PlainCollector·Run.plainOf MergePlan·Plan.isFirst MergePlan·Plan.definesOf MergePlan·Plan.ruleOf MergePlan·Plan.judgedOf MergePlan·Plan.rowedOf MergePlan·Plan.readOf MergePlan·Plan.plannedOf MergePlan·Plan.placeOf MergePlan·Plan.fileAfter LibrarySymbols·Define.judgedOf LibrarySymbols·Define.rowedOf LibrarySymbols·Define.externalOf LibrarySymbols·Define.planOf LibrarySymbols·Define.acceptOf LibrarySymbols·Define.keptOf LibrarySymbols·Define.commitOf LibrarySymbols·Define.defineOf LibrarySymbols·Load.namedOf LibrarySymbols·Load.lookedOf LibrarySymbols·Load.symbolOf LibrarySymbols·Load.symbolsFrom LibrarySymbols·Load.symbolsOf Shared.wantOf Shared.endedAs Shared.wantedOf Shared.namedOf Shared.loadOf SharedObjects·Stages.inputOf SharedObjects·Stages.inputStage SharedObjects·Stages.listsOf SharedObjects·Stages.listStage SharedObjects·Stages.contentsOf SharedObjects·Stages.keptOf SharedObjects·Stages.issuedOf SharedObjects·Stages.libraryOf MergeSymbols·Stage.acceptRow MergeSymbols·Stage.keptOf MergeSymbols·Stage.commitOf MergeSymbols·Stage.namedOf MergeSymbols·Stage.lookedOf MergeSymbols·Stage.symbolOf MergeSymbols·Stage.symbolsFrom MergeSymbols·Stage.symbolsOf MergeBuild·Build.planWith MergeBuild·Build.planOf MergeBuild·Build.sectionIdOf MergeBuild·Build.buildRowOf MergeBuild·Build.keptOf MergeBuild·Build.commitOf MergeBuild·Build.tabledOf MergeBuild·Build.namedOf MergeBuild·Build.builtFrom MergeBuild·Build.lookedOf MergeBuild·Build.sectionOf MergeBuild·Build.buildFrom MergeBuild·Build.buildOf MergeBuild·Relocations.tableFor MergeBuild·Relocations.limitOf MergeBuild·Relocations.relocationsOf MergeBuild·Relocations.symbolOk MergeBuild·Relocations.symbolsOk MergeBuild·Relocations.idIn MergeBuild·Relocations.appendFrom AddGroup·AddGroup.marksRefusal AddGroup·AddGroup.rowsRefusal AddGroup·AddGroup.headOf AddGroup·AddGroup.answerOf AddGroup·AddGroup.addGroupOf MergeFinish·Finish.inputOf MergeFinish·Finish.inputStage MergeFinish·Finish.programStage MergeFinish·Finish.builtOf Stages.buildStage Stages.mergeTableOf Stages.filteredOf Stages.filterStage Stages.mergeGroupsOf Stages.groupStage Stages.reservedStages Stages.stagesOf MergeElf·Merge.workRefusal MergeElf·Merge.rowsRefusal MergeElf·Merge.headOf MergeElf·Merge.endedAs MergeElf·Merge.finishedOf MergeElf·Merge.mergeOf ArchiveLaws·Runs.startRun ArchiveLaws·Runs.stepRun SymbolLaws·History.noted MergeLaws·MergeSteps.addsOf MergeLaws·MergeSteps.rowSteps MergeLaws·MergeSteps.namedSteps MergeLaws·MergeSteps.symbolSteps MergeLaws·MergeSteps.signedSteps MergeLaws·MergeSteps.groupSectionSteps MergeLaws·MergeSteps.builtSteps MergeLaws·MergeSteps.sectionSteps MergeLaws·MergeSteps.inputSteps MergeLaws·MergeSteps.programSteps MergeLaws·MergeSteps.bothSteps MergeLaws·MergeSteps.buildStageSteps MergeLaws·MergeSteps.tableSteps MergeLaws·MergeSteps.filteredSteps MergeLaws·MergeSteps.filterSteps MergeLaws·MergeSteps.mergeGroupsSteps MergeLaws·MergeSteps.groupStageSteps MergeLaws·MergeSteps.reservedSteps MergeLaws·MergeSteps.stagesSteps MergeLaws·MergeSteps.mergeSteps LoadLaws·LoadSteps.recordSteps LoadLaws·LoadSteps.namedSteps LoadLaws·LoadSteps.symbolSteps LoadLaws·LoadSteps.dependencySteps LoadLaws·LoadSteps.inputSteps LoadLaws·LoadSteps.listsSteps LoadLaws·LoadSteps.listStageSteps LoadLaws·LoadSteps.contentsSteps LoadLaws·LoadSteps.keptSteps LoadLaws·LoadSteps.issuedSteps LoadLaws·LoadSteps.librarySteps LoadLaws·LoadSteps.wantedSteps LoadLaws·LoadSteps.askedSteps LoadLaws·LoadSteps.loadSteps ArchiveWalk·Names.borneFrom ArchiveWalk·Names.chained ArchiveWalk·Names.headedOf ArchiveWalk·Names.notedOf MergeLaws·MergeWords.relocates MergeLaws·MergeWords.namedBy MergeLaws·MergeWords.entriesTo MergeLaws·MergeWords.symbolNames MergeLaws·MergeWords.ownSignatures MergeLaws·MergeWords.isRemoved SymbolLaws·ObjectWords.loadedAs SymbolLaws·ObjectWords.stringsOf Symbol·Hidden.hiddenCode Symbol·Hidden.hideCode Symbol·Hidden.showCode Symbol·Hidden.passes Symbol·Hidden.hideIf Symbol·Hidden.passHidden UpcomingSymbol·Upcoming.libraryCode SymbolRows·Apply.replacedIn SymbolRows·Apply.amendedIn SymbolRows·Decide.keptOf ArchiveWalk·Look.tiesRow ArchiveWalk·Look.tiedName SymbolRows·Undefined.strongUndefined ObjectRequirement·Matches.definesName ObjectRequirement·Matches.admits
+unfolding AddGroup·AddGroup.tableIn Gabi·Archive.isUnresolved Gabi·Archive.wants Gabi·Archive.offers Gabi·Archive.extracts Gabi·Groups.kept Gabi·Groups.undefine Gabi·Groups.afterDiscard Gabi·Resolution.isGlobalDefinition Gabi·Resolution.isWeakDefinition Gabi·Resolution.isGlobalReference Gabi·Resolution.count Gabi·Resolution.has Gabi·Resolution.first Gabi·Resolution.resolve Gabi·StringTable.beforeZero Gabi·StringTable.hasName Gabi·StringTable.nameAt Gabi·StringTable.ended Gabi·StringTable.sameName Gabi·StringTable.among Gabi·SymbolTable.isLocal Gabi·SymbolTable.isGlobal Gabi·SymbolTable.isWeak Gabi·SymbolTable.isReference Gabi·SymbolTable.isDefinition Gabi·Visibility.rank Gabi·Visibility.combine Gabi·Visibility.combined Cells·Rows.putRow Cells·Rows.frontOf Cells·Rows.backOf ByteSlices·Bytes.wordAt ByteSlices·Bytes.sameWord ByteSlices·Bytes.same ByteSlices·Bytes.copied Link·Bounds.lesser Link·Judge.judgeSections Link·Judge.judgeNames Link·Judge.judgeLists Link·Judge.afterSymbols Link·Judge.afterSections Link·Judge.judgeOf Link·Judge.changeOf KeyedHash·Keyed.folded KeyedHash·Keyed.mixed KeyedHash·Keyed.hashFrom KeyedHash·Keyed.pointOf KeyedHash·Keyed.hashOf Interner·Calls.issueOf Interner·Calls.internOf Interner·Calls.clearHeads Interner·Calls.newOf Interner·Calls.resolveOf Interner·Hash.spread Interner·Hash.headCell Interner·Names.chase Interner·Names.seekOf Interner·Names.findFrom Interner·Names.findOf Interner·Names.roomOf Interner·Names.fitsOf Interner·Names.linked Interner·Names.keepAt Interner·Names.keepOf Symbol·Codes.typeAt Symbol·Codes.successor Symbol·Codes.fileAt Symbol·Codes.visibilityAt Symbol·Codes.valueAt Symbol·Offset.offsetOf Symbol·Offset.wordOf Symbol·Row.symbolAt Symbol·Row.setRow UpcomingSymbol·Judge.sectionInRange UpcomingSymbol·Judge.elfInRange UpcomingSymbol·Judge.externalInRange UpcomingSymbol·Judge.shownOf UpcomingSymbol·Judge.hiddenOf UpcomingSymbol·Judge.judgeOf UpcomingSymbol·Upcoming.inSection UpcomingSymbol·Upcoming.conversionFrom UpcomingSymbol·Upcoming.convertedOf UpcomingSymbol·Upcoming.undefinedOf UpcomingSymbol·Upcoming.valueOf UpcomingSymbol·Upcoming.elfRowOf UpcomingSymbol·Upcoming.externalRowOf SymbolRows·Apply.noteName SymbolRows·Apply.setSectionSymbol SymbolRows·Apply.noteSection SymbolRows·Apply.appendOf SymbolRows·Apply.applyOf SymbolRows·Decide.weakOf SymbolRows·Decide.referenceRank SymbolRows·Decide.rankOf SymbolRows·Decide.typeRefusal SymbolRows·Decide.sectionCell SymbolRows·Decide.sectionRoom SymbolRows·Decide.roomOf SymbolRows·Decide.newOf SymbolRows·Decide.replaceOf SymbolRows·Decide.rankedOf SymbolRows·Decide.knownOf SymbolRows·Decide.decideOf SymbolRows·Holder.heldBy SymbolRows·Holder.holderOf Symbols·Add.judgeAddOf Symbols·Add.issuedOf Symbols·Add.directHolderOf Symbols·Add.placeOf Symbols·Add.decidedOf Symbols·Add.committedOf Symbols·Add.addRowOf Symbols·Add.addOf Symbols·Lookup.foundAt Symbols·Lookup.getOf Symbols·Lookup.getGlobalOf Symbols·Lookup.sectionSymbolOf Symbols·New.clearSymbols Symbols·New.nullOf Symbols·New.newOf Symbols·Remove.dropSection Symbols·Remove.removeRowOf Symbols·Remove.removeOf Sections·Rows.roomOf Sections·Rows.reserveOf Sections·Rows.builtOf Sections·Rows.isBuilt ArchiveIndex·Index.countOf ArchiveIndex·Index.offsetOf ArchiveIndex·Index.afterOf ArchiveIndex·Index.placeOf ArchiveIndex·Index.nameOf ArchiveIndex·Index.cutOf ArchiveIndex·Open.openRowsOf ArchiveIndex·Open.openNamesOf ArchiveIndex·Open.openEntriesOf ArchiveIndex·Open.openOf ArchiveIndex·Rows.descend ArchiveIndex·Rows.spotOf ArchiveIndex·Rows.enterOf ArchiveIndex·Rows.enterAll ArchiveIndex·Rows.rowsOf ArchiveIndex·Rows.noHeads ArchiveWalk·Look.judgeTable ArchiveWalk·Look.nameHolder ArchiveWalk·Look.removedName ArchiveWalk·Look.undefinedName ArchiveWalk·Names.nameChain ArchiveWalk·Names.along ArchiveWalk·Names.bearsOf ArchiveWalk·Names.requiredOf Archive.begunOf Archive.startOf Archive.offerOf Archive.marked Archive.enqueue Archive.tieOf Archive.tieAll Archive.removedOf Archive.makeOf Archive.searchOf Archive.passOf Archive.walkFits Archive.goOf Archive.nextOf ElfObject·Judge.rangeOk ElfObject·Judge.contentsOk ElfObject·Judge.headerOk ElfObject·Judge.entryOk ElfObject·Judge.firstBad ElfObject·Judge.badHeader ElfObject·Judge.badEntry ElfObject·Judge.judgeOf ElfObject·Rows.isExcluded ElfObject·Rows.isLoaded ElfObject·Rows.nameIn ElfObject·Rows.sectionOf ElfObject·Rows.entriesFrom ElfObject·Rows.tableEntries LibraryLists·Record.recordFits LibraryLists·Record.keepName LibraryLists·Record.recordAs LibraryLists·Record.recordOf LibraryLists·Record.dependencyOf LibraryLists·Record.dependenciesFrom LibraryLists·Record.dependenciesOf LibraryHead·Head.dependenciesOk LibraryHead·Head.badNeed LibraryHead·Head.sonameMissing LibraryHead·Head.rowsOf LibraryHead·Head.unnamedOf LibraryHead·Head.marksShort LibraryHead·Head.nameRefusal LibraryHead·Head.afterRows LibraryHead·Head.checkOf LibraryNeed·Lists.hasId Cells·Search.anyFrom LibraryNeed·Need.libraryName LibraryNeed·Need.dependsOn LibraryNeed·Need.markNames LibraryNeed·Need.markLibrary LibraryNeed·Need.markFrom LibraryNeed·Need.markAll LibraryNeed·Need.provides LibraryNeed·Need.clearNamed LibraryNeed·Need.clearMark LibraryNeed·Need.clearFrom LibraryNeed·Need.clearAll LibraryNeed·Need.wantedIn LibraryNeed·Need.nameWanted LibraryNeed·Need.symbolWanted LibraryNeed·Need.someWanted LibraryNeed·Need.markedOf LibraryNeed·Need.needOf ObjectRequirement·Matches.isSection ObjectRequirement·Matches.nameAnywhere ObjectRequirement·Matches.isRequired ObjectRequirement·Matches.bearsRequired ObjectRequirement·Matches.inTable ObjectRequirement·Matches.isTable ObjectRequirement·Matches.inSection ObjectRequirement·Matches.hasGlobalSymbol ObjectRequirement·Matches.offeredIn ObjectRequirement·Matches.matchesOf MergeSections·Notes.eachFrom MergeSections·Notes.isTable MergeSections·Notes.noteTableOf MergeSections·Notes.noteTablesOf MergeSections·Notes.clearOneOf MergeSections·Notes.clearAllOf MergeSections·Reserve.kindClass MergeSections·Reserve.classOf MergeSections·Reserve.reserveNumber MergeSections·Reserve.conversionOf MergeSections·Reserve.tableAfter MergeSections·Reserve.noteOf MergeSections·Reserve.takeRowOf MergeSections·Reserve.reserveClassOf MergeSections·Reserve.reserveOneOf MergeSections·Reserve.reserveFrom MergeSections·Reserve.reserveAllOf SectionGroups·Filter.sectionAfter SectionGroups·Filter.symbolOk SectionGroups·Filter.filterOf Group.shapeOf Group.signatureOf Group.repeatedOf Group.markRefusal Group.planWith Group.planOf Group.markGroupOf Group.markRemovedOf Group.admitOf Group.decidedOf Group.groupNamed Group.signedOf Group.shapedOf Group.groupOf Group.groupSectionOf Group.groupsFrom Group.groupsOf GcSections·Each.each GcSections·Reach.saveOf GcSections·Reach.reachOf GcSections·Reach.addOf GcSections·Reach.rootSymbol GcSections·Reach.rootSection GcSections·Reach.endOf GcSections·Reach.relocation GcSections·Reach.relocations GcSections·Reach.follow GcSections·Reach.visit GcSections·Reach.clearCell GcSections·Reach.startOf GcSections·Reach.rootsOf GcSections·Reach.processOf GcSections·Reach.walked GcSections·Roots.valueLead GcSections·Roots.leadOf GcSections·Roots.readable GcSections·Roots.nameIs GcSections·Roots.rooted GcSections·Roots.isRoot GcSections·Run.judgeCells GcSections·Run.judgeOf GcSections·Run.purgeOf GcSections·Run.sweepOf GcSections·Run.finished GcSections·Run.collectOf GcSections·Run.runOf GcSections·Sweep.dropUnreached GcSections·Sweep.droppedNow GcSections·Sweep.purgeSymbol GcSections·Sweep.sweepSections GcSections·Sweep.purgeSymbols PlainCollector·Visit.unvisited PlainCollector·Visit.visitOf PlainCollector·Visit.visited PlainCollector·Visit.markedLead PlainCollector·Visit.rootLead PlainCollector·Visit.rootSymbol PlainCollector·Visit.rootSection PlainCollector·Visit.reachedOf PlainCollector·Run.countOne PlainCollector·Run.countBuilt PlainCollector·Run.judgePlain PlainCollector·Run.finished PlainCollector·Run.plainOf MergePlan·Plan.isFirst MergePlan·Plan.definesOf MergePlan·Plan.ruleOf MergePlan·Plan.judgedOf MergePlan·Plan.rowedOf MergePlan·Plan.readOf MergePlan·Plan.plannedOf MergePlan·Plan.placeOf MergePlan·Plan.fileAfter LibrarySymbols·Define.judgedOf LibrarySymbols·Define.rowedOf LibrarySymbols·Define.externalOf LibrarySymbols·Define.planOf LibrarySymbols·Define.acceptOf LibrarySymbols·Define.keptOf LibrarySymbols·Define.commitOf LibrarySymbols·Define.defineOf LibrarySymbols·Load.librarySymbolNamed LibrarySymbols·Load.lookedOf LibrarySymbols·Load.symbolOf LibrarySymbols·Load.symbolsFrom LibrarySymbols·Load.symbolsOf Shared.wantOf Shared.endedAs Shared.wantedOf Shared.libraryNamed Shared.loadOf SharedObjects·Stages.libraryRowOf SharedObjects·Stages.inputStage SharedObjects·Stages.listsOf SharedObjects·Stages.listStage SharedObjects·Stages.contentsOf SharedObjects·Stages.keptOf SharedObjects·Stages.issuedOf SharedObjects·Stages.libraryOf MergeSymbols·Stage.acceptRow MergeSymbols·Stage.keptOf MergeSymbols·Stage.commitOf MergeSymbols·Stage.symbolNamed MergeSymbols·Stage.lookedOf MergeSymbols·Stage.symbolOf MergeSymbols·Stage.symbolsFrom MergeSymbols·Stage.symbolsOf MergeBuild·Build.planWith MergeBuild·Build.planOf MergeBuild·Build.sectionIdOf MergeBuild·Build.buildRowOf MergeBuild·Build.keptOf MergeBuild·Build.commitOf MergeBuild·Build.tabledOf MergeBuild·Build.sectionNamed MergeBuild·Build.builtFrom MergeBuild·Build.lookedOf MergeBuild·Build.sectionOf MergeBuild·Build.buildFrom MergeBuild·Build.buildOf MergeBuild·Relocations.tableFor MergeBuild·Relocations.limitOf MergeBuild·Relocations.relocationsOf MergeBuild·Relocations.symbolOk MergeBuild·Relocations.symbolsOk MergeBuild·Relocations.idIn MergeBuild·Relocations.appendFrom AddGroup·AddGroup.marksRefusal AddGroup·AddGroup.rowsRefusal AddGroup·AddGroup.checkOf AddGroup·AddGroup.answerOf AddGroup·AddGroup.addGroupOf MergeFinish·Finish.inputRowOf MergeFinish·Finish.inputStage MergeFinish·Finish.programStage MergeFinish·Finish.builtOf Stages.buildStage Stages.mergeTableOf Stages.filteredOf Stages.filterStage Stages.mergeGroupsOf Stages.groupStage Stages.reservedStages Stages.stagesOf MergeElf·Merge.workRefusal MergeElf·Merge.rowsRefusal MergeElf·Merge.checkOf MergeElf·Merge.endedAs MergeElf·Merge.finishedOf MergeElf·Merge.mergeOf ArchiveLaws·Runs.startRun ArchiveLaws·Runs.stepRun SymbolLaws·History.noted MergeLaws·MergeSteps.addsOf MergeLaws·MergeSteps.rowSteps MergeLaws·MergeSteps.namedSteps MergeLaws·MergeSteps.symbolSteps MergeLaws·MergeSteps.signedSteps MergeLaws·MergeSteps.groupSectionSteps MergeLaws·MergeSteps.builtSteps MergeLaws·MergeSteps.sectionSteps MergeLaws·MergeSteps.inputSteps MergeLaws·MergeSteps.programSteps MergeLaws·MergeSteps.bothSteps MergeLaws·MergeSteps.buildStageSteps MergeLaws·MergeSteps.tableSteps MergeLaws·MergeSteps.filteredSteps MergeLaws·MergeSteps.filterSteps MergeLaws·MergeSteps.mergeGroupsSteps MergeLaws·MergeSteps.groupStageSteps MergeLaws·MergeSteps.reservedSteps MergeLaws·MergeSteps.stagesSteps MergeLaws·MergeSteps.mergeSteps LoadLaws·LoadSteps.recordSteps LoadLaws·LoadSteps.namedSteps LoadLaws·LoadSteps.symbolSteps LoadLaws·LoadSteps.dependencySteps LoadLaws·LoadSteps.inputSteps LoadLaws·LoadSteps.listsSteps LoadLaws·LoadSteps.listStageSteps LoadLaws·LoadSteps.contentsSteps LoadLaws·LoadSteps.keptSteps LoadLaws·LoadSteps.issuedSteps LoadLaws·LoadSteps.librarySteps LoadLaws·LoadSteps.wantedSteps LoadLaws·LoadSteps.askedSteps LoadLaws·LoadSteps.loadSteps ArchiveWalk·Names.borneFrom ArchiveWalk·Names.chained ArchiveWalk·Names.headedOf ArchiveWalk·Names.notedOf MergeLaws·MergeWords.relocates MergeLaws·MergeWords.namedBy MergeLaws·MergeWords.entriesTo MergeLaws·MergeWords.symbolNames MergeLaws·MergeWords.ownSignatures MergeLaws·MergeWords.isRemoved SymbolLaws·ObjectWords.loadedAs SymbolLaws·ObjectWords.stringsOf Symbol·Hidden.hiddenCode Symbol·Hidden.hideCode Symbol·Hidden.showCode Symbol·Hidden.passes Symbol·Hidden.hideIf Symbol·Hidden.passHidden UpcomingSymbol·Upcoming.libraryCode SymbolRows·Apply.replacedIn SymbolRows·Apply.amendedIn SymbolRows·Decide.keptOf ArchiveWalk·Look.tiesRow ArchiveWalk·Look.tiedName SymbolRows·Undefined.strongUndefined ObjectRequirement·Matches.definesName ObjectRequirement·Matches.admits
 witness true =
     record {
       new = refl;

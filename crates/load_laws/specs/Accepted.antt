@@ -9,20 +9,20 @@ use mathlib.Core.List.{List, [], _∷_, _++_, append-nil}
 use lib.Dec.{eqb}
 use lib.ListN.{getD, length}
 use borrow.Author.Tests.{eqb-true, eqb-false}
-use Rattle.cells.specs.Split.{by-test}
+use Rattle.cells.specs.Proof.Split.{by-test}
 use Rattle.strings.specs.Lookup.{Looked, lookUp}
 use Rattle.link.specs.declared.Interned.{Interned}
 use Rattle.link.specs.declared.Stage.{Stage}
 use Rattle.link.specs.declared.Refusal.{Refusal}
 use Rattle.link.specs.Judge.{goingOf}
 use Rattle.symbol.specs.declared.Row.{Row}
-use Rattle.symbol_rows.specs.declared.Decision.{Decision}
-use Rattle.symbol_rows.specs.Decide.{refusalOf}
+use Rattle.symbol_resolution.specs.declared.rows.Decision.{Decision}
+use Rattle.symbol_resolution.specs.Decide.{refusalOf}
 use Rattle.elf_object.specs.Rows.{rowsIn, field}
-use Rattle.library_lists.specs.Record.{Recorded, recordOf, dependencyOf, dependenciesOf}
-use Rattle.library_symbols.specs.Define.{planOf, view, acceptOf, keptOf, commitOf, defineOf}
-use Rattle.library_symbols.specs.Load.{State, staged, namedOf, lookedOf, symbolOf, symbolsOf}
-use Rattle.library_need.specs.Need.{Judged}
+use Rattle.shared_objects.specs.Record.{Recorded, recordOf, dependencyOf, dependenciesOf}
+use Rattle.shared_objects.specs.Define.{planOf, view, acceptOf, keptOf, commitOf, defineOf}
+use Rattle.shared_objects.specs.SymbolsLoad.{State, staged, librarySymbolNamed, lookedOf, symbolOf, symbolsOf}
+use Rattle.shared_objects.specs.Need.{Judged}
 use Rattle.shared_objects.specs.declared.Answer.the-variants.{Loaded, NotNeeded, Refused}
 use Rattle.shared_objects.specs.Stages.{ListLinks, Links}
 use Rattle.shared_objects.specs.Load as Load
@@ -31,7 +31,7 @@ use Rattle.merge_laws.specs.Steps.{Step, others}
 use Rattle.merge_laws.specs.Loop.{loop, loopSteps, loop-going, loop-next, steps-next}
 use Rattle.merge_laws.specs.MergeSteps.{rowSteps}
 use Rattle.merge_laws.specs.Kept.{globalRows, addedRows}
-use Rattle.merge_laws.specs.Markless.{added-append, both-none, loop-none}
+use Rattle.merge_laws.specs.Proof.Markless.{added-append, both-none, loop-none}
 use Rattle.load_laws.specs.LoadSteps.{recordSteps, recording, adding, namedSteps, symbolSteps, dependencySteps, dependenciesSteps, inputSteps, listFirst, listsSteps, listsIn, listStageSteps, symbolFirst, contentsSteps, keptSteps, issuedSteps, librarySteps, wantedSteps, askedSteps, loadSteps}
 use Rattle.load_laws.specs.Whole.{symbols-loop}
 use Rattle.load_laws.specs.Stops.{linkId, named, end, number, symbolsTo, added, fits, name-stop, name-pass, symbols-stop}
@@ -67,7 +67,7 @@ rowOf entries file s i =
 
 symbol-row : (entries file : List ℕ) (s : State) (i : ℕ) → symbolOf entries file s i .stage .number ≡ 0
     → addedRows (symbolSteps entries file s i) ≡ cond (eqb (field entries i 4) 0) [] (globalRows (rowOf entries file s i))
-unfolding symbolSteps namedSteps rowSteps symbolOf lookedOf namedOf defineOf commitOf keptOf acceptOf
+unfolding symbolSteps namedSteps rowSteps symbolOf lookedOf librarySymbolNamed defineOf commitOf keptOf acceptOf
 symbol-row entries file s i e =
     let x : Looked = lookUp file (field entries i 0) in
     let t : State = staged s (goingOf (s .stage .link)) in
@@ -151,10 +151,10 @@ module _ (entries file needs : List ℕ) (s : Links) (x : List ℕ) where
 
 module _ (o : Input) (a : All) where
   abbrev judged : Judged
-  judged = wantOf (o .asneeded) (a .link) (a .bytes) (a .names) (a .symbols) (a .inputs) (a .lists) (a .marks) (o .entries) (o .file) (nameOf o)
+  judged = wantOf (o .asneeded) (a .link) (a .bytes) (a .names) (a .symbols) (a .inputs) (a .lists) (a .marks) (o .entries) (o .image) (nameOf o)
 
   abbrev stage : Stage
-  stage = end (o .entries) (o .file) (o .needs) (linksIn a) (nameOf o) .stage
+  stage = end (o .entries) (o .image) (o .needs) (linksIn a) (nameOf o) .stage
 
   loaded-whole : endedAs stage .answer ≡ Loaded → stage .number ≡ 0
   unfolding endedAs
@@ -164,8 +164,8 @@ module _ (o : Input) (a : All) where
       differ r e = let z : _≡_ {A = ℕ} 0 1 = cc in omega arith
 
   pub load-rows : loadOf o a .answer ≡ Loaded
-      → addedRows (loadSteps o a) ≡ symbolRows (o .entries) (o .file) (o .needs) (linksIn a) (nameOf o) (rowsIn (o .entries))
-  unfolding loadOf Load.namedOf wantedOf loadSteps askedSteps wantedSteps
+      → addedRows (loadSteps o a) ≡ symbolRows (o .entries) (o .image) (o .needs) (linksIn a) (nameOf o) (rowsIn (o .entries))
+  unfolding loadOf Load.libraryNamed wantedOf loadSteps askedSteps wantedSteps
   load-rows e =
       by-test (eqb (headIn o a .number) 0)
       (λ h.
@@ -173,9 +173,9 @@ module _ (o : Input) (a : All) where
       (λ j.
       let z : stage .number ≡ 0 = loaded-whole (rw (h, j) at e) in
       rw (h, j)
-      (added-append (librarySteps (o .entries) (o .file) (o .needs) (linksIn a) (nameOf o)) (others _ _ ∷ [])
-      ∙ append-nil (addedRows (librarySteps (o .entries) (o .file) (o .needs) (linksIn a) (nameOf o)))
-      ∙ library-rows (o .entries) (o .file) (o .needs) (linksIn a) (nameOf o) z))
+      (added-append (librarySteps (o .entries) (o .image) (o .needs) (linksIn a) (nameOf o)) (others _ _ ∷ [])
+      ∙ append-nil (addedRows (librarySteps (o .entries) (o .image) (o .needs) (linksIn a) (nameOf o)))
+      ∙ library-rows (o .entries) (o .image) (o .needs) (linksIn a) (nameOf o) z))
       (λ j. absurd (unneeded (rw (h, j) at e))))
       (λ h. absurd (refusal _ (rw h at e)))
     where

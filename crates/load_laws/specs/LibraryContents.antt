@@ -7,13 +7,13 @@ use mathlib.Core.Path.{_≡_, refl, sym, ap, _∙_, subst}
 use mathlib.Core.Bool.{true, false, Bool}
 use mathlib.Core.List.{List, [], _∷_, _++_, append-assoc}
 use mathlib.Core.Logic.{_≢_}
-use lib.Dec.{eqb, leb}
+use lib.Dec.{eqb}
 use lib.ListN.{length}
 use borrow.Author.Tests.{eqb-true, eqb-false}
-use Rattle.cells.specs.Split.{by-test}
+use Rattle.cells.specs.Proof.Split.{by-test}
 use Rattle.gabi.specs.StringTable.{hasName, nameAt}
 use Rattle.gabi.specs.SymbolTable.{Sym, shnUndef}
-use Rattle.merge_plan.specs.Plan.{View}
+use Rattle.merge_symbols.specs.Plan.{View}
 use Rattle.strings.specs.Lookup.{Looked, lookUp}
 use Rattle.interner.specs.Names.{storeOf, fitsOf}
 use Rattle.interner_laws.specs.Good.{Issued, find}
@@ -22,13 +22,14 @@ use Rattle.symbol.specs.declared.SymbolType.the-variants as Ty
 use Rattle.symbol.specs.declared.SymbolValue.the-variants as Val
 use Rattle.symbol.specs.declared.SttFile.the-variants as File
 use Rattle.symbol.specs.Codes.{typeAt, visibilityAt, valueAt, fileAt}
-use Rattle.symbol_rows.specs.Decide.{refusalOf}
-use Rattle.symbol_rows.specs.Holder.{holderOf}
+use Rattle.symbol.specs.Row.{scopeRefused}
+use Rattle.symbol_resolution.specs.Decide.{refusalOf}
+use Rattle.symbol_resolution.specs.Holder.{holderOf}
 use Rattle.upcoming_symbol.specs.Upcoming.{externalRowOf}
 use Rattle.elf_object.specs.Rows.{rowsIn, field}
-use Rattle.library_symbols.specs.declared.Definition.{Definition}
-use Rattle.library_symbols.specs.Define.{judgedOf, rowedOf, externalOf, planOf, view}
-use Rattle.library_symbols.specs.Load.{State, staged, symbolOf, symbolsOf}
+use Rattle.shared_objects.specs.declared.symbols.Definition.{Definition}
+use Rattle.shared_objects.specs.Define.{judgedOf, rowedOf, externalOf, planOf, view}
+use Rattle.shared_objects.specs.SymbolsLoad.{State, staged, symbolOf, symbolsOf}
 use Rattle.link.specs.Judge.{goingOf}
 use Rattle.shared_objects.specs.Load.{All, Input, linksIn, wantOf, headIn, nameOf, loadOf}
 use Rattle.symbol_laws.specs.Rank as Rank
@@ -38,12 +39,12 @@ use Rattle.symbol_laws.specs.ObjectWords.{entriesIn, entry, entryName}
 use Rattle.symbol_laws.specs.ContentWords.{Admitted, shows, sharedEntry, shared-is, decided-passes}
 use Rattle.merge_laws.specs.Steps.{Step, part, others}
 use Rattle.merge_laws.specs.Marked.{Marked}
-use Rattle.merge_laws.specs.NamesOn.{issued-in}
+use Rattle.merge_laws.specs.Proof.NamesOn.{issued-in}
 use Rattle.merge_laws.specs.Loop.{loop, loopSteps, loop-next, steps-next}
-use Rattle.merge_laws.specs.Profile.{steps-profile}
+use Rattle.merge_laws.specs.Proof.Profile.{steps-profile}
 use Rattle.merge_laws.specs.MergeSteps.{rowSteps}
 use Rattle.merge_laws.specs.Kept.{addedRows}
-use Rattle.merge_laws.specs.Markless.{added-append}
+use Rattle.merge_laws.specs.Proof.Markless.{added-append}
 use Rattle.merge_laws.specs.LogContents.{all-append}
 use Rattle.load_laws.specs.LoadSteps.{recording, adding, namedSteps, symbolSteps, contentsSteps, keptSteps, issuedSteps, librarySteps, wantedSteps, askedSteps, loadSteps}
 use Rattle.load_laws.specs.Whole.{tableIn, numberOf, symbols-loop, load-makes}
@@ -63,8 +64,8 @@ module _ (o : Input) (a : All) where
     pub type : typeAt (r .kind) ≡ Ty.NoType
     pub shown : visibilityAt (r .visibility) ≡ shows (sharedEntry (a .link .gabi) (entry (o .entries) number))
     pub value : valueAt (r .value) ≡ Val.ExternallyDefined
-    pub found : hasName (o .file) (entryName (o .entries) number) ≡ true
-    pub named : Issued (store (tableIn (loadOf o a .cells))) (r .name .0) (nameAt (o .file) (entryName (o .entries) number))
+    pub found : hasName (o .image) (entryName (o .entries) number) ≡ true
+    pub named : Issued (store (tableIn (loadOf o a .cells))) (r .name .0) (nameAt (o .image) (entryName (o .entries) number))
     pub filed : fileAt (r .file) ≡ File.None
 
 -- ---- one symbol's steps add its planned row, or none
@@ -101,14 +102,14 @@ module _ (v : View) (x : List ℕ) (e : Sym) where
   abbrev planned : Definition
   planned = planOf v x (e .binding) (e .visibility)
 
-  planned-passes : refusalOf (planned .decision) ≡ 0 → leb 5 (planned .row .visibility) ≡ false
+  planned-passes : refusalOf (planned .decision) ≡ 0 → scopeRefused (planned .row) ≡ false
   unfolding planOf externalOf rowedOf judgedOf
   planned-passes z =
       by-test (fitsOf (storeOf (v .bytes) (v .names) (v .link)) (planned .row .name) (length x))
       (λ f. decided-passes (v .link) (v .symbols) (v .sections) (planned .row) (holderOf (v .link) (v .names) (v .symbols) (planned .row .name)) (rw f at z) .0)
       (λ f. let q : _≡_ {A = ℕ} 2 0 = rw f at z in absurd (omega arith))
 
-  row-shows : planned .row .visibility ≢ 0 → leb 5 (planned .row .visibility) ≡ false
+  row-shows : planned .row .visibility ≢ 0 → scopeRefused (planned .row) ≡ false
       → Admitted e × (visibilityAt (planned .row .visibility) ≡ shows (sharedEntry (v .link .gabi) e))
   unfolding planOf externalOf rowedOf externalRowOf
   row-shows = shared-is (v .link .gabi) e
@@ -124,7 +125,7 @@ module _ (o : Input) (a : All) where
   entries = o .entries
 
   abbrev file : List ℕ
-  file = o .file
+  file = o .image
 
   abbrev first : State
   first = Stops.first entries file (o .needs) (linksIn a) (nameOf o)

@@ -10,12 +10,12 @@ use Rattle.link.specs.declared.Interned.{Interned}
 use Rattle.link.specs.Judge.{goingOf}
 use Rattle.interner.specs.Names.{Store, storeOf, findOf, fitsOf, keepOf}
 use Rattle.elf_object.specs.Rows.{rowsIn, field}
-use Rattle.library_lists.specs.Record.{Recorded, recordedOf, recordOf, dependencyOf, dependenciesOf}
-use Rattle.library_symbols.specs.declared.Definition.{Definition}
-use Rattle.library_symbols.specs.Define.{Added, addedOf, planOf, view}
-use Rattle.library_symbols.specs.Load.{State, stateOf, staged, symbolOf, symbolsOf}
-use Rattle.library_need.specs.Need.{Judged}
-use Rattle.shared_objects.specs.Stages.{ListLinks, listLinks, Links, inputOf, withName, libraryOf}
+use Rattle.shared_objects.specs.Record.{Recorded, recordedOf, recordOf, dependencyOf, dependenciesOf}
+use Rattle.shared_objects.specs.declared.symbols.Definition.{Definition}
+use Rattle.shared_objects.specs.Define.{Added, addedOf, planOf, view}
+use Rattle.shared_objects.specs.SymbolsLoad.{State, stateOf, staged, symbolOf, symbolsOf}
+use Rattle.shared_objects.specs.Need.{Judged}
+use Rattle.shared_objects.specs.Stages.{ListLinks, listLinks, Links, libraryRowOf, withName, libraryOf}
 use Rattle.shared_objects.specs.Load.{All, Input, wantOf, endedAs, linksIn, headIn, nameOf}
 use Rattle.symbol_laws.specs.History.{issue, library}
 use Rattle.merge_laws.specs.Steps.{Step, part, others}
@@ -67,7 +67,7 @@ dependenciesSteps sections file needs s =
 
 unfoldable pub inputSteps : List ℕ → List ℕ → Recorded → Interned → ℕ → ℕ → List Step
 inputSteps sections inputs r id first middle =
-    cond (eqb (r .stage .number) 0) (others sections (inputOf inputs (r .stage .link) id first middle .stage .link) ∷ []) []
+    cond (eqb (r .stage .number) 0) (others sections (libraryRowOf inputs (r .stage .link) id first middle .stage .link) ∷ []) []
 
 abbrev pub listFirst : ListLinks → Recorded
 listFirst s = recordedOf (s .bytes) (s .names) (s .lists) (goingOf (s .stage .link))
@@ -125,4 +125,4 @@ askedSteps entries file needs asneeded a x =
 -- nothing where the head refuses
 unfoldable pub loadSteps : Input → All → List Step
 loadSteps o a =
-    cond (eqb (headIn o a .number) 0) (askedSteps (o .entries) (o .file) (o .needs) (o .asneeded) a (nameOf o)) []
+    cond (eqb (headIn o a .number) 0) (askedSteps (o .entries) (o .image) (o .needs) (o .asneeded) a (nameOf o)) []

@@ -9,28 +9,29 @@ use mathlib.Core.Logic.{_≢_}
 use lib.Dec.{eqb, ltb}
 use lib.ListN.{getD, length}
 use borrow.Author.Tests.{eqb-true, eqb-false, eq-eqb, ne-eqb}
-use Rattle.cells.specs.Split.{by-test}
+use Rattle.cells.specs.Proof.Split.{by-test}
 use Rattle.strings.specs.Lookup.{Looked, looked, lookUp}
 use Rattle.link.specs.declared.Interned.{Interned}
 use Rattle.link.specs.Bounds.{inputRows}
 use Rattle.link.specs.Judge.{refused, goingOf, brokenOf}
 use Rattle.interner.specs.Names.{Store, storeOf, findOf, fitsOf, keepOf}
 use Rattle.elf_object.specs.Rows.{rowsIn}
-use Rattle.merge_plan.specs.Plan.{placeOf}
-use Rattle.library_lists.specs.Record.{Recorded, dependencyOf, dependenciesFrom, dependenciesOf}
-use Rattle.library_symbols.specs.Load.{State, symbolOf, symbolsFrom, symbolsOf}
-use Rattle.library_need.specs.Need.{Judged}
+use Rattle.merge_symbols.specs.Plan.{placeOf}
+use Rattle.shared_objects.specs.Record.{Recorded, dependencyOf, dependenciesFrom, dependenciesOf}
+use Rattle.shared_objects.specs.SymbolsLoad.{State, symbolOf, symbolsFrom, symbolsOf}
+use Rattle.shared_objects.specs.Need.{Judged}
 use Rattle.shared_objects.specs.declared.Answer.the-variants.{Refused}
-use Rattle.shared_objects.specs.Stages.{Links, linksOf, inputOf, inputStage, listsOf, withInput, withLists, listStage, contentsOf, withName, stop, issuedOf, libraryOf}
+use Rattle.shared_objects.specs.Stages.{Links, linksOf, libraryRowOf, inputStage, listsOf, withInput, withLists, listStage, contentsOf, withName, stop, issuedOf, libraryOf}
 use Rattle.shared_objects.specs.Stages as Stages
 use Rattle.shared_objects.specs.Load.{All, Input, wantOf, endedAs, leaveLinks, linksIn, wantedOf, headIn, nameOf, loadOf}
 use Rattle.shared_objects.specs.Load as Load
-use Rattle.merge_laws.specs.Refusals.{oneOf}
 use Rattle.merge_laws.specs.Stops.{loop-left}
 use Rattle.load_laws.specs.LoadSteps.{listFirst, listsIn, symbolFirst}
 use Rattle.load_laws.specs.Whole.{symbols-loop, dependencies-loop}
-use Rattle.load_laws.specs.Refusals.{symbolName, SymbolLeft, symbol-left, DependencyLeft, dependency-left}
+use Rattle.load_laws.specs.Refusals.{symbolName, SymbolLeft, DependencyLeft}
+use Rattle.load_laws.specs.Proof.Refusals.{symbol-left, dependency-left}
 use Rattle.load_laws.specs.Refusals as Refusals
+use Rattle.merge_laws.specs.Table.{oneOf, bindingCauses, symbolNumbers}
 
 -- ---- the library named x, from the cells of s
 
@@ -85,13 +86,13 @@ module _ (entries file needs : List ℕ) (s : Links) (x : List ℕ) where
   -- the refusals that are met there: those that leave all, and those that leave all but the element's name
   abbrev pub allLeft : {b : Links} → Between b → List ℕ
   allLeft name = 2 ∷ []
-  allLeft (symbols i) = 2 ∷ 9 ∷ 17 ∷ 21 ∷ []
+  allLeft (symbols i) = symbolNumbers
   allLeft (dependencies j) = 2 ∷ []
   allLeft row = 2 ∷ []
 
   abbrev pub nameStays : {b : Links} → Between b → List ℕ
   nameStays name = []
-  nameStays (symbols i) = 10 ∷ 11 ∷ 12 ∷ []
+  nameStays (symbols i) = bindingCauses
   nameStays (dependencies j) = []
   nameStays row = []
 
@@ -159,7 +160,7 @@ module _ (entries file needs : List ℕ) (s : Links) (x : List ℕ) where
   dependencies-stop u = rw (ne-eqb (recorded .stage .number) 0 u)
 
   pub dependencies-pass : recorded .stage .number ≡ 0
-      → rowed ≡ withLists added (withInput recorded (inputOf (s .inputs) (recorded .stage .link) (linkId s x) (named s x .stage .link .lists) (added .stage .link .lists)))
+      → rowed ≡ withLists added (withInput recorded (libraryRowOf (s .inputs) (recorded .stage .link) (linkId s x) (named s x .stage .link .lists) (added .stage .link .lists)))
   unfolding inputStage
   dependencies-pass z = rw (eq-eqb (recorded .stage .number) 0 z)
 
@@ -208,7 +209,7 @@ module _ (entries file needs : List ℕ) (s : Links) (x : List ℕ) where
       (q ∙ dependencies-stop u ∙ ap withDependencies (r .leaves .as-it-was))
 
   from-row : end ≡ rowed → recorded .stage .number ≡ 0 → number ≢ 0 → Leaves
-  unfolding inputOf
+  unfolding libraryRowOf
   from-row q z u =
       let e = q ∙ dependencies-pass z in
       by-test (ltb (recorded .stage .link .inputs) (inputRows (length (s .inputs))))
@@ -230,15 +231,15 @@ module _ (entries file needs : List ℕ) (s : Links) (x : List ℕ) where
 
 module _ (o : Input) (a : All) where
   abbrev pub want : Judged
-  want = wantOf (o .asneeded) (a .link) (a .bytes) (a .names) (a .symbols) (a .inputs) (a .lists) (a .marks) (o .entries) (o .file) (nameOf o)
+  want = wantOf (o .asneeded) (a .link) (a .bytes) (a .names) (a .symbols) (a .inputs) (a .lists) (a .marks) (o .entries) (o .image) (nameOf o)
 
   -- what the stages leave, before a refusal breaks the link
   abbrev pub ending : Links
-  ending = libraryOf (o .entries) (o .file) (o .needs) (linksIn a) (nameOf o)
+  ending = libraryOf (o .entries) (o .image) (o .needs) (linksIn a) (nameOf o)
 
   pub refused-breaks : headIn o a .number ≡ 0 → want .needed ≡ true → ending .stage .number ≢ 0
       → loadOf o a
       ≡ leaveLinks (want .marks) ending
       (record { link = brokenOf (ending .stage .link); answer = Refused (refused (ending .stage .number) (ending .stage .place)) })
-  unfolding loadOf Load.namedOf wantedOf endedAs
+  unfolding loadOf Load.libraryNamed wantedOf endedAs
   refused-breaks h w u = rw (eq-eqb (headIn o a .number) 0 h, w, ne-eqb (ending .stage .number) 0 u)

@@ -13,25 +13,27 @@ use Rattle.shared_objects.specs.declared.Answer.the-variants.{Loaded, Refused}
 use Rattle.shared_objects.specs.Load.{All, Input, leaveLinks, linksIn, headIn, nameOf, loadOf}
 use Rattle.symbol_laws.specs.History.{State, Entry, rows}
 use Rattle.symbol_laws.specs.Held.{Inv}
-use Rattle.symbol_laws.specs.Below.{inv-below}
+use Rattle.symbol_laws.specs.Proof.Below.{inv-below}
 use Rattle.symbol_laws.specs.Within.{Within}
 use Rattle.merge_laws.specs.Steps.{logSteps, Makes}
-use Rattle.merge_laws.specs.Kept.{addedRows, log-rows, steps-keep}
+use Rattle.merge_laws.specs.Kept.{addedRows}
+use Rattle.merge_laws.specs.Proof.Kept.{log-rows, steps-keep}
 use Rattle.merge_laws.specs.Seen.{partsIn, MadeAlone, makes-parts}
-use Rattle.merge_laws.specs.Past.{TablePast, makes-past}
+use Rattle.merge_laws.specs.Past.{TablePast}
+use Rattle.merge_laws.specs.Proof.Past.{makes-past}
 use Rattle.merge_laws.specs.Lists.{Listed}
 use Rattle.merge_laws.specs.Marked.{Marked, marksOf}
-use Rattle.merge_laws.specs.Markless.{marks-none}
+use Rattle.merge_laws.specs.Proof.Markless.{marks-none}
 use Rattle.load_laws.specs.LoadSteps.{loadSteps}
 use Rattle.load_laws.specs.Whole.{tableIn, load-makes}
-use Rattle.load_laws.specs.Unmarked as Unmarked
+use Rattle.load_laws.specs.Proof.Unmarked as Unmarked
 use Rattle.load_laws.specs.Accepted as Accepted
-use Rattle.load_laws.specs.Lists as Lists
-use Rattle.load_laws.specs.Counts as Counts
-use Rattle.load_laws.specs.Sections as Sections
+use Rattle.load_laws.specs.Proof.Lists as Lists
+use Rattle.load_laws.specs.Proof.Counts as Counts
+use Rattle.load_laws.specs.Proof.Sections as Sections
 use Rattle.load_laws.specs.Stops as Stops
 use Rattle.load_laws.specs.Stops.{want, ending}
-use Rattle.load_laws.specs.Unbroken as Unbroken
+use Rattle.load_laws.specs.Proof.Unbroken as Unbroken
 
 module _ (o : Input) (a : All) where
   abbrev pub after : All
@@ -49,7 +51,7 @@ module _ (o : Input) (a : All) where
   -- and of a library that is loaded these are, in order, the rows of all symbols that it defines and that aren't local, each as it is planned on what
   -- the symbols before it left (symbolRows, Accepted.antt): no add is left out
   pub load-log-whole : loadOf o a .answer ≡ Loaded
-      → rows (logSteps (loadSteps o a) (tableIn a)) ≡ Accepted.symbolRows (o .entries) (o .file) (o .needs) (linksIn a) (nameOf o) (rowsIn (o .entries))
+      → rows (logSteps (loadSteps o a) (tableIn a)) ≡ Accepted.symbolRows (o .entries) (o .image) (o .needs) (linksIn a) (nameOf o) (rowsIn (o .entries))
   load-log-whole ok = load-log ∙ Accepted.load-rows o a ok
 
   -- with no more names than rows, as after every history from a new table: names issued and rows added one by one, as direct calls do it, leave the
@@ -88,7 +90,7 @@ module _ (o : Input) (a : All) where
     pub load-within : Within (a .link) (a .names) → a .link .lists ≤ length (a .lists) → Within (after .link) (after .names)
     load-within w h = Counts.load-within o a w h lent
 
-  -- ---- the refusal table, "Left as it was"; shared_laws has the head's refusals and "not needed"
+  -- ---- the refusal table, "Left as it was"; load_laws has the head's refusals and "not needed"
 
   -- every other refusal breaks the link; "that call's earlier elements stay merged"
   pub refused-breaks : headIn o a .number ≡ 0 → want o a .needed ≡ true → ending o a .stage .number ≢ 0
@@ -98,8 +100,8 @@ module _ (o : Input) (a : All) where
   refused-breaks = Stops.refused-breaks o a
 
   -- it leaves every cell as the elements before the refused one left it; on 10 to 12 that one's name is issued besides
-  pub refused-leaves : ending o a .stage .number ≢ 0 → Stops.Leaves (o .entries) (o .file) (o .needs) (linksIn a) (nameOf o)
-  refused-leaves = Stops.refused-leaves (o .entries) (o .file) (o .needs) (linksIn a) (nameOf o) refl
+  pub refused-leaves : ending o a .stage .number ≢ 0 → Stops.Leaves (o .entries) (o .image) (o .needs) (linksIn a) (nameOf o)
+  refused-leaves = Stops.refused-leaves (o .entries) (o .image) (o .needs) (linksIn a) (nameOf o) refl
 
   -- a load that isn't refused doesn't break the link
   pub loaded-whole : headIn o a .number ≡ 0 → want o a .needed ≡ true → ending o a .stage .number ≡ 0 → Unbroken.Loads o a

@@ -8,25 +8,25 @@ use mathlib.Core.List.{List, [], _∷_}
 use lib.Dec.{eqb, ltb}
 use lib.ListN.{getD, length}
 use borrow.Author.Tests.{ltb-true}
-use Rattle.cells.specs.Split.{by-test}
+use Rattle.cells.specs.Proof.Split.{by-test}
 use Rattle.strings.specs.Lookup.{Looked, lookUp}
 use Rattle.link.specs.declared.Link.{Link}
 use Rattle.link.specs.declared.Interned.{Interned}
 use Rattle.link.specs.declared.Stage.{Stage}
 use Rattle.link.specs.Bounds.{inputRows}
 use Rattle.link.specs.Judge.{goingOf, brokenOf}
-use Rattle.link.specs.Counts.{moreInputs}
+use Rattle.link.specs.Counts.{moreInputs, withLists}
 use Rattle.interner.specs.Names.{Store, storeOf, findOf, fitsOf, keepOf}
 use Rattle.symbol.specs.Codes.{successor}
 use Rattle.upcoming_symbol.specs.Upcoming.{externalRowOf}
-use Rattle.symbol_rows.specs.Decide.{refusalOf}
+use Rattle.symbol_resolution.specs.Decide.{refusalOf}
 use Rattle.elf_object.specs.Rows.{rowsIn, field}
-use Rattle.library_lists.specs.Record.{Recorded, recordedOf, listsAt, recordFits, keepName, recordAs, recordOf, dependencyOf, dependenciesFrom, dependenciesOf}
-use Rattle.library_symbols.specs.declared.Definition.{Definition}
-use Rattle.library_symbols.specs.Define.{Added, judgedOf, rowedOf, externalOf, planOf, acceptOf, keptOf, commitOf, view, defineOf}
-use Rattle.library_symbols.specs.Load.{State, staged, namedOf, lookedOf, symbolOf, symbolsFrom, symbolsOf}
-use Rattle.library_need.specs.Need.{Judged}
-use Rattle.shared_objects.specs.Stages.{ListLinks, Links, inputOf, inputStage, listsOf, listStage, contentsOf, withName, issuedOf, libraryOf}
+use Rattle.shared_objects.specs.Record.{Recorded, recordedOf, recordFits, keepName, recordAs, recordOf, dependencyOf, dependenciesFrom, dependenciesOf}
+use Rattle.shared_objects.specs.declared.symbols.Definition.{Definition}
+use Rattle.shared_objects.specs.Define.{Added, judgedOf, rowedOf, externalOf, planOf, acceptOf, keptOf, commitOf, view, defineOf}
+use Rattle.shared_objects.specs.SymbolsLoad.{State, staged, librarySymbolNamed, lookedOf, symbolOf, symbolsFrom, symbolsOf}
+use Rattle.shared_objects.specs.Need.{Judged}
+use Rattle.shared_objects.specs.Stages.{ListLinks, Links, libraryRowOf, inputStage, listsOf, listStage, contentsOf, withName, issuedOf, libraryOf}
 use Rattle.shared_objects.specs.Stages as Stages
 use Rattle.shared_objects.specs.Load.{All, Input, wantOf, endedAs, linksIn, wantedOf, headIn, nameOf, loadOf}
 use Rattle.shared_objects.specs.Load as Load
@@ -34,10 +34,10 @@ use Rattle.symbol_laws.specs.View.{lesser-first}
 use Rattle.symbol_laws.specs.History as History
 use Rattle.symbol_laws.specs.History.{withStore, issue, library}
 use Rattle.merge_laws.specs.Steps.{part, others, countsFrom, Bounded, Makes, makes-none, makes-both}
-use Rattle.merge_laws.specs.Beside.{Beside, beside-none, others-make}
+use Rattle.merge_laws.specs.Proof.Beside.{Beside, beside-none, others-make}
 use Rattle.merge_laws.specs.Loop.{loop, loopSteps, loop-makes}
 use Rattle.merge_laws.specs.MergeSteps.{addsOf}
-use Rattle.merge_laws.specs.Committed.{Fair, committed, committed-makes}
+use Rattle.merge_laws.specs.Proof.Committed.{Fair, committed, committed-makes}
 use Rattle.merge_laws.specs.SymbolStage.{chosen-fits, chosen-add}
 use Rattle.load_laws.specs.LoadSteps.{recordSteps, recording, adding, definedSteps, namedSteps, lookedSteps, symbolSteps, symbolsSteps, dependencySteps, dependenciesSteps, inputSteps, listFirst, listsSteps, listsIn, listStageSteps, symbolFirst, contentsSteps, keptSteps, issuedSteps, librarySteps, wantedSteps, askedSteps, loadSteps}
 
@@ -84,7 +84,7 @@ module _ (symbols sections : List ℕ) where
       let id : Interned = record { 0 = findOf (s .bytes) (s .names) (s .stage .link) x } in
       let k : Store = keepOf (storeOf (s .bytes) (s .names) (s .stage .link)) id x in
       let named : History.State = withStore (recordTable symbols sections s) k in
-      let l : Link = listsAt (k .link) (successor (s .stage .link .lists)) in
+      let l : Link = withLists (k .link) (successor (s .stage .link .lists)) in
       by-test (recordFits (s .stage .link) (s .bytes) (s .names) (length (s .lists)) id (length x))
       (λ t.
       rw t
@@ -128,8 +128,8 @@ module _ (s : Added) (x : List ℕ) (binding visibility i : ℕ) where
 
 -- ---- symbols
 
-named-makes : (entries : List ℕ) (s : State) (x : List ℕ) (i : ℕ) → Makes (symbolTable s) (namedSteps entries s x i) (symbolTable (namedOf entries s x i))
-unfolding namedOf namedSteps
+named-makes : (entries : List ℕ) (s : State) (x : List ℕ) (i : ℕ) → Makes (symbolTable s) (namedSteps entries s x i) (symbolTable (librarySymbolNamed entries s x i))
+unfolding librarySymbolNamed namedSteps
 named-makes entries s x i =
     by-test (eqb (field entries i 4) 0)
     (λ a.
@@ -199,8 +199,8 @@ module _ (file needs : List ℕ) where
 -- ---- the library's row
 
 input-beside : (inputs sections : List ℕ) (l : Link) (id : Interned) (first middle : ℕ)
-    → Beside sections l sections (inputOf inputs l id first middle .stage .link)
-unfolding inputOf
+    → Beside sections l sections (libraryRowOf inputs l id first middle .stage .link)
+unfolding libraryRowOf
 input-beside inputs sections l id first middle =
     by-test (ltb (l .inputs) (inputRows (length inputs)))
     (λ t.
@@ -278,11 +278,11 @@ module _ (entries file needs : List ℕ) where
       (λ t. rw t (makes-none (tableIn a)))
 
 pub load-makes : (o : Input) (a : All) → Makes (tableIn a) (loadSteps o a) (tableIn (loadOf o a .cells))
-unfolding loadOf Load.namedOf loadSteps askedSteps
+unfolding loadOf Load.libraryNamed loadSteps askedSteps
 load-makes o a =
     by-test (eqb (headIn o a .number) 0)
     (λ t.
     rw t
-    (wanted-makes (o .entries) (o .file) (o .needs) a (nameOf o)
-    (wantOf (o .asneeded) (a .link) (a .bytes) (a .names) (a .symbols) (a .inputs) (a .lists) (a .marks) (o .entries) (o .file) (nameOf o))))
+    (wanted-makes (o .entries) (o .image) (o .needs) a (nameOf o)
+    (wantOf (o .asneeded) (a .link) (a .bytes) (a .names) (a .symbols) (a .inputs) (a .lists) (a .marks) (o .entries) (o .image) (nameOf o))))
     (λ t. rw t (makes-none (tableIn a)))

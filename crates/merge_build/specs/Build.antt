@@ -10,12 +10,14 @@ use Rattle.link.specs.declared.Stage.{Stage}
 use Rattle.link.specs.declared.Interned.{Interned}
 use Rattle.link.specs.declared.SectionId.{SectionId}
 use Rattle.link.specs.Judge.{goingOf, stoppedOf}
+use Rattle.link.specs.Counts.{moreLists}
 use Rattle.strings.specs.Lookup.{Looked}
 use Rattle.interner.specs.Names.{Store, storeOf, findOf, fitsOf, keepOf}
 use Rattle.sections.specs.declared.Section.{Section}
 use Rattle.sections.specs.Rows.{builtOf}
 use Rattle.elf_object.specs.Judge.{rangeOk}
-use Rattle.elf_object.specs.Rows.{rowsIn, nameOffsetAt, retainAt, readAt, isLoaded, nameIn, conversionAt, markAt}
+use Rattle.elf_object.specs.Rows.{rowsIn, nameOffsetAt, retainAt, readAt, isLoaded, nameIn, conversionAt, idBase, markAt, removedMark}
+use Rattle.cells.specs.Slice.{Slice, before, after}
 use Rattle.merge_build.specs.declared.Plan.{Plan}
 use Rattle.merge_build.specs.Relocations.{tableFor, limitOf, relocationsOf, symbolsOk, appendFrom}
 
@@ -24,15 +26,19 @@ use Rattle.merge_build.specs.Relocations.{tableFor, limitOf, relocations
 pub record Object : Type 0 where
   pub headers : List ℕ
   pub contents : List ℕ
-  pub file : List ℕ
+  pub image : List ℕ
   pub work : List ℕ
   pub ids : List ℕ
-  pub strings : ℕ
+  pub sectionNames : ℕ
   pub table : ℕ
   pub symbols : ℕ
 
 abbrev pub objectOf : List ℕ → List ℕ → List ℕ → List ℕ → List ℕ → ℕ → ℕ → ℕ → Object
-objectOf h c f w i s t n = record { headers = h; contents = c; file = f; work = w; ids = i; strings = s; table = t; symbols = n }
+objectOf h c f w i s t n = record { headers = h; contents = c; image = f; work = w; ids = i; sectionNames = s; table = t; symbols = n }
+
+-- as it is lent
+abbrev pub objectIn : Slice → Slice → Slice → Slice → Slice → ℕ → ℕ → ℕ → Object
+objectIn h c f w i s t n = objectOf (before h) (before c) (before f) (before w) (before i) s t n
 
 -- the lent cells that the stage writes, with its stage; with a link alone; and those that building a row writes
 pub record State : Type 0 where
@@ -57,11 +63,29 @@ pub record RowState : Type 0 where
 abbrev pub stateOf : List ℕ → List ℕ → List ℕ → List ℕ → Stage → State
 stateOf b n s x st = record { bytes = b; names = n; sections = s; lists = x; stage = st }
 
+-- of lent slices before the call, and after it
+abbrev pub stateBefore : Slice → Slice → Slice → Slice → Stage → State
+stateBefore b n s x st = stateOf (before b) (before n) (before s) (before x) st
+
+abbrev pub stateAfter : Slice → Slice → Slice → Slice → Stage → State
+stateAfter b n s x st = stateOf (after b) (after n) (after s) (after x) st
+
 abbrev pub linkState : List ℕ → List ℕ → List ℕ → List ℕ → Link → LinkState
 linkState b n s x l = record { bytes = b; names = n; sections = s; lists = x; link = l }
 
+-- of lent slices before the call
+abbrev pub linkBefore : Slice → Slice → Slice → Slice → Link → LinkState
+linkBefore b n s x l = linkState (before b) (before n) (before s) (before x) l
+
 abbrev pub rowState : List ℕ → List ℕ → Link → RowState
 rowState s x l = record { sections = s; lists = x; link = l }
+
+-- of lent slices before the call, and after it
+abbrev pub rowBefore : Slice → Slice → Link → RowState
+rowBefore s x l = rowState (before s) (before x) l
+
+abbrev pub rowAfter : Slice → Slice → Link → RowState
+rowAfter s x l = rowState (after s) (after x) l
 
 -- room for as many more in a list
 abbrev pub listsFit : ℕ → ℕ → ℕ → Bool
@@ -81,25 +105,9 @@ unfoldable pub planOf : Link → List ℕ → List ℕ → ℕ → List ℕ → 
 planOf l bytes names lists ids limit relocations x =
     planWith l bytes names lists ids limit relocations x (record { 0 = findOf bytes names l x })
 
--- the row that was reserved, from the conversion's cell; a section to be built has one, so its cell is at least 2
+-- the row that was reserved, from the conversion's cell; a section to be built has one, so its cell is at least `idBase`
 unfoldable pub sectionIdOf : ℕ → SectionId
-sectionIdOf cell = cond (ltb cell 2) (record { 0 = 0 }) (record { 0 = cell - 2 })
-
-abbrev pub moreLists : Link → ℕ → Link
-moreLists l n =
-    record {
-      names = l .names;
-      bytes = l .bytes;
-      symbols = l .symbols;
-      sections = l .sections;
-      inputs = l .inputs;
-      lists = l .lists + n;
-      chains = l .chains;
-      slots = l .slots;
-      key = l .key;
-      gabi = l .gabi;
-      broken = l .broken;
-    }
+sectionIdOf cell = cond (ltb cell idBase) (record { 0 = 0 }) (record { 0 = cell - idBase })
 
 abbrev pub sectionRow : List ℕ → ℕ → ℕ → Interned → ℕ → ℕ → Section
 sectionRow headers n kind id first count =
@@ -130,18 +138,26 @@ commitOf headers work ids s relocations x n kind p =
     cond (eqb (p .number) 2) (stop s 2 n)
     (keptOf headers work ids s (keepOf (storeOf (s .bytes) (s .names) (s .link)) (p .id) x) relocations n kind p)
 
+-- of what is lent
+abbrev pub commitIn : Slice → Slice → Slice → LinkState → Slice → Slice → ℕ → ℕ → Plan → State
+commitIn headers work ids s relocations x n kind p = commitOf (before headers) (before work) (before ids) s (before relocations) (before x) n kind p
+
 -- with the relocations of its table
 unfoldable pub tabledOf : List ℕ → List ℕ → List ℕ → List ℕ → LinkState → List ℕ → ℕ → ℕ → ℕ → ℕ → ℕ → State
 tabledOf headers contents work ids s x t symbols n kind table =
     commitOf headers work ids s (relocationsOf headers contents table) x n kind
     (planOf (s .link) (s .bytes) (s .names) (length (s .lists)) ids (limitOf headers table t symbols) (relocationsOf headers contents table) x)
 
-unfoldable pub namedOf : List ℕ → List ℕ → List ℕ → List ℕ → LinkState → List ℕ → ℕ → ℕ → ℕ → ℕ → State
-namedOf headers contents work ids s x t symbols n kind = tabledOf headers contents work ids s x t symbols n kind (tableFor work n kind)
+unfoldable pub sectionNamed : List ℕ → List ℕ → List ℕ → List ℕ → LinkState → List ℕ → ℕ → ℕ → ℕ → ℕ → State
+sectionNamed headers contents work ids s x t symbols n kind = tabledOf headers contents work ids s x t symbols n kind (tableFor work n kind)
+
+-- of what is lent
+abbrev pub namedIn : Slice → Slice → Slice → Slice → LinkState → Slice → ℕ → ℕ → ℕ → ℕ → State
+namedIn headers contents work ids s x t symbols n kind = sectionNamed (before headers) (before contents) (before work) (before ids) s (before x) t symbols n kind
 
 -- of that kind, not excluded, and not removed with a repeated group
 unfoldable pub builtFrom : List ℕ → List ℕ → ℕ → ℕ → Bool
-builtFrom headers work n kind = cond (isLoaded headers n kind) (cond (eqb (markAt work n) 2) false true) false
+builtFrom headers work n kind = cond (isLoaded headers n kind) (cond (eqb (markAt work n) removedMark) false true) false
 
 abbrev pub linked : State → LinkState
 linked s = linkState (s .bytes) (s .names) (s .sections) (s .lists) (s .stage .link)
@@ -149,14 +165,14 @@ linked s = linkState (s .bytes) (s .names) (s .sections) (s .lists) (s .stage .l
 -- "section name missing" 18
 unfoldable pub lookedOf : Object → State → ℕ → ℕ → Looked → State
 lookedOf o s n kind x =
-    cond (x .found) (namedOf (o .headers) (o .contents) (o .work) (o .ids) (linked s) (x .name) (o .table) (o .symbols) n kind)
+    cond (x .found) (sectionNamed (o .headers) (o .contents) (o .work) (o .ids) (linked s) (x .name) (o .table) (o .symbols) n kind)
     (stop (linked s) 18 n)
 
 -- "a skipped section's isn't read"
 unfoldable pub sectionOf : Object → State → ℕ → ℕ → State
 sectionOf o s n kind =
     cond (builtFrom (o .headers) (o .work) n kind)
-    (lookedOf o s n kind (nameIn (o .headers) (o .file) (o .strings) (nameOffsetAt (o .headers) n))) s
+    (lookedOf o s n kind (nameIn (o .headers) (o .image) (o .sectionNames) (nameOffsetAt (o .headers) n))) s
 
 -- k sections from the n-th on, up to the first refusal
 unfoldable pub buildFrom : Object → ℕ → ℕ → ℕ → State → State

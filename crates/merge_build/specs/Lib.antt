@@ -1,4 +1,4 @@
 pub mod Relocations
-pub mod RelocationWays
 pub mod Build
-pub mod BuildWays
+pub mod Proof
+pub mod Finish

@@ -6,11 +6,12 @@ use mathlib.Core.List.{List, [], _∷_}
 use lib.Dec.{eqb, leb}
 use lib.ListN.{getD, set}
 use Rattle.byte_slices.specs.Bytes.{part}
+use Rattle.elf_object.specs.Kinds.{program}
 use Rattle.elf_object.specs.Rows.{linkAt, firstAt, countAt, sectionOf, relocationsAt}
 
 -- the last table that applies to a program section, its number and 1; 0 for none
 unfoldable pub tableFor : List ℕ → ℕ → ℕ → ℕ
-tableFor work n kind = cond (eqb kind 1) (relocationsAt work n) 0
+tableFor work n kind = cond (eqb kind program) (relocationsAt work n) 0
 
 -- a table names symbols of the loaded symbol table, if it links to it
 unfoldable pub limitOf : List ℕ → ℕ → ℕ → ℕ → ℕ

@@ -2,8 +2,13 @@
 ghost use mathlib.Core.Path.{_≡_};
 ghost use Prim.Native.Nat.{_+_, _≤_};
 ghost use lib.ListN.{set, length};
+ghost use Rattle.cells.specs.Slice.{after, before};
 ghost use Rattle.merge_build.specs.Relocations.{tableFor, limitOf, relocationsOf, symbolOk, symbolsOk, idIn, appendFrom};
-ghost use Rattle.merge_build.specs.Build.{objectOf, stateOf, linkState, rowState, listsFit, planOf, sectionIdOf, moreLists, sectionRow, buildRowOf, commitOf, namedOf, builtFrom, sectionOf, buildOf};
+ghost use Rattle.merge_build.specs.Build.{listsFit, planOf, sectionIdOf, sectionRow, buildRowOf, builtFrom, sectionOf, buildOf, commitIn, linkBefore, namedIn, objectIn, rowAfter, rowBefore, stateAfter, stateBefore};
+
+mod last_stages;
+
+pub use last_stages::finish;
 use link::Interned;
 use link::Link;
 use link::SectionId;
@@ -20,19 +25,25 @@ pub struct Plan {
 
 // The last table that applies to section n of that kind, its number and 1; none for an uninitialized one.
 fn table_for(work: &[u64], n: usize, kind: u64) -> u64
-    ensures { λ r. ⌜ r ≡ tableFor (now (work .entry)) n kind ⌝ }
+    ensures { λ r. ⌜ r ≡ tableFor (before work) n kind ⌝ }
 {
-    if kind == 1 {
-        return cells::row_get(work, n, 2);
+    if kind == elf_object::PROGRAM {
+        return cells::row_get(work, n, elf_object::WORK_RELOCATIONS);
     }
     0
 }
 
 // The symbols that a relocation of that table can name: those of the loaded symbol table, of section t, if it links to it.
 fn limit_of(headers: &[u64], table: u64, t: usize, symbols: usize) -> usize
-    ensures { λ r. ⌜ r ≡ limitOf (now (headers .entry)) table t symbols ⌝ }
+    ensures { λ r. ⌜ r ≡ limitOf (before headers) table t symbols ⌝ }
 {
-    if cells::row_get(headers, elf_object::section_of(table), 3) == t as u64 {
+    if cells::row_get(
+        headers,
+        elf_object::section_of(table),
+        elf_object::HEADER_LINK,
+    )
+        == t as u64
+    {
         return symbols;
     }
     0
@@ -40,19 +51,19 @@ fn limit_of(headers: &[u64], table: u64, t: usize, symbols: usize) -> usize
 
 // Its symbols, among the object's contents; none for no table.
 fn table_symbols<'a>(headers: &[u64], contents: &'a [u64], table: u64) -> &'a [u64]
-    ensures { λ r. ⌜ now r ≡ relocationsOf (now (headers .entry)) (now (contents .entry)) table ⌝ }
+    ensures { λ r. ⌜ now r ≡ relocationsOf (before headers) (before contents) table ⌝ }
 {
     if table == 0 {
         return &contents[..0];
     }
     let s = elf_object::section_of(table);
-    let first = cells::row_get(headers, s, 5);
-    let count = cells::row_get(headers, s, 6);
+    let first = cells::row_get(headers, s, elf_object::HEADER_FIRST);
+    let count = cells::row_get(headers, s, elf_object::HEADER_COUNT);
     cells::part_of(contents, first as usize, count as usize)
 }
 
 fn symbol_ok(ids: &[u64], limit: usize, k: u64) -> bool
-    ensures { λ r. ⌜ r ≡ symbolOk (now (ids .entry)) limit k ⌝ }
+    ensures { λ r. ⌜ r ≡ symbolOk (before ids) limit k ⌝ }
 {
     if limit as u64 <= k {
         return false;
@@ -65,7 +76,7 @@ fn symbol_ok(ids: &[u64], limit: usize, k: u64) -> bool
 
 // Does each of the symbols have an id?
 fn symbols_ok(ids: &[u64], limit: usize, relocations: &[u64]) -> bool
-    ensures { λ r. ⌜ r ≡ symbolsOk (now (ids .entry)) limit (now (relocations .entry)) ⌝ }
+    ensures { λ r. ⌜ r ≡ symbolsOk (before ids) limit (before relocations) ⌝ }
 {
     let mut j = 0;
     while j < relocations.len() {
@@ -79,7 +90,7 @@ fn symbols_ok(ids: &[u64], limit: usize, relocations: &[u64]) -> bool
 }
 
 fn id_of(ids: &[u64], k: u64) -> u64
-    ensures { λ r. ⌜ r ≡ idIn (now (ids .entry)) k ⌝ }
+    ensures { λ r. ⌜ r ≡ idIn (before ids) k ⌝ }
 {
     let cell = cells::get(ids, k as usize);
     if cell == 0 {
@@ -89,7 +100,7 @@ fn id_of(ids: &[u64], k: u64) -> u64
 }
 
 fn put_id(lists: &mut [u64], at: usize, ids: &[u64], k: u64)
-    ensures { λ _. ⌜ now (lists .exit) ≡ set (now (lists .entry)) at (idIn (now (ids .entry)) k) ⌝ }
+    ensures { λ _. ⌜ after lists ≡ set (before lists) at (idIn (before ids) k) ⌝ }
 {
     cells::put(lists, at, id_of(ids, k));
 }
@@ -97,7 +108,7 @@ fn put_id(lists: &mut [u64], at: usize, ids: &[u64], k: u64)
 // Their ids, written into the lists from a place on.
 fn append_ids(lists: &mut [u64], at: usize, ids: &[u64], relocations: &[u64])
     requires { ⌜ at + length (now relocations) ≤ length (now lists) ⌝ }
-    ensures { λ _. ⌜ now (lists .exit) ≡ appendFrom (now (ids .entry)) (now (lists .entry)) at (now (relocations .entry)) ⌝ }
+    ensures { λ _. ⌜ after lists ≡ appendFrom (before ids) (before lists) at (before relocations) ⌝ }
 {
     let mut j = 0;
     while j < relocations.len() {
@@ -119,10 +130,10 @@ fn plan_section(
     relocations: &[u64],
     x: &[u8],
 ) -> Plan
-    ensures { λ r. ⌜ r ≡ planOf l (now (bytes .entry)) (now (names .entry)) lists (now (ids .entry)) limit (now (relocations .entry)) (now (x .entry)) ⌝ }
+    ensures { λ r. ⌜ r ≡ planOf l (before bytes) (before names) lists (before ids) limit (before relocations) (before x) ⌝ }
 {
     let id = interner::find(l, bytes, names, x);
-    if interner_issue::fits(l, bytes, names, id, x.len()) {
+    if interner::fits(l, bytes, names, id, x.len()) {
         if symbols_ok(ids, limit, relocations) {
             if lists_fit(l.lists, lists, relocations.len()) {
                 return Plan { number: 0, id: id };
@@ -150,29 +161,10 @@ fn lists_fit(used: usize, all: usize, more: usize) -> bool
 fn section_id(cell: u64) -> SectionId
     ensures { λ r. ⌜ r ≡ sectionIdOf cell ⌝ }
 {
-    if cell < 2 {
+    if cell < elf_object::ID_BASE {
         return SectionId(0);
     }
-    SectionId((cell - 2) as usize)
-}
-
-fn more_lists(l: Link, more: usize) -> Link
-    requires { ⌜ l .lists + more ≤ 18446744073709551615 ⌝ }
-    ensures { λ r. ⌜ r ≡ moreLists l more ⌝ }
-{
-    Link {
-        names: l.names,
-        bytes: l.bytes,
-        symbols: l.symbols,
-        sections: l.sections,
-        inputs: l.inputs,
-        lists: l.lists + more,
-        chains: l.chains,
-        slots: l.slots,
-        key: l.key,
-        gabi: l.gabi,
-        broken: l.broken,
-    }
+    SectionId((cell - elf_object::ID_BASE) as usize)
 }
 
 // The row of section n of an object, under that name, its relocations' symbols at the lists' end.
@@ -184,14 +176,14 @@ fn section_row(
     first: usize,
     count: usize,
 ) -> Section
-    ensures { λ r. ⌜ r ≡ sectionRow (now (headers .entry)) n kind id first count ⌝ }
+    ensures { λ r. ⌜ r ≡ sectionRow (before headers) n kind id first count ⌝ }
 {
-    let flags = cells::row_get(headers, n, 2);
+    let flags = cells::row_get(headers, n, elf_object::HEADER_FLAGS);
     Section {
         name: id,
         kind: kind,
-        retain: flags / 2 % 2,
-        read: flags / 4 % 2,
+        retain: flags / elf_object::RETAIN_FLAG % 2,
+        read: flags / elf_object::READ_FLAG % 2,
         first: first as u64,
         count: count as u64,
     }
@@ -210,15 +202,20 @@ fn build_row(
     n: usize,
     kind: u64,
 ) -> Link
-    ensures { λ r. ⌜ rowState (now (sections .exit)) (now (lists .exit)) r ≡ buildRowOf (now (headers .entry)) (now (work .entry)) (now (ids .entry)) (rowState (now (sections .entry)) (now (lists .entry)) l) (now (relocations .entry)) id n kind ⌝ }
+    ensures { λ r. ⌜ rowAfter sections lists r
+        ≡ buildRowOf (before headers) (before work) (before ids) (rowBefore sections lists l) (before relocations) id n kind ⌝ }
 {
     let first = l.lists;
     let count = relocations.len();
     if lists_fit(first, lists.len(), count) {
-        let more = more_lists(l, count);
+        let more = link::with_lists(l, first + count);
         append_ids(lists, first, ids, relocations);
         let row = section_row(headers, n, kind, id, first, count);
-        sections::build(sections, section_id(cells::row_get(work, n, 0)), row);
+        sections::build(
+            sections,
+            section_id(cells::row_get(work, n, elf_object::WORK_CONVERSION)),
+            row,
+        );
         return more;
     }
     l
@@ -240,14 +237,14 @@ fn commit(
     kind: u64,
     p: Plan,
 ) -> Stage
-    ensures { λ r. ⌜ stateOf (now (bytes .exit)) (now (names .exit)) (now (sections .exit)) (now (lists .exit)) r ≡ commitOf (now (headers .entry)) (now (work .entry)) (now (ids .entry)) (linkState (now (bytes .entry)) (now (names .entry)) (now (sections .entry)) (now (lists .entry)) l) (now (relocations .entry)) (now (x .entry)) n kind p ⌝ }
+    ensures { λ r. ⌜ stateAfter bytes names sections lists r ≡ commitIn headers work ids (linkBefore bytes names sections lists l) relocations x n kind p ⌝ }
 {
     let id = p.id;
     let number = p.number;
     if number == 2 {
         return link::stopped(l, 2, n as u64);
     }
-    let kept = interner_issue::keep(l, bytes, names, id, x);
+    let kept = interner::keep(l, bytes, names, id, x);
     if number != 0 {
         return link::stopped(kept, number, n as u64);
     }
@@ -287,7 +284,8 @@ fn named_section(
     n: usize,
     kind: u64,
 ) -> Stage
-    ensures { λ r. ⌜ stateOf (now (bytes .exit)) (now (names .exit)) (now (sections .exit)) (now (lists .exit)) r ≡ namedOf (now (headers .entry)) (now (contents .entry)) (now (work .entry)) (now (ids .entry)) (linkState (now (bytes .entry)) (now (names .entry)) (now (sections .entry)) (now (lists .entry)) l) (now (x .entry)) t symbols n kind ⌝ }
+    ensures { λ r. ⌜ stateAfter bytes names sections lists r
+        ≡ namedIn headers contents work ids (linkBefore bytes names sections lists l) x t symbols n kind ⌝ }
 {
     let table = table_for(work, n, kind);
     let limit = limit_of(headers, table, t, symbols);
@@ -319,22 +317,23 @@ fn build_section(
     lists: &mut [u64],
     headers: &[u64],
     contents: &[u64],
-    file: &[u8],
+    image: &[u8],
     work: &[u64],
     ids: &[u64],
-    strings: usize,
+    shstrndx: usize,
     t: usize,
     symbols: usize,
     n: usize,
     kind: u64,
 ) -> Stage
-    ensures { λ r. ⌜ stateOf (now (bytes .exit)) (now (names .exit)) (now (sections .exit)) (now (lists .exit)) r ≡ sectionOf (objectOf (now (headers .entry)) (now (contents .entry)) (now (file .entry)) (now (work .entry)) (now (ids .entry)) strings t symbols) (stateOf (now (bytes .entry)) (now (names .entry)) (now (sections .entry)) (now (lists .entry)) s) n kind ⌝ }
+    ensures { λ r. ⌜ stateAfter bytes names sections lists r
+        ≡ sectionOf (objectIn headers contents image work ids shstrndx t symbols) (stateBefore bytes names sections lists s) n kind ⌝ }
 {
     if is_built_from(headers, work, n, kind) {
         let l = s.link;
-        let offset = cells::row_get(headers, n, 1) as usize;
+        let offset = cells::row_get(headers, n, elf_object::HEADER_NAME) as usize;
         let mut found = false;
-        let x = elf_object::name_in(headers, file, strings, offset, &mut found);
+        let x = elf_object::name_in(headers, image, shstrndx, offset, &mut found);
         if found {
             return named_section(
                 l,
@@ -359,10 +358,10 @@ fn build_section(
 }
 
 fn is_built_from(headers: &[u64], work: &[u64], n: usize, kind: u64) -> bool
-    ensures { λ r. ⌜ r ≡ builtFrom (now (headers .entry)) (now (work .entry)) n kind ⌝ }
+    ensures { λ r. ⌜ r ≡ builtFrom (before headers) (before work) n kind ⌝ }
 {
     if elf_object::is_loaded(headers, n, kind) {
-        if cells::row_get(work, n, 1) == 2 {
+        if cells::row_get(work, n, elf_object::WORK_MARK) == elf_object::REMOVED_MARK {
             return false;
         }
         return true;
@@ -380,17 +379,18 @@ pub fn build_sections(
     lists: &mut [u64],
     headers: &[u64],
     contents: &[u64],
-    file: &[u8],
+    image: &[u8],
     work: &[u64],
     ids: &[u64],
-    strings: usize,
+    shstrndx: usize,
     t: usize,
     symbols: usize,
     kind: u64,
 ) -> Stage
-    ensures { λ r. ⌜ stateOf (now (bytes .exit)) (now (names .exit)) (now (sections .exit)) (now (lists .exit)) r ≡ buildOf (objectOf (now (headers .entry)) (now (contents .entry)) (now (file .entry)) (now (work .entry)) (now (ids .entry)) strings t symbols) (stateOf (now (bytes .entry)) (now (names .entry)) (now (sections .entry)) (now (lists .entry)) s) kind ⌝ }
+    ensures { λ r. ⌜ stateAfter bytes names sections lists r
+        ≡ buildOf (objectIn headers contents image work ids shstrndx t symbols) (stateBefore bytes names sections lists s) kind ⌝ }
 {
-    let rows = headers.len() / 8;
+    let rows = headers.len() / elf_object::ROW_WIDTH;
     let mut u = s;
     let mut n = 0;
     while n < rows {
@@ -402,10 +402,10 @@ pub fn build_sections(
             lists,
             headers,
             contents,
-            file,
+            image,
             work,
             ids,
-            strings,
+            shstrndx,
             t,
             symbols,
             n,

@@ -1,9 +1,9 @@
 // The merge of an object into a link: its head, its stages, and what it answers.
 ghost use mathlib.Core.Path.{_≡_};
-ghost use Rattle.link.specs.Judge.{goingOf};
-ghost use Rattle.merge_stages.specs.Stages.{allOf, objectOf};
-ghost use Rattle.merge_elf.specs.Merge.{headOf, endedAs, outcome, finishedOf};
-ghost use Rattle.merge_elf.specs.Contract.{cellsIn, objectIn, MergeMeets};
+ghost use Rattle.merge_stages.specs.Stages.{cellsIn, linkBefore, objectIn};
+ghost use Rattle.cells.specs.Slice.{before};
+ghost use Rattle.merge_elf.specs.Merge.{checkOf, endedAs, finishedOf, outcomeAfter};
+ghost use Rattle.merge_elf.specs.Contract.{MergeMeets};
 use link::Lent;
 use link::Link;
 use link::Refusal;
@@ -20,7 +20,7 @@ pub struct Outcome {
 }
 
 // 22; 1 of the link's counts, of the object's sections, then of its symbols; too few work cells 2 at place 0.
-fn head(
+fn check(
     l: Link,
     lent: Lent,
     headers: &[u64],
@@ -30,23 +30,23 @@ fn head(
     work: usize,
     ids: usize,
 ) -> Refusal
-    ensures { λ r. ⌜ r ≡ headOf l lent (now (headers .entry)) (now (entries .entry)) contents file work ids ⌝ }
+    ensures { λ r. ⌜ r ≡ checkOf l lent (before headers) (before entries) contents file work ids ⌝ }
 {
-    let counts = link_judge::judge_change(l, lent);
+    let counts = link::judge_change(l, lent);
     if counts.number != 0 {
         return counts;
     }
-    let rows = object_range::judge(headers, entries, contents, file);
+    let rows = elf_object::judge(headers, entries, contents, file);
     if rows.number != 0 {
         return rows;
     }
-    if work / 8 < headers.len() / 8 {
+    if work / elf_object::ROW_WIDTH < headers.len() / elf_object::ROW_WIDTH {
         return Refusal {
             number: 2,
             place: 0,
         };
     }
-    if ids < entries.len() / 8 {
+    if ids < entries.len() / elf_object::ROW_WIDTH {
         return Refusal {
             number: 2,
             place: 0,
@@ -94,12 +94,11 @@ fn merge_judged(
     headers: &[u64],
     entries: &[u64],
     contents: &[u64],
-    file: &[u8],
-    strings: usize,
+    image: &[u8],
+    shstrndx: usize,
 ) -> Outcome
-    ensures { λ r. ⌜ outcome (now (bytes .exit)) (now (names .exit)) (now (symbols .exit)) (now (sections .exit)) (now (inputs .exit)) (now (lists .exit)) (now (work .exit)) (now (ids .exit)) r
-        ≡ finishedOf (objectOf (now (headers .entry)) (now (entries .entry)) (now (contents .entry)) (now (file .entry)) strings)
-        (allOf (now (bytes .entry)) (now (names .entry)) (now (symbols .entry)) (now (sections .entry)) (now (inputs .entry)) (now (lists .entry)) (now (work .entry)) (now (ids .entry)) (goingOf l)) ⌝ }
+    ensures { λ r. let c = cellsIn bytes names symbols sections inputs lists work ids in
+        ⌜ outcomeAfter c r ≡ finishedOf (objectIn headers entries contents image shstrndx) (linkBefore c l) ⌝ }
 {
     ended(merge_stages::merge_stages(
         l,
@@ -114,12 +113,12 @@ fn merge_judged(
         headers,
         entries,
         contents,
-        file,
-        strings,
+        image,
+        shstrndx,
     ))
 }
 
-// Merges an object: section names lie in its section `strings`. The work cells are a row of 8 for each of its sections and a cell for each
+// Merges an object: section names lie in its section `shstrndx`. The work cells are a row of 8 for each of its sections and a cell for each
 // of its symbols. A repeated group that lists a section number at or past the work rows lent gives 2, so lend 65,280 of them where objects
 // may list sections that they don't have.
 pub fn merge_elf(
@@ -135,10 +134,10 @@ pub fn merge_elf(
     headers: &[u64],
     entries: &[u64],
     contents: &[u64],
-    file: &[u8],
-    strings: usize,
+    image: &[u8],
+    shstrndx: usize,
 ) -> Outcome
-    ensures { λ r. ⌜ MergeMeets (objectIn headers entries contents file strings) (cellsIn bytes names symbols sections inputs lists work ids) l r ⌝ }
+    ensures { λ r. ⌜ MergeMeets (objectIn headers entries contents image shstrndx) (cellsIn bytes names symbols sections inputs lists work ids) l r ⌝ }
 {
     let lent = Lent {
         names: names.len() / link::NAME_CELLS,
@@ -148,13 +147,13 @@ pub fn merge_elf(
         inputs: inputs.len(),
         lists: lists.len(),
     };
-    let refusal = head(
+    let refusal = check(
         l,
         lent,
         headers,
         entries,
         contents.len(),
-        file.len(),
+        image.len(),
         work.len(),
         ids.len(),
     );
@@ -177,7 +176,7 @@ pub fn merge_elf(
         headers,
         entries,
         contents,
-        file,
-        strings,
+        image,
+        shstrndx,
     )
 }

@@ -1,4 +1,3 @@
 pub mod MergeFile
 pub mod Contract
-pub mod Ways
-pub mod Laws
+pub mod Proof

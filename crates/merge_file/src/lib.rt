@@ -2,13 +2,13 @@
 ghost use mathlib.Core.Path.{_≡_};
 ghost use Prim.Native.Nat.{_+_, _*_, _≤_};
 ghost use lib.ListN.{length};
-ghost use Rattle.link.specs.Judge.{goingOf};
-ghost use Rattle.merge_stages.specs.Stages.{allOf};
-ghost use Rattle.merge_elf.specs.Merge.{outcome};
-ghost use Rattle.merge_elf.specs.Contract.{cellsIn};
+ghost use Rattle.elf_object.specs.Rows.{rowWidth};
+ghost use Rattle.merge_stages.specs.Stages.{cellsIn, linkBefore};
+ghost use Rattle.merge_elf.specs.Merge.{outcomeAfter};
+ghost use Rattle.cells.specs.Slice.{after, before};
 ghost use Rattle.merge_file.specs.MergeFile.{refusedAs, mergeReadOf};
 ghost use Rattle.merge_file.specs.Contract.{MergeFileMeets};
-use elf_read::Reading;
+use elf_file::Reading;
 use link::Link;
 use link::Refusal;
 use merge_elf::Answer;
@@ -40,22 +40,21 @@ fn merge_read(
     work: &mut [u64],
     ids: &mut [u64],
     rows: &[u64],
-    file: &[u8],
+    image: &[u8],
     r: Reading,
 ) -> Outcome
-    requires { ⌜ r .sections * 8 + r .entries * 8 + r .contents ≤ length (now rows) ⌝ }
-    ensures { λ t. ⌜ outcome (now (bytes .exit)) (now (names .exit)) (now (symbols .exit)) (now (sections .exit)) (now (inputs .exit)) (now (lists .exit)) (now (work .exit)) (now (ids .exit)) t
-        ≡ mergeReadOf (now (file .entry)) (now (rows .entry)) r
-        (allOf (now (bytes .entry)) (now (names .entry)) (now (symbols .entry)) (now (sections .entry)) (now (inputs .entry)) (now (lists .entry)) (now (work .entry)) (now (ids .entry)) (goingOf l)) ⌝ }
+    requires { ⌜ r .sections * rowWidth + r .entries * rowWidth + r .contents ≤ length (now rows) ⌝ }
+    ensures { λ t. let c = cellsIn bytes names symbols sections inputs lists work ids in
+        ⌜ outcomeAfter c t ≡ mergeReadOf (before image) (before rows) r (linkBefore c l) ⌝ }
 {
     if r.number != 0 {
         return refused(l, r.number, r.place);
     }
     let n = r.sections as usize;
     let e = r.entries as usize;
-    let end = (n + e) * 8;
-    let headers = cells::part_of(rows, 0, n * 8);
-    let entries = cells::part_of(rows, n * 8, e * 8);
+    let end = (n + e) * elf_object::ROW_WIDTH;
+    let headers = cells::part_of(rows, 0, n * elf_object::ROW_WIDTH);
+    let entries = cells::part_of(rows, n * elf_object::ROW_WIDTH, e * elf_object::ROW_WIDTH);
     let contents = cells::part_of(rows, end, r.contents as usize);
     merge_elf::merge_elf(
         l,
@@ -70,12 +69,12 @@ fn merge_read(
         headers,
         entries,
         contents,
-        file,
+        image,
         r.strings as usize,
     )
 }
 
-// Merges an object file. Its rows are written into `rows`: 8 cells for each of its sections and for each symbol of its symbol tables, a cell for
+// Merges an object image. Its rows are written into `rows`: 8 cells for each of its sections and for each symbol of its symbol tables, a cell for
 // each relocation and each member of a group. The work cells are those of merge_elf.
 pub fn merge_file(
     l: Link,
@@ -88,14 +87,14 @@ pub fn merge_file(
     work: &mut [u64],
     ids: &mut [u64],
     rows: &mut [u64],
-    file: &[u8],
+    image: &[u8],
 ) -> Outcome
-    ensures { λ r. ⌜ MergeFileMeets (now (file .entry)) (now (rows .entry)) (now (rows .exit)) (cellsIn bytes names symbols sections inputs lists work ids) l r ⌝ }
+    ensures { λ r. ⌜ MergeFileMeets (before image) (before rows) (after rows) (cellsIn bytes names symbols sections inputs lists work ids) l r ⌝ }
 {
     if l.broken {
         return refused(l, 22, 0);
     }
-    let r = elf_read::read(file, rows);
+    let r = elf_file::read(image, rows);
     merge_read(
         l,
         bytes,
@@ -107,7 +106,7 @@ pub fn merge_file(
         work,
         ids,
         rows,
-        file,
+        image,
         r,
     )
 }

@@ -9,35 +9,37 @@ use mathlib.Core.Bool.{false, cond}
 use mathlib.Core.List.{List, [], _∷_, _++_, append-nil}
 use lib.Dec.{eqb, ltb}
 use borrow.Author.Tests.{eqb-true, eqb-false, eq-eqb}
-use Rattle.cells.specs.Split.{by-test}
+use Rattle.cells.specs.Proof.Split.{by-test}
 use Rattle.strings.specs.Lookup.{Looked}
 use Rattle.symbol.specs.declared.Row.{Row}
-use Rattle.symbol_rows.specs.declared.Decision.{Decision}
-use Rattle.symbol_rows.specs.Decide.{refusalOf}
+use Rattle.symbol_resolution.specs.declared.rows.Decision.{Decision}
+use Rattle.symbol_resolution.specs.Decide.{refusalOf}
 use Rattle.elf_object.specs.Rows.{rowsIn, isLoaded, nameIn, nameOffsetAt}
 use Rattle.section_groups.specs.Group as Group
 use Rattle.section_groups.specs.Group.{groupSectionOf, groupsOf}
 use Rattle.section_groups.specs.Filter.{filterOf}
-use Rattle.merge_plan.specs.Plan.{inputOf}
+use Rattle.merge_symbols.specs.Plan.{inputOf}
 use Rattle.merge_symbols.specs.Stage as Symbols
-use Rattle.merge_symbols.specs.Stage.{acceptRow, keptOf, commitOf, namedOf, lookedOf, symbolOf, symbolsOf}
+use Rattle.merge_symbols.specs.Stage.{acceptRow, keptOf, commitOf, symbolNamed, lookedOf, symbolOf, symbolsOf}
 use Rattle.merge_build.specs.Build as Build
-use Rattle.merge_finish.specs.Finish.{BuildLinks, building, afterBuild}
-use Rattle.merge_stages.specs.Stages.{All, Object, Tabled, SymbolLinks, symbolObject, buildObject, afterSymbols, symbolsIn, withSymbols}
+use Rattle.merge_build.specs.Finish.{BuildLinks, building, afterBuild}
+use Rattle.merge_stages.specs.Stages.{All, Object, Tabled, SymbolLinks, symbolObject, buildObject, afterSymbols, symbolsIn, putSymbols}
 use Rattle.merge_elf.specs.Merge as Merge
 use Rattle.merge_elf.specs.Merge.{headIn, mergeOf}
 use Rattle.symbol_laws.specs.History.{State}
 use Rattle.merge_laws.specs.Steps.{Step, others, runSteps}
-use Rattle.merge_laws.specs.Beside.{others-make}
+use Rattle.merge_laws.specs.Proof.Beside.{others-make}
 use Rattle.merge_laws.specs.Placed.{reserve-beside}
 use Rattle.merge_laws.specs.Loop.{loop, loopSteps, loop-going, loop-next, steps-next}
 use Rattle.merge_laws.specs.MergeSteps.{adds, rowSteps, namedSteps, symbolSteps, symbolsSteps, signedSteps, groupSectionSteps, builtSteps, sectionSteps, buildSteps, inputSteps, programSteps, bothSteps, buildFirst, buildStageSteps, symbolFirst, tableSteps, filteredSteps, filterSteps, groupFirst, mergeGroupsSteps, groupStageSteps, reservedSteps, reserveFirst, stagesSteps, mergeSteps}
 use Rattle.merge_laws.specs.Kept.{globalRows, addedRows}
-use Rattle.merge_laws.specs.Marked.{Marked, marksOf, marks-append}
-use Rattle.merge_laws.specs.Markless.{Markless, marks-none, both, loop-markless, row-markless, added-append, both-none, loop-none}
+use Rattle.merge_laws.specs.Marked.{Marked, marksOf}
+use Rattle.merge_laws.specs.Proof.Marked.{marks-append}
+use Rattle.merge_laws.specs.Proof.Markless.{Markless, marks-none, both, loop-markless, row-markless, added-append, both-none, loop-none}
 use Rattle.merge_laws.specs.GroupStage as GroupStage
-use Rattle.merge_laws.specs.GroupStage.{numberOf, groups-loop}
-use Rattle.merge_laws.specs.SymbolStage.{symbols-loop}
+use Rattle.merge_laws.specs.GroupStage.{numberOf}
+use Rattle.merge_laws.specs.Proof.GroupStage.{groups-loop}
+use Rattle.merge_laws.specs.Proof.SymbolStage.{symbols-loop}
 use Rattle.merge_laws.specs.SymbolIds.{nameOf, planOf}
 use Rattle.merge_laws.specs.Whole.{tableIn}
 use Rattle.merge_laws.specs.Stops.{reserved, object, prepared, grouped, marked, symbolReader, added, groupsTo, symbolsTo, number, end, sections-stop, sections-pass, filtered, filter-stop, filter-pass, symbols-stop}
@@ -49,7 +51,7 @@ use Rattle.merge_laws.specs.Discarded.{groups-pass, merge-passes}
 section-markless : (o : Build.Object) (kind : ℕ) (s : Build.State) (n : ℕ) → Markless (sectionSteps o kind s n)
 unfolding sectionSteps builtSteps
 section-markless o kind s n =
-    let x : Looked = nameIn (o .headers) (o .file) (o .strings) (nameOffsetAt (o .headers) n) in
+    let x : Looked = nameIn (o .headers) (o .image) (o .sectionNames) (nameOffsetAt (o .headers) n) in
     by-test (Build.builtFrom (o .headers) (o .work) n kind)
     (λ a. by-test (x .found) (λ b. by-test (eqb (Build.sectionOf o s n kind .stage .number) 2) (λ c. rw (a, b, c) tt) (λ c. rw (a, b, c) tt)) (λ b. rw (a, b) tt))
     (λ a. rw a tt)
@@ -57,7 +59,7 @@ section-markless o kind s n =
 section-none : (o : Build.Object) (kind : ℕ) (s : Build.State) (n : ℕ) → addedRows (sectionSteps o kind s n) ≡ []
 unfolding sectionSteps builtSteps
 section-none o kind s n =
-    let x : Looked = nameIn (o .headers) (o .file) (o .strings) (nameOffsetAt (o .headers) n) in
+    let x : Looked = nameIn (o .headers) (o .image) (o .sectionNames) (nameOffsetAt (o .headers) n) in
     by-test (Build.builtFrom (o .headers) (o .work) n kind)
     (λ a. by-test (x .found) (λ b. by-test (eqb (Build.sectionOf o s n kind .stage .number) 2) (λ c. rw (a, b, c)) (λ c. rw (a, b, c))) (λ b. rw (a, b)))
     (λ a. rw a)
@@ -133,7 +135,7 @@ group-none o s n =
 
 symbol-row : (o : Symbols.Object) (s : Symbols.State) (i : ℕ) → symbolOf o s i .stage .number ≡ 0
     → addedRows (symbolSteps o s i) ≡ cond (adds (inputOf (o .entries) (o .work)) (nameOf o i .name) i) (globalRows (planOf o s i .row)) []
-unfolding symbolSteps namedSteps rowSteps symbolOf lookedOf namedOf commitOf keptOf acceptRow
+unfolding symbolSteps namedSteps rowSteps symbolOf lookedOf symbolNamed commitOf keptOf acceptRow
 symbol-row o s i e =
     let d : Decision = planOf o s i .decision in
     by-test (nameOf o i .found)
@@ -247,7 +249,7 @@ module _ (o : Object) (a : All) where
         by-test (eqb (added o a .stage .number) 0) (λ t. eqb-true _ _ t)
         (λ t.
         let u = eqb-false _ _ t in
-        let e = sections-pass o a (sections-going whole) ∙ filter-pass o a (groups-pass o a whole) filter-passes ∙ ap (withSymbols (marked o a)) (symbols-stop o a u) in
+        let e = sections-pass o a (sections-going whole) ∙ filter-pass o a (groups-pass o a whole) filter-passes ∙ ap (putSymbols (marked o a)) (symbols-stop o a u) in
         absurd (u (sym (ap (λ (x : All). x .stage .number) e) ∙ whole)))
 
     abbrev symbolNumber : Symbols.State → ℕ

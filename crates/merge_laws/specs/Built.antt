@@ -11,11 +11,11 @@ use mathlib.Core.Logic.{_≢_}
 use lib.Dec.{eqb, ltb}
 use lib.ListN.{length}
 use borrow.Author.Tests.{eqb-true, eqb-false, ltb-true, ltb-false, eq-eqb}
-use Rattle.cells.specs.Split.{by-test}
+use Rattle.cells.specs.Proof.Split.{by-test}
 use Rattle.gabi.specs.StringTable.{nameAt}
 use Rattle.link.specs.declared.Link.{Link}
 use Rattle.link.specs.Bounds.{sectionRows, sectionSlots, inputRows}
-use Rattle.link.specs.Passed.{passed-slots, passed-sections}
+use Rattle.link.specs.Proof.Passed.{passed-slots, passed-sections}
 use Rattle.interner.specs.Names.{Store, storeOf, keepOf}
 use Rattle.interner_laws.specs.Good.{Good}
 use Rattle.interner_laws.specs.Good as Good
@@ -26,32 +26,34 @@ use Rattle.merge_sections.specs.Reserve.{classOf, conversionOf}
 use Rattle.merge_build.specs.Relocations.{tableFor, relocationsOf, symbolsOk, limitOf}
 use Rattle.merge_build.specs.Build as Build
 use Rattle.merge_build.specs.Build.{sectionIdOf, builtFrom, sectionOf, buildOf}
-use Rattle.merge_finish.specs.Finish.{building, inputOf, programStage, withInput}
-use Rattle.merge_stages.specs.Stages.{All, Object, groupObject, symbolsIn, withSymbols}
+use Rattle.merge_build.specs.Finish.{building, inputRowOf, programStage, withInput}
+use Rattle.merge_stages.specs.Stages.{All, Object, groupObject, symbolsIn, putSymbols}
 use Rattle.merge_elf.specs.Merge.{headIn, lent, finishedOf, mergeOf, endedAs}
 use Rattle.symbol_laws.specs.History as History
 use Rattle.symbol_laws.specs.ObjectWords.{sectionsIn, program, uninitialized, stringTable, group, nameOffset, retains, reads, stringsOf, loadedAs}
 use Rattle.merge_laws.specs.MergeWords.{isRowed, rowedBelow, namedBy, ownSignatures, isRemoved}
 use Rattle.link.specs.declared.Interned.{Interned}
-use Rattle.symbol_rows.specs.Apply.{moreSymbols}
+use Rattle.link.specs.Counts.{withSymbols}
 use Rattle.section_groups.specs.Group as Group
 use Rattle.merge_symbols.specs.Stage as Symbols
 use Rattle.merge_laws.specs.Steps.{runSteps}
 use Rattle.merge_laws.specs.Loop.{loop, loop-holds}
 use Rattle.merge_laws.specs.MergeSteps.{reserveFirst, groupFirst, symbolFirst, mergeSteps}
-use Rattle.merge_laws.specs.Marked.{Marked, marksOf, steps-marked}
+use Rattle.merge_laws.specs.Marked.{Marked, marksOf}
+use Rattle.merge_laws.specs.Proof.Marked.{steps-marked}
 use Rattle.merge_laws.specs.Placed.{rowOf, few, slots, converted, reserve-beside, reserve-placed}
 use Rattle.merge_laws.specs.Issue.{keep-sections}
-use Rattle.merge_laws.specs.Lists.{keep-lists, reserve-count}
-use Rattle.merge_laws.specs.GroupStage.{groups-count}
-use Rattle.merge_laws.specs.SymbolStage.{symbols-long, symbols-count}
-use Rattle.merge_laws.specs.BuildStage.{numberOf, build-loop}
+use Rattle.merge_laws.specs.Lists.{keep-lists}
+use Rattle.merge_laws.specs.Proof.Lists.{reserve-count}
+use Rattle.merge_laws.specs.Proof.GroupStage.{groups-count}
+use Rattle.merge_laws.specs.Proof.SymbolStage.{symbols-long, symbols-count}
+use Rattle.merge_laws.specs.Proof.BuildStage.{numberOf, build-loop}
 use Rattle.merge_laws.specs.SymbolDuplicates.{stepsTo, steps-make}
 use Rattle.merge_laws.specs.Whole.{tableIn, passed}
 use Rattle.merge_laws.specs.Stops.{reserved, object, prepared, grouped, marked, symbolReader, added, builder, before2, before1, before0, withBuild, end, number, sections-pass, filter-pass, symbols-pass, program-pass, program-stop, input-pass, input-stop}
 use Rattle.merge_laws.specs.Discarded.{groups-pass, merge-passes}
 use Rattle.merge_laws.specs.Accepted.{sections-going, filter-passes, symbols-going, merge-signatures}
-use Rattle.merge_laws.specs.WorkRows.{loaded-same, class-rowed}
+use Rattle.merge_laws.specs.Proof.WorkRows.{loaded-same, class-rowed}
 use Rattle.merge_laws.specs.WorkGroups.{noted, conversion-is, relocations-are, mark-is, clean-section, name-same, signatures-are}
 use Rattle.merge_laws.specs.BuiltRow.{BuiltAs, idsOf, relink-stays, Stands, section-stands, section-keeps, builds, builds-named}
 
@@ -135,7 +137,7 @@ idOf a headers n = a .stage .link .sections + rowedBelow headers n
 
 -- the bytes of the section of section names
 abbrev pub sectionNames : Object → List ℕ
-sectionNames o = stringsOf (o .headers) (o .file) (loadedAs (o .headers) (o .strings) stringTable) (o .strings)
+sectionNames o = stringsOf (o .headers) (o .image) (loadedAs (o .headers) (o .sectionNames) stringTable) (o .sectionNames)
 
 module _ (o : Object) (a : All) (ok : mergeOf o a .said .number ≡ 0) (met : List (List ℕ)) (known : Marked (tableIn a) met)
     (inside : a .stage .link .lists ≤ length (a .lists)) where
@@ -221,7 +223,7 @@ module _ (o : Object) (a : All) (ok : mergeOf o a .said .number ≡ 0) (met : Li
       let m : Marked (runSteps (stepsTo o a i) (tableIn a)) (met ++ marksOf (stepsTo o a i) (tableIn a)) = steps-marked (stepsTo o a i) (tableIn a) met (steps .accepted) known in
       subst (λ (t : History.State). Marked t (met ++ marksOf (stepsTo o a i) (tableIn a))) (steps .leads) m .good
 
-  added-count : (count : Link → ℕ) → ((s : Store) (id : Interned) (x : List ℕ) → count (keepOf s id x .link) ≡ count (s .link)) → ((l : Link) (n : ℕ) → count (moreSymbols l n) ≡ count l)
+  added-count : (count : Link → ℕ) → ((s : Store) (id : Interned) (x : List ℕ) → count (keepOf s id x .link) ≡ count (s .link)) → ((l : Link) (n : ℕ) → count (withSymbols l n) ≡ count l)
       → count (added o a .stage .link) ≡ count (reserved o a .reserved .link)
   unfolding Group.groupsOf
   added-count count same also =
@@ -245,7 +247,7 @@ module _ (o : Object) (a : All) (ok : mergeOf o a .said .number ≡ 0) (met : Li
   -- none of them is refused
   after-symbols : end o a ≡ withBuild o a (programStage (builder o a) (before1 o a))
   after-symbols =
-      sections-pass o a goes ∙ filter-pass o a passes (filter-passes o a ok) ∙ ap (withSymbols (marked o a)) (symbols-pass o a (symbols-going o a ok))
+      sections-pass o a goes ∙ filter-pass o a passes (filter-passes o a ok) ∙ ap (putSymbols (marked o a)) (symbols-pass o a (symbols-going o a ok))
 
   second-goes : before1 o a .stage .number ≡ 0
   second-goes =
@@ -301,7 +303,7 @@ module _ (o : Object) (a : All) (ok : mergeOf o a .said .number ≡ 0) (met : Li
   -- ---- what is built
 
   abbrev removed : ℕ → Bool
-  removed = isRemoved headers (o .entries) (o .contents) (o .file) met rows
+  removed = isRemoved headers (o .entries) (o .contents) (o .image) met rows
 
   is-built : (n kind : ℕ) → loadedAs headers n kind ≡ true → removed n ≡ false → builtFrom headers work n kind ≡ true
   unfolding builtFrom
@@ -311,8 +313,8 @@ module _ (o : Object) (a : All) (ok : mergeOf o a .said .number ≡ 0) (met : Li
       rw (loaded-same headers n kind, e)
       (by-test (loadedAs headers n group) (λ t. let q : markAt work n ≡ 1 = rw t at m in rw q) (λ t. let q : markAt work n ≡ 0 = rw t at m in rw q))
 
-  name-is : (n : ℕ) → Elf.nameIn headers (o .file) (o .strings) (nameOffset headers n) .name ≡ nameAt (sectionNames o) (nameOffset headers n)
-  name-is n = name-same headers (o .file) (o .strings) (nameOffset headers n)
+  name-is : (n : ℕ) → Elf.nameIn headers (o .image) (o .sectionNames) (nameOffset headers n) .name ≡ nameAt (sectionNames o) (nameOffset headers n)
+  name-is n = name-same headers (o .image) (o .sectionNames) (nameOffset headers n)
 
   module _ (n kind : ℕ) (e : loadedAs headers n kind ≡ true) (r : removed n ≡ false) (rowed : isRowed headers n ≡ true)
       (kinds : (m : ℕ) → loadedAs headers m kind ≡ true → isRowed headers m ≡ true) (ks : List ℕ)
@@ -341,10 +343,10 @@ module _ (o : Object) (a : All) (ok : mergeOf o a .said .number ≡ 0) (met : Li
     pub at-the-end : Here (building (before0 o a)) → Stands cells taken (building (before0 o a))
         → let t = mergeOf o a .cells in
         BuiltAs (t .bytes) (t .names) (t .sections) (t .lists) (t .stage .link) (idOf a headers n) (nameAt (sectionNames o) (nameOffset headers n)) kind (retains headers n) (reads headers n) (idsOf (added o a .ids) ks)
-    unfolding mergeOf finishedOf endedAs inputOf
+    unfolding mergeOf finishedOf endedAs inputRowOf
     at-the-end q s =
         let l : Link = before0 o a .stage .link in
-        let e : end o a ≡ withBuild o a (withInput (before0 o a) (inputOf (before0 o a .inputs) l)) = after-symbols ∙ ap (withBuild o a) (program-pass o a second-goes ∙ input-pass o a third-goes) in
+        let e : end o a ≡ withBuild o a (withInput (before0 o a) (inputRowOf (before0 o a .inputs) l)) = after-symbols ∙ ap (withBuild o a) (program-pass o a second-goes ∙ input-pass o a third-goes) in
         let p = subst (λ (k : ℕ). BuiltAs (before0 o a .bytes) (before0 o a .names) (before0 o a .sections) (before0 o a .lists) l k (nameAt (sectionNames o) (nameOffset headers n)) kind (retains headers n) (reads headers n) (idsOf (added o a .ids) ks)) (row-is n low rowed) q in
         let f : (m : Link) → m .names ≡ l .names → m .bytes ≡ l .bytes → m .chains ≡ l .chains → m .key ≡ l .key → m .sections ≡ l .sections → m .lists ≡ l .lists → BuiltAs (before0 o a .bytes) (before0 o a .names) (before0 o a .sections) (before0 o a .lists) m (idOf a headers n) (nameAt (sectionNames o) (nameOffset headers n)) kind (retains headers n) (reads headers n) (idsOf (added o a .ids) ks) =
         λ m x y u v z w. as-relinked (before0 o a .bytes) (before0 o a .names) (before0 o a .sections) (before0 o a .lists) l m (idOf a headers n) _ kind _ _ _ (s .good) x y u v z w p in
@@ -408,14 +410,14 @@ module _ (o : Object) (a : All) (ok : mergeOf o a .said .number ≡ 0) (met : Li
       (omega (arith, row-is n h w, own-below n h w, full, slots own-slots, slots-lent, before .long)) (omega (arith, row-is n h w, own-below n h w, before .counted)) .1)
 
   -- the signatures that it meets, by the object's own groups
-  pub signatures-own : marksOf (mergeSteps o a) (tableIn a) ≡ ownSignatures headers (o .entries) (o .contents) (o .file) rows
+  pub signatures-own : marksOf (mergeSteps o a) (tableIn a) ≡ ownSignatures headers (o .entries) (o .contents) (o .image) rows
   signatures-own = merge-signatures o a ok met known ∙ signatures-are o a head goes passes met known rows (le-refl _)
 
   -- a row for each such section of the object, and no more
   pub rows-taken : mergeOf o a .cells .stage .link .sections ≡ idOf a headers rows
-  unfolding mergeOf finishedOf endedAs inputOf
+  unfolding mergeOf finishedOf endedAs inputRowOf
   rows-taken =
       let l : Link = before0 o a .stage .link in
-      let e : end o a ≡ withBuild o a (withInput (before0 o a) (inputOf (before0 o a .inputs) l)) = after-symbols ∙ ap (withBuild o a) (program-pass o a second-goes ∙ input-pass o a third-goes) in
+      let e : end o a ≡ withBuild o a (withInput (before0 o a) (inputRowOf (before0 o a .inputs) l)) = after-symbols ∙ ap (withBuild o a) (program-pass o a second-goes ∙ input-pass o a third-goes) in
       rw (eq-eqb (headIn o a .number) 0 head, eq-eqb (number o a) 0 whole, e)
       (by-test (ltb (l .inputs) (inputRows (length (before0 o a .inputs)))) (λ t. rw t (third-stands .counted ∙ counted)) (λ t. rw t (third-stands .counted ∙ counted)))

@@ -9,9 +9,9 @@ use mathlib.Core.Logic.{_≢_}
 use lib.Dec.{eqb, leb}
 use lib.ListN.{getD, length, take, drop, length-take, length-drop}
 use borrow.Author.Tests.{eqb-false, leb-false}
-use Rattle.cells.specs.Split.{by-test}
+use Rattle.cells.specs.Proof.Split.{by-test}
 use Rattle.elf_object.specs.Rows.{rowsIn, linkAt, firstAt, countAt, sectionOf, tableEntries, entriesFrom}
-use Rattle.merge_plan.specs.Plan.{inputOf}
+use Rattle.merge_symbols.specs.Plan.{inputOf}
 use Rattle.merge_build.specs.Relocations.{tableFor, limitOf, relocationsOf, symbolsOk, symbolOk, idIn}
 use Rattle.merge_symbols.specs.Stage as Symbols
 use Rattle.merge_stages.specs.Stages.{All, Object, symbolsIn}
@@ -23,7 +23,7 @@ use Rattle.merge_laws.specs.MergeSteps.{adds, symbolFirst}
 use Rattle.merge_laws.specs.Marked.{Marked}
 use Rattle.merge_laws.specs.SymbolIds.{nameOf}
 use Rattle.merge_laws.specs.SymbolDuplicates.{stepsTo, tableTo, steps-make}
-use Rattle.merge_laws.specs.Past.{steps-below}
+use Rattle.merge_laws.specs.Proof.Past.{steps-below}
 use Rattle.merge_laws.specs.Whole.{tableIn, passed}
 use Rattle.merge_laws.specs.Stops.{reserved, object, marked, symbolReader, symbolsTo, added}
 use Rattle.merge_laws.specs.Discarded.{merge-passes}
@@ -99,7 +99,7 @@ module _ (o : Object) (a : All) where
         (λ t. absurd (false≢true (rw t at e)))
 
     module _ (met : List (List ℕ)) (known : Marked (tableIn a) met) (inside : a .stage .link .lists ≤ length (a .lists)) (n : ℕ) (e : loadedAs (o .headers) n program ≡ true)
-        (r : isRemoved (o .headers) (o .entries) (o .contents) (o .file) met (sectionsIn (o .headers)) n ≡ false) where
+        (r : isRemoved (o .headers) (o .entries) (o .contents) (o .image) met (sectionsIn (o .headers)) n ≡ false) where
       abbrev limit : ℕ
       limit = limitOf (o .headers) (tableFor (marked o a .work) n program) (object o a .table) (rowsIn (object o a .entries))
 

@@ -11,25 +11,26 @@ use lib.Dec.{eqb, ltb}
 use lib.ListN.{getD, set, length, length-set, drop, length-drop}
 use lib.Seq.{getD-set-same, getD-set-other, length-take-le, getD-take, getD-drop, ext-getD}
 use borrow.Author.Tests.{eqb-true, eqb-false, ltb-false}
-use Rattle.cells.specs.Split.{by-test}
-use Rattle.cells.specs.Rows.{length-putRow, row-same, row-other}
+use Rattle.cells.specs.Proof.Split.{by-test}
+use Rattle.cells.specs.Proof.Rows.{length-putRow, row-same, row-other}
 use Rattle.byte_slices.specs.Bytes.{part}
 use Rattle.link.specs.declared.Link.{Link}
 use Rattle.link.specs.declared.Interned.{Interned}
+use Rattle.link.specs.Counts.{moreLists}
 use Rattle.strings.specs.Lookup.{Looked}
 use Rattle.interner.specs.Names.{Store, storeOf, findOf, fitsOf, keepOf}
 use Rattle.interner_laws.specs.Good.{Good, Issued, Stays}
 use Rattle.interner_laws.specs.Good as Good
 use Rattle.interner_laws.specs.Histories.{issued-stays}
-use Rattle.interner_laws.specs.Promises.{keeps-good, keeps-names, keeps-issued, same-good, same-names}
+use Rattle.interner_laws.specs.Terms.{keeps-good, keeps-names, keeps-issued, same-good, same-names}
 use Rattle.sections.specs.Rows as Sections
 use Rattle.sections.specs.Rows.{stateAt, nameIdAt, firstAt, countAt, builtOf}
-use Rattle.elf_object.specs.Rows.{nameOffsetAt, retainAt, readAt, nameIn}
+use Rattle.elf_object.specs.Rows.{nameOffsetAt, retainAt, readAt, nameIn, conversionAt}
 use Rattle.elf_object.specs.Judge.{rangeOk}
 use Rattle.merge_build.specs.declared.Plan.{Plan}
 use Rattle.merge_build.specs.Relocations.{tableFor, limitOf, relocationsOf, symbolsOk, idIn, appendFrom}
 use Rattle.merge_build.specs.Build as Build
-use Rattle.merge_build.specs.Build.{State, Object, listsFit, planWith, planOf, buildRowOf, keptOf, commitOf, tabledOf, namedOf, lookedOf, builtFrom, sectionOf, moreLists}
+use Rattle.merge_build.specs.Build.{State, Object, listsFit, planWith, planOf, buildRowOf, keptOf, commitOf, tabledOf, sectionNamed, lookedOf, builtFrom, sectionOf}
 use Rattle.merge_laws.specs.Placed.{rowOf}
 use Rattle.merge_laws.specs.Issue.{keep-sections}
 use Rattle.merge_laws.specs.Lists.{keep-lists}
@@ -141,7 +142,7 @@ eighteen e = absurd (omega arith)
 
 module _ (o : Object) (kind : ℕ) (s : State) (n : ℕ) where
   abbrev x : Looked
-  x = nameIn (o .headers) (o .file) (o .strings) (nameOffsetAt (o .headers) n)
+  x = nameIn (o .headers) (o .image) (o .sectionNames) (nameOffsetAt (o .headers) n)
 
   abbrev relocations : List ℕ
   relocations = relocationsOf (o .headers) (o .contents) (tableFor (o .work) n kind)
@@ -183,7 +184,7 @@ module _ (o : Object) (kind : ℕ) (s : State) (n : ℕ) where
       (λ a. let z : _≡_ {A = ℕ} 2 0 = rw a at e in absurd (omega arith))
 
   abbrev rowCells : List ℕ
-  rowCells = 2 ∷ own .0 ∷ kind ∷ retainAt (o .headers) n ∷ readAt (o .headers) n ∷ kept .link .lists ∷ length relocations ∷ 0 ∷ []
+  rowCells = Sections.builtCells (Build.sectionRow (o .headers) n kind own (kept .link .lists) (length relocations))
 
   module _ (good : Good (storeIn s)) where
     kept-good : Good kept
@@ -200,11 +201,11 @@ module _ (o : Object) (kind : ℕ) (s : State) (n : ℕ) where
       same : (t : State) → t .bytes ≡ s .bytes → t .names ≡ s .names → t .sections ≡ s .sections → t .lists ≡ s .lists → t .stage .link ≡ s .stage .link → (t .stage .number ≡ 0 → builtFrom (o .headers) (o .work) n kind ≡ false) → Leaves t
       name-only : (t : State) → t .bytes ≡ kept .bytes → t .names ≡ kept .names → t .sections ≡ s .sections → t .lists ≡ s .lists → t .stage .link ≡ kept .link → (t .stage .number ≡ 0 → ⊥) → Leaves t
       row : (t : State) → builtFrom (o .headers) (o .work) n kind ≡ true → x .found ≡ true → Planned
-          → t .bytes ≡ kept .bytes → t .names ≡ kept .names → t .sections ≡ builtOf (s .sections) (Build.sectionIdOf (getD (o .work) (n * 8 + 0) 0)) (Build.sectionRow (o .headers) n kind own (kept .link .lists) (length relocations))
+          → t .bytes ≡ kept .bytes → t .names ≡ kept .names → t .sections ≡ builtOf (s .sections) (Build.sectionIdOf (conversionAt (o .work) n)) (Build.sectionRow (o .headers) n kind own (kept .link .lists) (length relocations))
           → t .lists ≡ appendFrom (o .ids) (s .lists) (kept .link .lists) relocations → t .stage .link ≡ moreLists (kept .link) (length relocations) → Leaves t
 
     leaves : Leaves (sectionOf o s n kind)
-    unfolding sectionOf lookedOf namedOf tabledOf commitOf keptOf buildRowOf
+    unfolding sectionOf lookedOf sectionNamed tabledOf commitOf keptOf buildRowOf
     leaves =
         by-test (builtFrom (o .headers) (o .work) n kind)
         (λ a.
@@ -227,7 +228,7 @@ module _ (o : Object) (kind : ℕ) (s : State) (n : ℕ) where
       abbrev Built : State → Type 0
       Built t = BuiltAs (t .bytes) (t .names) (t .sections) (t .lists) (t .stage .link) (rowOf (o .work) n) (x .name) kind (retainAt (o .headers) n) (readAt (o .headers) n) (idsOf (o .ids) relocations)
 
-      row-is : Planned → (sections : List ℕ) → sections ≡ builtOf (s .sections) (Build.sectionIdOf (getD (o .work) (n * 8 + 0) 0)) (Build.sectionRow (o .headers) n kind own (kept .link .lists) (length relocations))
+      row-is : Planned → (sections : List ℕ) → sections ≡ builtOf (s .sections) (Build.sectionIdOf (conversionAt (o .work) n)) (Build.sectionRow (o .headers) n kind own (kept .link .lists) (length relocations))
           → (lists : List ℕ) → lists ≡ appendFrom (o .ids) (s .lists) (kept .link .lists) relocations
           → Built (Build.stateOf (kept .bytes) (kept .names) sections lists (record { link = moreLists (kept .link) (length relocations); number = 0; place = 0 }))
       unfolding builtOf

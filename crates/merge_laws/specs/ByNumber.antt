@@ -9,15 +9,15 @@ use mathlib.Core.Logic.{_≢_}
 use lib.Dec.{eqb, ltb}
 use lib.ListN.{drop, length}
 use borrow.Author.Tests.{eqb-true, eqb-false, eq-eqb, ne-eqb}
-use Rattle.cells.specs.Split.{by-test}
-use Rattle.byte_slices.specs.Ways.{pick}
+use Rattle.cells.specs.Proof.Split.{by-test}
+use Rattle.byte_slices.specs.Proof.Ways.{pick}
 use Rattle.link.specs.declared.Link.{Link}
 use Rattle.link.specs.declared.Lent.{Lent}
 use Rattle.link.specs.declared.Interned.{Interned}
 use Rattle.link.specs.declared.Refusal.{Refusal}
 use Rattle.link.specs.Judge.{refused, none, brokenOf, changeOf}
 use Rattle.link.specs.Judge as Link
-use Rattle.link.specs.Passed.{judge-gives}
+use Rattle.link.specs.Proof.Passed.{judge-gives}
 use Rattle.strings.specs.Lookup.{Looked, looked}
 use Rattle.interner.specs.Names.{Store, storeOf, findOf, keepOf}
 use Rattle.elf_object.specs.Rows.{rowsIn}
@@ -25,22 +25,23 @@ use Rattle.elf_object.specs.Judge as Elf
 use Rattle.merge_sections.specs.Reserve as Reserve
 use Rattle.section_groups.specs.Group as Group
 use Rattle.section_groups.specs.Filter.{filterOf}
-use Rattle.merge_plan.specs.Plan.{placeOf}
+use Rattle.merge_symbols.specs.Plan.{placeOf}
 use Rattle.merge_symbols.specs.Stage as Symbols
 use Rattle.merge_build.specs.Build as Build
 use Rattle.merge_elf.specs.declared.Answer.the-variants.{Merged, Refused}
-use Rattle.merge_finish.specs.Finish.{afterBuild}
-use Rattle.merge_stages.specs.Stages.{All, allOf, Object, stop, withSymbols, groupObject, afterGroups, afterSections}
-use Rattle.merge_elf.specs.Merge.{leave, workRefusal, rowsRefusal, headOf, headIn, lent, endedAs, mergeOf, finishedOf}
+use Rattle.merge_build.specs.Finish.{afterBuild}
+use Rattle.merge_stages.specs.Stages.{All, allOf, Object, stop, putSymbols, groupObject, afterGroups, afterSections}
+use Rattle.merge_elf.specs.Merge.{leave, workRefusal, rowsRefusal, checkOf, headIn, lent, endedAs, mergeOf, finishedOf}
 use Rattle.merge_laws.specs.Placed.{from-beside}
 use Rattle.merge_laws.specs.Issue.{keep-symbols}
-use Rattle.merge_laws.specs.GroupStage.{groups-count}
+use Rattle.merge_laws.specs.Proof.GroupStage.{groups-count}
 use Rattle.merge_laws.specs.MergeSteps.{groupFirst, reserveFirst}
 use Rattle.merge_laws.specs.Whole.{passed}
-use Rattle.merge_laws.specs.Unbroken.{stages-broken}
-use Rattle.merge_laws.specs.Refusals.{oneOf, symbolName, SymbolLeft, place-other, sectionName, BuildLeft}
+use Rattle.merge_laws.specs.Proof.Unbroken.{stages-broken}
+use Rattle.merge_laws.specs.Refusals.{symbolName, SymbolLeft, place-other, sectionName, BuildLeft}
 use Rattle.merge_laws.specs.Refusals as Refusals
 use Rattle.merge_laws.specs.Stops.{object, prepared, marked, symbolReader, withAdded, builder, sectionsTo, groupsTo, symbolsTo, uninitializedTo, programTo, before2, before1, before0, withBuild, end, number, Stops, in-sections, in-groups, in-filter, in-symbols, in-uninitialized, in-program, in-input, stops}
+use Rattle.merge_laws.specs.Table.{oneOf, sectionCauses, filterCauses, earlyCauses, sectionNumbers, groupNumbers, newNumbers, symbolNumbers, builtNumbers, relocationCauses, mergeHeadNumbers}
 
 -- ---- numbers that no list shares
 
@@ -79,28 +80,28 @@ unfolding changeOf
 change-broken l n e = ap (λ (b : Bool). cond b (refused 22 0) (Link.judgeOf l n)) e
 
 -- 22, 1, 2
-head-numbers : (o : Object) (a : All) → headIn o a .number ≢ 0 → oneOf (headIn o a .number) (22 ∷ 1 ∷ 2 ∷ []) ≡ true
-unfolding headOf rowsRefusal
+head-numbers : (o : Object) (a : All) → headIn o a .number ≢ 0 → oneOf (headIn o a .number) mergeHeadNumbers ≡ true
+unfolding checkOf rowsRefusal
 head-numbers o a u =
     let change : Refusal = changeOf (a .stage .link) (lent a) in
-    let rows : Refusal = Elf.judgeOf (o .headers) (o .entries) (length (o .contents)) (length (o .file)) in
+    let rows : Refusal = Elf.judgeOf (o .headers) (o .entries) (length (o .contents)) (length (o .image)) in
     by-test (eqb (change .number) 0)
     (λ c.
     by-test (eqb (rows .number) 0)
     (λ r.
     rw (c, r)
     (work-gives P (λ k v. refl) (λ v. absurd (v refl)) (o .headers) (o .entries) (length (a .work)) (length (a .ids)) (rw (c, r) at u)))
-    (λ r. rw (c, r) (elf-gives P (λ k v. refl) (λ v. absurd (v refl)) (o .headers) (o .entries) (length (o .contents)) (length (o .file)) (eqb-false _ _ r))))
+    (λ r. rw (c, r) (elf-gives P (λ k v. refl) (λ v. absurd (v refl)) (o .headers) (o .entries) (length (o .contents)) (length (o .image)) (eqb-false _ _ r))))
     (λ c. rw c (change-gives (a .stage .link) (lent a) (eqb-false _ _ c)))
   where
     P : Refusal → Type 0
-    P r = r .number ≢ 0 → oneOf (r .number) (22 ∷ 1 ∷ 2 ∷ []) ≡ true
+    P r = r .number ≢ 0 → oneOf (r .number) mergeHeadNumbers ≡ true
 
     change-gives : (l : Link) (n : Lent) → P (changeOf l n)
     change-gives l n = changed P (λ v. refl) (λ k v. refl) (λ v. absurd (v refl)) l n
 
 pub record HeadLeaves (o : Object) (a : All) : Type 0 where
-  pub number : oneOf (headIn o a .number) (22 ∷ 1 ∷ 2 ∷ []) ≡ true
+  pub number : oneOf (headIn o a .number) mergeHeadNumbers ≡ true
   -- every cell and the link, not broken by it
   pub all : mergeOf o a ≡ leave a (a .stage .link) (Refused (headIn o a))
 
@@ -110,7 +111,7 @@ head-leaves o a u = record { number = head-numbers o a u; all = rw (ne-eqb (head
 
 -- 22 comes first
 pub broken-refused : (o : Object) (a : All) → a .stage .link .broken ≡ true → mergeOf o a ≡ leave a (a .stage .link) (Refused (refused 22 0))
-unfolding mergeOf finishedOf headOf
+unfolding mergeOf finishedOf checkOf
 broken-refused o a b =
     let e : changeOf (a .stage .link) (lent a) ≡ refused 22 0 = change-broken (a .stage .link) (lent a) b in
     rw e
@@ -150,7 +151,7 @@ module _ (o : Object) (a : All) where
   -- ---- between two elements: what those before have left
 
   abbrev pub symbolsAt : ℕ → All
-  symbolsAt i = withSymbols (marked o a) (withAdded o a (symbolsTo o a i))
+  symbolsAt i = putSymbols (marked o a) (withAdded o a (symbolsTo o a i))
 
   abbrev pub uninitializedAt : ℕ → All
   uninitializedAt n = withBuild o a (afterBuild (before2 o a) (uninitializedTo o a n))
@@ -170,21 +171,21 @@ module _ (o : Object) (a : All) where
 
   -- the refusals that are met there: those that leave all, and those that leave all but the element's name
   abbrev pub allLeft : {b : All} → Between b → List ℕ
-  allLeft (sections n) = 2 ∷ 3 ∷ 24 ∷ []
-  allLeft (groups n) = 2 ∷ 4 ∷ 5 ∷ 6 ∷ 7 ∷ []
-  allLeft filter = 8 ∷ []
-  allLeft (symbols i) = 2 ∷ 9 ∷ 17 ∷ 21 ∷ []
-  allLeft (uninitialized n) = 2 ∷ 18 ∷ []
-  allLeft (program n) = 2 ∷ 18 ∷ []
+  allLeft (sections n) = sectionNumbers
+  allLeft (groups n) = groupNumbers
+  allLeft filter = filterCauses
+  allLeft (symbols i) = symbolNumbers
+  allLeft (uninitialized n) = builtNumbers
+  allLeft (program n) = builtNumbers
   allLeft input = 2 ∷ []
 
   abbrev pub nameStays : {b : All} → Between b → List ℕ
   nameStays (sections n) = []
   nameStays (groups n) = []
   nameStays filter = []
-  nameStays (symbols i) = 10 ∷ 11 ∷ 12 ∷ 13 ∷ 14 ∷ 16 ∷ []
+  nameStays (symbols i) = newNumbers
   nameStays (uninitialized n) = []
-  nameStays (program n) = 19 ∷ []
+  nameStays (program n) = relocationCauses
   nameStays input = []
 
   -- the element
@@ -240,13 +241,13 @@ module _ (o : Object) (a : All) where
       let place : (n : ℕ) → ℕ = λ n. placeOf n (idIn b (nameAt at .name)) (placeAt at) in
       all b at m (rw q h) (whole b place k (e ∙ ap (stop b k) (sym (place-other k (allLeft at) (idIn b (nameAt at .name)) (placeAt at) d h))))
 
-  symbol-left-at : (i : ℕ) (t : Symbols.State) → Met (symbols i) → SymbolLeft (symbolReader o a) (symbolsTo o a i) t i → end o a ≡ withSymbols (marked o a) (withAdded o a t) → Leaves
+  symbol-left-at : (i : ℕ) (t : Symbols.State) → Met (symbols i) → SymbolLeft (symbolReader o a) (symbolsTo o a i) t i → end o a ≡ putSymbols (marked o a) (withAdded o a t) → Leaves
   symbol-left-at i t m (Refusals.as-it-was k q) e =
-      let f = e ∙ ap (λ (t : Symbols.State). withSymbols (marked o a) (withAdded o a t)) q in
+      let f = e ∙ ap (λ (t : Symbols.State). putSymbols (marked o a) (withAdded o a t)) q in
       all _ (symbols i) m (rw (ap (λ (t : All). t .stage .number) e) k)
       (whole (symbolsAt i) (λ k. placeOf k (idIn (symbolsAt i) (symbolName (symbolReader o a) i .name)) i) _ f)
   symbol-left-at i t m (Refusals.but-its-name found k q) e =
-      let f = e ∙ ap (λ (t : Symbols.State). withSymbols (marked o a) (withAdded o a t)) q in
+      let f = e ∙ ap (λ (t : Symbols.State). putSymbols (marked o a) (withAdded o a t)) q in
       but-its-name _ (symbols i) found m (rw (ap (λ (t : All). t .stage .number) e) k) (whole (named (symbolsAt i) (symbolName (symbolReader o a) i .name)) (λ k. i) _ f)
 
   uninitialized-left-at : (n : ℕ) (t : Build.State) → Met (uninitialized n) → BuildLeft (builder o a) 2 (uninitializedTo o a n) t n → end o a ≡ withBuild o a (afterBuild (before2 o a) t) → Leaves
@@ -330,35 +331,26 @@ module _ (o : Object) (a : All) where
   never : {P : Type 0} (xs ys : List ℕ) → disjoint xs ys ≡ true → oneOf (number o a) xs ≡ true → oneOf (number o a) ys ≡ true → P
   never xs ys d k h = absurd (apart (number o a) xs ys d k h)
 
-  abbrev addNumbers : List ℕ
-  addNumbers = 10 ∷ 11 ∷ 12 ∷ 13 ∷ 14 ∷ 16 ∷ []
-
-  abbrev early : List ℕ
-  early = 3 ∷ 4 ∷ 5 ∷ 6 ∷ 7 ∷ 8 ∷ 24 ∷ []
-
-  early-left : Leaves → oneOf (number o a) early ≡ true → SymbolsLeft (end o a)
+  early-left : Leaves → oneOf (number o a) earlyCauses ≡ true → SymbolsLeft (end o a)
   early-left (all b (sections n) z k e) h = stopped-symbols _ _ _ e (sections-names n .symbols)
   early-left (all b (groups n) z k e) h = stopped-symbols _ _ _ e (groups-symbols n)
   early-left (all b filter z k e) h = stopped-symbols _ _ _ e filter-symbols
-  early-left (all b (symbols i) z k e) h = never (2 ∷ 9 ∷ 17 ∷ 21 ∷ []) early refl k h
-  early-left (all b (uninitialized n) z k e) h = never (2 ∷ 18 ∷ []) early refl k h
-  early-left (all b (program n) z k e) h = never (2 ∷ 18 ∷ []) early refl k h
-  early-left (all b input z k e) h = never (2 ∷ []) early refl k h
-  early-left (but-its-name b (sections n) x z k e) h = never [] early refl k h
-  early-left (but-its-name b (groups n) x z k e) h = never [] early refl k h
-  early-left (but-its-name b filter x z k e) h = never [] early refl k h
-  early-left (but-its-name b (symbols i) x z k e) h = never addNumbers early refl k h
-  early-left (but-its-name b (uninitialized n) x z k e) h = never [] early refl k h
-  early-left (but-its-name b (program n) x z k e) h = never (19 ∷ []) early refl k h
-  early-left (but-its-name b input x z k e) h = never [] early refl k h
+  early-left (all b (symbols i) z k e) h = never symbolNumbers earlyCauses refl k h
+  early-left (all b (uninitialized n) z k e) h = never builtNumbers earlyCauses refl k h
+  early-left (all b (program n) z k e) h = never builtNumbers earlyCauses refl k h
+  early-left (all b input z k e) h = never (2 ∷ []) earlyCauses refl k h
+  early-left (but-its-name b (sections n) x z k e) h = never [] earlyCauses refl k h
+  early-left (but-its-name b (groups n) x z k e) h = never [] earlyCauses refl k h
+  early-left (but-its-name b filter x z k e) h = never [] earlyCauses refl k h
+  early-left (but-its-name b (symbols i) x z k e) h = never newNumbers earlyCauses refl k h
+  early-left (but-its-name b (uninitialized n) x z k e) h = never [] earlyCauses refl k h
+  early-left (but-its-name b (program n) x z k e) h = never relocationCauses earlyCauses refl k h
+  early-left (but-its-name b input x z k e) h = never [] earlyCauses refl k h
 
-  pub symbols-left : number o a ≢ 0 → oneOf (number o a) (3 ∷ 4 ∷ 5 ∷ 6 ∷ 7 ∷ 8 ∷ 24 ∷ []) ≡ true → SymbolsLeft (end o a)
+  pub symbols-left : number o a ≢ 0 → oneOf (number o a) earlyCauses ≡ true → SymbolsLeft (end o a)
   symbols-left u h = early-left (refused-leaves u) h
 
   -- ---- 3 and 24
-
-  abbrev first : List ℕ
-  first = 3 ∷ 24 ∷ []
 
   stopped-names : (b : All) (k p : ℕ) → end o a ≡ stop b k p → NamesLeft b → NamesLeft (end o a)
   stopped-names b k p e s =
@@ -371,21 +363,21 @@ module _ (o : Object) (a : All) where
         symbols = record { rows = s .symbols .rows; count = s .symbols .count; long = s .symbols .long; behind = s .symbols .behind };
       })
 
-  first-left : Leaves → oneOf (number o a) first ≡ true → NamesLeft (end o a)
+  first-left : Leaves → oneOf (number o a) sectionCauses ≡ true → NamesLeft (end o a)
   first-left (all b (sections n) z k e) h = stopped-names _ _ _ e (sections-names n)
-  first-left (all b (groups n) z k e) h = never (2 ∷ 4 ∷ 5 ∷ 6 ∷ 7 ∷ []) first refl k h
-  first-left (all b filter z k e) h = never (8 ∷ []) first refl k h
-  first-left (all b (symbols i) z k e) h = never (2 ∷ 9 ∷ 17 ∷ 21 ∷ []) first refl k h
-  first-left (all b (uninitialized n) z k e) h = never (2 ∷ 18 ∷ []) first refl k h
-  first-left (all b (program n) z k e) h = never (2 ∷ 18 ∷ []) first refl k h
-  first-left (all b input z k e) h = never (2 ∷ []) first refl k h
-  first-left (but-its-name b (sections n) x z k e) h = never [] first refl k h
-  first-left (but-its-name b (groups n) x z k e) h = never [] first refl k h
-  first-left (but-its-name b filter x z k e) h = never [] first refl k h
-  first-left (but-its-name b (symbols i) x z k e) h = never addNumbers first refl k h
-  first-left (but-its-name b (uninitialized n) x z k e) h = never [] first refl k h
-  first-left (but-its-name b (program n) x z k e) h = never (19 ∷ []) first refl k h
-  first-left (but-its-name b input x z k e) h = never [] first refl k h
+  first-left (all b (groups n) z k e) h = never groupNumbers sectionCauses refl k h
+  first-left (all b filter z k e) h = never filterCauses sectionCauses refl k h
+  first-left (all b (symbols i) z k e) h = never symbolNumbers sectionCauses refl k h
+  first-left (all b (uninitialized n) z k e) h = never builtNumbers sectionCauses refl k h
+  first-left (all b (program n) z k e) h = never builtNumbers sectionCauses refl k h
+  first-left (all b input z k e) h = never (2 ∷ []) sectionCauses refl k h
+  first-left (but-its-name b (sections n) x z k e) h = never [] sectionCauses refl k h
+  first-left (but-its-name b (groups n) x z k e) h = never [] sectionCauses refl k h
+  first-left (but-its-name b filter x z k e) h = never [] sectionCauses refl k h
+  first-left (but-its-name b (symbols i) x z k e) h = never newNumbers sectionCauses refl k h
+  first-left (but-its-name b (uninitialized n) x z k e) h = never [] sectionCauses refl k h
+  first-left (but-its-name b (program n) x z k e) h = never relocationCauses sectionCauses refl k h
+  first-left (but-its-name b input x z k e) h = never [] sectionCauses refl k h
 
-  pub names-left : number o a ≢ 0 → oneOf (number o a) (3 ∷ 24 ∷ []) ≡ true → NamesLeft (end o a)
+  pub names-left : number o a ≢ 0 → oneOf (number o a) sectionCauses ≡ true → NamesLeft (end o a)
   names-left u h = first-left (refused-leaves u) h

@@ -11,27 +11,28 @@ use lib.Dec.{eqb, ltb}
 use lib.ListN.{getD, length, List·getD-eq-default}
 use lib.Seq.{getD-set-same, getD-set-other}
 use borrow.Author.Tests.{eqb-true, eqb-false, ltb-true, ltb-false, lt-ltb}
-use Rattle.cells.specs.Split.{by-test}
+use Rattle.cells.specs.Proof.Split.{by-test}
 use Rattle.gabi.specs.StringTable.{among}
 use Rattle.gabi.specs.Groups as Gabi
 use Rattle.strings.specs.Lookup.{Looked}
 use Rattle.elf_object.specs.Rows.{rowsIn, field, firstAt, isLoaded, markAt}
 use Rattle.section_groups.specs.declared.Plan.{Plan}
 use Rattle.section_groups.specs.Group as Group
-use Rattle.section_groups.specs.Group.{shapeOf, signatureOf, planOf, markGroupOf, markRemovedOf, admitOf, decidedOf, namedOf, signedOf, shapedOf, groupOf, groupSectionOf, groupsOf}
+use Rattle.section_groups.specs.Group.{shapeOf, signatureOf, planOf, markGroupOf, markRemovedOf, admitOf, decidedOf, groupNamed, signedOf, shapedOf, groupOf, groupSectionOf, groupsOf}
 use Rattle.section_groups.specs.Filter.{sectionAfter}
-use Rattle.merge_plan.specs.Plan.{filteredAt}
+use Rattle.merge_symbols.specs.Plan.{filteredAt}
 use Rattle.merge_build.specs.Build as Build
 use Rattle.merge_build.specs.Build.{builtFrom, sectionOf}
 use Rattle.merge_stages.specs.Stages.{All, Object}
 use Rattle.merge_elf.specs.Merge.{headIn, endedAs, finishedOf, mergeOf}
 use Rattle.merge_laws.specs.Loop.{loop, loop-later}
 use Rattle.merge_laws.specs.MergeSteps.{groupFirst}
-use Rattle.merge_laws.specs.GroupStage.{numberOf, groups-loop}
+use Rattle.merge_laws.specs.GroupStage.{numberOf}
+use Rattle.merge_laws.specs.Proof.GroupStage.{groups-loop}
 use Rattle.merge_laws.specs.Whole.{tableIn}
 use Rattle.merge_laws.specs.Stops.{reserved, object, prepared, grouped, marked, builder, groupsTo, number, sections-stop, sections-pass, groups-stop}
 use Rattle.merge_laws.specs.Marked.{Marked}
-use Rattle.merge_laws.specs.GroupMarks.{kept-new, group-removes}
+use Rattle.merge_laws.specs.Proof.GroupMarks.{kept-new, group-removes}
 use Rattle.merge_laws.specs.FirstKept.{reader, signature, listed, metTo, to-marked}
 
 -- ---- no later group takes a mark back
@@ -40,7 +41,7 @@ use Rattle.merge_laws.specs.FirstKept.{reader, signature, listed, metTo,
 marked-lent : (work : List ℕ) (m : ℕ) → markAt work m ≡ 2 → m * 8 + 1 < length work
 marked-lent work m e =
     by-test (ltb (m * 8 + 1) (length work)) (λ a. ltb-true _ _ a)
-    (λ a. let z : getD work (m * 8 + 1) 0 ≡ 0 = List·getD-eq-default work 0 {n = m * 8 + 1} (ltb-false _ _ a) in absurd (omega (arith, e, z)))
+    (λ a. let z : markAt work m ≡ 0 = List·getD-eq-default work 0 {n = m * 8 + 1} (ltb-false _ _ a) in absurd (omega (arith, e, z)))
 
 group-stays : (work : List ℕ) (n m : ℕ) → markAt work m ≡ 2 → markAt (markGroupOf work n) m ≡ 2
 unfolding markGroupOf
@@ -60,9 +61,9 @@ removed-stays work true k m e =
     (λ a. let u : m ≢ k = eqb-false _ _ a in getD-set-other work (k * 8 + 1) (m * 8 + 1) 2 0 (λ q. u (omega arith)) ∙ e)
 
 mark-stays : (o : Group.Object) (m : ℕ) (s : Group.Step) (n : ℕ) → markAt (s .work) m ≡ 2 → markAt (groupSectionOf o s n .work) m ≡ 2
-unfolding groupSectionOf groupOf shapedOf signedOf namedOf decidedOf admitOf
+unfolding groupSectionOf groupOf shapedOf signedOf groupNamed decidedOf admitOf
 mark-stays o m s n e =
-    let x : Looked = signatureOf (o .headers) (o .entries) (o .file) (o .table) n in
+    let x : Looked = signatureOf (o .headers) (o .entries) (o .image) (o .table) n in
     let k : ℕ = getD (o .contents) (firstAt (o .headers) n) 0 in
     let p : Plan = planOf (s .stage .link) (s .bytes) (s .names) (length (s .work) / 8) (x .name) k in
     by-test (isLoaded (o .headers) n 7)

@@ -6,10 +6,10 @@ use mathlib.Core.Path.{_≡_, refl, sym, ap, _∙_, subst}
 use mathlib.Core.Bool.{true, false, false≢true}
 use mathlib.Core.List.{List, [], _∷_, _++_, append-nil}
 use mathlib.Core.Logic.{_≢_}
-use lib.Dec.{eqb, ltb, leb}
+use lib.Dec.{ltb}
 use lib.ListN.{length}
 use borrow.Author.Tests.{eqb-false, lt-ltb}
-use Rattle.cells.specs.Split.{by-test}
+use Rattle.cells.specs.Proof.Split.{by-test}
 use Rattle.link.specs.declared.Link.{Link}
 use Rattle.link.specs.declared.SymbolId.{SymbolId}
 use Rattle.link.specs.declared.Interned.{Interned}
@@ -20,10 +20,12 @@ use Rattle.gabi.specs.Resolution.{defined, duplicate, unresolved, zeroValue, is
 use Rattle.interner.specs.Names.{fitsOf, keepOf}
 use Rattle.symbol.specs.declared.Row.{Row}
 use Rattle.symbol.specs.declared.SttFile.the-variants as File
-use Rattle.symbol_rows.specs.declared.Decision.{Decision}
-use Rattle.symbol_rows.specs.Holder.{holderOf}
-use Rattle.symbol_rows.specs.declared.Holder.the-variants.{Known}
-use Rattle.symbol_rows.specs.Decide.{newOf, knownOf, decideOf, refusalOf}
+use Rattle.symbol.specs.Row.{scopeRefused, valueRefused}
+use Rattle.symbol_resolution.specs.declared.rows.Decision.{Decision}
+use Rattle.symbol_resolution.specs.Holder.{holderOf}
+use Rattle.symbol_resolution.specs.declared.rows.Holder.the-variants.{Known}
+use Rattle.symbol_resolution.specs.Decide.{decideOf, refusalOf, typeRefusal}
+use Rattle.symbol_resolution.specs.Proof.Outcomes.{decision-number}
 use Rattle.symbols.specs.Add.{decidedOf}
 use Rattle.symbol_laws.specs.History.{State, table, store, withStore, Entry, only, rows, issue, putOf, idOf, partNext}
 use Rattle.symbol_laws.specs.Held.{Inv}
@@ -31,9 +33,10 @@ use Rattle.symbol_laws.specs.Demand.{resolved, holder-known, holder-none}
 use Rattle.symbol_laws.specs.Gabi.{Means, AllMean}
 use Rattle.symbol_laws.specs.Duplicate as Duplicate
 use Rattle.merge_laws.specs.Steps.{part}
-use Rattle.merge_laws.specs.Kept.{step-keep}
+use Rattle.merge_laws.specs.Proof.Kept.{step-keep}
 use Rattle.merge_laws.specs.Issue.{decided-kept}
-use Rattle.merge_laws.specs.Refusals.{oneOf, JudgedIn, Fields, new-decided, nobody-decided}
+use Rattle.merge_laws.specs.Refusals.{JudgedIn, Fields, nobody-decided}
+use Rattle.merge_laws.specs.Table.{oneOf}
 
 -- the row r of the name x
 module _ (s : State) (x : List ℕ) (r : Row) (own : r .name ≡ idOf s x) where
@@ -65,7 +68,7 @@ module _ (s : State) (x : List ℕ) (r : Row) (own : r .name ≡ idOf s x) where
     named-inv : Inv named past
     named-inv = subst (Inv named) (append-nil past) (step-keep (part (issue x)) s past inv)
 
-    module _ (global : r .visibility ≢ 0) (passes : leb 5 (r .visibility) ≡ false) (valued : leb 13 (r .value .kind) ≡ false)
+    module _ (global : r .visibility ≢ 0) (passes : scopeRefused r ≡ false) (valued : valueRefused r ≡ false)
         (g : Sym) (gs : List Sym) (m : AllMean (rows (y ∷ ys)) (g ∷ gs)) (h : Sym) (mine : Means r h) where
       pub refused-duplicate : refusalOf judged ≡ 17 → resolve ((g ∷ gs) ++ (h ∷ [])) ≡ duplicate
       refused-duplicate q = Duplicate.refused-duplicate named past named-inv r y ys e global passes valued g gs m h mine (put-judged ∙ q)
@@ -85,19 +88,17 @@ module _ (numbers : List ℕ) (other : oneOf 17 numbers ≡ false) where
     pub more : List Entry
     pub are : only (r .name .0) past ≡ first ∷ more
     pub global : r .visibility ≢ 0
-    pub passes : leb 5 (r .visibility) ≡ false
-    pub valued : leb 13 (r .value .kind) ≡ false
+    pub passes : scopeRefused r ≡ false
+    pub valued : valueRefused r ≡ false
 
   module _ (l : Link) (symbols sections : List ℕ) (r : Row) (f : Fields numbers r) (id : SymbolId) where
     known-passes : refusalOf (decideOf l symbols sections r (Known id)) ≡ 17
-        → (r .visibility ≢ 0) × (leb 5 (r .visibility) ≡ false) × (leb 13 (r .value .kind) ≡ false)
-    unfolding decideOf knownOf
-    known-passes q =
-        by-test (leb 5 (r .visibility)) (λ p. absurd (not-here (r .visibility) (f .shown p) (rw p at q)))
-        (λ p.
-        by-test (eqb (r .visibility) 0) (λ z. absurd (not-here (refusalOf (newOf l symbols sections r)) (new-decided numbers l symbols sections r f) (rw (p, z) at q)))
-        (λ z.
-        by-test (leb 13 (r .value .kind)) (λ v. absurd (not-here (r .value .kind) (f .valued v) (rw (p, z, v) at q))) (λ v. (eqb-false _ _ z, p, v))))
+        → (r .visibility ≢ 0) × (scopeRefused r ≡ false) × (valueRefused r ≡ false)
+    known-passes =
+        decision-number l symbols sections r (λ (k : ℕ). k ≡ 17 → (r .visibility ≢ 0) × (scopeRefused r ≡ false) × (valueRefused r ≡ false)) (Known id)
+        (λ q. absurd (omega arith)) (λ q. absurd (omega arith)) (λ a q. absurd (omega arith)) (λ i p m q. (eqb-false _ _ (m .global), p .scope, p .value))
+        (λ v q. absurd (not-here (r .visibility) (f .shown v) q)) (λ v q. absurd (not-here (r .value .kind) (f .valued v) q))
+        (λ q. absurd (not-here (typeRefusal (r .kind)) (f .typed) q))
 
   pub seventeen-held : (s : State) (past : List Entry) → Inv s past → (r : Row) → Fields numbers r
       → refusalOf (decideOf (s .link) (s .symbols) (s .sections) r (holderOf (s .link) (s .names) (s .symbols) (r .name))) ≡ 17 → Held s past r

@@ -10,7 +10,7 @@ use mathlib.Core.Logic.{_≢_}
 use lib.Dec.{eqb, ltb}
 use lib.ListN.{length}
 use borrow.Author.Tests.{eqb-true, eqb-false, ltb-true, ltb-false}
-use Rattle.cells.specs.Split.{by-test}
+use Rattle.cells.specs.Proof.Split.{by-test}
 use Rattle.gabi.specs.SymbolTable.{sttFile}
 use Rattle.link.specs.declared.Interned.{Interned}
 use Rattle.link.specs.Bounds.{notLent}
@@ -20,12 +20,12 @@ use Rattle.interner_laws.specs.Histories.{issued-stays}
 use Rattle.interner_laws.specs.Interns.{keep-issued}
 use Rattle.symbol.specs.declared.SttFile.the-variants as File
 use Rattle.symbol.specs.Codes.{successor, fileAt}
-use Rattle.symbol_rows.specs.declared.Decision.{Decision}
-use Rattle.symbol_rows.specs.Decide.{refusalOf}
+use Rattle.symbol_resolution.specs.declared.rows.Decision.{Decision}
+use Rattle.symbol_resolution.specs.Decide.{refusalOf}
 use Rattle.upcoming_symbol.specs.Upcoming.{elfRowOf}
 use Rattle.elf_object.specs.Rows.{rowsIn, field}
 use Rattle.section_groups.specs.Filter.{filterOf}
-use Rattle.merge_plan.specs.Plan.{inputOf, isFirst, filteredAt, ruleOf, judgedOf, rowedOf, readOf, plannedOf, fileAfter}
+use Rattle.merge_symbols.specs.Plan.{inputOf, isFirst, filteredAt, ruleOf, judgedOf, rowedOf, readOf, plannedOf, fileAfter}
 use Rattle.merge_symbols.specs.Stage as Symbols
 use Rattle.merge_stages.specs.Stages.{All, Object, symbolsIn}
 use Rattle.merge_elf.specs.Merge.{headIn, mergeOf}
@@ -36,11 +36,13 @@ use Rattle.merge_laws.specs.MergeWords as Words
 use Rattle.merge_laws.specs.Steps.{Step, part, runSteps, Makes}
 use Rattle.merge_laws.specs.Loop.{loop, loop-next, loop-going}
 use Rattle.merge_laws.specs.MergeSteps.{symbolFirst, addsOf, rowSteps, namedSteps, symbolSteps, mergeSteps}
-use Rattle.merge_laws.specs.Marked.{Marked, marksOf, steps-marked}
-use Rattle.merge_laws.specs.NamesOn.{rest-makes, steps-stay}
+use Rattle.merge_laws.specs.Marked.{Marked, marksOf}
+use Rattle.merge_laws.specs.Proof.Marked.{steps-marked}
+use Rattle.merge_laws.specs.Proof.NamesOn.{rest-makes, steps-stay}
 use Rattle.merge_laws.specs.SymbolIds.{nameOf, planOf, commit-number}
 use Rattle.merge_laws.specs.SymbolStage as SymbolStage
-use Rattle.merge_laws.specs.SymbolStage.{symbol-makes, symbols-loop, numberOf}
+use Rattle.merge_laws.specs.SymbolStage.{numberOf}
+use Rattle.merge_laws.specs.Proof.SymbolStage.{symbol-makes, symbols-loop}
 use Rattle.merge_laws.specs.SymbolDuplicates.{stepsTo, tableTo, rowTo, steps-make, Comes, Begins, steps-begin-to}
 use Rattle.merge_laws.specs.Whole.{tableIn, merge-makes}
 use Rattle.merge_laws.specs.Stops.{reserved, object, grouped, marked, symbolReader, symbolsTo}
@@ -98,7 +100,7 @@ module _ (o : Object) (a : All) (met : List (List ℕ)) (known : Marked (tableIn
   bytes i = nameOf reader i .name
 
   abbrev Bears : ℕ → List ℕ → Type 0
-  Bears = Words.Bears (o .headers) (o .entries) (o .contents) (o .file)
+  Bears = Words.Bears (o .headers) (o .entries) (o .contents) (o .image)
 
   abbrev nameId : Symbols.State → ℕ → Interned
   nameId s i = idOf (SymbolStage.tableIn s) (bytes i)
@@ -117,7 +119,7 @@ module _ (o : Object) (a : All) (met : List (List ℕ)) (known : Marked (tableIn
     decided = commit-number (inputOf t (marked o a .work)) s (bytes i) i (rw found at fine)
 
     file-next : next s i .stage .file ≡ fileAfter (s .stage .file) (field t i 2) (nameId s i)
-    unfolding Symbols.symbolOf Symbols.lookedOf Symbols.namedOf Symbols.commitOf Symbols.keptOf Symbols.acceptRow plannedOf readOf rowedOf
+    unfolding Symbols.symbolOf Symbols.lookedOf Symbols.symbolNamed Symbols.commitOf Symbols.keptOf Symbols.acceptRow plannedOf readOf rowedOf
     file-next = rw (found, decided)
 
     fits : fitsOf (store (SymbolStage.tableIn s)) (nameId s i) (length (bytes i)) ≡ true
@@ -207,7 +209,7 @@ module _ (o : Object) (a : All) (met : List (List ℕ)) (known : Marked (tableIn
 
   -- the row of symbol i, of the object's own table
   pub row-file : (i : ℕ) → i < rowsIn t → symbolsTo o a i .stage .number ≡ 0
-      → IsFile end (Words.symbolsOf (o .headers) (o .entries) (o .contents) (o .file)) Bears i (rowTo o a i .file)
+      → IsFile end (Words.symbolsOf (o .headers) (o .entries) (o .contents) (o .image)) Bears i (rowTo o a i .file)
   row-file i h z =
-      subst (IsFile end (Words.symbolsOf (o .headers) (o .entries) (o .contents) (o .file)) Bears i) (sym (row-cell i))
+      subst (IsFile end (Words.symbolsOf (o .headers) (o .entries) (o .contents) (o .image)) Bears i) (sym (row-cell i))
       (subst (λ (l : List ℕ). IsFile end l Bears i (symbolsTo o a i .stage .file)) (symbols-are o a head goes) (file-to i (omega (arith, h)) z))

@@ -10,7 +10,7 @@ use mathlib.Core.Logic.{_≢_}
 use lib.Dec.{eqb, ltb}
 use lib.ListN.{getD, length}
 use borrow.Author.Tests.{eqb-true, eqb-false, eq-eqb, ne-eqb}
-use Rattle.cells.specs.Split.{by-test}
+use Rattle.cells.specs.Proof.Split.{by-test}
 use Rattle.gabi.specs.StringTable.{among}
 use Rattle.gabi.specs.SymbolTable.{isLocal, isGlobal, isWeak}
 use Rattle.gabi.specs.Groups as Gabi
@@ -19,21 +19,23 @@ use Rattle.elf_object.specs.Rows.{field, elfAt, firstAt, isLoaded, markAt}
 use Rattle.section_groups.specs.Group as Group
 use Rattle.section_groups.specs.Group.{markGroupOf, markRemovedOf, groupSectionOf, signatureOf}
 use Rattle.section_groups.specs.Filter.{sectionAfter, symbolOk}
-use Rattle.merge_plan.specs.Plan.{filteredAt}
+use Rattle.merge_symbols.specs.Plan.{filteredAt}
 use Rattle.merge_stages.specs.Stages.{All, Object, groupObject}
 use Rattle.symbol_laws.specs.History.{State}
 use Rattle.symbol_laws.specs.Gabi.{symOf}
 use Rattle.merge_laws.specs.Steps.{Step, others, runSteps}
-use Rattle.merge_laws.specs.Beside.{others-make}
+use Rattle.merge_laws.specs.Proof.Beside.{others-make}
 use Rattle.merge_laws.specs.Placed.{reserve-beside}
 use Rattle.merge_laws.specs.Loop.{loop, loopSteps, steps-next}
 use Rattle.merge_laws.specs.MergeSteps.{groupSectionSteps, groupFirst, reserveFirst}
-use Rattle.merge_laws.specs.GroupStage.{numberOf, groups-loop, groups-make-to}
+use Rattle.merge_laws.specs.GroupStage.{numberOf}
+use Rattle.merge_laws.specs.Proof.GroupStage.{groups-loop, groups-make-to}
 use Rattle.merge_laws.specs.GroupStage as GroupStage
 use Rattle.merge_laws.specs.Whole.{tableIn}
 use Rattle.merge_laws.specs.Stops.{reserved, object, prepared, groupsTo}
-use Rattle.merge_laws.specs.Marked.{Marked, marksOf, marks-append, steps-marked}
-use Rattle.merge_laws.specs.GroupMarks.{kept-new, group-marks, group-signature}
+use Rattle.merge_laws.specs.Marked.{Marked, marksOf}
+use Rattle.merge_laws.specs.Proof.Marked.{marks-append, steps-marked}
+use Rattle.merge_laws.specs.Proof.GroupMarks.{kept-new, group-marks, group-signature}
 
 not-not : (b : Bool) → not (not b) ≡ b
 not-not true = refl
@@ -46,7 +48,7 @@ module _ (o : Object) (a : All) where
 
   -- of the group at section n, and the one section that it lists
   abbrev pub signature : ℕ → List ℕ
-  signature n = signatureOf (reader .headers) (reader .entries) (reader .file) (reader .table) n .name
+  signature n = signatureOf (reader .headers) (reader .entries) (reader .image) (reader .table) n .name
 
   abbrev pub listed : ℕ → ℕ
   listed n = getD (reader .contents) (firstAt (reader .headers) n) 0

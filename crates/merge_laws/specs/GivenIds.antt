@@ -11,34 +11,37 @@ use lib.Dec.{eqb}
 use lib.ListN.{getD, length, length-set}
 use lib.Seq.{getD-set-same, getD-set-other}
 use borrow.Author.Tests.{lt-ltb, ne-eqb}
-use Rattle.cells.specs.Split.{by-test}
+use Rattle.cells.specs.Proof.Split.{by-test}
 use Rattle.link.specs.Said.{valueIn}
 use Rattle.interner.specs.Names.{storeOf, fitsOf}
 use Rattle.symbol.specs.declared.Row.{Row}
 use Rattle.symbol.specs.declared.SttFile.the-variants as File
 use Rattle.symbol.specs.Codes.{successor}
-use Rattle.symbol_rows.specs.declared.Decision.{Decision}
-use Rattle.symbol_rows.specs.declared.Decision.the-variants.{Refuse, Nothing, Keep}
-use Rattle.symbol_rows.specs.Decide.{refusalOf}
+use Rattle.symbol_resolution.specs.declared.rows.Decision.{Decision}
+use Rattle.symbol_resolution.specs.declared.rows.Decision.the-variants.{Refuse, Nothing, Keep}
+use Rattle.symbol_resolution.specs.Decide.{refusalOf}
 use Rattle.symbols.specs.Calls.{Left}
 use Rattle.symbols.specs.Add.{committedOf, addRowOf}
 use Rattle.strings.specs.Lookup.{Looked}
 use Rattle.elf_object.specs.Rows.{rowsIn}
-use Rattle.merge_plan.specs.declared.Planned.{Planned}
-use Rattle.merge_plan.specs.Plan.{Input, inputOf, isFirst, definesOf, ruleOf, judgedOf, rowedOf, readOf, plannedOf, filteredAt}
+use Rattle.merge_symbols.specs.declared.plan.Planned.{Planned}
+use Rattle.merge_symbols.specs.Plan.{Input, inputOf, isFirst, definesOf, ruleOf, judgedOf, rowedOf, readOf, plannedOf, filteredAt}
 use Rattle.merge_symbols.specs.Stage as Symbols
-use Rattle.merge_symbols.specs.Stage.{cellOf, acceptRow, keptOf, commitOf, view, namedOf, lookedOf, symbolOf, symbolsFrom, symbolsOf}
+use Rattle.merge_symbols.specs.Stage.{cellOf, acceptRow, keptOf, commitOf, view, symbolNamed, lookedOf, symbolOf, symbolsFrom, symbolsOf}
 use Rattle.merge_build.specs.Relocations.{idIn}
 use Rattle.merge_stages.specs.Stages.{Object}
 use Rattle.symbol_laws.specs.View as Views
 use Rattle.symbol_laws.specs.View.{View, refused, kept, amended, replaced, appended, local, decided}
 use Rattle.symbol_laws.specs.History.{State, table, issue, partNext, putOf}
-use Rattle.symbol_laws.specs.Below.{Below, part-below}
+use Rattle.symbol_laws.specs.Below.{Below}
+use Rattle.symbol_laws.specs.Proof.Below.{part-below}
 use Rattle.merge_laws.specs.Loop.{loop, loop-holds, loop-going, loop-next}
 use Rattle.merge_laws.specs.MergeSteps.{addsOf, adds}
 use Rattle.merge_laws.specs.SymbolStage as SymbolStage
-use Rattle.merge_laws.specs.SymbolStage.{numberOf, symbols-loop}
-use Rattle.merge_laws.specs.SymbolIds.{nameOf, planOf, symbol-id, commit-number, ids-set}
+use Rattle.merge_laws.specs.SymbolStage.{numberOf}
+use Rattle.merge_laws.specs.Proof.SymbolStage.{symbols-loop}
+use Rattle.merge_laws.specs.SymbolIds.{nameOf, planOf, commit-number, ids-set}
+use Rattle.merge_laws.specs.Proof.SymbolIds.{symbol-id}
 use Rattle.merge_laws.specs.Built.{loop-since}
 
 -- ---- one symbol
@@ -51,7 +54,7 @@ module _ (o : Symbols.Object) (s : Symbols.State) (i : ℕ) where
   p = planOf o s i
 
   ids-other : (k : ℕ) → k ≢ i → getD (symbolOf o s i .ids) k 0 ≡ getD (s .ids) k 0
-  unfolding symbolOf lookedOf namedOf commitOf keptOf acceptRow
+  unfolding symbolOf lookedOf symbolNamed commitOf keptOf acceptRow
   ids-other k u =
       by-test (x .found)
       (λ a.
@@ -60,7 +63,7 @@ module _ (o : Symbols.Object) (s : Symbols.State) (i : ℕ) where
       (λ a. rw a)
 
   ids-long : length (symbolOf o s i .ids) ≡ length (s .ids)
-  unfolding symbolOf lookedOf namedOf commitOf keptOf acceptRow
+  unfolding symbolOf lookedOf symbolNamed commitOf keptOf acceptRow
   ids-long =
       by-test (x .found)
       (λ a.
@@ -78,7 +81,7 @@ module _ (o : Symbols.Object) (s : Symbols.State) (i : ℕ) where
   unfolding symbolOf lookedOf
   found-by e = by-test (x .found) (λ t. t) (λ t. let z : _≡_ {A = ℕ} 9 0 = rw t at e in absurd (omega arith))
 
-  named-number : symbolOf o s i .stage .number ≡ 0 → namedOf o′ s (x .name) i .stage .number ≡ 0
+  named-number : symbolOf o s i .stage .number ≡ 0 → symbolNamed o′ s (x .name) i .stage .number ≡ 0
   unfolding symbolOf lookedOf
   named-number e = rw (found-by e) at e
 

@@ -8,22 +8,21 @@ use mathlib.Core.List.{List}
 use lib.Dec.{ltb}
 use lib.ListN.{length}
 use borrow.Author.Tests.{ltb-true, ltb-false, le-leb, lt-leb}
-use Rattle.cells.specs.Split.{by-test}
-use Rattle.byte_slices.specs.Ways.{pick}
+use Rattle.cells.specs.Proof.Split.{by-test}
+use Rattle.byte_slices.specs.Proof.Ways.{pick}
 use Rattle.link.specs.declared.Link.{Link}
 use Rattle.link.specs.declared.Interned.{Interned}
 use Rattle.interner.specs.Names.{Store, roomOf, fitsOf, added, keepOf}
 use Rattle.symbol.specs.declared.Row.{Row}
 use Rattle.symbol.specs.declared.SttFile.the-variants as File
-use Rattle.symbol_rows.specs.declared.Holder.{Holder}
-use Rattle.symbol_rows.specs.declared.Holder.the-variants.{Unissued, Nobody, Removed, Known}
-use Rattle.symbol_rows.specs.Holder.{heldBy, holderOf}
-use Rattle.symbol_rows.specs.Decide as Rows
-use Rattle.symbol_rows.specs.Decide.{newOf, decideOf, sectionRoom, sectionCell}
-use Rattle.symbol_rows.specs.Apply.{tableOf}
+use Rattle.symbol_resolution.specs.Holder.{heldBy, holderOf}
+use Rattle.symbol_resolution.specs.Decide as Rows
+use Rattle.symbol_resolution.specs.Decide.{decideOf}
+use Rattle.symbol_resolution.specs.Proof.Outcomes.{decision-alike}
+use Rattle.symbol_resolution.specs.Apply.{tableOf}
 use Rattle.symbols.specs.Add.{issuedOf, directHolderOf, decidedOf}
-use Rattle.symbol_laws.specs.Profile.{keep-profile}
-use Rattle.symbol_laws.specs.Issue.{linked-new, room-free}
+use Rattle.symbol_laws.specs.Proof.Profile.{keep-profile}
+use Rattle.symbol_laws.specs.Proof.Issue.{linked-new, room-free}
 
 -- every way of issuing a name
 module _ (P : Store → Type 0) (s : Store) (id : Interned) (x : List ℕ) where
@@ -68,18 +67,6 @@ module _ (s : Store) (id : Interned) (x : List ℕ) where
         keeps (λ (k : Store). holderOf (k .link) (k .names) symbols id ≡ holderOf (s .link) (s .names) symbols id) s id x refl
         (λ g r. holder-added (omega arith) r)
 
-module _ (l m : Link) (symbols sections : List ℕ) (r : Row) (e : l .symbols ≡ m .symbols) (f : l .slots ≡ m .slots) (g : l .gabi ≡ m .gabi) where
-  new-link : newOf l symbols sections r ≡ newOf m symbols sections r
-  unfolding newOf Rows.roomOf sectionRoom sectionCell
-  new-link = simp (e, f)
-
-  decide-link : (h : Holder) → decideOf l symbols sections r h ≡ decideOf m symbols sections r h
-  unfolding decideOf
-  decide-link Unissued = refl
-  decide-link Nobody = simp new-link
-  decide-link Removed = simp new-link
-  decide-link (Known id) = simp (new-link, g)
-
 -- under an issued name a direct add judges by the name's holder
 direct-holder : (l : Link) (names symbols : List ℕ) (name : Interned) → name .0 < l .names
     → directHolderOf l names symbols name File.None ≡ holderOf l names symbols name
@@ -96,4 +83,4 @@ module _ (s : Store) (x symbols sections : List ℕ) (r : Row) (fits : fitsOf s 
   decided-kept =
       ap (decideOf (k .link) symbols sections r)
       (direct-holder (k .link) (k .names) symbols (r .name) (keep-low s (r .name) x fits low) ∙ holder-kept s (r .name) x symbols low)
-      ∙ decide-link (k .link) (s .link) symbols sections r (keep-symbols s (r .name) x) (keep-slots s (r .name) x) (keep-profile s (r .name) x) (holderOf (s .link) (s .names) symbols (r .name))
+      ∙ decision-alike (k .link) (s .link) symbols sections sections r (keep-symbols s (r .name) x) (keep-slots s (r .name) x) (keep-profile s (r .name) x) refl (holderOf (s .link) (s .names) symbols (r .name))

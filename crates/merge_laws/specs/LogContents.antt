@@ -3,22 +3,22 @@
 use Prim.Native.Nat.{ℕ, zero, suc, _+_, _<_}
 use native.Mathlib.Omega.{arith}
 use native.Mathlib.Nat.{zero-add}
-use mathlib.Core.Path.{_≡_, refl, sym, ap, _∙_, subst}
+use mathlib.Core.Path.{_≡_, refl, ap, _∙_, subst}
 use mathlib.Core.Bool.{true, false}
 use mathlib.Core.List.{List, [], _∷_, _++_}
 use mathlib.Core.Logic.{_≢_}
 use lib.Dec.{eqb, ltb}
 use borrow.Author.Tests.{eqb-true, eqb-false, ne-eqb, ltb-false, le-ltb}
-use Rattle.cells.specs.Split.{by-test}
+use Rattle.cells.specs.Proof.Split.{by-test}
 use Rattle.interner_laws.specs.Good.{Issued}
 use Rattle.symbol.specs.declared.Row.{Row}
-use Rattle.symbol_rows.specs.declared.Decision.{Decision}
-use Rattle.symbol_rows.specs.Decide.{refusalOf}
+use Rattle.symbol_resolution.specs.declared.rows.Decision.{Decision}
+use Rattle.symbol_resolution.specs.Decide.{refusalOf}
 use Rattle.elf_object.specs.Rows.{rowsIn}
 use Rattle.section_groups.specs.Group.{groupSectionOf}
-use Rattle.merge_plan.specs.Plan.{inputOf}
+use Rattle.merge_symbols.specs.Plan.{inputOf}
 use Rattle.merge_symbols.specs.Stage as Symbols
-use Rattle.merge_symbols.specs.Stage.{symbolOf, lookedOf, namedOf, commitOf, keptOf, acceptRow, symbolsOf}
+use Rattle.merge_symbols.specs.Stage.{symbolOf, lookedOf, symbolNamed, commitOf, keptOf, acceptRow, symbolsOf}
 use Rattle.merge_stages.specs.Stages.{All, Object, symbolsIn, afterSymbols}
 use Rattle.merge_elf.specs.Merge.{headIn, mergeOf}
 use Rattle.symbol_laws.specs.Rank as Rank
@@ -30,12 +30,13 @@ use Rattle.merge_laws.specs.Loop.{loop, loopSteps, loop-next}
 use Rattle.merge_laws.specs.MergeSteps.{adds, rowSteps, namedSteps, symbolSteps, groupSectionSteps, groupsSteps, groupFirst, symbolFirst, tableSteps, filteredSteps, filterSteps, mergeGroupsSteps, groupStageSteps, reservedSteps, stagesSteps, mergeSteps}
 use Rattle.merge_laws.specs.Marked.{Marked}
 use Rattle.merge_laws.specs.Kept.{addedRows}
-use Rattle.merge_laws.specs.Markless.{added-append, loop-none}
+use Rattle.merge_laws.specs.Proof.Markless.{added-append, loop-none}
 use Rattle.merge_laws.specs.GroupStage as GroupStage
-use Rattle.merge_laws.specs.SymbolStage.{numberOf, symbols-loop}
+use Rattle.merge_laws.specs.SymbolStage.{numberOf}
+use Rattle.merge_laws.specs.Proof.SymbolStage.{symbols-loop}
 use Rattle.merge_laws.specs.SymbolIds.{nameOf, planOf}
 use Rattle.merge_laws.specs.SymbolDuplicates.{rowTo, Comes}
-use Rattle.merge_laws.specs.SymbolNames.{row-named}
+use Rattle.merge_laws.specs.Proof.SymbolNames.{row-named}
 use Rattle.merge_laws.specs.FileNames.{IsFile, row-file}
 use Rattle.merge_laws.specs.Whole.{tableIn}
 use Rattle.merge_laws.specs.Stops.{reserved, object, prepared, grouped, marked, symbolReader, symbolsTo, added, filtered}
@@ -50,15 +51,12 @@ pub all-append : (P : Row → Type 0) (a b : List Row) → Rank.All P a → Rank
 all-append P [] b p q = q
 all-append P (x ∷ a) b p q = (p .0, all-append P a b (p .1) q)
 
-all-none : (P : Row → Type 0) (l : List Row) → l ≡ [] → Rank.All P l
-all-none P l e = subst (Rank.All P) (sym e) tt
-
 -- ---- one symbol's steps add its planned row, or none
 
 module _ (o : Symbols.Object) (s : Symbols.State) (i : ℕ) (P : Row → Type 0) where
   symbol-rows : (symbolOf o s i .stage .number ≡ 0 → nameOf o i .found ≡ true → adds (inputOf (o .entries) (o .work)) (nameOf o i .name) i ≡ true → planOf o s i .row .visibility ≢ 0 → P (planOf o s i .row))
       → Rank.All P (addedRows (symbolSteps o s i))
-  unfolding symbolSteps namedSteps rowSteps symbolOf lookedOf namedOf commitOf keptOf acceptRow
+  unfolding symbolSteps namedSteps rowSteps symbolOf lookedOf symbolNamed commitOf keptOf acceptRow
   symbol-rows f =
       let d : Decision = planOf o s i .decision in
       by-test (nameOf o i .found)
@@ -79,17 +77,17 @@ module _ (o : Symbols.Object) (s : Symbols.State) (i : ℕ) (P : Row → Type 0)
 
 module _ (o : Object) (a : All) (met : List (List ℕ)) where
   abbrev table : List ℕ
-  table = Words.symbolsOf (o .headers) (o .entries) (o .contents) (o .file)
+  table = Words.symbolsOf (o .headers) (o .entries) (o .contents) (o .image)
 
   abbrev Bears : ℕ → List ℕ → Type 0
-  Bears = Words.Bears (o .headers) (o .entries) (o .contents) (o .file)
+  Bears = Words.Bears (o .headers) (o .entries) (o .contents) (o .image)
 
   -- the row of symbol i of the loaded table: what its entry says; in the link that the merge leaves its name has the bytes that the symbol bears, and
   -- its file's those of the last symbol of type 4 before it
   pub record FromSymbol (r : Row) : Type 0 where
     pub number : ℕ
     pub below : number < entriesIn table
-    pub content : Contents.Content (o .headers) (o .entries) (o .contents) (o .file) (a .stage .link .sections) met table number r
+    pub content : Contents.Content (o .headers) (o .entries) (o .contents) (o .image) (a .stage .link .sections) met table number r
     pub bytes : List ℕ
     pub bears : Bears number bytes
     pub named : Issued (store (tableIn (mergeOf o a .cells))) (r .name .0) bytes

@@ -9,7 +9,7 @@ use mathlib.Core.List.{List, [], _++_, append-nil, append-assoc}
 use mathlib.Core.Logic.{_≢_}
 use lib.Dec.{eqb}
 use borrow.Author.Tests.{eqb-true, eqb-false}
-use Rattle.cells.specs.Split.{by-test}
+use Rattle.cells.specs.Proof.Split.{by-test}
 use Rattle.symbol_laws.specs.History.{State}
 use Rattle.merge_laws.specs.Steps.{Step, Makes, makes-none, makes-both}
 

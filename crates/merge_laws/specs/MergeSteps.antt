@@ -7,20 +7,20 @@ use lib.Dec.{eqb, ltb}
 use lib.ListN.{length}
 use Rattle.link.specs.declared.Link.{Link}
 use Rattle.symbol.specs.declared.Row.{Row}
-use Rattle.symbol_rows.specs.declared.Decision.{Decision}
-use Rattle.symbol_rows.specs.Decide.{refusalOf}
+use Rattle.symbol_resolution.specs.declared.rows.Decision.{Decision}
+use Rattle.symbol_resolution.specs.Decide.{refusalOf}
 use Rattle.strings.specs.Lookup.{Looked}
 use Rattle.interner.specs.Names.{findOf}
 use Rattle.elf_object.specs.Rows.{rowsIn, field, nameOffsetAt, isLoaded, nameIn}
 use Rattle.section_groups.specs.Group as Group
 use Rattle.merge_build.specs.Build as Build
-use Rattle.merge_plan.specs.declared.Planned.{Planned}
-use Rattle.merge_plan.specs.Plan.{Input, inputOf, isFirst, definesOf, filteredAt, plannedOf}
+use Rattle.merge_symbols.specs.declared.plan.Planned.{Planned}
+use Rattle.merge_symbols.specs.Plan.{Input, inputOf, isFirst, definesOf, filteredAt, plannedOf}
 use Rattle.merge_symbols.specs.Stage as Symbols
 use Rattle.link.specs.Judge as Link
 use Rattle.section_groups.specs.Filter.{filterOf}
 use Rattle.merge_sections.specs.Reserve as Reserve
-use Rattle.merge_finish.specs.Finish as Finish
+use Rattle.merge_build.specs.Finish as Finish
 use Rattle.merge_stages.specs.Stages as Stages
 use Rattle.merge_elf.specs.Merge as Merge
 use Rattle.symbol_laws.specs.History.{Source, issue, put, object}
@@ -54,7 +54,7 @@ abbrev pub lookedSteps : Symbols.Object → Symbols.State → ℕ → Looked →
 lookedSteps o s i x = cond (x .found) (namedSteps (inputOf (o .entries) (o .work)) s (x .name) i) []
 
 unfoldable pub symbolSteps : Symbols.Object → Symbols.State → ℕ → List Step
-symbolSteps o s i = lookedSteps o s i (nameIn (o .headers) (o .file) (o .strings) (field (o .entries) i 0))
+symbolSteps o s i = lookedSteps o s i (nameIn (o .headers) (o .image) (o .symbolNames) (field (o .entries) i 0))
 
 abbrev pub symbolsSteps : Symbols.Object → Symbols.State → List Step
 symbolsSteps o s = loopSteps (λ t. t .stage .number) (Symbols.symbolOf o) (symbolSteps o) (rowsIn (o .entries)) 0 s
@@ -70,7 +70,7 @@ unfoldable pub groupSectionSteps : Group.Object → Group.Step → ℕ → List 
 groupSectionSteps o s n =
     cond (isLoaded (o .headers) n 7)
     (cond (eqb (Group.groupSectionOf o s n .stage .number) 0)
-    (signedSteps (s .bytes) (s .names) (s .stage .link) (Group.signatureOf (o .headers) (o .entries) (o .file) (o .table) n .name)) []) []
+    (signedSteps (s .bytes) (s .names) (s .stage .link) (Group.signatureOf (o .headers) (o .entries) (o .image) (o .table) n .name)) []) []
 
 abbrev pub groupsSteps : Group.Object → Group.Step → List Step
 groupsSteps o s = loopSteps (λ t. t .stage .number) (Group.groupSectionOf o) (groupSectionSteps o) (rowsIn (o .headers)) 0 s
@@ -87,7 +87,7 @@ builtSteps o s n kind x =
 unfoldable pub sectionSteps : Build.Object → ℕ → Build.State → ℕ → List Step
 sectionSteps o kind s n =
     cond (Build.builtFrom (o .headers) (o .work) n kind)
-    (builtSteps o s n kind (nameIn (o .headers) (o .file) (o .strings) (nameOffsetAt (o .headers) n))) []
+    (builtSteps o s n kind (nameIn (o .headers) (o .image) (o .sectionNames) (nameOffsetAt (o .headers) n))) []
 
 abbrev pub buildSteps : Build.Object → Build.State → ℕ → List Step
 buildSteps o s kind =
@@ -98,7 +98,7 @@ buildSteps o s kind =
 -- an input's row, where nothing was refused
 unfoldable pub inputSteps : Finish.BuildLinks → List Step
 inputSteps s =
-    cond (eqb (s .stage .number) 0) (others (s .sections) (Finish.inputOf (s .inputs) (s .stage .link) .stage .link) ∷ []) []
+    cond (eqb (s .stage .number) 0) (others (s .sections) (Finish.inputRowOf (s .inputs) (s .stage .link) .stage .link) ∷ []) []
 
 unfoldable pub programSteps : Build.Object → Finish.BuildLinks → List Step
 programSteps o s =

@@ -7,11 +7,11 @@ use mathlib.Core.Bool.{Bool, true, false, cond, _&&_, false≢true}
 use mathlib.Core.List.{List}
 use mathlib.Core.Logic.{_≢_}
 use lib.IntN.{ℤ}
-use lib.Dec.{eqb, ltb, leb}
+use lib.Dec.{eqb, ltb}
 use lib.ListN.{getD, length, take, drop, length-take, length-drop}
 use lib.Seq.{getD-take, getD-drop}
 use borrow.Author.Tests.{eqb-true, eqb-false, ltb-true, ltb-false, lt-ltb, ne-eqb}
-use Rattle.cells.specs.Split.{by-test}
+use Rattle.cells.specs.Proof.Split.{by-test}
 use Rattle.gabi.specs.StringTable.{nameAt}
 use Rattle.gabi.specs.SymbolTable.{stbLocal, stbWeak, shnUndef, shnLoreserve, shnAbs}
 use Rattle.interner.specs.Names.{storeOf, fitsOf}
@@ -21,15 +21,17 @@ use Rattle.symbol.specs.declared.SymbolVisibility.the-variants.{Local}
 use Rattle.symbol.specs.declared.SymbolValue.{SymbolValue}
 use Rattle.symbol.specs.declared.SymbolValue.the-variants as Val
 use Rattle.symbol.specs.Codes.{typeAt, visibilityAt, valueAt, successor}
-use Rattle.symbol_rows.specs.Decide.{refusalOf}
-use Rattle.symbol_rows.specs.Holder.{holderOf}
+use Rattle.symbol.specs.Layout.{refusesScope, refusesValue}
+use Rattle.symbol.specs.Row.{scopeRefused, valueRefused}
+use Rattle.symbol_resolution.specs.Decide.{refusalOf}
+use Rattle.symbol_resolution.specs.Holder.{holderOf}
 use Rattle.upcoming_symbol.specs.Upcoming.{inSection, conversionFrom, convertedOf, undefinedOf, valueOf, elfRowOf}
 use Rattle.upcoming_symbol.specs.Judge.{shownOf, hiddenOf, judgeOf}
 use Rattle.elf_object.specs.Rows as Elf
 use Rattle.elf_object.specs.Rows.{rowsIn, field, conversionAt, markAt, tableEntries, entriesFrom, sectionOf}
 use Rattle.section_groups.specs.Filter.{sectionAfter}
 use Rattle.merge_sections.specs.Reserve.{classOf, conversionOf}
-use Rattle.merge_plan.specs.Plan.{inputOf, isFirst, definesOf, ruleOf, judgedOf, rowedOf, readOf, plannedOf, filteredAt}
+use Rattle.merge_symbols.specs.Plan.{inputOf, isFirst, definesOf, ruleOf, judgedOf, rowedOf, readOf, plannedOf, filteredAt}
 use Rattle.merge_symbols.specs.Stage as Symbols
 use Rattle.merge_stages.specs.Stages.{All, Object}
 use Rattle.merge_elf.specs.Merge.{headIn}
@@ -43,7 +45,7 @@ use Rattle.merge_laws.specs.SymbolIds.{nameOf, planOf, commit-number}
 use Rattle.merge_laws.specs.SymbolDuplicates.{rowTo}
 use Rattle.merge_laws.specs.Whole.{tableIn, passed}
 use Rattle.merge_laws.specs.Stops.{reserved, object, grouped, marked, symbolReader, symbolsTo}
-use Rattle.merge_laws.specs.WorkRows.{class-rowed, next-is}
+use Rattle.merge_laws.specs.Proof.WorkRows.{class-rowed, next-is}
 use Rattle.merge_laws.specs.WorkGroups.{noted, few-rows, symbols-are, names-are, conversion-is, conversion-none, mark-is, clean-section, clean-past}
 use Rattle.merge_laws.specs.Built.{rowed-own, reserve-full}
 
@@ -131,7 +133,7 @@ local-is b v e =
     (λ f. let z : _≡_ {A = ℕ} 12 0 = rw (c, g, a, d, f) at e in absurd (omega arith))))
     (λ g. let z : _≡_ {A = ℕ} 10 0 = rw (c, g) at e in absurd (omega arith))))
 
-local-code : (b v : ℕ) → b ≡ stbLocal → leb 5 (judgeOf b v) ≡ false → judgeOf b v ≡ 0
+local-code : (b v : ℕ) → b ≡ stbLocal → refusesScope (judgeOf b v) ≡ false → judgeOf b v ≡ 0
 unfolding judgeOf shownOf hiddenOf
 local-code b v e p =
     by-test (eqb v 0) (λ c. rw (c, e)) (λ c. by-test (eqb v 2) (λ g. absurd (false≢true (sym (rw (c, g, e) at p)))) (λ g. absurd (false≢true (sym (rw (c, g) at p)))))
@@ -204,10 +206,10 @@ module _ (o : Object) (a : All) (head : headIn o a .number ≡ 0) (goes : reserv
   sec = field t i 4
 
   abbrev Value : SymbolValue → Type 0
-  Value = IsValue headers (o .entries) (o .contents) (o .file) (a .stage .link .sections) met t i
+  Value = IsValue headers (o .entries) (o .contents) (o .image) (a .stage .link .sections) met t i
 
   abbrev gone : Bool
-  gone = isDiscarded headers (o .entries) (o .contents) (o .file) (a .stage .link .sections) met t i
+  gone = isDiscarded headers (o .entries) (o .contents) (o .image) (a .stage .link .sections) met t i
 
   mark : markAt work sec ≡ cond gone 2 (cond (loadedAs headers sec group) 1 0)
   mark =
@@ -232,10 +234,10 @@ module _ (o : Object) (a : All) (head : headIn o a .number ≡ 0) (goes : reserv
   abbrev empty : Bool
   empty = eqb (length (nameOf (symbolReader o a) i .name)) 0
 
-  name-is : nameOf (symbolReader o a) i .name ≡ nameBytes headers (o .entries) (o .contents) (o .file) (a .stage .link .sections) met t i
+  name-is : nameOf (symbolReader o a) i .name ≡ nameBytes headers (o .entries) (o .contents) (o .image) (a .stage .link .sections) met t i
   name-is = names-are o a head goes i (field t i 0) low
 
-  empty-is : empty ≡ eqb (length (nameBytes headers (o .entries) (o .contents) (o .file) (a .stage .link .sections) met t i)) 0
+  empty-is : empty ≡ eqb (length (nameBytes headers (o .entries) (o .contents) (o .image) (a .stage .link .sections) met t i)) 0
   empty-is = ap (λ (x : List ℕ). eqb (length x) 0) name-is
 
   -- the number that its section's row has
@@ -243,7 +245,7 @@ module _ (o : Object) (a : All) (head : headIn o a .number ≡ 0) (goes : reserv
   id-small r h =
       omega (arith, noted o a head goes .counted, reserve-full o a head goes, few (reserved o a .reserved .link .slots), rowed-own headers sec rows r h)
 
-  converted-value : sec ≢ shnUndef → ltb sec 0xff00 && gone ≡ false → leb 13 (convertedOf (conversionFrom (conversionAt work sec)) empty (field t i 5) .kind) ≡ false → Value (valueAt (convertedOf (conversionFrom (conversionAt work sec)) empty (field t i 5)))
+  converted-value : sec ≢ shnUndef → ltb sec 0xff00 && gone ≡ false → refusesValue (convertedOf (conversionFrom (conversionAt work sec)) empty (field t i 5) .kind) ≡ false → Value (valueAt (convertedOf (conversionFrom (conversionAt work sec)) empty (field t i 5)))
   unfolding convertedOf conversionFrom conversionOf valueAt
   converted-value n stays p =
       let (j, h, e) = entry-in headers (o .entries) (reserved o a .reserved .table) i low in
@@ -274,7 +276,7 @@ module _ (o : Object) (a : All) (head : headIn o a .number ≡ 0) (goes : reserv
   abbrev words : Words
   words = valueOf (conversionFrom (conversionAt work after)) (filteredAt t work i) empty
 
-  value-is : leb 13 (words .kind) ≡ false → Value (valueAt words)
+  value-is : refusesValue (words .kind) ≡ false → Value (valueAt words)
   unfolding valueOf valueAt
   value-is p =
       by-test (ltb sec 0xff00 && gone)
@@ -292,11 +294,11 @@ module _ (o : Object) (a : All) (head : headIn o a .number ≡ 0) (goes : reserv
       by-test (eqb sec 0xfff2) (λ f. absurd (false≢true (sym (rw (z, c, d, f) at p))))
       (λ f. rw (c, d, f) (converted-value (eqb-false _ _ c) b (rw (z, c, d, f) at p)))))))
 
-  after-zero : after ≡ 0 → IsUndefined headers (o .entries) (o .contents) (o .file) (a .stage .link .sections) met t i
+  after-zero : after ≡ 0 → IsUndefined headers (o .entries) (o .contents) (o .image) (a .stage .link .sections) met t i
   after-zero e =
       by-test (ltb sec 0xff00 && gone) (λ b. let (u, v) = both (ltb sec 0xff00) gone b in repeated (ltb-true _ _ u) v) (λ b. nowhere (sym (after-same b) ∙ e))
 
-  null-own : isFirst i empty (filteredAt t work i) ≡ true → IsNull headers (o .entries) (o .contents) (o .file) (a .stage .link .sections) met t i
+  null-own : isFirst i empty (filteredAt t work i) ≡ true → IsNull headers (o .entries) (o .contents) (o .image) (a .stage .link .sections) met t i
   unfolding isFirst
   null-own e =
       by-test (eqb i 0)
@@ -317,9 +319,9 @@ module _ (o : Object) (a : All) (head : headIn o a .number ≡ 0) (goes : reserv
 
   -- the first symbol, of the object's own table
   pub null-is : isFirst i empty (filteredAt t work i) ≡ true
-      → IsNull headers (o .entries) (o .contents) (o .file) (a .stage .link .sections) met (symbolsOf headers (o .entries) (o .contents) (o .file)) i
+      → IsNull headers (o .entries) (o .contents) (o .image) (a .stage .link .sections) met (symbolsOf headers (o .entries) (o .contents) (o .image)) i
   null-is e =
-      subst (λ (l : List ℕ). IsNull headers (o .entries) (o .contents) (o .file) (a .stage .link .sections) met l i) (symbols-are o a head goes) (null-own e)
+      subst (λ (l : List ℕ). IsNull headers (o .entries) (o .contents) (o .image) (a .stage .link .sections) met l i) (symbols-are o a head goes) (null-own e)
 
   abbrev row : Row
   row = rowTo o a i
@@ -331,7 +333,7 @@ module _ (o : Object) (a : All) (head : headIn o a .number ≡ 0) (goes : reserv
     unfolding Symbols.symbolOf Symbols.lookedOf
     decided = commit-number (inputOf t work) (symbolsTo o a i) (nameOf (symbolReader o a) i .name) i (rw found at ok)
 
-    row-passes : (leb 5 (row .visibility) ≡ false) × (leb 13 (row .value .kind) ≡ false)
+    row-passes : (scopeRefused row ≡ false) × (valueRefused row ≡ false)
     unfolding plannedOf readOf rowedOf judgedOf ruleOf addsOf
     row-passes =
         let s : Symbols.State = symbolsTo o a i in
@@ -346,28 +348,28 @@ module _ (o : Object) (a : All) (head : headIn o a .number ≡ 0) (goes : reserv
         (λ d. decided-passes (s .stage .link) (s .symbols) (s .sections) row (holderOf (s .stage .link) (s .names) (s .symbols) (row .name)) (rw (f, b, c, d) at decided)))))
         (λ f. let z : _≡_ {A = ℕ} 2 0 = rw f at decided in absurd (omega arith))
 
-    content-own : row .visibility ≢ 0 → Content headers (o .entries) (o .contents) (o .file) (a .stage .link .sections) met t i row
+    content-own : row .visibility ≢ 0 → Content headers (o .entries) (o .contents) (o .image) (a .stage .link .sections) met t i row
     unfolding plannedOf readOf rowedOf elfRowOf
     content-own global =
         let (p, q) = row-passes in
         record { passed = admitted-is (entry t i) global p; type = type-is (field t i 2); shown = shown-is (field t i 1) (field t i 3) global p; value = value-is q }
 
     -- of the object's own table, and not local
-    pub content : row .visibility ≢ 0 → Content headers (o .entries) (o .contents) (o .file) (a .stage .link .sections) met (symbolsOf headers (o .entries) (o .contents) (o .file)) i row
-    content global = subst (λ (l : List ℕ). Content headers (o .entries) (o .contents) (o .file) (a .stage .link .sections) met l i row) (symbols-are o a head goes) (content-own global)
+    pub content : row .visibility ≢ 0 → Content headers (o .entries) (o .contents) (o .image) (a .stage .link .sections) met (symbolsOf headers (o .entries) (o .contents) (o .image)) i row
+    content global = subst (λ (l : List ℕ). Content headers (o .entries) (o .contents) (o .image) (a .stage .link .sections) met l i row) (symbols-are o a head goes) (content-own global)
 
-    local-own : row .visibility ≡ 0 → LocalContent headers (o .entries) (o .contents) (o .file) (a .stage .link .sections) met t i row
+    local-own : row .visibility ≡ 0 → LocalContent headers (o .entries) (o .contents) (o .image) (a .stage .link .sections) met t i row
     unfolding plannedOf readOf rowedOf elfRowOf
     local-own z =
         let (p, q) = row-passes in
         record { bound = local-is (field t i 1) (field t i 3) z; type = type-is (field t i 2); shown = ap visibilityAt z ∙ local-shown; value = value-is q }
 
     -- and local
-    pub local-content : row .visibility ≡ 0 → LocalContent headers (o .entries) (o .contents) (o .file) (a .stage .link .sections) met (symbolsOf headers (o .entries) (o .contents) (o .file)) i row
-    local-content z = subst (λ (l : List ℕ). LocalContent headers (o .entries) (o .contents) (o .file) (a .stage .link .sections) met l i row) (symbols-are o a head goes) (local-own z)
+    pub local-content : row .visibility ≡ 0 → LocalContent headers (o .entries) (o .contents) (o .image) (a .stage .link .sections) met (symbolsOf headers (o .entries) (o .contents) (o .image)) i row
+    local-content z = subst (λ (l : List ℕ). LocalContent headers (o .entries) (o .contents) (o .image) (a .stage .link .sections) met l i row) (symbols-are o a head goes) (local-own z)
 
     -- which of the two, by the binding
-    pub binding-local : entry (symbolsOf headers (o .entries) (o .contents) (o .file)) i .binding ≡ stbLocal → row .visibility ≡ 0
+    pub binding-local : entry (symbolsOf headers (o .entries) (o .contents) (o .image)) i .binding ≡ stbLocal → row .visibility ≡ 0
     unfolding plannedOf readOf rowedOf elfRowOf
     binding-local e =
         let (p, q) = row-passes in

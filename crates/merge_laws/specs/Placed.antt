@@ -4,30 +4,32 @@ use Prim.Native.Nat.{ℕ, zero, suc, _+_, _*_, _/_, _<_, _≤_}
 use native.Mathlib.Omega.{arith}
 use mathlib.Core.Path.{_≡_, refl, sym, ap, _∙_, subst}
 use mathlib.Core.Bool.{true, cond, false≢true}
-use mathlib.Core.List.{List, [], _∷_}
+use mathlib.Core.List.{List}
 use mathlib.Core.Logic.{_≢_}
 use lib.Dec.{eqb, ltb, leb}
 use lib.ListN.{getD, length}
 use lib.Seq.{getD-set-other}
 use borrow.Author.Tests.{eqb-true, eqb-false, ltb-true, ltb-false, leb-true, leb-false, eq-eqb, lt-ltb, le-ltb}
-use Rattle.cells.specs.Split.{by-test}
-use Rattle.cells.specs.Rows.{putRow, length-putRow, row-same, row-other}
+use Rattle.cells.specs.Proof.Split.{by-test}
+use Rattle.cells.specs.Rows.{putRow}
+use Rattle.cells.specs.Proof.Rows.{length-putRow, row-same, row-other}
 use Rattle.link.specs.declared.Link.{Link}
 use native.Mathlib.Nat.{le-trans}
 use Rattle.link.specs.Bounds.{lesser, sectionSlots, sectionRows}
+use Rattle.link.specs.Counts.{moreSections}
 use Rattle.symbol.specs.Codes.{successor}
 use Rattle.sections.specs.Rows as Sections
-use Rattle.elf_object.specs.Rows.{rowsIn, field, kindAt, infoAt, isExcluded, isLoaded}
-use Rattle.merge_sections.specs.Reserve.{State, kindClass, classOf, refusalOf, conversionOf, noteOf, takeRowOf, reserveClassOf, reserveOneOf, reserveFrom, reserveAllOf}
+use Rattle.elf_object.specs.Rows.{rowsIn, field, kindAt, infoAt, isExcluded, isLoaded, conversionAt, workCells, nothing}
+use Rattle.merge_sections.specs.Reserve.{State, kindClass, classOf, reserveNumber, conversionOf, noteOf, takeRowOf, reserveClassOf, reserveOneOf, reserveFrom, reserveAllOf}
 use Rattle.merge_sections.specs.Notes.{eachFrom, noteTableOf, noteTablesOf, clearOneOf, clearAllOf, isTable}
 use Rattle.merge_build.specs.Build.{sectionIdOf, builtFrom}
 use Rattle.symbol_laws.specs.View.{lesser-first, lesser-second}
-use Rattle.merge_laws.specs.Beside.{Beside, beside-none, beside-both, row-beside}
+use Rattle.merge_laws.specs.Proof.Beside.{Beside, beside-none, beside-both, row-beside}
 use Rattle.merge_laws.specs.Loop.{loop}
 
 -- the row of section m
 abbrev pub rowOf : List ℕ → ℕ → ℕ
-rowOf work m = sectionIdOf (getD work (m * 8 + 0) 0) .0
+rowOf work m = sectionIdOf (conversionAt work m) .0
 
 -- the first n sections' rows are below the count
 abbrev pub PlacedTo : ℕ → List ℕ → List ℕ → ℕ → Type 0
@@ -39,14 +41,14 @@ ApartTo n headers work = (m k : ℕ) → m < k → k < n → classOf headers m �
 
 -- and each row is reserved
 abbrev pub HeldTo : ℕ → List ℕ → List ℕ → List ℕ → Type 0
-HeldTo n headers work sections = (m : ℕ) → m < n → classOf headers m ≡ 2 → getD sections (rowOf work m * 8 + 0) 0 ≡ 1
+HeldTo n headers work sections = (m : ℕ) → m < n → classOf headers m ≡ 2 → Sections.stateAt sections (rowOf work m) ≡ 1
 
 abbrev pub Placed : List ℕ → List ℕ → ℕ → Type 0
 Placed headers work count = PlacedTo (rowsIn headers) headers work count
 
 -- the first cells of the object's sections stand as they stood
 abbrev pub Firsts : ℕ → List ℕ → List ℕ → Type 0
-Firsts rows x y = (m : ℕ) → m < rows → getD y (m * 8 + 0) 0 ≡ getD x (m * 8 + 0) 0
+Firsts rows x y = (m : ℕ) → m < rows → conversionAt y m ≡ conversionAt x m
 
 pub placed-firsts : (headers x y : List ℕ) (count : ℕ) → Firsts (rowsIn headers) x y → Placed headers x count → Placed headers y count
 placed-firsts headers x y count f p m h c = subst (λ (k : ℕ). sectionIdOf k .0 < count) (sym (f m h)) (p m h c)
@@ -73,7 +75,7 @@ clear-one rows entries w i m h =
     by-test (leb rows (field entries i 4))
     (λ a.
     let k : rows ≤ field entries i 4 = leb-true _ _ a in
-    rw a (row-other w (field entries i 4) (0 ∷ 0 ∷ 0 ∷ 0 ∷ 0 ∷ 0 ∷ 0 ∷ 0 ∷ []) m 0 refl (omega arith) (λ e. omega arith)))
+    rw a (row-other w (field entries i 4) (workCells nothing) m 0 refl (omega arith) (λ e. omega arith)))
     (λ a. rw a)
 
 pub noted-firsts : (headers entries w : List ℕ) → Firsts (rowsIn headers) w (clearAllOf (rowsIn headers) entries (noteTablesOf headers w))
@@ -128,10 +130,10 @@ module _ (headers : List ℕ) (s : State) (n : ℕ) where
   class = classOf headers n
 
   abbrev number : ℕ
-  number = refusalOf (linkIn s) (s .sections) class (s .reserved .table)
+  number = reserveNumber (linkIn s) (s .sections) class (s .reserved .table)
 
   class-room : class ≡ 2 → number ≡ 0 → Sections.roomOf (linkIn s) (s .sections) ≡ true
-  unfolding refusalOf
+  unfolding reserveNumber
   class-room c z =
       by-test (Sections.roomOf (linkIn s) (s .sections)) (λ t. t) (λ t. let q : _≡_ {A = ℕ} 2 0 = rw (c, t) at z in absurd (omega arith))
 
@@ -146,7 +148,7 @@ module _ (headers : List ℕ) (s : State) (n : ℕ) where
       (λ r.
       let k : linkIn s .sections < sectionRows (linkIn s .slots) = has-room (linkIn s) (s .sections) r in
       let m : sectionRows (linkIn s .slots) ≤ linkIn s .slots = slots (linkIn s .slots) in
-      rw (t, c, r) (row-beside (s .sections) (linkIn s .sections) _ (linkIn s) (Sections.moreSections (linkIn s)) refl (omega arith) (omega arith) (omega arith) refl
+      rw (t, c, r) (row-beside (s .sections) (linkIn s .sections) _ (linkIn s) (moreSections (linkIn s)) refl (omega arith) (omega arith) (omega arith) refl
       (λ b. (omega arith, b .1))))
       (λ r. rw (t, c, r) (beside-none (s .sections) (linkIn s))))
       (λ c. rw (t, c) (beside-none (s .sections) (linkIn s))))
@@ -163,13 +165,13 @@ module _ (headers : List ℕ) (s : State) (n : ℕ) where
     unfolding noteOf
     noted-long = length-putRow (s .work) n _
 
-    noted-other : (m : ℕ) → m ≢ n → getD noted (m * 8 + 0) 0 ≡ getD (s .work) (m * 8 + 0) 0
+    noted-other : (m : ℕ) → m ≢ n → conversionAt noted m ≡ conversionAt (s .work) m
     unfolding noteOf
-    noted-other m u = row-other (s .work) n (conversionOf class here ∷ 0 ∷ 0 ∷ 0 ∷ 0 ∷ 0 ∷ 0 ∷ 0 ∷ []) m 0 refl (omega arith) u
+    noted-other m u = row-other (s .work) n (workCells (conversionOf class here)) m 0 refl (omega arith) u
 
-    noted-own : getD noted (n * 8 + 0) 0 ≡ conversionOf class here
+    noted-own : conversionAt noted n ≡ conversionOf class here
     unfolding noteOf
-    noted-own = row-same (s .work) n (conversionOf class here ∷ 0 ∷ 0 ∷ 0 ∷ 0 ∷ 0 ∷ 0 ∷ 0 ∷ []) 0 refl (omega arith) (omega (arith, h .room))
+    noted-own = row-same (s .work) n (workCells (conversionOf class here)) 0 refl (omega arith) (omega (arith, h .room))
 
     -- the rows before it, and its own
     more : (count : ℕ) → here ≤ count → (class ≡ 2 → here < count) → (class ≡ 2 → here < 65535) → PlacedTo (n + 1) headers noted count
@@ -215,19 +217,19 @@ module _ (headers : List ℕ) (s : State) (n : ℕ) where
     same-held : class ≢ 2 → HeldTo (n + 1) headers noted (s .sections)
     same-held w m k c =
         let u : m ≢ n = λ q. w (ap (classOf headers) (sym q) ∙ c) in
-        ap (λ (r : ℕ). getD (s .sections) (r * 8 + 0) 0) (old-row m u) ∙ h .held m (omega arith) c
+        ap (λ (r : ℕ). Sections.stateAt (s .sections) r) (old-row m u) ∙ h .held m (omega arith) c
 
-    more-held : class ≡ 2 → here < 65535 → here * 8 + 8 ≤ length (s .sections) → HeldTo (n + 1) headers noted (putRow (s .sections) here (1 ∷ 0 ∷ 0 ∷ 0 ∷ 0 ∷ 0 ∷ 0 ∷ 0 ∷ []))
+    more-held : class ≡ 2 → here < 65535 → here * 8 + 8 ≤ length (s .sections) → HeldTo (n + 1) headers noted (putRow (s .sections) here Sections.reservedCells)
     more-held c d f m k cm =
-        let row : List ℕ = 1 ∷ 0 ∷ 0 ∷ 0 ∷ 0 ∷ 0 ∷ 0 ∷ 0 ∷ [] in
+        let row : List ℕ = Sections.reservedCells in
         by-test (eqb m n)
         (λ t.
-        ap (λ (r : ℕ). getD (putRow (s .sections) here row) (r * 8 + 0) 0) (ap (rowOf noted) (eqb-true m n t) ∙ own-row c d)
+        ap (λ (r : ℕ). Sections.stateAt (putRow (s .sections) here row) r) (ap (rowOf noted) (eqb-true m n t) ∙ own-row c d)
         ∙ row-same (s .sections) here row 0 refl (omega arith) f)
         (λ t.
         let u : m ≢ n = eqb-false _ _ t in
         let z : rowOf (s .work) m < here = h .placed m (omega arith) cm in
-        ap (λ (r : ℕ). getD (putRow (s .sections) here row) (r * 8 + 0) 0) (old-row m u)
+        ap (λ (r : ℕ). Sections.stateAt (putRow (s .sections) here row) r) (old-row m u)
         ∙ row-other (s .sections) here row (rowOf (s .work) m) 0 refl (omega arith) (λ q. omega arith) ∙ h .held m (omega arith) cm)
 
     one-held : Held headers (n + 1) (reserveOneOf headers s n)
@@ -242,7 +244,7 @@ module _ (headers : List ℕ) (s : State) (n : ℕ) where
         rw (eq-eqb _ _ goes, c, r)
         (record {
           room = omega (arith, noted-long, h .room);
-          lent = rw (length-putRow (s .sections) here (1 ∷ 0 ∷ 0 ∷ 0 ∷ 0 ∷ 0 ∷ 0 ∷ 0 ∷ [])) (h .lent);
+          lent = rw (length-putRow (s .sections) here Sections.reservedCells) (h .lent);
           counted = omega arith;
           placed = more (here + 1) (omega arith) (λ e. omega arith) (λ e. omega arith);
           apart = more-apart (λ e. omega arith);

@@ -9,34 +9,34 @@ use lib.Dec.{eqb, ltb, leb}
 use lib.ListN.{getD, set, take, drop, length, length-set, drop-of-length-le, List·getD-eq-default}
 use lib.Seq.{getD-set-same, getD-set-other, set-out, drop-set-add, drop-at, length-take-le}
 use borrow.Author.Tests.{eqb-true, eqb-false, ltb-true, ltb-false, leb-true, leb-false}
-use Rattle.cells.specs.Split.{by-test}
+use Rattle.cells.specs.Proof.Split.{by-test}
 use Rattle.link.specs.declared.Link.{Link}
 use Rattle.link.specs.Said.{accepted, refusing, numberIn}
 use Rattle.link.specs.Judge.{refused}
 use Rattle.link.specs.Bounds.{nameRows, sectionSlots}
 use Rattle.interner.specs.Hash.{headCell, headOf}
 use Rattle.interner.specs.Names.{Store, chase, seekOf, findFrom, findOf, roomOf, fitsOf, linked, added, keepOf, nextAt}
-use Rattle.interner_laws.specs.Written.{head-behind, head-within, head-out, linked-long, row-old, row-new, head-new, head-old}
+use Rattle.interner_laws.specs.Proof.Written.{head-behind, head-within, head-out, linked-long, row-old, row-new, head-new, head-old}
 use Rattle.symbol.specs.declared.Row.{Row}
 use Rattle.symbol.specs.Codes.{successor}
 use Rattle.symbol.specs.declared.SttFile.the-variants as File
-use Rattle.symbol_rows.specs.declared.Holder.{Holder}
-use Rattle.symbol_rows.specs.declared.Holder.the-variants.{Unissued, Nobody, Removed, Known}
-use Rattle.symbol_rows.specs.declared.Decision.{Decision}
-use Rattle.symbol_rows.specs.declared.Decision.the-variants.{Refuse, Nothing, Keep, Append, Replace, Amend}
-use Rattle.symbol_rows.specs.Holder.{holderOf}
-use Rattle.symbol_rows.specs.Decide as Rows
-use Rattle.symbol_rows.specs.Decide.{sectionCell, sectionRoom, newOf, decideOf, refusalOf, idOf}
-use Rattle.symbol_rows.specs.Apply.{Table, noteName, setSectionSymbol, noteSection, appendOf, replacedIn, amendedIn, applyOf}
+use Rattle.symbol_resolution.specs.declared.rows.Holder.{Holder}
+use Rattle.symbol_resolution.specs.declared.rows.Decision.{Decision}
+use Rattle.symbol_resolution.specs.declared.rows.Decision.the-variants.{Refuse, Nothing, Keep, Append, Replace, Amend}
+use Rattle.symbol_resolution.specs.Holder.{holderOf}
+use Rattle.symbol_resolution.specs.Decide as Rows
+use Rattle.symbol_resolution.specs.Decide.{sectionCell, decideOf, refusalOf, idOf}
+use Rattle.symbol_resolution.specs.Proof.Outcomes.{decision-alike}
+use Rattle.symbol_resolution.specs.Apply.{Table, noteName, setSectionSymbol, noteSection, appendOf, replacedIn, amendedIn, applyOf}
 use Rattle.symbols.specs.Add.{issuedOf, directHolderOf, decidedOf, placeOf, committedOf, addRowOf}
-use Rattle.symbol_laws.specs.Issue.{FreeRow, room-free}
+use Rattle.symbol_laws.specs.Proof.Issue.{FreeRow, room-free}
 use Rattle.symbol_laws.specs.History as History
 use Rattle.symbol_laws.specs.History.{State, table, store, Entry, Part, issue, put, partNext, partNotes, runParts, logParts}
 use Rattle.merge_laws.specs.Steps.{Step, mark, others, rowsFrom, stepNext, PartGoes, Goes, AllGo, runSteps, logSteps, Makes}
 use Rattle.merge_laws.specs.Steps as Steps
-use Rattle.merge_laws.specs.SymbolStage.{noted-long}
+use Rattle.merge_laws.specs.Proof.SymbolStage.{noted-long}
 use Rattle.merge_laws.specs.Issue.{keeps}
-use Rattle.merge_laws.specs.Past.{rows-long, rows-all}
+use Rattle.merge_laws.specs.Proof.Past.{rows-long, rows-all}
 
 -- the parts among the steps
 abbrev pub partsIn : List Step → List Part
@@ -195,16 +195,10 @@ module _ (s t : State) (e : Seen s t) where
 
   -- ---- a row added
 
-  new-same : (r : Row) → newOf (t .link) (t .symbols) (t .sections) r ≡ newOf (s .link) (s .symbols) (s .sections) r
-  unfolding newOf Rows.roomOf sectionRoom sectionCell
-  new-same r = simp (e .symbols, e .symbols-count, e .sections-long, e .slots)
-
   decide-same : (r : Row) (h : Holder) → decideOf (t .link) (t .symbols) (t .sections) r h ≡ decideOf (s .link) (s .symbols) (s .sections) r h
-  unfolding decideOf
-  decide-same r Unissued = refl
-  decide-same r Nobody = simp (new-same r)
-  decide-same r Removed = simp (new-same r)
-  decide-same r (Known id) = rw (new-same r, e .symbols, e .profile)
+  decide-same r h =
+      rw (e .symbols)
+      (decision-alike (t .link) (s .link) (s .symbols) (t .sections) (s .sections) r (e .symbols-count) (e .slots) (e .profile) (e .sections-long) h)
 
   holder-same : (r : Row) → directHolderOf (t .link) (t .names) (t .symbols) (r .name) File.None ≡ directHolderOf (s .link) (s .names) (s .symbols) (r .name) File.None
   unfolding directHolderOf issuedOf holderOf

@@ -9,6 +9,7 @@ use Rattle.link.specs.Said.{numberIn}
 use Rattle.link.specs.declared.Link.{Link}
 use Rattle.interner.specs.Names.{fitsOf}
 use Rattle.link.specs.Bounds.{sectionRows}
+use Rattle.link.specs.Counts.{withSections, withInputs, withLists, withBroken}
 use Rattle.symbol_laws.specs.History.{State, store, Entry, run, log, run-append, Part, issue, put, putOf, idOf, partNext, partNotes}
 
 pub data Step : Type 0 where
@@ -25,20 +26,7 @@ rowsFrom slots x old = take (slots * 8) x ++ drop (slots * 8) old
 
 -- the counts of names, of their bytes and of symbols stay, and the profile
 abbrev pub countsFrom : Link → Link → Link
-countsFrom l old =
-    record {
-      names = old .names;
-      bytes = old .bytes;
-      symbols = old .symbols;
-      sections = l .sections;
-      inputs = l .inputs;
-      lists = l .lists;
-      chains = old .chains;
-      slots = old .slots;
-      key = old .key;
-      gabi = old .gabi;
-      broken = l .broken;
-    }
+countsFrom l old = withBroken (withLists (withInputs (withSections old (l .sections)) (l .inputs)) (l .lists)) (l .broken)
 
 abbrev pub withNames : State → List ℕ → State
 withNames s names = record { bytes = s .bytes; names = names; symbols = s .symbols; sections = s .sections; link = s .link }

@@ -9,7 +9,7 @@ use mathlib.Core.Logic.{_≢_}
 use lib.Dec.{eqb, ltb}
 use lib.ListN.{length}
 use borrow.Author.Tests.{ltb-true, eqb-true, eqb-false, eq-eqb, ne-eqb}
-use Rattle.cells.specs.Split.{by-test}
+use Rattle.cells.specs.Proof.Split.{by-test}
 use Rattle.link.specs.declared.Link.{Link}
 use Rattle.link.specs.Bounds.{inputRows}
 use Rattle.elf_object.specs.Rows.{rowsIn}
@@ -18,15 +18,17 @@ use Rattle.section_groups.specs.Group as Group
 use Rattle.section_groups.specs.Filter.{filterOf}
 use Rattle.merge_symbols.specs.Stage as Symbols
 use Rattle.merge_build.specs.Build as Build
-use Rattle.merge_finish.specs.Finish.{BuildLinks, inputOf, building, afterBuild, withInput, inputStage, programStage, builtOf}
-use Rattle.merge_stages.specs.Stages.{All, Object, Tabled, SymbolLinks, stop, buildObject, symbolObject, afterSymbols, withBuilt, symbolsIn, withSymbols, groupObject, afterGroups, afterSections, noted, tabled, buildStage, mergeTableOf, filteredOf, filterStage, mergeGroupsOf, groupStage, reservedStages, stagesOf}
+use Rattle.merge_build.specs.Finish.{BuildLinks, inputRowOf, building, afterBuild, withInput, inputStage, programStage, builtOf}
+use Rattle.merge_stages.specs.Stages.{All, Object, Tabled, SymbolLinks, stop, buildObject, symbolObject, afterSymbols, withBuilt, symbolsIn, putSymbols, groupObject, afterGroups, afterSections, noted, tabled, buildStage, mergeTableOf, filteredOf, filterStage, mergeGroupsOf, groupStage, reservedStages, stagesOf}
 use Rattle.merge_laws.specs.Loop.{loop, loop-stops}
 use Rattle.merge_laws.specs.Placed.{reserve-loop}
-use Rattle.merge_laws.specs.GroupStage.{groups-loop}
-use Rattle.merge_laws.specs.SymbolStage.{symbols-loop}
-use Rattle.merge_laws.specs.BuildStage.{build-loop}
+use Rattle.merge_laws.specs.Proof.GroupStage.{groups-loop}
+use Rattle.merge_laws.specs.Proof.SymbolStage.{symbols-loop}
+use Rattle.merge_laws.specs.Proof.BuildStage.{build-loop}
 use Rattle.merge_laws.specs.MergeSteps.{buildFirst, symbolFirst, groupFirst, reserveFirst}
-use Rattle.merge_laws.specs.Refusals.{oneOf, SectionLeft, section-left, GroupLeft, group-left, SymbolLeft, symbol-left, BuildLeft, build-left}
+use Rattle.merge_laws.specs.Refusals.{SectionLeft, GroupLeft, group-left, SymbolLeft, BuildLeft}
+use Rattle.merge_laws.specs.Proof.Refusals.{section-left, symbol-left, build-left}
+use Rattle.merge_laws.specs.Table.{oneOf, sectionNumbers, groupNumbers}
 
 -- ---- a refused loop of each stage
 
@@ -95,7 +97,7 @@ module _ (o : Object) (a : All) where
   before0 = afterBuild before1 (Build.buildOf builder (building before1) 1)
 
   abbrev pub withBuild : BuildLinks → All
-  withBuild b = withSymbols marked (withBuilt (withAdded added) b)
+  withBuild b = putSymbols marked (withBuilt (withAdded added) b)
 
   abbrev pub end : All
   end = stagesOf o a
@@ -123,10 +125,10 @@ module _ (o : Object) (a : All) where
   -- ---- the places
 
   pub data Stops : Type 0 where
-    in-sections : (n : ℕ) → n < rowsIn (o .headers) → sectionsTo n .reserved .number ≡ 0 → oneOf number (2 ∷ 3 ∷ 24 ∷ []) ≡ true → end ≡ stop (afterSections a (sectionsTo n)) number n → Stops
-    in-groups : (n : ℕ) → n < rowsIn (o .headers) → groupsTo n .stage .number ≡ 0 → oneOf number (2 ∷ 4 ∷ 5 ∷ 6 ∷ 7 ∷ []) ≡ true → end ≡ stop (afterGroups prepared (groupsTo n)) number n → Stops
+    in-sections : (n : ℕ) → n < rowsIn (o .headers) → sectionsTo n .reserved .number ≡ 0 → oneOf number sectionNumbers ≡ true → end ≡ stop (afterSections a (sectionsTo n)) number n → Stops
+    in-groups : (n : ℕ) → n < rowsIn (o .headers) → groupsTo n .stage .number ≡ 0 → oneOf number groupNumbers ≡ true → end ≡ stop (afterGroups prepared (groupsTo n)) number n → Stops
     in-filter : filterOf (marked .work) (object .entries) < rowsIn (object .entries) → grouped .stage .number ≡ 0 → end ≡ stop marked 8 (filterOf (marked .work) (object .entries)) → Stops
-    in-symbols : (i : ℕ) (t : Symbols.State) → reserved .reserved .number ≡ 0 → grouped .stage .number ≡ 0 → ltb (filterOf (marked .work) (object .entries)) (rowsIn (object .entries)) ≡ false → i < rowsIn (object .entries) → symbolsTo i .stage .number ≡ 0 → t ≡ Symbols.symbolOf symbolReader (symbolsTo i) i → SymbolLeft symbolReader (symbolsTo i) t i → end ≡ withSymbols marked (withAdded t) → Stops
+    in-symbols : (i : ℕ) (t : Symbols.State) → reserved .reserved .number ≡ 0 → grouped .stage .number ≡ 0 → ltb (filterOf (marked .work) (object .entries)) (rowsIn (object .entries)) ≡ false → i < rowsIn (object .entries) → symbolsTo i .stage .number ≡ 0 → t ≡ Symbols.symbolOf symbolReader (symbolsTo i) i → SymbolLeft symbolReader (symbolsTo i) t i → end ≡ putSymbols marked (withAdded t) → Stops
     in-uninitialized : (n : ℕ) (t : Build.State) → n < rowsIn (o .headers) → uninitializedTo n .stage .number ≡ 0 → BuildLeft builder 2 (uninitializedTo n) t n → end ≡ withBuild (afterBuild before2 t) → Stops
     in-program : (n : ℕ) (t : Build.State) → n < rowsIn (o .headers) → programTo n .stage .number ≡ 0 → BuildLeft builder 1 (programTo n) t n → end ≡ withBuild (afterBuild before1 t) → Stops
     in-input : before0 .stage .number ≡ 0 → end ≡ stop (withBuild before0) 2 0 → Stops
@@ -153,7 +155,7 @@ module _ (o : Object) (a : All) where
   filter-stop z t = rw (eq-eqb (grouped .stage .number) 0 z, t)
 
   pub filter-pass : grouped .stage .number ≡ 0 → ltb filtered (rowsIn (object .entries)) ≡ false
-      → filterStage object marked ≡ withSymbols marked (buildStage object (marked .work) (withAdded added))
+      → filterStage object marked ≡ putSymbols marked (buildStage object (marked .work) (withAdded added))
   unfolding filterStage filteredOf mergeTableOf
   filter-pass z t = rw (eq-eqb (grouped .stage .number) 0 z, t)
 
@@ -177,7 +179,7 @@ module _ (o : Object) (a : All) where
   unfolding inputStage
   input-stop u = rw (ne-eqb (before0 .stage .number) 0 u)
 
-  pub input-pass : before0 .stage .number ≡ 0 → inputStage before0 ≡ withInput before0 (inputOf (before0 .inputs) (before0 .stage .link))
+  pub input-pass : before0 .stage .number ≡ 0 → inputStage before0 ≡ withInput before0 (inputRowOf (before0 .inputs) (before0 .stage .link))
   unfolding inputStage
   input-pass z = rw (eq-eqb (before0 .stage .number) 0 z)
 
@@ -206,14 +208,14 @@ module _ (o : Object) (a : All) where
       in-groups (r .n) (r .below) (r .goes) (rw e (r .leaves .number)) (q ∙ rw e (ap (afterGroups prepared) (r .leaves .as-it-was)))
 
   from-symbols : reserved .reserved .number ≡ 0 → grouped .stage .number ≡ 0 → ltb filtered (rowsIn (object .entries)) ≡ false
-      → end ≡ withSymbols marked (buildStage object (marked .work) (withAdded added)) → added .stage .number ≢ 0 → Stops
+      → end ≡ putSymbols marked (buildStage object (marked .work) (withAdded added)) → added .stage .number ≢ 0 → Stops
   unfolding Symbols.symbolsOf
   from-symbols z y c q u =
       let first : Symbols.State = symbolFirst (symbolsIn marked) in
       let r =
       loop-left (λ (t : Symbols.State). t .stage .number) (Symbols.symbolOf symbolReader) (SymbolLeft symbolReader) (λ s i z u. symbol-left symbolReader s i u)
       (rowsIn (object .entries)) symbolsTo first (λ n. symbols-loop symbolReader n 0 first) refl u in
-      in-symbols (r .n) added z y c (r .below) (r .goes) (r .is) (r .leaves) (q ∙ ap (withSymbols marked) (symbols-stop u))
+      in-symbols (r .n) added z y c (r .below) (r .goes) (r .is) (r .leaves) (q ∙ ap (putSymbols marked) (symbols-stop u))
 
   module _ (q : end ≡ withBuild (programStage builder before1)) where
     from-uninitialized : before1 .stage .number ≢ 0 → Stops
@@ -235,10 +237,10 @@ module _ (o : Object) (a : All) where
         in-program (r .n) (Build.buildOf builder first 1) (r .below) (r .goes) (r .leaves) (q ∙ ap withBuild (program-pass z ∙ input-stop u))
 
     from-input : before1 .stage .number ≡ 0 → before0 .stage .number ≡ 0 → number ≢ 0 → Stops
-    unfolding inputOf
+    unfolding inputRowOf
     from-input z y u =
         let l : Link = before0 .stage .link in
-        let e : end ≡ withBuild (withInput before0 (inputOf (before0 .inputs) l)) = q ∙ ap withBuild (program-pass z ∙ input-pass y) in
+        let e : end ≡ withBuild (withInput before0 (inputRowOf (before0 .inputs) l)) = q ∙ ap withBuild (program-pass z ∙ input-pass y) in
         by-test (ltb (l .inputs) (inputRows (length (before0 .inputs))))
         (λ t. absurd (u (ap (λ (a : All). a .stage .number) e ∙ rw t))) (λ t. in-input y (e ∙ rw t))
 
@@ -255,7 +257,7 @@ module _ (o : Object) (a : All) where
       let q = sections-pass z ∙ filter-pass y c in
       by-test (eqb (added .stage .number) 0)
       (λ d.
-      let p = q ∙ ap (withSymbols marked) (symbols-pass (eqb-true _ _ d)) in
+      let p = q ∙ ap (putSymbols marked) (symbols-pass (eqb-true _ _ d)) in
       by-test (eqb (before1 .stage .number) 0)
       (λ e.
       by-test (eqb (before0 .stage .number) 0) (λ f. from-input p (eqb-true _ _ e) (eqb-true _ _ f) u) (λ f. from-program p (eqb-true _ _ e) (eqb-false _ _ f)))

@@ -7,50 +7,53 @@ use mathlib.Core.Path.{_≡_, refl, sym, ap, _∙_, subst}
 use mathlib.Core.Bool.{Bool, true, false, false≢true}
 use mathlib.Core.List.{List, [], _∷_, _++_, append-assoc}
 use mathlib.Core.Logic.{_≢_}
-use lib.Dec.{eqb, ltb, leb}
+use lib.Dec.{eqb, ltb}
 use lib.ListN.{length}
 use borrow.Author.Tests.{eqb-true, eqb-false, eq-eqb, ltb-false, le-ltb}
-use Rattle.cells.specs.Split.{by-test}
+use Rattle.cells.specs.Proof.Split.{by-test}
 use Rattle.link.specs.Judge.{refused}
 use Rattle.gabi.specs.SymbolTable.{Sym}
 use Rattle.gabi.specs.Resolution.{duplicate, resolve}
 use Rattle.interner.specs.Names.{fitsOf}
 use Rattle.symbol.specs.declared.Row.{Row}
+use Rattle.symbol.specs.Row.{scopeRefused, valueRefused}
 use Rattle.upcoming_symbol.specs.declared.ElfSymbol.{ElfSymbol}
 use Rattle.upcoming_symbol.specs.Upcoming.{conversionFrom, elfRowOf}
-use Rattle.symbol_rows.specs.declared.Decision.{Decision}
-use Rattle.symbol_rows.specs.Decide.{refusalOf}
+use Rattle.symbol_resolution.specs.declared.rows.Decision.{Decision}
+use Rattle.symbol_resolution.specs.Decide.{refusalOf}
 use Rattle.elf_object.specs.Rows.{rowsIn, conversionAt}
 use Rattle.section_groups.specs.Filter.{filterOf}
-use Rattle.merge_plan.specs.declared.Planned.{Planned}
-use Rattle.merge_plan.specs.Plan.{Input, inputOf, isFirst, definesOf, filteredAt, ruleOf, judgedOf, rowedOf, readOf, plannedOf, placeOf}
+use Rattle.merge_symbols.specs.declared.plan.Planned.{Planned}
+use Rattle.merge_symbols.specs.Plan.{Input, inputOf, isFirst, definesOf, filteredAt, ruleOf, judgedOf, rowedOf, readOf, plannedOf, placeOf}
 use Rattle.merge_symbols.specs.Stage as Symbols
-use Rattle.merge_symbols.specs.Stage.{acceptRow, keptOf, commitOf, view, namedOf, lookedOf, symbolOf}
+use Rattle.merge_symbols.specs.Stage.{acceptRow, keptOf, commitOf, view, symbolNamed, lookedOf, symbolOf}
 use Rattle.merge_build.specs.Build as Build
-use Rattle.merge_stages.specs.Stages.{All, Object, groupObject, symbolsIn, withSymbols}
+use Rattle.merge_stages.specs.Stages.{All, Object, groupObject, symbolsIn, putSymbols}
 use Rattle.merge_elf.specs.Merge.{headIn, mergeOf}
 use Rattle.merge_elf.specs.Merge as Merge
 use Rattle.symbol_laws.specs.History.{State, store, Entry, only, rows, log-append, idOf}
 use Rattle.symbol_laws.specs.Held.{Inv}
 use Rattle.symbol_laws.specs.Gabi.{Means, AllMean, symOf, elf-means}
 use Rattle.merge_laws.specs.Steps.{Step, others, stepNext, stepNotes, runSteps, logSteps, Makes, makes-both}
-use Rattle.merge_laws.specs.Beside.{others-make}
+use Rattle.merge_laws.specs.Proof.Beside.{others-make}
 use Rattle.merge_laws.specs.Placed.{reserve-beside}
 use Rattle.merge_laws.specs.Loop.{loop, loopSteps, loop-ends, steps-split}
 use Rattle.merge_laws.specs.MergeSteps.{addsOf, adds, symbolSteps, groupsSteps, buildStageSteps, symbolFirst, tableSteps, filteredSteps, filterSteps, groupFirst, mergeGroupsSteps, groupStageSteps, reservedSteps, reserveFirst, stagesSteps, mergeSteps}
-use Rattle.merge_laws.specs.GroupStage.{groups-make}
-use Rattle.merge_laws.specs.SymbolStage.{chosen, chosen-fits, numberOf, symbols-loop, symbols-make-to}
+use Rattle.merge_laws.specs.Proof.GroupStage.{groups-make}
+use Rattle.merge_laws.specs.SymbolStage.{chosen, chosen-fits, numberOf}
+use Rattle.merge_laws.specs.Proof.SymbolStage.{symbols-loop, symbols-make-to}
 use Rattle.merge_laws.specs.SymbolStage as SymbolStage
 use Rattle.merge_laws.specs.SymbolIds.{nameOf, planOf}
 use Rattle.merge_laws.specs.Whole.{tableIn}
-use Rattle.merge_laws.specs.Kept.{steps-keep}
-use Rattle.merge_laws.specs.Refusals.{oneOf, Fields, newNumbers, row-fields}
+use Rattle.merge_laws.specs.Proof.Kept.{steps-keep}
+use Rattle.merge_laws.specs.Refusals.{Fields, row-fields}
 use Rattle.merge_laws.specs.Refusals as Refusals
 use Rattle.merge_laws.specs.Stops.{reserved, object, prepared, grouped, marked, symbolReader, added, withAdded, symbolsTo, end, Stops, in-sections, in-groups, in-filter, in-symbols, in-uninitialized, in-program, in-input, stops, sections-pass, filter-pass, symbols-stop}
 use Rattle.merge_laws.specs.Stops as Stops
 use Rattle.merge_laws.specs.ByNumber.{head-leaves, refused-breaks, accepted-stays}
 use Rattle.merge_laws.specs.Duplicates as Duplicates
 use Rattle.merge_laws.specs.Duplicates.{judged, Held, seventeen-held}
+use Rattle.merge_laws.specs.Table.{oneOf, sectionNumbers, groupNumbers, newNumbers, builtNumbers, mergeHeadNumbers}
 
 -- ---- one symbol, from the state that the symbols before it left
 
@@ -113,14 +116,14 @@ module _ (o : Input) (s : Symbols.State) (x : List ℕ) (i : ℕ) where
   unfolding plannedOf readOf rowedOf
   plan-fields b = row-fields (view s) o x i (s .stage .file) (no-file first file group b)
 
-  named-number : namedOf o s x i .stage .number ≡ refusalOf (plan .decision)
-  unfolding namedOf commitOf keptOf acceptRow
+  named-number : symbolNamed o s x i .stage .number ≡ refusalOf (plan .decision)
+  unfolding symbolNamed commitOf keptOf acceptRow
   named-number =
       by-test (eqb (refusalOf (plan .decision)) 2) (λ t. rw t (sym (eqb-true _ _ t)))
       (λ t. by-test (eqb (refusalOf (plan .decision)) 0) (λ z. rw (t, z) (sym (eqb-true _ _ z))) (λ z. rw (t, z)))
 
-  named-place : refusalOf (plan .decision) ≡ 17 → namedOf o s x i .stage .place ≡ i
-  unfolding namedOf commitOf keptOf placeOf
+  named-place : refusalOf (plan .decision) ≡ 17 → symbolNamed o s x i .stage .place ≡ i
+  unfolding symbolNamed commitOf keptOf placeOf
   named-place q = rw q
 
 abbrev input : Symbols.Object → Input
@@ -181,7 +184,7 @@ module _ (o : Object) (a : All) where
   abbrev pub entryTo : ℕ → ElfSymbol
   entryTo i = filteredAt (object o a .entries) (marked o a .work) i
 
-  pub row-means : (i : ℕ) → rowTo i .visibility ≢ 0 → leb 5 (rowTo i .visibility) ≡ false → Means (rowTo i) (symOf (entryTo i))
+  pub row-means : (i : ℕ) → rowTo i .visibility ≢ 0 → scopeRefused (rowTo i) ≡ false → Means (rowTo i) (symOf (entryTo i))
   unfolding plannedOf readOf rowedOf
   row-means i z p =
       let x : List ℕ = nameOf (symbolReader o a) i .name in
@@ -221,7 +224,7 @@ module _ (o : Object) (a : All) where
         number-is : symbolNumber i ≡ refusalOf (judged (tableTo i) name (rowTo i) own)
         number-is = number-judged (Duplicates.fits (tableTo i) name (rowTo i) own (pastTo past i) kept-to y ys e)
 
-        module _ (global : rowTo i .visibility ≢ 0) (passes : leb 5 (rowTo i .visibility) ≡ false) (valued : leb 13 (rowTo i .value .kind) ≡ false)
+        module _ (global : rowTo i .visibility ≢ 0) (passes : scopeRefused (rowTo i) ≡ false) (valued : valueRefused (rowTo i) ≡ false)
             (g : Sym) (gs : List Sym) (m : AllMean (rows (y ∷ ys)) (g ∷ gs)) (h : Sym) (mine : Means (rowTo i) h) where
           pub refused-duplicate : symbolNumber i ≡ 17 → resolve ((g ∷ gs) ++ (h ∷ [])) ≡ duplicate
           refused-duplicate q =
@@ -268,15 +271,15 @@ module _ (o : Object) (a : All) where
   none-of l d e q = absurd (false≢true (sym d ∙ ap (λ (k : ℕ). oneOf k l) (sym q) ∙ e))
 
   built-other : {P : Type 0} {b : Build.Object} {kind : ℕ} {s t : Build.State} {n : ℕ} → Refusals.BuildLeft b kind s t n → t .stage .number ≡ 17 → P
-  built-other (Refusals.as-it-was k e) q = absurd (false≢true (ap (λ (k : ℕ). oneOf k (2 ∷ 18 ∷ [])) (sym q) ∙ k))
+  built-other (Refusals.as-it-was k e) q = absurd (false≢true (ap (λ (k : ℕ). oneOf k builtNumbers) (sym q) ∙ k))
   built-other (Refusals.but-its-name c f k e) q = absurd (nineteen (sym k ∙ q))
     where
       nineteen : _≡_ {A = ℕ} 19 17 → ⊥
       nineteen z = omega arith
 
   stopped-at : headIn o a .number ≡ 0 → Stops.number o a ≡ 17 → Stops o a → RefusedAt (end o a .stage .place)
-  stopped-at d q (in-sections n h z k e) = none-of (2 ∷ 3 ∷ 24 ∷ []) refl k q
-  stopped-at d q (in-groups n h z k e) = none-of (2 ∷ 4 ∷ 5 ∷ 6 ∷ 7 ∷ []) refl k q
+  stopped-at d q (in-sections n h z k e) = none-of sectionNumbers refl k q
+  stopped-at d q (in-groups n h z k e) = none-of groupNumbers refl k q
   stopped-at d q (in-filter h z e) = let w : _≡_ {A = ℕ} 8 17 = sym (ap (λ (t : All). t .stage .number) e) ∙ q in absurd (omega arith)
   stopped-at d q (in-symbols i t x y f h z w l e) =
       let k : symbolNumber i ≡ 17 = sym (ap (λ (t : All). t .stage .number) e ∙ ap (λ (t : Symbols.State). t .stage .number) w) ∙ q in
@@ -299,7 +302,7 @@ module _ (o : Object) (a : All) where
       (λ h.
       let e = head-leaves o a (eqb-false _ _ h) in
       let k : headIn o a .number ≡ 17 = sym (ap (λ (x : Merge.Left). x .said .number) (e .all)) ∙ q in
-      absurd (false≢true (ap (λ (n : ℕ). oneOf n (22 ∷ 1 ∷ 2 ∷ [])) (sym k) ∙ e .number)))
+      absurd (false≢true (ap (λ (n : ℕ). oneOf n mergeHeadNumbers) (sym k) ∙ e .number)))
     where
       accepted : headIn o a .number ≡ 0 → Stops.number o a ≡ 0 → ⊥
       accepted h z = let w : _≡_ {A = ℕ} 0 17 = sym (ap (λ (x : Merge.Left). x .said .number) (accepted-stays o a h z .all)) ∙ q in omega arith
@@ -319,9 +322,9 @@ module _ (o : Object) (a : All) where
       ∙ loop-ends numberOf (symbolOf r) i n 0 first (c .below) (ap numberOf (sym at) ∙ c .going) (λ z. seventeen (sym q ∙ ap numberOf here ∙ z))
       ∙ sym here in
       let k : added o a .stage .number ≡ 17 = ap numberOf last ∙ q in
-      let e : end o a ≡ withSymbols (marked o a) (withAdded o a (added o a)) =
+      let e : end o a ≡ putSymbols (marked o a) (withAdded o a (added o a)) =
       sections-pass o a (c .sections) ∙ filter-pass o a (c .groups) (le-ltb _ _ (c .filter))
-      ∙ ap (withSymbols (marked o a)) (symbols-stop o a (λ z. seventeen (sym k ∙ z))) in
+      ∙ ap (putSymbols (marked o a)) (symbols-stop o a (λ z. seventeen (sym k ∙ z))) in
       let number : Stops.number o a ≡ 17 = ap (λ (t : All). t .stage .number) e ∙ k in
       let place : end o a .stage .place ≡ i = ap (λ (t : All). t .stage .place) e ∙ ap (λ (t : Symbols.State). t .stage .place) last ∙ place-at i q in
       ap (λ (x : Merge.Left). x .said) (refused-breaks o a (c .head) (λ z. seventeen (sym number ∙ z))) ∙ rw (number, place)

@@ -8,23 +8,23 @@ use mathlib.Core.List.{List}
 use lib.Dec.{eqb}
 use lib.ListN.{set}
 use borrow.Author.Tests.{eqb-true}
-use Rattle.cells.specs.Split.{by-test}
+use Rattle.cells.specs.Proof.Split.{by-test}
 use Rattle.link.specs.declared.Interned.{Interned}
 use Rattle.link.specs.Said.{valueIn}
 use Rattle.interner.specs.Names.{storeOf, keepOf}
 use Rattle.symbol.specs.declared.Row.{Row}
 use Rattle.symbol.specs.declared.SttFile.the-variants as File
 use Rattle.symbol.specs.Codes.{successor}
-use Rattle.symbol_rows.specs.declared.Decision.{Decision}
-use Rattle.symbol_rows.specs.Decide.{refusalOf, idOf}
-use Rattle.symbol_rows.specs.Apply.{Table}
+use Rattle.symbol_resolution.specs.declared.rows.Decision.{Decision}
+use Rattle.symbol_resolution.specs.Decide.{refusalOf, idOf}
+use Rattle.symbol_resolution.specs.Apply.{Table}
 use Rattle.symbols.specs.Add.{committedOf, addRowOf}
 use Rattle.strings.specs.Lookup.{Looked}
 use Rattle.elf_object.specs.Rows.{field, nameIn}
-use Rattle.merge_plan.specs.declared.Planned.{Planned}
-use Rattle.merge_plan.specs.Plan.{Input, inputOf, plannedOf}
+use Rattle.merge_symbols.specs.declared.plan.Planned.{Planned}
+use Rattle.merge_symbols.specs.Plan.{Input, inputOf, plannedOf}
 use Rattle.merge_symbols.specs.Stage as Symbols
-use Rattle.merge_symbols.specs.Stage.{Object, cellOf, acceptRow, keptOf, commitOf, view, namedOf, lookedOf, symbolOf}
+use Rattle.merge_symbols.specs.Stage.{Object, cellOf, acceptRow, keptOf, commitOf, view, symbolNamed}
 use Rattle.symbol_laws.specs.View.{View, refused, kept, amended, replaced, appended, local, decided}
 use Rattle.symbol_laws.specs.View as Decided
 use Rattle.symbol_laws.specs.History.{State, table, issue, partNext, putOf}
@@ -59,30 +59,24 @@ module _ (o : Input) (s : Symbols.State) (x : List ℕ) (i : ℕ) where
   abbrev named : State
   named = partNext (issue x) (tableIn s)
 
-  pub commit-number : namedOf o s x i .stage .number ≡ 0 → refusalOf (plan .decision) ≡ 0
-  unfolding namedOf commitOf keptOf acceptRow
+  pub commit-number : symbolNamed o s x i .stage .number ≡ 0 → refusalOf (plan .decision) ≡ 0
+  unfolding symbolNamed commitOf keptOf acceptRow
   commit-number e =
       by-test (eqb (refusalOf (plan .decision)) 2) (λ t. let z : _≡_ {A = ℕ} 2 0 = rw t at e in absurd (omega arith))
       (λ t. by-test (eqb (refusalOf (plan .decision)) 0) (λ z. eqb-true _ _ z) (λ z. rw (t, z) at e))
 
-  pub ids-set : refusalOf (plan .decision) ≡ 0 → namedOf o s x i .ids ≡ set (s .ids) i (cellOf (plan .decision) (named .link .symbols))
-  unfolding namedOf commitOf keptOf acceptRow
+  pub ids-set : refusalOf (plan .decision) ≡ 0 → symbolNamed o s x i .ids ≡ set (s .ids) i (cellOf (plan .decision) (named .link .symbols))
+  unfolding symbolNamed commitOf keptOf acceptRow
   ids-set z = rw z (ap (λ (k : Interned). set (s .ids) i (cellOf (plan .decision) (keepOf (storeOf (s .bytes) (s .names) (s .stage .link)) k x .link .symbols))) (plan-id o s x i))
 
-  named-id : adds o x i ≡ true → namedOf o s x i .stage .number ≡ 0 → namedOf o s x i .ids ≡ set (s .ids) i (successor (valueIn (putOf named (plan .row) .said)))
+  pub named-id : adds o x i ≡ true → symbolNamed o s x i .stage .number ≡ 0 → symbolNamed o s x i .ids ≡ set (s .ids) i (successor (valueIn (putOf named (plan .row) .said)))
   named-id b e =
       let z : refusalOf (plan .decision) ≡ 0 = commit-number e in
       ids-set z ∙ ap (set (s .ids) i) (put-cell (table named) (plan .row) (plan .decision) (plan-decides o s x i b z) z)
 
 -- the name of symbol i, and what is planned for it
 abbrev pub nameOf : Object → ℕ → Looked
-nameOf o i = nameIn (o .headers) (o .file) (o .strings) (field (o .entries) i 0)
+nameOf o i = nameIn (o .headers) (o .image) (o .symbolNames) (field (o .entries) i 0)
 
 abbrev pub planOf : Object → Symbols.State → ℕ → Planned
 planOf o s i = plannedOf (view s) (inputOf (o .entries) (o .work)) (nameOf o i .name) i (s .stage .file)
-
-pub symbol-id : (o : Object) (s : Symbols.State) (i : ℕ) → nameOf o i .found ≡ true → adds (inputOf (o .entries) (o .work)) (nameOf o i .name) i ≡ true
-    → symbolOf o s i .stage .number ≡ 0
-    → symbolOf o s i .ids ≡ set (s .ids) i (successor (valueIn (putOf (partNext (issue (nameOf o i .name)) (tableIn s)) (planOf o s i .row) .said)))
-unfolding symbolOf lookedOf
-symbol-id o s i f b e = rw f (named-id (inputOf (o .entries) (o .work)) s (nameOf o i .name) i b (rw f at e))

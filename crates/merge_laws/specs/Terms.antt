@@ -12,7 +12,7 @@ use Rattle.gabi.specs.Groups as Gabi
 use Rattle.gabi.specs.Groups.{stays, gone, unsaid, afterDiscard}
 use Rattle.link.specs.Said.{numberIn, valueIn}
 use Rattle.link.specs.Judge.{refused, brokenOf}
-use Rattle.symbol_rows.specs.Holder.{globalAt}
+use Rattle.symbol_resolution.specs.Holder.{globalAt}
 use Rattle.symbols.specs.New.{newOf}
 use Rattle.symbols.specs.Lookup.{notFound, getGlobalOf}
 use Rattle.symbols.specs.declared.Found.the-variants as Fd
@@ -24,7 +24,7 @@ use Rattle.sections.specs.Rows.{stateAt}
 use Rattle.merge_sections.specs.Reserve.{classOf}
 use Rattle.section_groups.specs.Group.{markGroupOf, markRemovedOf, groupSectionOf}
 use Rattle.section_groups.specs.Filter.{symbolOk}
-use Rattle.merge_plan.specs.Plan.{inputOf, filteredAt}
+use Rattle.merge_symbols.specs.Plan.{inputOf, filteredAt}
 use Rattle.merge_symbols.specs.Stage as Symbols
 use Rattle.merge_elf.specs.declared.Answer.the-variants.{Refused}
 use Rattle.merge_stages.specs.Stages.{All, Object}
@@ -32,41 +32,47 @@ use Rattle.merge_elf.specs.Merge.{leave, headIn, mergeOf}
 use Rattle.symbol_laws.specs.Rank.{firstOf}
 use Rattle.symbol_laws.specs.History.{opened, Entry, only, rows, issue, putOf, partNext}
 use Rattle.symbol_laws.specs.Held.{Inv}
-use Rattle.symbol_laws.specs.Start.{new-inv}
-use Rattle.symbol_laws.specs.Rows.{rowAt}
+use Rattle.symbol_laws.specs.Proof.Start.{new-inv}
+use Rattle.symbol_laws.specs.Proof.Rows.{rowAt}
 use Rattle.symbol_laws.specs.Standing.{hiddenBy}
-use Rattle.symbol_laws.specs.Profile.{new-profile}
+use Rattle.symbol_laws.specs.Proof.Profile.{new-profile}
 use Rattle.symbol_laws.specs.Demand as Demand
 use Rattle.symbol_laws.specs.Within as Within
-use Rattle.symbol_laws.specs.Below.{inv-below}
+use Rattle.symbol_laws.specs.Proof.Below.{inv-below}
 use Rattle.symbol_laws.specs.Writes as Writes
+use Rattle.symbol_laws.specs.Proof.Writes as WritesLaws
 use Rattle.symbol_laws.specs.Gabi.{AllMean, symOfRow, symsOf, all-mean-own, symOf}
 use Rattle.symbol_laws.specs.Agreement as Agreement
 use Rattle.merge_laws.specs.Steps.{logSteps, Makes}
 use Rattle.merge_laws.specs.MergeSteps.{adds, mergeSteps}
 use Rattle.merge_laws.specs.SymbolStage as SymbolStage
-use Rattle.merge_laws.specs.SymbolIds as SymbolIds
+use Rattle.merge_laws.specs.Proof.SymbolIds as SymbolIdsLaws
 use Rattle.merge_laws.specs.SymbolIds.{nameOf, planOf}
 use Rattle.merge_laws.specs.Whole.{tableIn, merge-makes}
-use Rattle.merge_laws.specs.Kept.{addedRows, log-rows}
+use Rattle.merge_laws.specs.Kept.{addedRows}
+use Rattle.merge_laws.specs.Proof.Kept.{log-rows}
 use Rattle.merge_laws.specs.Seen.{partsIn, MadeAlone, makes-parts}
-use Rattle.merge_laws.specs.Calls.{Linked, linked, allIn, Call, merge, callNext, runCalls, logCalls, RemovesNothing, signatures, calls-keep-inv, calls-marked}
-use Rattle.merge_laws.specs.Profile.{calls-profile}
-use Rattle.merge_laws.specs.Refusals.{oneOf}
+use Rattle.merge_laws.specs.Calls.{Linked, linked, allIn, Call, merge, callNext, runCalls, logCalls, RemovesNothing, signatures}
+use Rattle.merge_laws.specs.Proof.Calls.{calls-keep-inv, calls-marked}
+use Rattle.merge_laws.specs.Proof.Profile.{calls-profile}
 use Rattle.merge_laws.specs.Stops as Stages
 use Rattle.merge_laws.specs.Stops.{groupsTo}
 use Rattle.merge_laws.specs.ByNumber as ByNumber
-use Rattle.merge_laws.specs.Marked.{marksOf, Marked, new-marked}
+use Rattle.merge_laws.specs.Marked.{marksOf, Marked}
+use Rattle.merge_laws.specs.Proof.Marked.{new-marked}
 use Rattle.merge_laws.specs.FirstKept as FirstKept
 use Rattle.merge_laws.specs.FirstKept.{reader, metTo, signature, listed, removedIn}
 use Rattle.merge_laws.specs.Discarded as Discarded
 use Rattle.merge_laws.specs.Accepted as Accepted
 use Rattle.merge_laws.specs.Placed.{rowOf}
-use Rattle.merge_laws.specs.RowStays as RowStays
-use Rattle.merge_laws.specs.Lookups as Lookups
-use Rattle.merge_laws.specs.Lookups.{new-lists}
+use Rattle.merge_laws.specs.Proof.RowStays as RowStays
+use Rattle.merge_laws.specs.Proof.Lookups as Lookups
+use Rattle.merge_laws.specs.Proof.Lookups.{new-lists}
 use Rattle.merge_laws.specs.Past as Past
+use Rattle.merge_laws.specs.Proof.Past as PastLaws
 use Rattle.merge_laws.specs.Lists as Lists
+use Rattle.merge_laws.specs.Proof.Lists as ListsLaws
+use Rattle.merge_laws.specs.Table.{oneOf, sectionCauses, earlyCauses}
 
 -- ---- demand 3a
 
@@ -97,7 +103,7 @@ pub symbol-ids : (o : Symbols.Object) (s : Symbols.State) (i : ℕ) → nameOf o
     → Symbols.symbolOf o s i .stage .number ≡ 0
     → Symbols.symbolOf o s i .ids
     ≡ set (s .ids) i (successor (valueIn (putOf (partNext (issue (nameOf o i .name)) (SymbolStage.tableIn s)) (planOf o s i .row) .said)))
-symbol-ids = SymbolIds.symbol-id
+symbol-ids = SymbolIdsLaws.symbol-id
 
 -- "Let a link be a new table", and inputs and lists
 module _ (key : ℕ) (gabi : Bool) (bytes names symbols sections inputs lists : List ℕ) (new : numberIn (newOf key gabi bytes names symbols sections .said) ≡ 0) where
@@ -149,7 +155,7 @@ module _ (key : ℕ) (gabi : Bool) (bytes names symbols sections inputs lists : 
     -- an id once given to a name stays its own
     pub ids-stay : (ls : List Call) → RemovesNothing ls end → (n : ℕ) → n < end .table .link .names → globalAt (end .table .names) n ≢ 0
         → Writes.Bears (runCalls ls end .table) n (globalAt (end .table .names) n)
-    ids-stay ls q n i z = Writes.stays (end .table) (runCalls ls end .table) _ _ kept (calls-keep-inv ls end _ q kept) n i z
+    ids-stay ls q n i z = WritesLaws.stays (end .table) (runCalls ls end .table) _ _ kept (calls-keep-inv ls end _ q kept) n i z
 
     -- whichever symbols the rows mean
     pub gabi-agrees-any : (n : ℕ) (x : Entry) (xs : List Entry) → acceptedAdds n ≡ x ∷ xs → (s : Sym) (ss : List Sym) → AllMean (rows (x ∷ xs)) (s ∷ ss)
@@ -170,7 +176,7 @@ module _ (key : ℕ) (gabi : Bool) (bytes names symbols sections inputs lists : 
 
       -- "Rows past the count are never written"
       pub past-the-count : Past.TablePast (end .table) (callNext (merge o work ids) end .table)
-      past-the-count = Past.makes-past (end .table) (callNext (merge o work ids) end .table) (mergeSteps o all) (inv-below (end .table) _ kept) (merge-makes o all)
+      past-the-count = PastLaws.makes-past (end .table) (callNext (merge o work ids) end .table) (mergeSteps o all) (inv-below (end .table) _ kept) (merge-makes o all)
 
       -- of several groups of one signature, in this and earlier objects, the first is kept: where section n is an accepted group, its listed
       -- section is marked as removed unless the gABI keeps the group, whatever groups follow
@@ -230,16 +236,16 @@ module _ (o : Object) (a : All) where
   refused-leaves = ByNumber.refused-leaves o a
 
   -- 3 and 24: names and symbols as before the call
-  pub names-left : Stages.number o a ≢ 0 → oneOf (Stages.number o a) (3 ∷ 24 ∷ []) ≡ true → ByNumber.NamesLeft o a (Stages.end o a)
+  pub names-left : Stages.number o a ≢ 0 → oneOf (Stages.number o a) sectionCauses ≡ true → ByNumber.NamesLeft o a (Stages.end o a)
   names-left = ByNumber.names-left o a
 
   -- 3 to 8 and 24: symbols as before the call
-  pub symbols-left : Stages.number o a ≢ 0 → oneOf (Stages.number o a) (3 ∷ 4 ∷ 5 ∷ 6 ∷ 7 ∷ 8 ∷ 24 ∷ []) ≡ true → ByNumber.SymbolsLeft o a (Stages.end o a)
+  pub symbols-left : Stages.number o a ≢ 0 → oneOf (Stages.number o a) earlyCauses ≡ true → ByNumber.SymbolsLeft o a (Stages.end o a)
   symbols-left = ByNumber.symbols-left o a
 
   -- inputs and lists that are counted before, and those past the counts that it leaves, are never written
   pub lists-past : Lists.Listed (a .inputs) (a .lists) (a .stage .link) (mergeOf o a .cells .inputs) (mergeOf o a .cells .lists) (mergeOf o a .cells .stage .link)
-  lists-past = Lists.merge-left o a
+  lists-past = ListsLaws.merge-left o a
 
 -- ---- symbols of a removed section
 

@@ -9,9 +9,10 @@ use lib.ListN.{replicate}
 use Rattle.gabi.specs.SymbolTable.{stbLocal, stbGlobal, sttFunc, sttCommon, sttTls, stvDefault, stvInternal, stvHidden, stvProtected, shnCommon}
 use Rattle.link.specs.declared.Link.{Link}
 use Rattle.link.specs.Bounds.{lesser}
-use Rattle.symbol_rows.specs.declared.Holder.the-variants.{Nobody}
-use Rattle.symbol_rows.specs.Decide as Symbols
-use Rattle.symbol_rows.specs.Decide.{typeRefusal, sectionRoom, newOf, decideOf}
+use Rattle.link.specs.Counts.{noNames, withNames, withSymbols, withSlots}
+use Rattle.symbol_resolution.specs.declared.rows.Holder.the-variants.{Nobody}
+use Rattle.symbol_resolution.specs.Decide as Symbols
+use Rattle.symbol_resolution.specs.Decide.{typeRefusal, sectionRoom, newOf, decideOf}
 use Rattle.upcoming_symbol.specs.Judge.{shownOf, hiddenOf, judgeOf}
 use Rattle.upcoming_symbol.specs.declared.Conversion.the-variants as To
 use Rattle.upcoming_symbol.specs.Upcoming.{inSection, convertedOf, undefinedOf, valueOf, elfRowOf}
@@ -23,7 +24,7 @@ use Rattle.section_groups.specs.Group.{shapeOf}
 
 -- a link with one name, a free symbol row and a free section row
 abbrev link : Link
-link = record { names = 1; bytes = 0; symbols = 1; sections = 0; inputs = 0; lists = 0; chains = 1; slots = 1; key = 0; gabi = false; broken = false }
+link = withSlots (withSymbols (withNames (noNames 0 1) 1 0) 1) 1
 
 -- what is answered to a symbol of that binding, visibility, type and section, under a name that nobody holds; section 1 has an id
 abbrev pub symbol : ℕ → ℕ → ℕ → ℕ → ℕ
@@ -38,7 +39,7 @@ group flags count = shapeOf (7 ∷ 0 ∷ flags ∷ 1 ∷ 0 ∷ 0 ∷ count ∷ 0
 
 -- to a section of an object, by its kind
 abbrev pub section : ℕ → ℕ
-section kind = Reserve.refusalOf link (replicate {A = ℕ} 16 0) (classOf (kind ∷ 0 ∷ 0 ∷ 0 ∷ 0 ∷ 0 ∷ 0 ∷ 0 ∷ []) 0) 0
+section kind = Reserve.reserveNumber link (replicate {A = ℕ} 16 0) (classOf (kind ∷ 0 ∷ 0 ∷ 0 ∷ 0 ∷ 0 ∷ 0 ∷ 0 ∷ []) 0) 0
 
 pub record Case : Type 0 where
   pub answered : ℕ
@@ -90,5 +91,5 @@ cases =
 
 -- every case is answered with its number
 pub unsupported : answers cases ≡ numbers cases
-unfolding lesser Sections.roomOf isExcluded kindClass classOf Reserve.refusalOf shapeOf shownOf hiddenOf judgeOf inSection convertedOf undefinedOf valueOf elfRowOf typeRefusal sectionRoom Symbols.roomOf newOf decideOf
+unfolding lesser Sections.roomOf isExcluded kindClass classOf Reserve.reserveNumber shapeOf shownOf hiddenOf judgeOf inSection convertedOf undefinedOf valueOf elfRowOf typeRefusal sectionRoom Symbols.roomOf newOf decideOf
 unsupported = refl

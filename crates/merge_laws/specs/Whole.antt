@@ -9,15 +9,15 @@ use mathlib.Core.List.{List, [], _∷_}
 use lib.Dec.{eqb, ltb}
 use lib.ListN.{length}
 use borrow.Author.Tests.{eqb-true, eqb-false, ltb-true, ltb-false}
-use Rattle.cells.specs.Split.{by-test}
-use Rattle.byte_slices.specs.Ways.{pick}
+use Rattle.cells.specs.Proof.Split.{by-test}
+use Rattle.byte_slices.specs.Proof.Ways.{pick}
 use Rattle.link.specs.declared.Link.{Link}
 use Rattle.link.specs.declared.Lent.{Lent}
 use Rattle.link.specs.declared.Refusal.{Refusal}
 use Rattle.link.specs.declared.Stage.{Stage}
 use Rattle.link.specs.Bounds.{inputRows, sectionSlots, sectionRows}
 use Rattle.link.specs.Judge.{refused, changeOf, judgeOf}
-use Rattle.link.specs.Passed.{passed-sections, passed-slots}
+use Rattle.link.specs.Proof.Passed.{passed-sections, passed-slots}
 use Rattle.elf_object.specs.Rows.{rowsIn}
 use Rattle.elf_object.specs.Judge as Elf
 use Rattle.merge_sections.specs.Reserve as Reserve
@@ -25,18 +25,18 @@ use Rattle.section_groups.specs.Group as Group
 use Rattle.section_groups.specs.Filter.{filterOf}
 use Rattle.merge_symbols.specs.Stage as Symbols
 use Rattle.merge_build.specs.Build as Build
-use Rattle.merge_finish.specs.Finish.{BuildLinks, inputOf, building, afterBuild, inputStage, programStage, builtOf}
+use Rattle.merge_build.specs.Finish.{BuildLinks, inputRowOf, building, afterBuild, inputStage, programStage, builtOf}
 use Rattle.merge_stages.specs.Stages.{All, Object, Tabled, SymbolLinks, buildObject, symbolObject, afterSymbols, symbolsIn, groupObject, afterGroups, afterSections, noted, tabled, buildStage, mergeTableOf, filteredOf, filterStage, mergeGroupsOf, groupStage, reservedStages, stagesOf}
-use Rattle.merge_elf.specs.Merge.{workRefusal, rowsRefusal, headOf, headIn, lent, endedAs, mergeOf, finishedOf}
+use Rattle.merge_elf.specs.Merge.{workRefusal, rowsRefusal, checkOf, headIn, lent, endedAs, mergeOf, finishedOf}
 use Rattle.symbol_laws.specs.View.{lesser-first}
 use Rattle.symbol_laws.specs.History as History
 use Rattle.merge_laws.specs.Steps.{Step, others, Makes, makes-none, makes-both}
-use Rattle.merge_laws.specs.Beside.{Beside, beside-none, others-make}
-use Rattle.merge_laws.specs.More.{makes-more, makes-slots}
+use Rattle.merge_laws.specs.Proof.Beside.{Beside, beside-none, others-make}
+use Rattle.merge_laws.specs.Proof.More.{makes-more, makes-slots}
 use Rattle.merge_laws.specs.Placed.{Placed, placed-firsts, Reserved, noted-firsts, reserve-beside, reserve-placed, slots}
-use Rattle.merge_laws.specs.SymbolStage.{symbols-make, symbols-long}
-use Rattle.merge_laws.specs.GroupStage.{groups-make, groups-firsts}
-use Rattle.merge_laws.specs.BuildStage.{build-makes, build-long}
+use Rattle.merge_laws.specs.Proof.SymbolStage.{symbols-make, symbols-long}
+use Rattle.merge_laws.specs.Proof.GroupStage.{groups-make, groups-firsts}
+use Rattle.merge_laws.specs.Proof.BuildStage.{build-makes, build-long}
 use Rattle.merge_laws.specs.MergeSteps.{symbolsSteps, groupsSteps, buildSteps, inputSteps, programSteps, bothSteps, buildFirst, buildStageSteps, symbolFirst, tableSteps, filteredSteps, filterSteps, groupFirst, mergeGroupsSteps, groupStageSteps, reservedSteps, reserveFirst, stagesSteps, mergeSteps}
 
 -- the table among all cells
@@ -51,8 +51,8 @@ symbolTable s = record { bytes = s .bytes; names = s .names; symbols = s .symbol
 
 -- ---- from the end on
 
-input-beside : (inputs sections : List ℕ) (l : Link) → Beside sections l sections (inputOf inputs l .stage .link)
-unfolding inputOf
+input-beside : (inputs sections : List ℕ) (l : Link) → Beside sections l sections (inputRowOf inputs l .stage .link)
+unfolding inputRowOf
 input-beside inputs sections l =
     by-test (ltb (l .inputs) (inputRows (length inputs)))
     (λ t.
@@ -177,10 +177,10 @@ change-passed l n =
 
 module _ (o : Object) (a : All) where
   abbrev judged : Refusal
-  judged = Elf.judgeOf (o .headers) (o .entries) (length (o .contents)) (length (o .file))
+  judged = Elf.judgeOf (o .headers) (o .entries) (length (o .contents)) (length (o .image))
 
   pub passed : headIn o a .number ≡ 0 → Passed o a
-  unfolding headOf rowsRefusal workRefusal
+  unfolding checkOf rowsRefusal workRefusal
   passed e =
       by-test (eqb (changeOf (a .stage .link) (lent a) .number) 0)
       (λ c.

@@ -12,7 +12,7 @@ use lib.Dec.{eqb, ltb, leb}
 use lib.ListN.{getD, set, length, length-set}
 use lib.Seq.{getD-set-same, getD-set-other}
 use borrow.Author.Tests.{eqb-true, eqb-false, ltb-true, ltb-false, leb-false, ne-eqb, lt-ltb, le-ltb}
-use Rattle.cells.specs.Split.{by-test}
+use Rattle.cells.specs.Proof.Split.{by-test}
 use Rattle.gabi.specs.StringTable.{hasName, nameAt, among, name-empty}
 use Rattle.link.specs.Judge.{changeOf}
 use Rattle.strings.specs.Lookup.{Looked}
@@ -21,21 +21,22 @@ use Rattle.elf_object.specs.Rows.{rowsIn, field, linkAt, infoAt, firstAt, markA
 use Rattle.elf_object.specs.Judge as Judge
 use Rattle.section_groups.specs.declared.Plan.{Plan}
 use Rattle.section_groups.specs.Group as Group
-use Rattle.section_groups.specs.Group.{shapeOf, signatureOf, markGroupOf, markRemovedOf, planOf, groupSectionOf, groupOf, shapedOf, signedOf, namedOf, decidedOf, admitOf, groupsOf}
+use Rattle.section_groups.specs.Group.{shapeOf, signatureOf, markGroupOf, markRemovedOf, planOf, groupSectionOf, groupOf, shapedOf, signedOf, groupNamed, decidedOf, admitOf, groupsOf}
 use Rattle.merge_sections.specs.Reserve.{classOf, conversionOf}
 use Rattle.merge_build.specs.Relocations.{relocationsOf}
 use Rattle.merge_stages.specs.Stages.{All, Object}
-use Rattle.merge_elf.specs.Merge.{headIn, headOf, rowsRefusal, lent}
+use Rattle.merge_elf.specs.Merge.{headIn, checkOf, rowsRefusal, lent}
 use Rattle.symbol_laws.specs.ObjectWords.{loadedAs, symbolTable, stringTable, group, stringsOf, linkOf}
 use Rattle.merge_laws.specs.MergeWords.{rowedBelow, namedBy, entriesTo, symbolNames, hasNames, symbolsOf, Bears, groupSignature, groupSection, ownSignatures, isRemoved}
 use Rattle.merge_laws.specs.Loop.{loop, loop-holds, loop-next}
 use Rattle.merge_laws.specs.MergeSteps.{groupFirst, reserveFirst}
-use Rattle.merge_laws.specs.WorkRows.{loaded-same, tableTo, NotedTo, reserve-noted}
-use Rattle.merge_laws.specs.WorkNotes.{done-cell, done-names, done-past, done-long}
-use Rattle.merge_laws.specs.GroupStage.{numberOf, groups-loop}
+use Rattle.merge_laws.specs.Proof.WorkRows.{loaded-same, tableTo, NotedTo, reserve-noted}
+use Rattle.merge_laws.specs.Proof.WorkNotes.{done-cell, done-names, done-past, done-long}
+use Rattle.merge_laws.specs.GroupStage.{numberOf}
+use Rattle.merge_laws.specs.Proof.GroupStage.{groups-loop}
 use Rattle.merge_laws.specs.SymbolIds.{nameOf}
 use Rattle.merge_laws.specs.Marked.{Marked}
-use Rattle.merge_laws.specs.GroupMarks.{group-marks, mark-lent}
+use Rattle.merge_laws.specs.Proof.GroupMarks.{group-marks, mark-lent}
 use Rattle.merge_laws.specs.Accepted.{going, next-going, signaturesTo}
 use Rattle.merge_laws.specs.FirstKept.{reader, signature, listed, metTo, to-marked, met-group, met-other}
 use Rattle.merge_laws.specs.Whole.{tableIn, passed}
@@ -69,12 +70,12 @@ module _ (headers entries : List ℕ) (contents file : ℕ) (ok : Judge.judgeOf 
       (λ a. ltb-false _ _ a)
 
 module _ (o : Object) (a : All) where
-  pub object-judged : headIn o a .number ≡ 0 → Judge.judgeOf (o .headers) (o .entries) (length (o .contents)) (length (o .file)) .number ≡ 0
-  unfolding headOf rowsRefusal
+  pub object-judged : headIn o a .number ≡ 0 → Judge.judgeOf (o .headers) (o .entries) (length (o .contents)) (length (o .image)) .number ≡ 0
+  unfolding checkOf rowsRefusal
   object-judged e =
       by-test (eqb (changeOf (a .stage .link) (lent a) .number) 0)
       (λ c.
-      by-test (eqb (Judge.judgeOf (o .headers) (o .entries) (length (o .contents)) (length (o .file)) .number) 0) (λ d. eqb-true _ _ d)
+      by-test (eqb (Judge.judgeOf (o .headers) (o .entries) (length (o .contents)) (length (o .image)) .number) 0) (λ d. eqb-true _ _ d)
       (λ d. absurd (eqb-false _ _ d (rw (c, d) at e))))
       (λ c. absurd (eqb-false _ _ c (rw c at e)))
 
@@ -142,9 +143,9 @@ group-long w b n k = by-test (eqb (markAt w n) 2) (λ t. rw t (last b w)) (λ t.
     last false v = refl
 
 section-cell : (o : Group.Object) (s : Group.Step) (n m f : ℕ) → f < 8 → f ≢ 1 → getD (groupSectionOf o s n .work) (m * 8 + f) 0 ≡ getD (s .work) (m * 8 + f) 0
-unfolding groupSectionOf groupOf shapedOf signedOf namedOf decidedOf admitOf
+unfolding groupSectionOf groupOf shapedOf signedOf groupNamed decidedOf admitOf
 section-cell o s n m f h u =
-    let x : Looked = signatureOf (o .headers) (o .entries) (o .file) (o .table) n in
+    let x : Looked = signatureOf (o .headers) (o .entries) (o .image) (o .table) n in
     let k : ℕ = getD (o .contents) (firstAt (o .headers) n) 0 in
     let q : Plan = planOf (s .stage .link) (s .bytes) (s .names) (length (s .work) / 8) (x .name) k in
     by-test (isLoaded (o .headers) n 7)
@@ -274,12 +275,12 @@ module _ (o : Object) (a : All) (head : headIn o a .number ≡ 0) (goes : reserv
   count = a .stage .link .sections
 
   pub few-rows : rows ≤ 65280
-  few-rows = few-sections headers (o .entries) (length (o .contents)) (length (o .file)) (object-judged o a head)
+  few-rows = few-sections headers (o .entries) (length (o .contents)) (length (o .image)) (object-judged o a head)
 
   pub noted : NotedTo headers count rows (reserved o a)
   noted = reserve-noted headers (reserveFirst a) few-rows (passed o a head .work) refl goes
 
-  untabled : (m : ℕ) → m < rows → getD (reserved o a .work) (m * 8 + 2) 0 ≡ 0
+  untabled : (m : ℕ) → m < rows → Elf.relocationsAt (reserved o a .work) m ≡ 0
   untabled m h = noted .clean m 2 h (omega arith) (omega arith)
 
   prepared-long : rows ≤ length (prepared o a .work) / 8
@@ -287,7 +288,7 @@ module _ (o : Object) (a : All) (head : headIn o a .number ≡ 0) (goes : reserv
 
   -- ---- symbols
 
-  pub symbols-are : object o a .entries ≡ symbolsOf headers (o .entries) (o .contents) (o .file)
+  pub symbols-are : object o a .entries ≡ symbolsOf headers (o .entries) (o .contents) (o .image)
   symbols-are = ap (tableEntries headers (o .entries)) (noted .table) ∙ table-entries headers (o .entries) rows
 
   tabled : (i : ℕ) → i < rowsIn (object o a .entries) → tableTo headers rows ≢ 0
@@ -296,27 +297,27 @@ module _ (o : Object) (a : All) (head : headIn o a .number ≡ 0) (goes : reserv
       none : rowsIn (object o a .entries) ≡ 0 → ⊥
       none e = omega arith
 
-  pub names-are : (i off : ℕ) → i < rowsIn (object o a .entries) → nameIn headers (o .file) (linkAt headers (object o a .table)) off .name ≡ nameAt (symbolNames headers (o .file) rows) off
+  pub names-are : (i off : ℕ) → i < rowsIn (object o a .entries) → nameIn headers (o .image) (linkAt headers (object o a .table)) off .name ≡ nameAt (symbolNames headers (o .image) rows) off
   names-are i off h =
-      ap (λ (t : ℕ). nameIn headers (o .file) (linkAt headers (sectionOf t)) off .name) (noted .table)
-      ∙ table-names headers (o .file) rows off (tabled i h)
+      ap (λ (t : ℕ). nameIn headers (o .image) (linkAt headers (sectionOf t)) off .name) (noted .table)
+      ∙ table-names headers (o .image) rows off (tabled i h)
 
   -- and which aren't missing
   found-are : (i off : ℕ) → i < rowsIn (object o a .entries)
-      → nameIn headers (o .file) (linkAt headers (object o a .table)) off .found ≡ hasNames headers rows && hasName (symbolNames headers (o .file) rows) off
+      → nameIn headers (o .image) (linkAt headers (object o a .table)) off .found ≡ hasNames headers rows && hasName (symbolNames headers (o .image) rows) off
   found-are i off h =
-      ap (λ (t : ℕ). nameIn headers (o .file) (linkAt headers (sectionOf t)) off .found) (noted .table) ∙ table-found headers (o .file) rows off (tabled i h)
+      ap (λ (t : ℕ). nameIn headers (o .image) (linkAt headers (sectionOf t)) off .found) (noted .table) ∙ table-found headers (o .image) rows off (tabled i h)
 
   -- of symbol i of the object's own table
   pub bears-own : (i : ℕ) → i < rowsIn (object o a .entries) → nameOf (symbolReader o a) i .found ≡ true
-      → Bears headers (o .entries) (o .contents) (o .file) i (nameOf (symbolReader o a) i .name)
+      → Bears headers (o .entries) (o .contents) (o .image) i (nameOf (symbolReader o a) i .name)
   bears-own i h f =
       let off : ℕ = field (object o a .entries) i 0 in
       record {
         found =
-            ap (λ (l : List ℕ). hasNames headers rows && hasName (symbolNames headers (o .file) rows) (field l i 0)) (sym symbols-are)
+            ap (λ (l : List ℕ). hasNames headers rows && hasName (symbolNames headers (o .image) rows) (field l i 0)) (sym symbols-are)
             ∙ sym (found-are i off h) ∙ f;
-        bytes = ap (λ (l : List ℕ). nameAt (symbolNames headers (o .file) rows) (field l i 0)) (sym symbols-are) ∙ sym (names-are i off h);
+        bytes = ap (λ (l : List ℕ). nameAt (symbolNames headers (o .image) rows) (field l i 0)) (sym symbols-are) ∙ sym (names-are i off h);
       }
 
   -- ---- rows
@@ -325,15 +326,15 @@ module _ (o : Object) (a : All) (head : headIn o a .number ≡ 0) (goes : reserv
   cell-stands m f h g u v =
       groups-cell (reader o a) (groupFirst (prepared o a)) m f g u ∙ done-cell headers (o .entries) few-rows (reserved o a .work) (noted .room) untabled m h f g v
 
-  pub conversion-is : (m : ℕ) → m < rows → getD (marked o a .work) (m * 8 + 0) 0 ≡ conversionOf (classOf headers m) (count + rowedBelow headers m)
+  pub conversion-is : (m : ℕ) → m < rows → Elf.conversionAt (marked o a .work) m ≡ conversionOf (classOf headers m) (count + rowedBelow headers m)
   conversion-is m h = cell-stands m 0 h (omega arith) (λ e. omega arith) (λ e. omega arith) ∙ noted .cells m h
 
   -- a section number that a symbol has and the object hasn't
-  pub conversion-none : (i m : ℕ) → i < rowsIn (o .entries) → field (o .entries) i 4 ≡ m → rows ≤ m → getD (marked o a .work) (m * 8 + 0) 0 ≡ 0
+  pub conversion-none : (i m : ℕ) → i < rowsIn (o .entries) → field (o .entries) i 4 ≡ m → rows ≤ m → Elf.conversionAt (marked o a .work) m ≡ 0
   conversion-none i m h e p =
       groups-cell (reader o a) (groupFirst (prepared o a)) m 0 (omega arith) (λ e. omega arith) ∙ done-past headers (o .entries) few-rows (reserved o a .work) (noted .room) untabled i m 0 h e p (omega arith)
 
-  pub relocations-are : (m : ℕ) → m < rows → relocationsOf headers (o .contents) (getD (marked o a .work) (m * 8 + 2) 0) ≡ namedBy headers (o .contents) m rows
+  pub relocations-are : (m : ℕ) → m < rows → relocationsOf headers (o .contents) (Elf.relocationsAt (marked o a .work) m) ≡ namedBy headers (o .contents) m rows
   relocations-are m h =
       ap (relocationsOf headers (o .contents)) (groups-cell (reader o a) (groupFirst (prepared o a)) m 2 (omega arith) (λ e. omega arith))
       ∙ done-names headers (o .entries) few-rows (reserved o a .work) (noted .room) untabled m h (o .contents)
@@ -342,16 +343,16 @@ module _ (o : Object) (a : All) (head : headIn o a .number ≡ 0) (goes : reserv
 
   module _ (passes : grouped o a .stage .number ≡ 0) (met : List (List ℕ)) (known : Marked (tableIn a) met) where
     abbrev ours : ℕ → List (List ℕ)
-    ours = ownSignatures headers (o .entries) (o .contents) (o .file)
+    ours = ownSignatures headers (o .entries) (o .contents) (o .image)
 
     abbrev removed : ℕ → ℕ → Bool
-    removed = isRemoved headers (o .entries) (o .contents) (o .file) met
+    removed = isRemoved headers (o .entries) (o .contents) (o .image) met
 
-    signature-is : (g : ℕ) → g < rows → isLoaded headers g 7 ≡ true → signature o a g ≡ groupSignature headers (o .entries) (o .contents) (o .file) g
+    signature-is : (g : ℕ) → g < rows → isLoaded headers g 7 ≡ true → signature o a g ≡ groupSignature headers (o .entries) (o .contents) (o .image) g
     unfolding signatureOf
     signature-is g h l =
         names-are (infoAt headers g) (field (object o a .entries) (infoAt headers g) 0) (group-inside (reader o a) (groupsTo o a g) g l (next-going o a passes g h))
-        ∙ ap (λ (l : List ℕ). nameAt (symbolNames headers (o .file) rows) (field l (infoAt headers g) 0)) symbols-are
+        ∙ ap (λ (l : List ℕ). nameAt (symbolNames headers (o .image) rows) (field l (infoAt headers g) 0)) symbols-are
 
     pub met-is : (n : ℕ) → n ≤ rows → metTo o a met n ≡ met ++ ours n
     unfolding ownSignatures
@@ -362,7 +363,7 @@ module _ (o : Object) (a : All) (head : headIn o a .number ≡ 0) (goes : reserv
         let l : isLoaded headers g 7 ≡ true = loaded-same headers g 7 ∙ t in
         met-group o a met known g (going o a passes g (omega arith)) l (next-going o a passes g (omega arith))
         ∙ ap (λ (x : List ℕ). metTo o a met g ++ (x ∷ [])) (signature-is g (omega arith) l)
-        ∙ ap (λ (x : List (List ℕ)). x ++ (groupSignature headers (o .entries) (o .contents) (o .file) g ∷ [])) (met-is g (omega arith))
+        ∙ ap (λ (x : List (List ℕ)). x ++ (groupSignature headers (o .entries) (o .contents) (o .image) g ∷ [])) (met-is g (omega arith))
         ∙ append-assoc met (ours g) _ ∙ rw t)
         (λ t.
         let l : isLoaded headers g 7 ≡ false = loaded-same headers g 7 ∙ t in
@@ -376,7 +377,7 @@ module _ (o : Object) (a : All) (head : headIn o a .number ≡ 0) (goes : reserv
         by-test (loadedAs headers g group)
         (λ t.
         let l : isLoaded headers g 7 ≡ true = loaded-same headers g 7 ∙ t in
-        rw (t, l) (ap (λ (x : List ℕ). signaturesTo o a g ++ (x ∷ [])) (signature-is g (omega arith) l) ∙ ap (λ (x : List (List ℕ)). x ++ (groupSignature headers (o .entries) (o .contents) (o .file) g ∷ [])) (signatures-are g (omega arith))))
+        rw (t, l) (ap (λ (x : List ℕ). signaturesTo o a g ++ (x ∷ [])) (signature-is g (omega arith) l) ∙ ap (λ (x : List (List ℕ)). x ++ (groupSignature headers (o .entries) (o .contents) (o .image) g ∷ [])) (signatures-are g (omega arith))))
         (λ t. let l : isLoaded headers g 7 ≡ false = loaded-same headers g 7 ∙ t in rw (t, l) (ap (λ (x : List (List ℕ)). x ++ []) (signatures-are g (omega arith))))
 
     -- 2 removed; 1 a group's section
@@ -386,7 +387,7 @@ module _ (o : Object) (a : All) (head : headIn o a .number ≡ 0) (goes : reserv
     work-next : (n : ℕ) → n < rows
         → groupsTo o a (suc n) .work
         ≡ cond (loadedAs headers n group)
-        (markRemovedOf (markGroupOf (groupsTo o a n .work) n) (among (groupSignature headers (o .entries) (o .contents) (o .file) n) (met ++ ours n)) (groupSection headers (o .entries) (o .contents) (o .file) n))
+        (markRemovedOf (markGroupOf (groupsTo o a n .work) n) (among (groupSignature headers (o .entries) (o .contents) (o .image) n) (met ++ ours n)) (groupSection headers (o .entries) (o .contents) (o .image) n))
         (groupsTo o a n .work)
     work-next n h =
         ap (λ (s : Group.Step). s .work) (groups-next o a passes n h)
@@ -396,16 +397,16 @@ module _ (o : Object) (a : All) (head : headIn o a .number ≡ 0) (goes : reserv
         rw t
         (group-marks (a .symbols) (reserved o a .sections) (reader o a) (groupsTo o a n) (metTo o a met n) (to-marked o a met known n) n l (next-going o a passes n h)
         ∙ ap (λ (x : List ℕ). markRemovedOf (markGroupOf (groupsTo o a n .work) n) (among x (metTo o a met n)) (listed o a n)) (signature-is n h l)
-        ∙ ap (λ (x : List (List ℕ)). markRemovedOf (markGroupOf (groupsTo o a n .work) n) (among (groupSignature headers (o .entries) (o .contents) (o .file) n) x) (listed o a n)) (met-is n (omega arith))))
+        ∙ ap (λ (x : List (List ℕ)). markRemovedOf (markGroupOf (groupsTo o a n .work) n) (among (groupSignature headers (o .entries) (o .contents) (o .image) n) x) (listed o a n)) (met-is n (omega arith))))
         (λ t. rw t (skipped (reader o a) (groupsTo o a n) n (loaded-same headers n 7 ∙ t)))
 
-    mark-room : (n : ℕ) → n < rows → loadedAs headers n group ≡ true → among (groupSignature headers (o .entries) (o .contents) (o .file) n) (met ++ ours n) ≡ true
-        → groupSection headers (o .entries) (o .contents) (o .file) n < length (groupsTo o a n .work) / 8
+    mark-room : (n : ℕ) → n < rows → loadedAs headers n group ≡ true → among (groupSignature headers (o .entries) (o .contents) (o .image) n) (met ++ ours n) ≡ true
+        → groupSection headers (o .entries) (o .contents) (o .image) n < length (groupsTo o a n .work) / 8
     mark-room n h t r =
         let l : isLoaded headers n 7 ≡ true = loaded-same headers n 7 ∙ t in
         mark-lent (a .symbols) (reserved o a .sections) (reader o a) (groupsTo o a n) (metTo o a met n) (to-marked o a met known n) n l (next-going o a passes n h)
         (ap (λ (x : List ℕ). among x (metTo o a met n)) (signature-is n h l)
-        ∙ ap (among (groupSignature headers (o .entries) (o .contents) (o .file) n)) (met-is n (omega arith)) ∙ r)
+        ∙ ap (among (groupSignature headers (o .entries) (o .contents) (o .image) n)) (met-is n (omega arith)) ∙ r)
 
     work-long : (n : ℕ) → n ≤ rows → rows ≤ length (groupsTo o a n .work) / 8
     unfolding Group.groupsFrom
@@ -414,7 +415,7 @@ module _ (o : Object) (a : All) (head : headIn o a .number ≡ 0) (goes : reserv
         let r = work-long n (omega arith) in
         let e = work-next n (omega arith) in
         by-test (loadedAs headers n group)
-        (λ t. omega (arith, ap length (rw t at e), group-long (groupsTo o a n .work) (among (groupSignature headers (o .entries) (o .contents) (o .file) n) (met ++ ours n)) n (groupSection headers (o .entries) (o .contents) (o .file) n)))
+        (λ t. omega (arith, ap length (rw t at e), group-long (groupsTo o a n .work) (among (groupSignature headers (o .entries) (o .contents) (o .image) n) (met ++ ours n)) n (groupSection headers (o .entries) (o .contents) (o .image) n)))
         (λ t. omega (arith, ap length (rw t at e)))
 
     -- behind the groups, of a section that has no mark before them
@@ -424,8 +425,8 @@ module _ (o : Object) (a : All) (head : headIn o a .number ≡ 0) (goes : reserv
       mark-to zero h = rw (le-ltb m 0 (omega arith)) clean
       mark-to (suc n) h =
           let before : markAt (groupsTo o a n .work) m ≡ markTo n m = mark-to n (omega arith) in
-          let repeated : Bool = among (groupSignature headers (o .entries) (o .contents) (o .file) n) (met ++ ours n) in
-          let k : ℕ = groupSection headers (o .entries) (o .contents) (o .file) n in
+          let repeated : Bool = among (groupSignature headers (o .entries) (o .contents) (o .image) n) (met ++ ours n) in
+          let k : ℕ = groupSection headers (o .entries) (o .contents) (o .image) n in
           ap (λ (w : List ℕ). markAt w m) (work-next n (omega arith))
           ∙ by-test (loadedAs headers n group)
           (λ t.

@@ -1,3 +1,3 @@
 pub mod Reserve
 pub mod Notes
-pub mod Ways
+pub mod Proof

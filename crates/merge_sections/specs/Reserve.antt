@@ -2,13 +2,15 @@
 -- Assumes nothing.
 use Prim.Native.Nat.{ℕ, zero, suc, _+_}
 use mathlib.Core.Bool.{cond}
-use mathlib.Core.List.{List, [], _∷_}
+use mathlib.Core.List.{List}
 use lib.Dec.{eqb}
 use Rattle.cells.specs.Rows.{putRow}
 use Rattle.link.specs.declared.Link.{Link}
 use Rattle.symbol.specs.Codes.{successor}
 use Rattle.sections.specs.Rows as Sections
-use Rattle.elf_object.specs.Rows.{rowsIn, kindAt, isExcluded}
+use Rattle.elf_object.specs.Kinds.{program, uninitialized, symbolTable, dynamicSymbols, frameHeader, dynamic, unknown}
+use Rattle.elf_object.specs.Rows.{rowsIn, kindAt, isExcluded, workCells, nothing, notLoaded}
+use Rattle.cells.specs.Slice.{Slice, before, after}
 use Rattle.merge_sections.specs.declared.Reserved.{Reserved}
 
 -- the lent cells that the stage writes, and what it hands on
@@ -20,39 +22,66 @@ pub record State : Type 0 where
 abbrev pub stateOf : List ℕ → List ℕ → Reserved → State
 stateOf sections work r = record { sections = sections; work = work; reserved = r }
 
+-- of lent slices before the call, and after it
+abbrev pub stateBefore : Slice → Slice → Reserved → State
+stateBefore sections work r = stateOf (before sections) (before work) r
+
+abbrev pub stateAfter : Slice → Slice → Reserved → State
+stateAfter sections work r = stateOf (after sections) (after work) r
+
 abbrev pub reservedOf : Link → ℕ → ℕ → ℕ → Reserved
 reservedOf l table number place = record { link = l; table = table; number = number; place = place }
 
--- 1 not loaded, 2 gets a row, 3 a symbol table, 4 refused: "kinds 10 to 13"
-unfoldable pub kindClass : ℕ → ℕ
-kindClass k =
-    cond (eqb k 1) 2
-    (cond (eqb k 2) 2
-    (cond (eqb k 3) 3 (cond (eqb k 10) 4 (cond (eqb k 11) 4 (cond (eqb k 12) 4 (cond (eqb k 13) 4 1))))))
-
--- 0 excluded
-unfoldable pub classOf : List ℕ → ℕ → ℕ
-classOf headers n = cond (isExcluded headers n) 0 (kindClass (kindAt headers n))
-
--- 3; "second symbol table" 24; "no free row" 2
-unfoldable pub refusalOf : Link → List ℕ → ℕ → ℕ → ℕ
-refusalOf l sections class table =
-    cond (eqb class 4) 3
-    (cond (eqb class 3) (cond (eqb table 0) 0 24) (cond (eqb class 2) (cond (Sections.roomOf l sections) 0 2) 0))
+-- what the stage does with a section
+abbrev pub excludedClass : ℕ
+excludedClass = 0
 
 -- "Non-excluded sections other than kinds 1 and 2 are "not loaded""
+abbrev pub otherClass : ℕ
+otherClass = 1
+
+-- gets a row
+abbrev pub rowClass : ℕ
+rowClass = 2
+
+-- the symbol table, not loaded either
+abbrev pub tableClass : ℕ
+tableClass = 3
+
+-- "kinds 10 to 13"
+abbrev pub refusedClass : ℕ
+refusedClass = 4
+
+unfoldable pub kindClass : ℕ → ℕ
+kindClass k =
+    cond (eqb k program) rowClass
+    (cond (eqb k uninitialized) rowClass
+    (cond (eqb k symbolTable) tableClass
+    (cond (eqb k dynamicSymbols) refusedClass
+    (cond (eqb k frameHeader) refusedClass
+    (cond (eqb k dynamic) refusedClass (cond (eqb k unknown) refusedClass otherClass))))))
+
+unfoldable pub classOf : List ℕ → ℕ → ℕ
+classOf headers n = cond (isExcluded headers n) excludedClass (kindClass (kindAt headers n))
+
+-- 3; "second symbol table" 24; "no free row" 2
+unfoldable pub reserveNumber : Link → List ℕ → ℕ → ℕ → ℕ
+reserveNumber l sections class table =
+    cond (eqb class refusedClass) 3
+    (cond (eqb class tableClass) (cond (eqb table 0) 0 24) (cond (eqb class rowClass) (cond (Sections.roomOf l sections) 0 2) 0))
+
+-- the id and `idBase`, where there is such a number
 unfoldable pub conversionOf : ℕ → ℕ → ℕ
-conversionOf class id = cond (eqb class 0) 0 (cond (eqb class 2) (successor (successor id)) 1)
+conversionOf class id = cond (eqb class excludedClass) nothing (cond (eqb class rowClass) (successor (successor id)) notLoaded)
 
 unfoldable pub tableAfter : ℕ → ℕ → ℕ → ℕ
-tableAfter table class n = cond (eqb class 3) (successor n) table
+tableAfter table class n = cond (eqb class tableClass) (successor n) table
 
--- a work row: the conversion, no mark, no relocation table
 unfoldable pub noteOf : List ℕ → ℕ → ℕ → List ℕ
-noteOf work n conversion = putRow work n (conversion ∷ 0 ∷ 0 ∷ 0 ∷ 0 ∷ 0 ∷ 0 ∷ 0 ∷ [])
+noteOf work n conversion = putRow work n (workCells conversion)
 
 unfoldable pub takeRowOf : Sections.Sections → ℕ → Sections.Sections
-takeRowOf s class = cond (eqb class 2) (Sections.reserveOf s) s
+takeRowOf s class = cond (eqb class rowClass) (Sections.reserveOf s) s
 
 abbrev pub afterRow : Reserved → List ℕ → ℕ → ℕ → Sections.Sections → State
 afterRow r work class n s = stateOf (s .rows) work (reservedOf (s .link) (tableAfter (r .table) class n) 0 0)
@@ -67,7 +96,7 @@ reserveClassOf s n class number =
 
 unfoldable pub reserveOneOf : List ℕ → State → ℕ → State
 reserveOneOf headers s n =
-    reserveClassOf s n (classOf headers n) (refusalOf (s .reserved .link) (s .sections) (classOf headers n) (s .reserved .table))
+    reserveClassOf s n (classOf headers n) (reserveNumber (s .reserved .link) (s .sections) (classOf headers n) (s .reserved .table))
 
 -- k sections from the n-th on, up to the first refusal
 unfoldable pub reserveFrom : List ℕ → ℕ → ℕ → State → State

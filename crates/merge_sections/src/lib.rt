@@ -1,8 +1,8 @@
 // The first stage of a merge: a row is reserved for each program and uninitialized section, and what later stages ask of a section number
-// is noted in its work row of 8 cells: its conversion (0 nothing, 1 not loaded, else the section's id and 2), its mark (1 defines a
-// group, 2 removed with a repeated group), the last relocation table that applies to it (its number and 1, 0 for none). Five are unused.
+// is noted in its work row: its conversion, its mark, the last relocation table that applies to it.
 ghost use mathlib.Core.Path.{_≡_};
-ghost use Rattle.merge_sections.specs.Reserve.{stateOf, kindClass, classOf, refusalOf, conversionOf, tableAfter, noteOf, takeRowOf, reserveOneOf, reserveAllOf};
+ghost use Rattle.cells.specs.Slice.{after, before};
+ghost use Rattle.merge_sections.specs.Reserve.{kindClass, classOf, reserveNumber, conversionOf, tableAfter, noteOf, takeRowOf, reserveOneOf, reserveAllOf, stateAfter, stateBefore};
 ghost use Rattle.merge_sections.specs.Notes.{isTable, noteTableOf, noteTablesOf, clearOneOf, clearAllOf};
 ghost use Rattle.sections.specs.Rows.{sectionsOf};
 use link::Link;
@@ -15,45 +15,55 @@ pub struct Reserved {
     pub place: u64,
 }
 
-// 1 not loaded, 2 gets a row, 3 a symbol table, 4 refused.
+// What the stage does with a section: nothing, not loaded, a row, the symbol table, refused.
+const EXCLUDED: u64 = 0;
+
+const OTHER: u64 = 1;
+
+const ROW: u64 = 2;
+
+const TABLE: u64 = 3;
+
+const REFUSED: u64 = 4;
+
 fn kind_class(kind: u64) -> u64
     ensures { λ r. ⌜ r ≡ kindClass kind ⌝ }
 {
     match kind {
-        1 => 2,
-        2 => 2,
-        3 => 3,
-        10 => 4,
-        11 => 4,
-        12 => 4,
-        13 => 4,
-        _ => 1,
+        elf_object::PROGRAM => ROW,
+        elf_object::UNINITIALIZED => ROW,
+        elf_object::SYMBOL_TABLE => TABLE,
+        elf_object::DYNAMIC_SYMBOLS => REFUSED,
+        elf_object::FRAME_HEADER => REFUSED,
+        elf_object::DYNAMIC => REFUSED,
+        elf_object::UNKNOWN => REFUSED,
+        _ => OTHER,
     }
 }
 
-// 0 excluded, else the class of its kind.
+// The class of its kind, if it isn't excluded.
 fn class_of(headers: &[u64], n: usize) -> u64
-    ensures { λ r. ⌜ r ≡ classOf (now (headers .entry)) n ⌝ }
+    ensures { λ r. ⌜ r ≡ classOf (before headers) n ⌝ }
 {
     if elf_object::is_excluded(headers, n) {
-        return 0;
+        return EXCLUDED;
     }
-    kind_class(cells::row_get(headers, n, 0))
+    kind_class(cells::row_get(headers, n, elf_object::HEADER_KIND))
 }
 
 fn refusal_of(l: Link, sections: &[u64], class: u64, table: u64) -> u64
-    ensures { λ r. ⌜ r ≡ refusalOf l (now (sections .entry)) class table ⌝ }
+    ensures { λ r. ⌜ r ≡ reserveNumber l (before sections) class table ⌝ }
 {
-    if class == 4 {
+    if class == REFUSED {
         return 3;
     }
-    if class == 3 {
+    if class == TABLE {
         if table != 0 {
             return 24;
         }
         return 0;
     }
-    if class == 2 {
+    if class == ROW {
         if sections::room(l, sections) {
             return 0;
         }
@@ -65,34 +75,34 @@ fn refusal_of(l: Link, sections: &[u64], class: u64, table: u64) -> u64
 fn conversion_of(class: u64, id: usize) -> u64
     ensures { λ r. ⌜ r ≡ conversionOf class id ⌝ }
 {
-    if class == 0 {
-        return 0;
+    if class == EXCLUDED {
+        return elf_object::NOTHING;
     }
-    if class == 2 {
+    if class == ROW {
         return symbol::next(symbol::next(id)) as u64;
     }
-    1
+    elf_object::NOT_LOADED
 }
 
 fn table_after(table: u64, class: u64, n: usize) -> u64
     ensures { λ r. ⌜ r ≡ tableAfter table class n ⌝ }
 {
-    if class == 3 {
+    if class == TABLE {
         return symbol::next(n) as u64;
     }
     table
 }
 
 fn note(work: &mut [u64], n: usize, conversion: u64)
-    ensures { λ _. ⌜ now (work .exit) ≡ noteOf (now (work .entry)) n conversion ⌝ }
+    ensures { λ _. ⌜ after work ≡ noteOf (before work) n conversion ⌝ }
 {
-    cell_writes::row_store(work, n, conversion, 0, 0, 0, 0, 0, 0, 0);
+    cells::row_store(work, n, conversion, 0, 0, 0, 0, 0, 0, 0);
 }
 
 fn take_row(l: Link, sections: &mut [u64], class: u64) -> Link
-    ensures { λ r. ⌜ sectionsOf (now (sections .exit)) r ≡ takeRowOf (sectionsOf (now (sections .entry)) l) class ⌝ }
+    ensures { λ r. ⌜ sectionsOf (after sections) r ≡ takeRowOf (sectionsOf (before sections) l) class ⌝ }
 {
-    if class == 2 {
+    if class == ROW {
         return sections::reserve(l, sections);
     }
     l
@@ -106,7 +116,7 @@ fn reserve_one(
     headers: &[u64],
     n: usize,
 ) -> Reserved
-    ensures { λ r. ⌜ stateOf (now (sections .exit)) (now (work .exit)) r ≡ reserveOneOf (now (headers .entry)) (stateOf (now (sections .entry)) (now (work .entry)) s) n ⌝ }
+    ensures { λ r. ⌜ stateAfter sections work r ≡ reserveOneOf (before headers) (stateBefore sections work s) n ⌝ }
 {
     let l = s.link;
     let class = class_of(headers, n);
@@ -131,9 +141,9 @@ fn reserve_one(
 
 // All sections, ascending, up to the first refusal.
 pub fn reserve_all(s: Reserved, sections: &mut [u64], work: &mut [u64], headers: &[u64]) -> Reserved
-    ensures { λ r. ⌜ stateOf (now (sections .exit)) (now (work .exit)) r ≡ reserveAllOf (now (headers .entry)) (stateOf (now (sections .entry)) (now (work .entry)) s) ⌝ }
+    ensures { λ r. ⌜ stateAfter sections work r ≡ reserveAllOf (before headers) (stateBefore sections work s) ⌝ }
 {
-    let rows = headers.len() / 8;
+    let rows = headers.len() / elf_object::ROW_WIDTH;
     let mut u = s;
     let mut n = 0;
     while n < rows {
@@ -149,32 +159,37 @@ pub fn reserve_all(s: Reserved, sections: &mut [u64], work: &mut [u64], headers:
 
 // A relocation table, and loaded?
 fn is_table(headers: &[u64], t: usize) -> bool
-    ensures { λ r. ⌜ r ≡ isTable (now (headers .entry)) t ⌝ }
+    ensures { λ r. ⌜ r ≡ isTable (before headers) t ⌝ }
 {
-    if elf_object::is_loaded(headers, t, 5) {
+    if elf_object::is_loaded(headers, t, elf_object::REL) {
         return true;
     }
-    elf_object::is_loaded(headers, t, 6)
+    elf_object::is_loaded(headers, t, elf_object::RELA)
 }
 
 // It is noted at the section that it applies to.
 fn note_table(work: &mut [u64], headers: &[u64], t: usize)
-    ensures { λ _. ⌜ now (work .exit) ≡ noteTableOf (now (headers .entry)) (now (work .entry)) t ⌝ }
+    ensures { λ _. ⌜ after work ≡ noteTableOf (before headers) (before work) t ⌝ }
 {
-    let info = cells::row_get(headers, t, 4) as usize;
-    if headers.len() / 8 <= info {
+    let info = cells::row_get(headers, t, elf_object::HEADER_INFO) as usize;
+    if headers.len() / elf_object::ROW_WIDTH <= info {
         return;
     }
     if is_table(headers, t) {
-        cells::row_put(work, info, 2, symbol::next(t) as u64);
+        cells::row_put(
+            work,
+            info,
+            elf_object::WORK_RELOCATIONS,
+            symbol::next(t) as u64,
+        );
     }
 }
 
 // Ascending, so that the last table for a section is the one that stays.
 pub fn note_tables(work: &mut [u64], headers: &[u64])
-    ensures { λ _. ⌜ now (work .exit) ≡ noteTablesOf (now (headers .entry)) (now (work .entry)) ⌝ }
+    ensures { λ _. ⌜ after work ≡ noteTablesOf (before headers) (before work) ⌝ }
 {
-    let rows = headers.len() / 8;
+    let rows = headers.len() / elf_object::ROW_WIDTH;
     let mut t = 0;
     while t < rows {
         note_table(work, headers, t);
@@ -184,18 +199,18 @@ pub fn note_tables(work: &mut [u64], headers: &[u64])
 
 // A symbol may name a section that isn't there: nothing is known of that one.
 fn clear_one(work: &mut [u64], rows: usize, entries: &[u64], i: usize)
-    ensures { λ _. ⌜ now (work .exit) ≡ clearOneOf rows (now (entries .entry)) (now (work .entry)) i ⌝ }
+    ensures { λ _. ⌜ after work ≡ clearOneOf rows (before entries) (before work) i ⌝ }
 {
-    let s = cells::row_get(entries, i, 4) as usize;
+    let s = cells::row_get(entries, i, elf_object::ENTRY_SECTION) as usize;
     if rows <= s {
-        note(work, s, 0);
+        note(work, s, elf_object::NOTHING);
     }
 }
 
 pub fn clear_absent(work: &mut [u64], rows: usize, entries: &[u64])
-    ensures { λ _. ⌜ now (work .exit) ≡ clearAllOf rows (now (entries .entry)) (now (work .entry)) ⌝ }
+    ensures { λ _. ⌜ after work ≡ clearAllOf rows (before entries) (before work) ⌝ }
 {
-    let all = entries.len() / 8;
+    let all = entries.len() / elf_object::ROW_WIDTH;
     let mut i = 0;
     while i < all {
         clear_one(work, rows, entries, i);

@@ -1,8 +1,6 @@
 // The stages of a merge, in document 01's order, up to the first refusal. Each function is a stage and what comes after it.
 ghost use mathlib.Core.Path.{_≡_};
-ghost use Rattle.link.specs.Judge.{goingOf};
-ghost use Rattle.merge_sections.specs.Reserve as Reserve;
-ghost use Rattle.merge_stages.specs.Stages.{allOf, objectOf, symbolLinks, tableOf, mergeTableOf, filterStage, mergeGroupsOf, reservedStages, stagesOf};
+ghost use Rattle.merge_stages.specs.Stages.{filterStage, mergeGroupsOf, stagesOf, cellsIn, linkBefore, mergeTableIn, objectIn, reservedIn, stageAfter, stageBefore, symbolsAfter, tabledIn};
 use link::Link;
 use link::Stage;
 use merge_sections::Reserved;
@@ -21,14 +19,13 @@ fn merge_table(
     headers: &[u64],
     entries: &[u64],
     contents: &[u64],
-    file: &[u8],
+    image: &[u8],
     work: &[u64],
-    strings: usize,
+    shstrndx: usize,
     t: usize,
 ) -> Stage
-    ensures { λ r. ⌜ symbolLinks (now (bytes .exit)) (now (names .exit)) (now (symbols .exit)) (now (sections .exit)) (now (inputs .exit)) (now (lists .exit)) (now (ids .exit)) r
-        ≡ mergeTableOf (tableOf (now (headers .entry)) (now (entries .entry)) (now (contents .entry)) (now (file .entry)) strings t) (now (work .entry))
-        (symbolLinks (now (bytes .entry)) (now (names .entry)) (now (symbols .entry)) (now (sections .entry)) (now (inputs .entry)) (now (lists .entry)) (now (ids .entry)) (goingOf l)) ⌝ }
+    ensures { λ r. let c = cellsIn bytes names symbols sections inputs lists work ids in
+        ⌜ symbolsAfter c r ≡ mergeTableIn (tabledIn headers entries contents image shstrndx t) c l ⌝ }
 {
     let first = SymbolStage {
         link: l,
@@ -36,7 +33,7 @@ fn merge_table(
         number: 0,
         place: 0,
     };
-    let named = cells::row_get(headers, t, 3) as usize;
+    let named = cells::row_get(headers, t, elf_object::HEADER_LINK) as usize;
     let m = merge_symbols::merge_symbols(
         first,
         bytes,
@@ -46,7 +43,7 @@ fn merge_table(
         ids,
         headers,
         entries,
-        file,
+        image,
         work,
         named,
     );
@@ -54,7 +51,7 @@ fn merge_table(
     if m.number != 0 {
         return link::stopped(k, m.number, m.place);
     }
-    merge_finish::finish(
+    merge_build::finish(
         link::going(k),
         bytes,
         names,
@@ -63,17 +60,17 @@ fn merge_table(
         lists,
         headers,
         contents,
-        file,
+        image,
         work,
         ids,
-        strings,
+        shstrndx,
         t,
-        entries.len() / 8,
+        entries.len() / elf_object::ROW_WIDTH,
     )
 }
 
 // The whole filter comes before the first symbol: 8.
-fn filter_stage(
+fn from_filter(
     s: Stage,
     bytes: &mut [u8],
     names: &mut [u64],
@@ -85,21 +82,20 @@ fn filter_stage(
     headers: &[u64],
     entries: &[u64],
     contents: &[u64],
-    file: &[u8],
+    image: &[u8],
     work: &[u64],
-    strings: usize,
+    shstrndx: usize,
     t: usize,
 ) -> Stage
-    ensures { λ r. ⌜ allOf (now (bytes .exit)) (now (names .exit)) (now (symbols .exit)) (now (sections .exit)) (now (inputs .exit)) (now (lists .exit)) (now (work .entry)) (now (ids .exit)) r
-        ≡ filterStage (tableOf (now (headers .entry)) (now (entries .entry)) (now (contents .entry)) (now (file .entry)) strings t)
-        (allOf (now (bytes .entry)) (now (names .entry)) (now (symbols .entry)) (now (sections .entry)) (now (inputs .entry)) (now (lists .entry)) (now (work .entry)) (now (ids .entry)) s) ⌝ }
+    ensures { λ r. let c = cellsIn bytes names symbols sections inputs lists work ids in
+        ⌜ stageAfter c r ≡ filterStage (tabledIn headers entries contents image shstrndx t) (stageBefore c s) ⌝ }
 {
     if s.number != 0 {
         return s;
     }
     let l = s.link;
-    let i = group_filter::filter_symbol_table(work, entries);
-    if i < entries.len() / 8 {
+    let i = section_groups::filter_symbol_table(work, entries);
+    if i < entries.len() / elf_object::ROW_WIDTH {
         return link::stopped(l, 8, i as u64);
     }
     merge_table(
@@ -114,9 +110,9 @@ fn filter_stage(
         headers,
         entries,
         contents,
-        file,
+        image,
         work,
-        strings,
+        shstrndx,
         t,
     )
 }
@@ -135,15 +131,14 @@ fn merge_groups(
     headers: &[u64],
     entries: &[u64],
     contents: &[u64],
-    file: &[u8],
-    strings: usize,
+    image: &[u8],
+    shstrndx: usize,
     t: usize,
 ) -> Stage
-    ensures { λ r. ⌜ allOf (now (bytes .exit)) (now (names .exit)) (now (symbols .exit)) (now (sections .exit)) (now (inputs .exit)) (now (lists .exit)) (now (work .exit)) (now (ids .exit)) r
-        ≡ mergeGroupsOf (tableOf (now (headers .entry)) (now (entries .entry)) (now (contents .entry)) (now (file .entry)) strings t)
-        (allOf (now (bytes .entry)) (now (names .entry)) (now (symbols .entry)) (now (sections .entry)) (now (inputs .entry)) (now (lists .entry)) (now (work .entry)) (now (ids .entry)) (goingOf l)) ⌝ }
+    ensures { λ r. let c = cellsIn bytes names symbols sections inputs lists work ids in
+        ⌜ stageAfter c r ≡ mergeGroupsOf (tabledIn headers entries contents image shstrndx t) (linkBefore c l) ⌝ }
 {
-    let g = object_groups::add_groups(
+    let g = section_groups::add_groups(
         link::going(l),
         bytes,
         names,
@@ -151,10 +146,10 @@ fn merge_groups(
         headers,
         entries,
         contents,
-        file,
+        image,
         t,
     );
-    filter_stage(
+    from_filter(
         g,
         bytes,
         names,
@@ -166,15 +161,15 @@ fn merge_groups(
         headers,
         entries,
         contents,
-        file,
+        image,
         work,
-        strings,
+        shstrndx,
         t,
     )
 }
 
 // What later stages ask of a section number is noted; a symbol's number is its row of the loaded table.
-fn group_stage(
+fn from_groups(
     r: Reserved,
     bytes: &mut [u8],
     names: &mut [u64],
@@ -187,20 +182,18 @@ fn group_stage(
     headers: &[u64],
     entries: &[u64],
     contents: &[u64],
-    file: &[u8],
-    strings: usize,
+    image: &[u8],
+    shstrndx: usize,
 ) -> Stage
-    ensures { λ t. ⌜ allOf (now (bytes .exit)) (now (names .exit)) (now (symbols .exit)) (now (sections .exit)) (now (inputs .exit)) (now (lists .exit)) (now (work .exit)) (now (ids .exit)) t
-        ≡ reservedStages (objectOf (now (headers .entry)) (now (entries .entry)) (now (contents .entry)) (now (file .entry)) strings)
-        (allOf (now (bytes .entry)) (now (names .entry)) (now (symbols .entry)) (now (sections .entry)) (now (inputs .entry)) (now (lists .entry)) (now (work .entry)) (now (ids .entry)) (goingOf (r .link)))
-        (Reserve.stateOf (now (sections .entry)) (now (work .entry)) r) ⌝ }
+    ensures { λ t. let c = cellsIn bytes names symbols sections inputs lists work ids in
+        ⌜ stageAfter c t ≡ reservedIn (objectIn headers entries contents image shstrndx) c r ⌝ }
 {
     let l = r.link;
     if r.number != 0 {
         return link::stopped(l, r.number, r.place);
     }
     merge_sections::note_tables(work, headers);
-    merge_sections::clear_absent(work, headers.len() / 8, entries);
+    merge_sections::clear_absent(work, headers.len() / elf_object::ROW_WIDTH, entries);
     let own = elf_object::table_entries(headers, entries, r.table);
     merge_groups(
         l,
@@ -215,8 +208,8 @@ fn group_stage(
         headers,
         own,
         contents,
-        file,
-        strings,
+        image,
+        shstrndx,
         elf_object::section_of(r.table),
     )
 }
@@ -235,12 +228,11 @@ pub fn merge_stages(
     headers: &[u64],
     entries: &[u64],
     contents: &[u64],
-    file: &[u8],
-    strings: usize,
+    image: &[u8],
+    shstrndx: usize,
 ) -> Stage
-    ensures { λ t. ⌜ allOf (now (bytes .exit)) (now (names .exit)) (now (symbols .exit)) (now (sections .exit)) (now (inputs .exit)) (now (lists .exit)) (now (work .exit)) (now (ids .exit)) t
-        ≡ stagesOf (objectOf (now (headers .entry)) (now (entries .entry)) (now (contents .entry)) (now (file .entry)) strings)
-        (allOf (now (bytes .entry)) (now (names .entry)) (now (symbols .entry)) (now (sections .entry)) (now (inputs .entry)) (now (lists .entry)) (now (work .entry)) (now (ids .entry)) (goingOf l)) ⌝ }
+    ensures { λ t. let c = cellsIn bytes names symbols sections inputs lists work ids in
+        ⌜ stageAfter c t ≡ stagesOf (objectIn headers entries contents image shstrndx) (linkBefore c l) ⌝ }
 {
     let first = Reserved {
         link: l,
@@ -249,7 +241,7 @@ pub fn merge_stages(
         place: 0,
     };
     let r = merge_sections::reserve_all(first, sections, work, headers);
-    group_stage(
+    from_groups(
         r,
         bytes,
         names,
@@ -262,7 +254,7 @@ pub fn merge_stages(
         headers,
         entries,
         contents,
-        file,
-        strings,
+        image,
+        shstrndx,
     )
 }

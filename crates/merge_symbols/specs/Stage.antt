@@ -9,13 +9,14 @@ use Rattle.link.specs.declared.Link.{Link}
 use Rattle.strings.specs.Lookup.{Looked}
 use Rattle.interner.specs.Names.{Store, storeOf, keepOf}
 use Rattle.symbol.specs.Codes.{successor}
-use Rattle.symbol_rows.specs.declared.Decision.{Decision}
-use Rattle.symbol_rows.specs.declared.Decision.the-variants.{Refuse, Nothing, Keep, Append, Replace, Amend}
-use Rattle.symbol_rows.specs.Decide.{refusalOf}
-use Rattle.symbol_rows.specs.Apply.{Table, tableOf, applyOf}
-use Rattle.elf_object.specs.Rows.{rowsIn, field, nameIn}
-use Rattle.merge_plan.specs.declared.Planned.{Planned}
-use Rattle.merge_plan.specs.Plan.{View, viewOf, Input, inputOf, plannedOf, fileAfter, placeOf}
+use Rattle.symbol_resolution.specs.declared.rows.Decision.{Decision}
+use Rattle.symbol_resolution.specs.declared.rows.Decision.the-variants.{Refuse, Nothing, Keep, Append, Replace, Amend}
+use Rattle.symbol_resolution.specs.Decide.{refusalOf}
+use Rattle.symbol_resolution.specs.Apply.{Table, tableOf, applyOf}
+use Rattle.elf_object.specs.Rows.{rowsIn, nameIn, entryNameAt}
+use Rattle.merge_symbols.specs.declared.plan.Planned.{Planned}
+use Rattle.merge_symbols.specs.Plan.{View, viewOf, Input, inputOf, plannedOf, fileAfter, placeOf}
+use Rattle.cells.specs.Slice.{Slice, before, after}
 use Rattle.merge_symbols.specs.declared.SymbolStage.{SymbolStage}
 
 -- the lent cells that the stage writes, and what it hands on
@@ -30,16 +31,27 @@ pub record State : Type 0 where
 abbrev pub stateOf : List ℕ → List ℕ → List ℕ → List ℕ → List ℕ → SymbolStage → State
 stateOf b n s x w st = record { bytes = b; names = n; symbols = s; sections = x; ids = w; stage = st }
 
+-- of lent slices before the call, and after it
+abbrev pub stateBefore : Slice → Slice → Slice → Slice → Slice → SymbolStage → State
+stateBefore b n s x w st = stateOf (before b) (before n) (before s) (before x) (before w) st
+
+abbrev pub stateAfter : Slice → Slice → Slice → Slice → Slice → SymbolStage → State
+stateAfter b n s x w st = stateOf (after b) (after n) (after s) (after x) (after w) st
+
 -- what it reads of the object: headers, the loaded table's entries, bytes, work rows, the section of the symbols' names
 pub record Object : Type 0 where
   pub headers : List ℕ
   pub entries : List ℕ
-  pub file : List ℕ
+  pub image : List ℕ
   pub work : List ℕ
-  pub strings : ℕ
+  pub symbolNames : ℕ
 
 abbrev pub objectOf : List ℕ → List ℕ → List ℕ → List ℕ → ℕ → Object
-objectOf h e f w s = record { headers = h; entries = e; file = f; work = w; strings = s }
+objectOf h e f w s = record { headers = h; entries = e; image = f; work = w; symbolNames = s }
+
+-- as it is lent
+abbrev pub objectIn : Slice → Slice → Slice → Slice → ℕ → Object
+objectIn h e f w s = objectOf (before h) (before e) (before f) (before w) s
 
 abbrev pub stageOf : Link → ℕ → ℕ → ℕ → SymbolStage
 stageOf l file number place = record { link = l; file = file; number = number; place = place }
@@ -74,6 +86,10 @@ pub record Accepted : Type 0 where
 abbrev pub acceptedOf : List ℕ → List ℕ → List ℕ → List ℕ → SymbolStage → Accepted
 acceptedOf n s x d st = record { names = n; symbols = s; sections = x; ids = d; stage = st }
 
+-- of lent slices after the call
+abbrev pub acceptedAfter : Slice → Slice → Slice → Slice → SymbolStage → Accepted
+acceptedAfter n s x d st = acceptedOf (after n) (after s) (after x) (after d) st
+
 abbrev pub accepting : Table → List ℕ → ℕ → Accepted
 accepting t ids file = acceptedOf (t .names) (t .symbols) (t .sections) ids (stageOf (t .link) file 0 0)
 
@@ -101,15 +117,15 @@ abbrev pub view : State → View
 view s = viewOf (s .bytes) (s .names) (s .symbols) (s .sections) (s .stage .link)
 
 -- judged on the state as it stands
-unfoldable pub namedOf : Input → State → List ℕ → ℕ → State
-namedOf o s x i = commitOf s x (plannedOf (view s) o x i (s .stage .file)) i
+unfoldable pub symbolNamed : Input → State → List ℕ → ℕ → State
+symbolNamed o s x i = commitOf s x (plannedOf (view s) o x i (s .stage .file)) i
 
 -- "symbol name missing" 9
 unfoldable pub lookedOf : Object → State → ℕ → Looked → State
-lookedOf o s i x = cond (x .found) (namedOf (inputOf (o .entries) (o .work)) s (x .name) i) (refuse s 9 i)
+lookedOf o s i x = cond (x .found) (symbolNamed (inputOf (o .entries) (o .work)) s (x .name) i) (refuse s 9 i)
 
 unfoldable pub symbolOf : Object → State → ℕ → State
-symbolOf o s i = lookedOf o s i (nameIn (o .headers) (o .file) (o .strings) (field (o .entries) i 0))
+symbolOf o s i = lookedOf o s i (nameIn (o .headers) (o .image) (o .symbolNames) (entryNameAt (o .entries) i))
 
 -- n symbols from the i-th on, up to the first refusal
 unfoldable pub symbolsFrom : Object → ℕ → ℕ → State → State

@@ -1,11 +1,16 @@
 // The symbol stage of a merge: each symbol's name, the decision, and then what it writes.
 ghost use mathlib.Core.Path.{_≡_};
-ghost use Rattle.symbol_rows.specs.Apply.{tableOf};
-ghost use Rattle.merge_plan.specs.Plan.{inputOf};
-ghost use Rattle.merge_symbols.specs.Stage.{stateOf, objectOf, stageOf, cellOf, acceptedOf, acceptRow, commitOf, namedOf, symbolOf, symbolsOf};
+ghost use Rattle.symbol_resolution.specs.Apply.{tableBefore};
+ghost use Rattle.merge_symbols.specs.Plan.{inputIn};
+ghost use Rattle.cells.specs.Slice.{before};
+ghost use Rattle.merge_symbols.specs.Stage.{stageOf, cellOf, acceptRow, commitOf, symbolNamed, symbolOf, symbolsOf, acceptedAfter, objectIn, stateAfter, stateBefore};
+
+mod plan;
+
+use crate::plan::Planned;
 use link::Link;
-use merge_plan::Planned;
-use symbol_rows::Decision;
+pub use plan::place_of;
+use symbol_resolution::Decision;
 
 // The link, and the file name's id and 1, between two symbols; number 0 as long as nothing is refused.
 pub struct SymbolStage {
@@ -51,13 +56,13 @@ fn accept(
     i: usize,
     file: u64,
 ) -> SymbolStage
-    ensures { λ r. ⌜ acceptedOf (now (names .exit)) (now (symbols .exit)) (now (sections .exit)) (now (ids .exit)) r ≡ acceptRow (tableOf (now (names .entry)) (now (symbols .entry)) (now (sections .entry)) l) (now (ids .entry)) p i file ⌝ }
+    ensures { λ r. ⌜ acceptedAfter names symbols sections ids r ≡ acceptRow (tableBefore names symbols sections l) (before ids) p i file ⌝ }
 {
     let row = p.row;
     let d = p.decision;
-    let done = symbol_write::apply(l, names, symbols, sections, row, d);
+    let done = symbol_resolution::apply(l, names, symbols, sections, row, d);
     cells::put(ids, i, cell_of(d, l.symbols));
-    stage_of(done, merge_plan::file_after(file, p.kind, p.id), 0, 0)
+    stage_of(done, crate::plan::file_after(file, p.kind, p.id), 0, 0)
 }
 
 // Writes what was decided: nothing on 2; else the name is issued; then, unless refused, the row, and the symbol's id into its cell.
@@ -72,19 +77,18 @@ fn commit(
     p: Planned,
     i: usize,
 ) -> SymbolStage
-    ensures { λ r. ⌜ stateOf (now (bytes .exit)) (now (names .exit)) (now (symbols .exit)) (now (sections .exit)) (now (ids .exit)) r
-        ≡ commitOf (stateOf (now (bytes .entry)) (now (names .entry)) (now (symbols .entry)) (now (sections .entry)) (now (ids .entry)) s) (now (x .entry)) p i ⌝ }
+    ensures { λ r. ⌜ stateAfter bytes names symbols sections ids r ≡ commitOf (stateBefore bytes names symbols sections ids s) (before x) p i ⌝ }
 {
     let l = s.link;
     let id = p.id;
     let d = p.decision;
-    let number = symbol_rows::refusal_of(d);
+    let number = symbol_resolution::refusal_of(d);
     if number == 2 {
         return stage_of(l, s.file, 2, i as u64);
     }
-    let kept = interner_issue::keep(l, bytes, names, id, x);
+    let kept = interner::keep(l, bytes, names, id, x);
     if number != 0 {
-        return stage_of(kept, s.file, number, merge_plan::place_of(number, id, i));
+        return stage_of(kept, s.file, number, crate::plan::place_of(number, id, i));
     }
     accept(kept, names, symbols, sections, ids, p, i, s.file)
 }
@@ -102,11 +106,11 @@ fn merge_named(
     x: &[u8],
     i: usize,
 ) -> SymbolStage
-    ensures { λ r. ⌜ stateOf (now (bytes .exit)) (now (names .exit)) (now (symbols .exit)) (now (sections .exit)) (now (ids .exit)) r
-        ≡ namedOf (inputOf (now (entries .entry)) (now (work .entry))) (stateOf (now (bytes .entry)) (now (names .entry)) (now (symbols .entry)) (now (sections .entry)) (now (ids .entry)) s) (now (x .entry)) i ⌝ }
+    ensures { λ r. ⌜ stateAfter bytes names symbols sections ids r
+        ≡ symbolNamed (inputIn entries work) (stateBefore bytes names symbols sections ids s) (before x) i ⌝ }
 {
     let l = s.link;
-    let p = merge_plan::plan_symbol(
+    let p = crate::plan::plan_symbol(
         l,
         bytes,
         names,
@@ -131,17 +135,17 @@ fn merge_symbol(
     ids: &mut [u64],
     headers: &[u64],
     entries: &[u64],
-    file: &[u8],
+    image: &[u8],
     work: &[u64],
-    strings: usize,
+    strtab: usize,
     i: usize,
 ) -> SymbolStage
-    ensures { λ r. ⌜ stateOf (now (bytes .exit)) (now (names .exit)) (now (symbols .exit)) (now (sections .exit)) (now (ids .exit)) r
-        ≡ symbolOf (objectOf (now (headers .entry)) (now (entries .entry)) (now (file .entry)) (now (work .entry)) strings) (stateOf (now (bytes .entry)) (now (names .entry)) (now (symbols .entry)) (now (sections .entry)) (now (ids .entry)) s) i ⌝ }
+    ensures { λ r. ⌜ stateAfter bytes names symbols sections ids r
+        ≡ symbolOf (objectIn headers entries image work strtab) (stateBefore bytes names symbols sections ids s) i ⌝ }
 {
-    let offset = cells::row_get(entries, i, 0) as usize;
+    let offset = cells::row_get(entries, i, elf_object::ENTRY_NAME) as usize;
     let mut found = false;
-    let x = elf_object::name_in(headers, file, strings, offset, &mut found);
+    let x = elf_object::name_in(headers, image, strtab, offset, &mut found);
     if found {
         return merge_named(s, bytes, names, symbols, sections, ids, entries, work, x, i);
     }
@@ -149,7 +153,7 @@ fn merge_symbol(
     stage_of(l, s.file, 9, i as u64)
 }
 
-// All symbols of the loaded table, whose names lie in string section `strings`, ascending, up to the first refusal.
+// All symbols of the loaded table, whose names lie in string section `strtab`, ascending, up to the first refusal.
 pub fn merge_symbols(
     s: SymbolStage,
     bytes: &mut [u8],
@@ -159,14 +163,14 @@ pub fn merge_symbols(
     ids: &mut [u64],
     headers: &[u64],
     entries: &[u64],
-    file: &[u8],
+    image: &[u8],
     work: &[u64],
-    strings: usize,
+    strtab: usize,
 ) -> SymbolStage
-    ensures { λ r. ⌜ stateOf (now (bytes .exit)) (now (names .exit)) (now (symbols .exit)) (now (sections .exit)) (now (ids .exit)) r
-        ≡ symbolsOf (objectOf (now (headers .entry)) (now (entries .entry)) (now (file .entry)) (now (work .entry)) strings) (stateOf (now (bytes .entry)) (now (names .entry)) (now (symbols .entry)) (now (sections .entry)) (now (ids .entry)) s) ⌝ }
+    ensures { λ r. ⌜ stateAfter bytes names symbols sections ids r
+        ≡ symbolsOf (objectIn headers entries image work strtab) (stateBefore bytes names symbols sections ids s) ⌝ }
 {
-    let rows = entries.len() / 8;
+    let rows = entries.len() / elf_object::ROW_WIDTH;
     let mut u = s;
     let mut i = 0;
     while i < rows {
@@ -179,9 +183,9 @@ pub fn merge_symbols(
             ids,
             headers,
             entries,
-            file,
+            image,
             work,
-            strings,
+            strtab,
             i,
         );
         let number = u.number;

@@ -9,4 +9,4 @@ use Rattle.object_requirement.specs.declared.Admission.{Admission}
 use Rattle.object_requirement.specs.Matches.{matchesOf}
 
 abbrev pub MatchesMeets : Link → List ℕ → List ℕ → List ℕ → List ℕ → List ℕ → List ℕ → Walk → ℕ → Admission → Type 0
-MatchesMeets l headers entries contents file index cells w e r = r ≡ matchesOf l headers entries contents file index cells w e
+MatchesMeets l headers entries contents image index cells w e r = r ≡ matchesOf l headers entries contents image index cells w e

@@ -1,3 +1,3 @@
 pub mod Matches
 pub mod Contract
-pub mod Ways
+pub mod Proof

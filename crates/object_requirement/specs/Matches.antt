@@ -2,11 +2,12 @@
 -- gABI's profile, document 02, 2026-02: "a weak or global definition, and nothing else, admits one". Which names are required is a test of
 -- their bytes.
 -- Assumes nothing.
-use Prim.Native.Nat.{ℕ, zero, suc, _+_, _/_}
+use Prim.Native.Nat.{ℕ, zero, suc, _+_}
 use mathlib.Core.Bool.{Bool, true, false, cond}
 use mathlib.Core.List.{List, [], _∷_}
 use lib.Dec.{eqb, leb, ltb}
 use lib.ListN.{length}
+use Rattle.cells.specs.Search.{anyFrom}
 use Rattle.strings.specs.Lookup.{Looked, looked, lookUp}
 use Rattle.link.specs.declared.Link.{Link}
 use Rattle.link.specs.declared.Refusal.{Refusal}
@@ -14,7 +15,9 @@ use Rattle.link.specs.Judge.{refused}
 use Rattle.link.specs.Said.{SaidWith}
 use Rattle.archive_walk.specs.declared.Walk.{Walk}
 use Rattle.archive_walk.specs.Names.{requiredOf}
-use Rattle.elf_object.specs.Rows.{rowsIn, field, kindAt, linkAt, stringsAt, tableEntries}
+use Rattle.gabi.specs.SymbolTable.{stbGlobal, stbWeak, shnUndef}
+use Rattle.elf_object.specs.Kinds.{symbolTable, stringTable, dynamicSymbols}
+use Rattle.elf_object.specs.Rows.{rowsIn, kindAt, linkAt, stringsAt, tableEntries, entryNameAt, bindingAt, sectionAt}
 use Rattle.elf_object.specs.Judge.{judgeOf}
 use Rattle.object_requirement.specs.declared.Admission.{Admission}
 use Rattle.object_requirement.specs.declared.Admission.the-variants.{Yes, No, Refused}
@@ -47,7 +50,7 @@ isSection headers n kind = cond (leb (rowsIn headers) n) false (cond (eqb (kindA
 
 -- the name at an offset of string section n
 unfoldable pub nameAnywhere : List ℕ → List ℕ → ℕ → ℕ → Looked
-nameAnywhere headers file n offset = cond (isSection headers n 4) (lookUp (stringsAt headers file n) offset) (looked [] false)
+nameAnywhere headers image n offset = cond (isSection headers n stringTable) (lookUp (stringsAt headers image n) offset) (looked [] false)
 
 -- a missing name is no required one
 unfoldable pub isRequired : (List ℕ → Bool) → Looked → Bool
@@ -55,49 +58,34 @@ isRequired required x = cond (x .found) (required (x .name)) false
 
 -- ---- symbols
 
--- f holds of one of the n numbers from i on
-unfoldable pub someFrom : (ℕ → Bool) → ℕ → ℕ → Bool
-someFrom f i zero = false
-someFrom f i (suc n) = cond (f i) true (someFrom f (i + 1) n)
-
--- gABI's numbers: two of a symbol's bindings, and the section of one that is no definition
-abbrev pub globalBinding : ℕ
-globalBinding = 1
-
-abbrev pub weakBinding : ℕ
-weakBinding = 2
-
-abbrev pub undefinedSection : ℕ
-undefinedSection = 0
-
 unfoldable pub definesName : ℕ → ℕ → Bool
 definesName binding section =
-    cond (eqb section undefinedSection) false (cond (eqb binding globalBinding) true (cond (eqb binding weakBinding) true false))
+    cond (eqb section shnUndef) false (cond (eqb binding stbGlobal) true (cond (eqb binding stbWeak) true false))
 
 -- May a symbol of that binding and section admit its member? The old profile: binding exactly 1, defined or not. The gABI's: a definition,
 -- weak or global, also one in a section that is excluded, or a common one.
 unfoldable pub admits : Bool → ℕ → ℕ → Bool
-admits gabi binding section = cond gabi (definesName binding section) (eqb binding globalBinding)
+admits gabi binding section = cond gabi (definesName binding section) (eqb binding stbGlobal)
 
 -- symbol i of a table whose names are in string section `names`, of any type
 unfoldable pub bearsRequired : Bool → List ℕ → List ℕ → ℕ → List ℕ → (List ℕ → Bool) → ℕ → Bool
-bearsRequired gabi headers file names symbols required i =
-    cond (admits gabi (field symbols i 1) (field symbols i 4)) (isRequired required (nameAnywhere headers file names (field symbols i 0))) false
+bearsRequired gabi headers image names symbols required i =
+    cond (admits gabi (bindingAt symbols i) (sectionAt symbols i)) (isRequired required (nameAnywhere headers image names (entryNameAt symbols i))) false
 
 unfoldable pub inTable : Bool → List ℕ → List ℕ → ℕ → List ℕ → (List ℕ → Bool) → Bool
-inTable gabi headers file names symbols required = someFrom (bearsRequired gabi headers file names symbols required) 0 (rowsIn symbols)
+inTable gabi headers image names symbols required = anyFrom (bearsRequired gabi headers image names symbols required) 0 (rowsIn symbols)
 
 -- a symbol table of either kind
 unfoldable pub isTable : List ℕ → ℕ → Bool
-isTable headers n = cond (isSection headers n 3) true (isSection headers n 10)
+isTable headers n = cond (isSection headers n symbolTable) true (isSection headers n dynamicSymbols)
 
 unfoldable pub inSection : Bool → List ℕ → List ℕ → List ℕ → (List ℕ → Bool) → ℕ → Bool
-inSection gabi headers entries file required n =
-    cond (isTable headers n) (inTable gabi headers file (linkAt headers n) (tableEntries headers entries (n + 1)) required) false
+inSection gabi headers entries image required n =
+    cond (isTable headers n) (inTable gabi headers image (linkAt headers n) (tableEntries headers entries (n + 1)) required) false
 
 -- the Rust's `HasGlobalSymbol`
 unfoldable pub hasGlobalSymbol : Bool → List ℕ → List ℕ → List ℕ → (List ℕ → Bool) → Bool
-hasGlobalSymbol gabi headers entries file required = someFrom (inSection gabi headers entries file required) 0 (rowsIn headers)
+hasGlobalSymbol gabi headers entries image required = anyFrom (inSection gabi headers entries image required) 0 (rowsIn headers)
 
 abbrev pub admission : Bool → Admission
 admission true = Yes
@@ -108,11 +96,11 @@ afterJudging r a = cond (eqb (r .number) 0) a (Refused r)
 
 -- an entry of the walk's index, which is lent with its rows; after "done" too
 unfoldable pub offeredIn : List ℕ → List ℕ → Walk → ℕ → Bool
-offeredIn s l w e = cond (ltb (length s) (w .length)) false (cond (ltb (length l / 8) (w .entries)) false (ltb e (w .entries)))
+offeredIn s l w e = cond (ltb (length s) (w .length)) false (cond (ltb (rowsIn l) (w .entries)) false (ltb e (w .entries)))
 
 -- 1 at the first row of the object that is out of range; 1 at 0 where the walk isn't as it was; then yes or no, over the names required of
 -- the member that entry e offered. Of the link its profile alone is looked at, so a broken one answers as another.
 unfoldable pub matchesOf : Link → List ℕ → List ℕ → List ℕ → List ℕ → List ℕ → List ℕ → Walk → ℕ → Admission
-matchesOf link headers entries contents file s l w e =
-    afterJudging (judgeOf headers entries (length contents) (length file))
-    (cond (offeredIn s l w e) (admission (hasGlobalSymbol (link .gabi) headers entries file (requiredOf s l w e))) (Refused (refused 1 0)))
+matchesOf link headers entries contents image s l w e =
+    afterJudging (judgeOf headers entries (length contents) (length image))
+    (cond (offeredIn s l w e) (admission (hasGlobalSymbol (link .gabi) headers entries image (requiredOf s l w e))) (Refused (refused 1 0)))

@@ -3,9 +3,9 @@
 // string section; of the link nothing is but its profile.
 ghost use mathlib.Core.Path.{_≡_};
 ghost use Prim.Native.Nat.{_+_, _<_};
-ghost use Rattle.cells.specs.Slice.{before};
+ghost use Rattle.cells.specs.Slice.{before, after};
 ghost use Rattle.strings.specs.Lookup.{looked};
-ghost use Rattle.elf_object.specs.Rows.{field, stringsAt};
+ghost use Rattle.elf_object.specs.Rows.{stringsAt, bindingAt, sectionAt};
 ghost use Rattle.archive_walk.specs.Names.{requiredOf};
 ghost use Rattle.object_requirement.specs.Matches.{isSection, nameAnywhere, definesName, admits, bearsRequired, inTable, isTable, inSection, hasGlobalSymbol, offeredIn};
 ghost use Rattle.object_requirement.specs.Contract.{MatchesMeets};
@@ -23,22 +23,22 @@ pub enum Admission {
 
 // Is there a section of that number and kind, excluded or not?
 fn is_section(headers: &[u64], n: usize, kind: u64) -> bool
-    ensures { λ r. ⌜ r ≡ isSection (now (headers .entry)) n kind ⌝ }
+    ensures { λ r. ⌜ r ≡ isSection (before headers) n kind ⌝ }
 {
-    if headers.len() / 8 <= n {
+    if headers.len() / elf_object::ROW_WIDTH <= n {
         return false;
     }
-    if cells::row_get(headers, n, 0) == kind {
+    if cells::row_get(headers, n, elf_object::HEADER_KIND) == kind {
         return true;
     }
     false
 }
 
 fn strings_at<'a>(headers: &[u64], file: &'a [u8], n: usize) -> &'a [u8]
-    ensures { λ r. ⌜ now r ≡ stringsAt (now (headers .entry)) (now (file .entry)) n ⌝ }
+    ensures { λ r. ⌜ now r ≡ stringsAt (before headers) (before file) n ⌝ }
 {
-    let first = cells::row_get(headers, n, 5);
-    let count = cells::row_get(headers, n, 6);
+    let first = cells::row_get(headers, n, elf_object::HEADER_FIRST);
+    let count = cells::row_get(headers, n, elf_object::HEADER_COUNT);
     byte_slices::part_of(file, first as usize, count as usize)
 }
 
@@ -50,9 +50,9 @@ fn name_anywhere<'a>(
     offset: usize,
     found: &mut bool,
 ) -> &'a [u8]
-    ensures { λ r. ⌜ looked (now r) (now (found .exit)) ≡ nameAnywhere (now (headers .entry)) (now (file .entry)) n offset ⌝ }
+    ensures { λ r. ⌜ looked (now r) (after found) ≡ nameAnywhere (before headers) (before file) n offset ⌝ }
 {
-    if is_section(headers, n, 4) {
+    if is_section(headers, n, elf_object::STRING_TABLE) {
         let table = strings_at(headers, file, n);
         return strings::get(table, offset, found);
     }
@@ -66,13 +66,13 @@ fn name_anywhere<'a>(
 fn defines_name(binding: u64, section: u64) -> bool
     ensures { λ r. ⌜ r ≡ definesName binding section ⌝ }
 {
-    if section == 0 {
+    if section == upcoming_symbol::SHN_UNDEF {
         return false;
     }
-    if binding == 1 {
+    if binding == upcoming_symbol::STB_GLOBAL {
         return true;
     }
-    if binding == 2 {
+    if binding == upcoming_symbol::STB_WEAK {
         return true;
     }
     false
@@ -80,21 +80,21 @@ fn defines_name(binding: u64, section: u64) -> bool
 
 // May symbol i of a table admit its member?
 fn may_admit(gabi: bool, symbols: &[u64], i: usize) -> bool
-    ensures { λ r. ⌜ r ≡ admits gabi (field (now (symbols .entry)) i 1) (field (now (symbols .entry)) i 4) ⌝ }
+    ensures { λ r. ⌜ r ≡ admits gabi (bindingAt (before symbols) i) (sectionAt (before symbols) i) ⌝ }
 {
-    let binding = cells::row_get(symbols, i, 1);
+    let binding = cells::row_get(symbols, i, elf_object::ENTRY_BINDING);
     if gabi {
-        let section = cells::row_get(symbols, i, 4);
+        let section = cells::row_get(symbols, i, elf_object::ENTRY_SECTION);
         return defines_name(binding, section);
     }
-    binding == 1
+    binding == upcoming_symbol::STB_GLOBAL
 }
 
 // Does symbol i of a table, whose names are in string section `names`, bear a required name?
 fn bears_required(
     gabi: bool,
     headers: &[u64],
-    file: &[u8],
+    image: &[u8],
     names: usize,
     symbols: &[u64],
     i: usize,
@@ -103,12 +103,12 @@ fn bears_required(
     cells: &[u64],
     entry: usize,
 ) -> bool
-    ensures { λ r. ⌜ r ≡ bearsRequired gabi (now (headers .entry)) (now (file .entry)) names (now (symbols .entry)) (requiredOf (now (index .entry)) (now (cells .entry)) w entry) i ⌝ }
+    ensures { λ r. ⌜ r ≡ bearsRequired gabi (before headers) (before image) names (before symbols) (requiredOf (before index) (before cells) w entry) i ⌝ }
 {
     if may_admit(gabi, symbols, i) {
         let mut found = false;
-        let offset = cells::row_get(symbols, i, 0) as usize;
-        let name = name_anywhere(headers, file, names, offset, &mut found);
+        let offset = cells::row_get(symbols, i, elf_object::ENTRY_NAME) as usize;
+        let name = name_anywhere(headers, image, names, offset, &mut found);
         if found {
             return archive_walk::is_required(w, index, cells, entry, name);
         }
@@ -119,7 +119,7 @@ fn bears_required(
 fn in_table(
     gabi: bool,
     headers: &[u64],
-    file: &[u8],
+    image: &[u8],
     names: usize,
     symbols: &[u64],
     w: Walk,
@@ -127,15 +127,15 @@ fn in_table(
     cells: &[u64],
     entry: usize,
 ) -> bool
-    ensures { λ r. ⌜ r ≡ inTable gabi (now (headers .entry)) (now (file .entry)) names (now (symbols .entry)) (requiredOf (now (index .entry)) (now (cells .entry)) w entry) ⌝ }
+    ensures { λ r. ⌜ r ≡ inTable gabi (before headers) (before image) names (before symbols) (requiredOf (before index) (before cells) w entry) ⌝ }
 {
-    let rows = symbols.len() / 8;
+    let rows = symbols.len() / elf_object::ROW_WIDTH;
     let mut i = 0;
     while i < rows {
         if bears_required(
             gabi,
             headers,
-            file,
+            image,
             names,
             symbols,
             i,
@@ -153,19 +153,19 @@ fn in_table(
 
 // A symbol table, dynamic or not.
 fn is_table(headers: &[u64], n: usize) -> bool
-    ensures { λ r. ⌜ r ≡ isTable (now (headers .entry)) n ⌝ }
+    ensures { λ r. ⌜ r ≡ isTable (before headers) n ⌝ }
 {
-    if is_section(headers, n, 3) {
+    if is_section(headers, n, elf_object::SYMBOL_TABLE) {
         return true;
     }
-    is_section(headers, n, 10)
+    is_section(headers, n, elf_object::DYNAMIC_SYMBOLS)
 }
 
 fn in_section(
     gabi: bool,
     headers: &[u64],
     entries: &[u64],
-    file: &[u8],
+    image: &[u8],
     n: usize,
     w: Walk,
     index: &[u8],
@@ -173,12 +173,12 @@ fn in_section(
     entry: usize,
 ) -> bool
     requires { ⌜ n < 0xffffffffffffffff ⌝ }
-    ensures { λ r. ⌜ r ≡ inSection gabi (now (headers .entry)) (now (entries .entry)) (now (file .entry)) (requiredOf (now (index .entry)) (now (cells .entry)) w entry) n ⌝ }
+    ensures { λ r. ⌜ r ≡ inSection gabi (before headers) (before entries) (before image) (requiredOf (before index) (before cells) w entry) n ⌝ }
 {
     if is_table(headers, n) {
-        let names = cells::row_get(headers, n, 3) as usize;
+        let names = cells::row_get(headers, n, elf_object::HEADER_LINK) as usize;
         let symbols = elf_object::table_entries(headers, entries, (n + 1) as u64);
-        return in_table(gabi, headers, file, names, symbols, w, index, cells, entry);
+        return in_table(gabi, headers, image, names, symbols, w, index, cells, entry);
     }
     false
 }
@@ -187,18 +187,18 @@ fn has_global_symbol(
     gabi: bool,
     headers: &[u64],
     entries: &[u64],
-    file: &[u8],
+    image: &[u8],
     w: Walk,
     index: &[u8],
     cells: &[u64],
     entry: usize,
 ) -> bool
-    ensures { λ r. ⌜ r ≡ hasGlobalSymbol gabi (now (headers .entry)) (now (entries .entry)) (now (file .entry)) (requiredOf (now (index .entry)) (now (cells .entry)) w entry) ⌝ }
+    ensures { λ r. ⌜ r ≡ hasGlobalSymbol gabi (before headers) (before entries) (before image) (requiredOf (before index) (before cells) w entry) ⌝ }
 {
-    let rows = headers.len() / 8;
+    let rows = headers.len() / elf_object::ROW_WIDTH;
     let mut n = 0;
     while n < rows {
-        if in_section(gabi, headers, entries, file, n, w, index, cells, entry) {
+        if in_section(gabi, headers, entries, image, n, w, index, cells, entry) {
             return true;
         }
         n += 1;
@@ -208,12 +208,12 @@ fn has_global_symbol(
 
 // Are the walk's index and its rows lent, and has it that entry? After "done" too: the names required of a member stay in the rows.
 fn is_offered(w: Walk, index: &[u8], cells: &[u64], entry: usize) -> bool
-    ensures { λ r. ⌜ r ≡ offeredIn (now (index .entry)) (now (cells .entry)) w entry ⌝ }
+    ensures { λ r. ⌜ r ≡ offeredIn (before index) (before cells) w entry ⌝ }
 {
     if index.len() < w.length {
         return false;
     }
-    if cells.len() / 8 < w.entries {
+    if cells.len() / elf_object::ROW_WIDTH < w.entries {
         return false;
     }
     if entry < w.entries {
@@ -229,20 +229,20 @@ pub fn matches(
     headers: &[u64],
     entries: &[u64],
     contents: &[u64],
-    file: &[u8],
+    image: &[u8],
     w: Walk,
     index: &[u8],
     cells: &[u64],
     entry: usize,
 ) -> Admission
-    ensures { λ r. ⌜ MatchesMeets l (before headers) (before entries) (before contents) (before file) (before index) (before cells) w entry r ⌝ }
+    ensures { λ r. ⌜ MatchesMeets l (before headers) (before entries) (before contents) (before image) (before index) (before cells) w entry r ⌝ }
 {
-    let judged = object_range::judge(headers, entries, contents.len(), file.len());
+    let judged = elf_object::judge(headers, entries, contents.len(), image.len());
     if judged.number != 0 {
         return Admission::Refused { refusal: judged };
     }
     if is_offered(w, index, cells, entry) {
-        if has_global_symbol(l.gabi, headers, entries, file, w, index, cells, entry) {
+        if has_global_symbol(l.gabi, headers, entries, image, w, index, cells, entry) {
             return Admission::Yes;
         }
         return Admission::No;

@@ -1,7 +1,8 @@
-// The walk lent by reference and moved on in place: the Rust's `PendingArchive::next(&mut self)`. Thin functions over `archive_pass::next`, proved by
+// The walk lent by reference and moved on in place: the Rust's `PendingArchive::next(&mut self)`. Thin functions over `archive_walk::next`, proved by
 // hand.
-ghost use Rattle.cells.specs.Slice.{before};
-ghost use Rattle.archive_walk.specs.Contract.{nextExit, tableIn, NextMeets};
+ghost use Rattle.cells.specs.Slice.{before, after};
+ghost use Rattle.archive_walk.specs.Contract.{nextExit, NextMeets};
+ghost use Rattle.archive_walk.specs.Look.{tableIn};
 use archive_walk::Moved;
 use archive_walk::Offer;
 use archive_walk::Walk;
@@ -17,10 +18,10 @@ pub fn next(
     names: &[u64],
     symbols: &[u64],
 ) -> Offer
-    ensures { λ r. ⌜ NextMeets (before index) (before cells) (now (walk .entry)) (tableIn l bytes names symbols) (nextExit cells (record { walk = now (walk .exit); offer = r })) ⌝ }
+    ensures { λ r. ⌜ NextMeets (before index) (before cells) (before walk) (tableIn l bytes names symbols) (nextExit cells (record { walk = after walk; offer = r })) ⌝ }
 {
     let w = *walk;
-    let m = archive_pass::next(w, index, cells, l, bytes, names, symbols);
+    let m = archive_walk::next(w, index, cells, l, bytes, names, symbols);
     *walk = m.walk;
     m.offer
 }

@@ -21,10 +21,14 @@ countOne sections n i count = cond (isBuilt sections n i) (count + 1) count
 unfoldable pub countBuilt : List ℕ → ℕ → ℕ
 countBuilt sections n = each (countOne sections n) n 0 0
 
+-- "up to 256 built sections not dropped"
+abbrev pub mostBuilt : ℕ
+mostBuilt = 256
+
 -- "30, more such sections than that, after 1, place 0"; so before 2
 unfoldable pub judgePlain : Refusal → ℕ → Refusal
 judgePlain head built =
-    cond (eqb (head .number) 22) head (cond (eqb (head .number) 1) head (cond (ltb 256 built) (refused 30 0) head))
+    cond (eqb (head .number) 22) head (cond (eqb (head .number) 1) head (cond (ltb mostBuilt built) (refused 30 0) head))
 
 abbrev pub judgedPlain : Link → Lists → List ℕ → List ℕ → List ℕ → Refusal
 judgedPlain l x symbols sections work = judgePlain (judged l x symbols sections work) (countBuilt sections (l .sections))

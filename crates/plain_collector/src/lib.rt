@@ -2,10 +2,10 @@
 ghost use mathlib.Core.Path.{_≡_};
 ghost use Prim.Native.Nat.{_≤_, _<_, _+_};
 ghost use lib.ListN.{length};
-ghost use Rattle.cells.specs.Slice.{before};
+ghost use Rattle.cells.specs.Slice.{before, after};
 ghost use Rattle.gc_sections.specs.Each.{each};
-ghost use Rattle.gc_sections.specs.Run.{judgeOf};
-ghost use Rattle.gc_sections.specs.Contract.{runExit, listsIn};
+ghost use Rattle.gc_sections.specs.Run.{judgeOf, listsIn};
+ghost use Rattle.gc_sections.specs.Contract.{runExit};
 ghost use Rattle.plain_collector.specs.Visit.{visitedOf, visited, markedLead, rootLead, entryLead, rootSymbol, rootSection, reachedOf};
 ghost use Rattle.plain_collector.specs.Run.{countOne, countBuilt, judgePlain};
 ghost use Rattle.plain_collector.specs.Contract.{PlainMeets};
@@ -35,7 +35,7 @@ fn visit(
     lead: Lead,
 ) -> Unbuilt
     requires { ⌜ l .sections ≤ length (now work) ⌝ }
-    ensures { λ r. ⌜ visitedOf (now (work .exit)) r ≡ visited l (now (symbols .entry)) (now (sections .entry)) (now (lists .entry)) lead (visitedOf (now (work .entry)) unbuilt) ⌝ }
+    ensures { λ r. ⌜ visitedOf (after work) r ≡ visited l (before symbols) (before sections) (before lists) lead (visitedOf (before work) unbuilt) ⌝ }
 {
     match lead {
         Lead::Nowhere => unbuilt,
@@ -43,8 +43,8 @@ fn visit(
             if sections::is_built(sections, l.sections, id) {
                 if cells::get(work, id.0) == 0 {
                     cells::put(work, id.0, 1);
-                    let first = cells::row_get(sections, id.0, 5) as usize;
-                    let count = cells::row_get(sections, id.0, 6) as usize;
+                    let first = cells::row_get(sections, id.0, sections::FIRST) as usize;
+                    let count = cells::row_get(sections, id.0, sections::COUNT) as usize;
                     let end = gc_sections::end_of(l.lists, first, count);
                     let mut lowest = unbuilt;
                     let mut j = first;
@@ -66,7 +66,7 @@ fn visit(
 // ---- roots
 
 fn marked_lead(symbols: &[u64], count: usize, marks: &[u8], i: usize) -> Lead
-    ensures { λ r. ⌜ r ≡ markedLead (now (symbols .entry)) count (now (marks .entry)) i ⌝ }
+    ensures { λ r. ⌜ r ≡ markedLead (before symbols) count (before marks) i ⌝ }
 {
     if i < marks.len() {
         if marks[i] != 0 {
@@ -77,7 +77,7 @@ fn marked_lead(symbols: &[u64], count: usize, marks: &[u8], i: usize) -> Lead
 }
 
 fn root_lead(bytes: &[u8], names: &[u64], sections: &[u64], n: usize, i: usize) -> Lead
-    ensures { λ r. ⌜ r ≡ rootLead (now (bytes .entry)) (now (names .entry)) (now (sections .entry)) n i ⌝ }
+    ensures { λ r. ⌜ r ≡ rootLead (before bytes) (before names) (before sections) n i ⌝ }
 {
     if gc_sections::is_root(bytes, names, sections, n, i) {
         return Lead::Section { id: SectionId(i) };
@@ -86,7 +86,7 @@ fn root_lead(bytes: &[u8], names: &[u64], sections: &[u64], n: usize, i: usize) 
 }
 
 fn entry_lead(symbols: &[u64], count: usize, entry: EntryPoint) -> Lead
-    ensures { λ r. ⌜ r ≡ entryLead (now (symbols .entry)) count entry ⌝ }
+    ensures { λ r. ⌜ r ≡ entryLead (before symbols) count entry ⌝ }
 {
     match entry {
         EntryPoint::None => Lead::Nowhere,
@@ -104,7 +104,8 @@ fn root_symbols(
     unbuilt: Unbuilt,
 ) -> Unbuilt
     requires { ⌜ l .sections ≤ length (now work) ⌝ }
-    ensures { λ r. ⌜ visitedOf (now (work .exit)) r ≡ each (rootSymbol l (now (symbols .entry)) (now (sections .entry)) (now (lists .entry)) (now (marks .entry))) (l .symbols) 0 (visitedOf (now (work .entry)) unbuilt) ⌝ }
+    ensures { λ r. ⌜ visitedOf (after work) r
+        ≡ each (rootSymbol l (before symbols) (before sections) (before lists) (before marks)) (l .symbols) 0 (visitedOf (before work) unbuilt) ⌝ }
 {
     let mut lowest = unbuilt;
     let mut i = 0;
@@ -127,7 +128,8 @@ fn root_sections(
     unbuilt: Unbuilt,
 ) -> Unbuilt
     requires { ⌜ l .sections ≤ length (now work) ⌝ }
-    ensures { λ r. ⌜ visitedOf (now (work .exit)) r ≡ each (rootSection l (now (bytes .entry)) (now (names .entry)) (now (symbols .entry)) (now (sections .entry)) (now (lists .entry))) (l .sections) 0 (visitedOf (now (work .entry)) unbuilt) ⌝ }
+    ensures { λ r. ⌜ visitedOf (after work) r
+        ≡ each (rootSection l (before bytes) (before names) (before symbols) (before sections) (before lists)) (l .sections) 0 (visitedOf (before work) unbuilt) ⌝ }
 {
     let mut lowest = unbuilt;
     let mut i = 0;
@@ -151,7 +153,8 @@ fn reach(
     work: &mut [u64],
 ) -> Unbuilt
     requires { ⌜ l .sections ≤ length (now work) ⌝ }
-    ensures { λ r. ⌜ visitedOf (now (work .exit)) r ≡ reachedOf l (now (bytes .entry)) (now (names .entry)) (now (symbols .entry)) (now (sections .entry)) (now (lists .entry)) (now (marks .entry)) entry (now (work .entry)) ⌝ }
+    ensures { λ r. ⌜ visitedOf (after work) r
+        ≡ reachedOf l (before bytes) (before names) (before symbols) (before sections) (before lists) (before marks) entry (before work) ⌝ }
 {
     gc_sections::clear(work, l.sections);
     let marked = root_symbols(l, symbols, sections, lists, marks, work, Unbuilt::None);
@@ -163,7 +166,7 @@ fn reach(
 // ---- the call
 
 fn count_built(sections: &[u64], n: usize) -> usize
-    ensures { λ r. ⌜ r ≡ countBuilt (now (sections .entry)) n ⌝ }
+    ensures { λ r. ⌜ r ≡ countBuilt (before sections) n ⌝ }
 {
     let mut count = 0;
     let mut i = 0;
@@ -176,7 +179,7 @@ fn count_built(sections: &[u64], n: usize) -> usize
 
 fn count_one(sections: &[u64], n: usize, i: usize, count: usize) -> usize
     requires { ⌜ count < n ⌝ }
-    ensures { λ r. ⌜ r ≡ countOne (now (sections .entry)) n i count ⌝ }
+    ensures { λ r. ⌜ r ≡ countOne (before sections) n i count ⌝ }
     ensures few { λ r. ⌜ r ≤ count + 1 ⌝ }
 {
     if sections::is_built(sections, n, SectionId(i)) {
@@ -187,7 +190,7 @@ fn count_one(sections: &[u64], n: usize, i: usize, count: usize) -> usize
 
 // Of the first collector's refusals 22 and 1 come before 30, 2 after it.
 fn judge(l: Link, lent: Lent, sections: &[u64], marks: usize, work: usize) -> Refusal
-    ensures { λ r. ⌜ r ≡ judgePlain (judgeOf l lent marks work) (countBuilt (now (sections .entry)) (l .sections)) ⌝ }
+    ensures { λ r. ⌜ r ≡ judgePlain (judgeOf l lent marks work) (countBuilt (before sections) (l .sections)) ⌝ }
 {
     let head = gc_sections::judge(l, lent, marks, work);
     if head.number == 22 {

@@ -3,13 +3,13 @@
 use Prim.Native.Nat.{ℕ, _+_, _<_, _≤_}
 use native.Mathlib.Omega.{arith}
 use mathlib.Core.Path.{_≡_, refl, sym, ap, _∙_}
-use mathlib.Core.Bool.{Bool, true, false}
+use mathlib.Core.Bool.{Bool, false}
 use mathlib.Core.List.{List, []}
 use borrow.Author.Tests.{ltb-true}
-use lib.Dec.{eqb, ltb}
+use lib.Dec.{ltb}
 use lib.ListN.{getD, length}
-use Rattle.cells.specs.Split.{by-test}
-use Rattle.byte_slices.specs.Ways.{apart}
+use Rattle.cells.specs.Proof.Split.{by-test}
+use Rattle.byte_slices.specs.Proof.Ways.{apart}
 use Rattle.link.specs.declared.Link.{Link}
 use Rattle.symbols.specs.Remove.{Rows, rowsOf}
 use Rattle.sections.specs.Rows.{isBuilt}
@@ -17,16 +17,15 @@ use Rattle.gc_sections.specs.declared.Lead.{Lead}
 use Rattle.gc_sections.specs.declared.Lead.the-variants.{Nowhere, Section}
 use Rattle.gc_sections.specs.declared.Unbuilt.{Unbuilt}
 use Rattle.gc_sections.specs.declared.Unbuilt.the-variants.{None, Lowest}
-use Rattle.gc_sections.specs.declared.Answer.{Answer}
 use Rattle.gc_sections.specs.declared.Answer.the-variants.{Dropped}
 use Rattle.gc_sections.specs.Each.{each}
 use Rattle.gc_sections.specs.Roots.{symbolId, leadOf}
-use Rattle.gc_sections.specs.Sweep.{Swept, sweptOf, Purged, droppedNow, purgeLead, purgeSymbol, sweepSections, purgeSymbols}
-use Rattle.gc_sections.specs.Run.{Left, left, Said, purgeOf, sweepOf, finishOf}
-use Rattle.plain_collector.specs.Depth.{built-below}
-use Rattle.gc_laws.specs.Paint.{paint, picked, paint-hit, paint-miss, paint-same}
-use Rattle.gc_laws.specs.Swept.{stateCell, itself, doomed, swept-is, each-same}
-use Rattle.gc_laws.specs.WorkCells.{picked-same}
+use Rattle.gc_sections.specs.Sweep.{Purged, droppedNow, purgeLead, purgeSymbol, purgeSymbols}
+use Rattle.gc_sections.specs.Run.{Left, left, purgeOf, sweepOf, finishOf}
+use Rattle.plain_collector.specs.Proof.Depth.{built-below}
+use Rattle.gc_laws.specs.Proof.Paint.{paint, picked, paint-hit, paint-miss, paint-same}
+use Rattle.gc_laws.specs.Proof.Swept.{stateCell, itself, doomed, swept-is, each-same}
+use Rattle.gc_laws.specs.Proof.WorkCells.{picked-same}
 
 -- the same sections and rows, the same answer, and of n sections the same work cells
 pub record Agrees (n : ℕ) (a b : Left) : Type 0 where
@@ -37,18 +36,8 @@ pub record Agrees (n : ℕ) (a b : Left) : Type 0 where
   pub said : a .said ≡ b .said
   pub work : (y : ℕ) → y < n → getD (a .work) y 0 ≡ getD (b .work) y 0
 
-pub agrees-same : (n : ℕ) (a b : Left) → a ≡ b → Agrees n a b
-agrees-same n a b e = record {
-  symbols = ap (λ (t : Left). t .symbols) e;
-  sections = ap (λ (t : Left). t .sections) e;
-  link = ap (λ (t : Left). t .link) e;
-  answer = ap (λ (t : Left). t .answer) e;
-  said = ap (λ (t : Left). t .said) e;
-  work = λ y h. ap (λ (t : Left). getD (t .work) y 0) e;
-}
-
 module _ (l : Link) (symbols sections : List ℕ) where
-  abbrev n : ℕ
+  abbrev pub n : ℕ
   n = l .sections
 
   module _ (w v : List ℕ) (agree : (y : ℕ) → y < n → getD w y 0 ≡ getD v y 0) (long : n ≤ length w) (wide : n ≤ length v) where

@@ -7,8 +7,8 @@ use lib.ListN.{replicate}
 use Rattle.byte_slices.specs.Bytes.{same}
 use Rattle.link.specs.Bounds.{lesser}
 use Rattle.link.specs.Judge as Link
-use Rattle.symbol_rows.specs.Decide.{sectionCell}
-use Rattle.symbol_rows.specs.Apply.{setSectionSymbol}
+use Rattle.symbol_resolution.specs.Decide.{sectionCell}
+use Rattle.symbol_resolution.specs.Apply.{setSectionSymbol}
 use Rattle.symbols.specs.Remove.{dropSection, removeRowOf}
 use Rattle.sections.specs.Rows.{stateAt, isBuilt}
 use Rattle.symbol.specs.Row as Symbol

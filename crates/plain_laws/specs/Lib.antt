@@ -1,4 +1,5 @@
 pub mod Visits
 pub mod Agrees
-pub mod Plain
+pub mod Terms
 pub mod Examples
+pub mod Proof

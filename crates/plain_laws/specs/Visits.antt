@@ -12,8 +12,8 @@ use borrow.Author.Tests.{eqb-true, eqb-false, ne-eqb}
 use lib.Dec.{eqb}
 use lib.ListN.{getD, set, length, length-set}
 use lib.Seq.{getD-set-same, getD-set-other}
-use Rattle.cells.specs.Split.{by-test}
-use Rattle.byte_slices.specs.Ways.{apart}
+use Rattle.cells.specs.Proof.Split.{by-test}
+use Rattle.byte_slices.specs.Proof.Ways.{apart}
 use Rattle.link.specs.declared.Link.{Link}
 use Rattle.link.specs.declared.SectionId.{SectionId}
 use Rattle.sections.specs.Rows.{firstAt, countAt, isBuilt}
@@ -27,10 +27,10 @@ use Rattle.gc_sections.specs.Roots.{symbolId, sectionId, leadOf, isRoot}
 use Rattle.gc_sections.specs.Reach.{lowerOf, endOf, clearCell}
 use Rattle.gc_sections.specs.Run.{Lists}
 use Rattle.plain_collector.specs.Visit.{Visited, visitedOf, unvisited, targetOf, enter, enterLead, visitOf, visited, markedLead, rootLead, entryLead, rootSymbol, rootSection, reachedOf}
-use Rattle.plain_collector.specs.Depth.{built-below, built-falls, relocationTo, follow, visit-is, visit-less}
+use Rattle.plain_collector.specs.Proof.Depth.{built-below, built-falls, relocationTo, follow, visit-is, visit-less}
 use Rattle.gc_laws.specs.Reached.{Names, Reached, marked, entered, root, step}
-use Rattle.gc_laws.specs.Own.{built-own, own-built, leads-own, own-leads, root-own, own-root}
-use Rattle.gc_laws.specs.Marks.{cleared, length-cleared}
+use Rattle.gc_laws.specs.Proof.Own.{built-own, own-built, leads-own, own-leads, root-own, own-root}
+use Rattle.gc_laws.specs.Proof.Marks.{cleared, length-cleared}
 use Rattle.gc_laws.specs.Walk.{lowered, lower-new, lower-old}
 use Rattle.gc_laws.specs.Exact.{elsewhere, lead-below, root-built, end-first, end-within, end-all}
 

@@ -1,20 +1,23 @@
 // Replays lists of the oracle: every answer is compared with the Rust's, and every row where a list has a dump. Cases of our own, with answers
-// that were worked out by hand, may also lend less of each store (replay_lend) and ask for a link's counts (replay_changes).
+// that were worked out by hand, may also lend less of each store and ask for a link's counts.
+mod changes;
+mod collection;
+mod dump;
+
 use archive_walk::Begun;
 use archive_walk::Moved;
 use archive_walk::Offer;
 use archive_walk::Walk;
-use link::Link;
 use object_requirement::Admission;
 use replay_archive::Archive;
-use replay_changes::Changed;
-use replay_lend::Lend;
 use replay_load::Library;
 use replay_object::Object;
 use replay_tally::Tally;
+use replay_text::Changed;
+use replay_words::Lend;
 use symbols::Symbols;
-use text_lines::Lines;
-use text_lines::Taken;
+use text::Lines;
+use text::Taken;
 
 // Shared: is what was announced last a shared object?
 struct State {
@@ -546,7 +549,7 @@ fn tell_input(s: State, rows: &mut [u64], file: &mut [u8], line: &[u8]) -> State
 
 fn tell(s: State, rows: &mut [u64], file: &mut [u8], line: &[u8]) -> State {
     if replay_words::is(line, 0, b"lend") {
-        return with_lend(s, replay_lend::told(line));
+        return with_lend(s, replay_words::told(line));
     }
     if replay_words::is(line, 0, b"conversion") {
         replay_object::convert(rows, line);
@@ -569,7 +572,7 @@ fn told(r: Replay, out: &[u8], rows: &mut [u64], file: &mut [u8], line: &[u8]) -
 fn changed(r: Replay, out: &mut [u8], c: Changed, s: State, line: &[u8]) -> Replay {
     let t = settled(r, out, line);
     let reply = c.reply;
-    let n = replay_changes::put_reply(out, reply);
+    let n = replay_text::put_reply(out, reply);
     answered(r, t, after(with_table(s, c.table), n), line)
 }
 
@@ -594,7 +597,7 @@ fn change(
     let s = before_change(r.state, line);
     let lend = s.lend;
     let conversion = replay_object::conversion(rows);
-    let c = replay_changes::change(
+    let c = changes::change(
         s.table,
         lend,
         bytes,
@@ -707,7 +710,7 @@ fn collect(
 ) -> Ran {
     let table = s.table;
     let lend = s.lend;
-    let o = replay_collect::collect(
+    let o = collection::collect(
         table.link,
         lend,
         out,
@@ -727,7 +730,7 @@ fn collect(
 
 fn put_begun(out: &mut [u8], begun: Begun) -> usize {
     match begun {
-        Begun::Ready { entries: _ } => text_out::put(out, 0, b"started"),
+        Begun::Ready { entries: _ } => text::put(out, 0, b"started"),
         Begun::Refused { refusal } => replay_text::put_refusal(out, 0, refusal),
     }
 }
@@ -749,7 +752,7 @@ fn next(
     index: &[u8],
 ) -> Ran {
     let table = s.table;
-    let o = archive_pass::next(s.walk, index, cells, table.link, bytes, names, symbols);
+    let o = archive_walk::next(s.walk, index, cells, table.link, bytes, names, symbols);
     moved(s, out, cells, index, o)
 }
 
@@ -763,8 +766,8 @@ fn moved(s: State, out: &mut [u8], cells: &[u64], index: &[u8], o: Moved) -> Ran
 
 fn put_admission(out: &mut [u8], a: Admission) -> usize {
     match a {
-        Admission::Yes => text_out::put(out, 0, b"yes"),
-        Admission::No => text_out::put(out, 0, b"no"),
+        Admission::Yes => text::put(out, 0, b"yes"),
+        Admission::No => text::put(out, 0, b"no"),
         Admission::Refused { refusal } => replay_text::put_refusal(out, 0, refusal),
     }
 }
@@ -838,12 +841,12 @@ fn look(
     let table = s.table;
     if class == 7 {
         let l = table.link;
-        let n = replay_rows::put_dump(l, out, bytes, names, symbols, sections, inputs, lists);
+        let n = dump::put_dump(l, out, bytes, names, symbols, sections, inputs, lists);
         return after(s, n);
     }
     after(
         s,
-        replay_changes::look(table, out, bytes, names, symbols, sections, line),
+        replay_text::look(table, out, bytes, names, symbols, sections, line),
     )
 }
 
@@ -863,14 +866,14 @@ fn lent_look(
     line: &[u8],
 ) -> Ran {
     let lend = s.lend;
-    let y = cells::part_of(symbols, 0, replay_lend::rows(lend.symbols, symbols.len()));
+    let y = cells::part_of(symbols, 0, replay_words::rows(lend.symbols, symbols.len()));
     if class == 5 {
         return walk(s, out, bytes, names, y, rows, file, line);
     }
     let t = cells::part_of(
         sections,
         0,
-        replay_lend::wide_rows(lend.sections, sections.len()),
+        replay_words::wide_rows(lend.sections, sections.len()),
     );
     look(s, class, out, bytes, names, y, t, inputs, lists, line)
 }
@@ -891,9 +894,9 @@ fn call(
     line: &[u8],
 ) -> Ran {
     let lend = s.lend;
-    let b = byte_slices::part_of(bytes, 0, replay_lend::cells(lend.bytes, bytes.len()));
-    let n = cells::part_of(names, 0, replay_lend::wide_rows(lend.names, names.len()));
-    let i = cells::part_of(lists, 0, replay_lend::cells(lend.lists, lists.len()));
+    let b = byte_slices::part_of(bytes, 0, replay_words::cells(lend.bytes, bytes.len()));
+    let n = cells::part_of(names, 0, replay_words::wide_rows(lend.names, names.len()));
+    let i = cells::part_of(lists, 0, replay_words::cells(lend.lists, lists.len()));
     if class == 4 {
         return collect(s, out, b, n, symbols, sections, i, work, line);
     }
@@ -1077,7 +1080,7 @@ fn goes_on(taken: Taken) -> bool {
 
 // The next line, counted.
 fn read_on(g: Reading, buf: &mut [u8]) -> Reading {
-    let step = text_lines::next_line(buf, g.lines);
+    let step = text::next_line(buf, g.lines);
     let r = g.replay;
     let state = r.state;
     let passing = r.passing;
@@ -1099,19 +1102,7 @@ fn read_on(g: Reading, buf: &mut [u8]) -> Reading {
 // Before the first link there is an empty one, which has no room.
 fn no_link() -> Symbols {
     Symbols {
-        link: Link {
-            names: 0,
-            bytes: 0,
-            symbols: 0,
-            sections: 0,
-            inputs: 0,
-            lists: 0,
-            chains: 0,
-            slots: 0,
-            key: 0,
-            gabi: false,
-            broken: false,
-        },
+        link: link::no_names(0, 0),
     }
 }
 
@@ -1123,7 +1114,7 @@ fn first_state() -> State {
         shared: false,
         archive: no_archive(),
         walk: no_walk(),
-        lend: replay_lend::all(),
+        lend: replay_words::all(),
     }
 }
 
@@ -1142,7 +1133,7 @@ fn first() -> Replay {
 fn unread() -> Reading {
     Reading {
         replay: first(),
-        lines: text_lines::new(),
+        lines: text::new(),
         taken: Taken::More,
         going: true,
     }

@@ -7,7 +7,7 @@ use lib.Dec.{eqb, ltb}
 use lib.ListN.{set, length}
 use Rattle.byte_slices.specs.Bytes.{copied}
 use Rattle.symbol.specs.Codes.{successor}
-use Rattle.text_fields.specs.Fields.{fieldOf}
+use Rattle.text.specs.Fields.{fieldOf}
 use Rattle.replay_words.specs.Words.{wordIs, numberAt, nameAt}
 use Rattle.replay_words.specs.Spelled.{Spelled, putBytes}
 use Rattle.replay_archive.specs.declared.Archive.{Archive}

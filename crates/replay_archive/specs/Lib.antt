@@ -1,4 +1,4 @@
 pub mod Index
-pub mod Ways
 pub mod Offer
 pub mod OfferWays
+pub mod Proof

@@ -1,7 +1,8 @@
 // An archive as a list tells it: its System V index in lent bytes, put together from entries or told whole; and what a walk over it answers.
 ghost use mathlib.Core.Path.{_≡_};
-ghost use Rattle.text_lines.specs.Text.{textOf};
+ghost use Rattle.text.specs.Text.{textOf};
 ghost use Rattle.replay_text.specs.Answers.{putAll};
+ghost use Rattle.cells.specs.Slice.{after, before};
 ghost use Rattle.replay_archive.specs.Offer.{entryName, tiedTo, beforeBest, nearerOf, nearestOf, nextRequired, requiredCount, namesFrom, requiredText, memberText, offerText};
 ghost use Rattle.replay_archive.specs.OfferWays.{spacedName};
 ghost use Rattle.replay_archive.specs.Index.{toldAs, putByte, putWord, offsetPlace, announceOf, named, entryOf, indexOf};
@@ -18,7 +19,7 @@ pub struct Archive {
 // ---- the index
 
 fn put_byte(file: &mut [u8], i: usize, v: u64)
-    ensures { λ _. ⌜ now (file .exit) ≡ putByte (now (file .entry)) i v ⌝ }
+    ensures { λ _. ⌜ after file ≡ putByte (before file) i v ⌝ }
 {
     if i < file.len() {
         file[i] = (v % 256) as u8;
@@ -27,7 +28,7 @@ fn put_byte(file: &mut [u8], i: usize, v: u64)
 
 // 32 bits, big-endian.
 fn put_word(file: &mut [u8], i: usize, v: u64)
-    ensures { λ _. ⌜ now (file .exit) ≡ putWord (now (file .entry)) i v ⌝ }
+    ensures { λ _. ⌜ after file ≡ putWord (before file) i v ⌝ }
 {
     put_byte(file, i, v / 16777216);
     put_byte(file, std::num::wrapping_add_usize(i, 1), v / 65536);
@@ -47,7 +48,7 @@ fn offset_place(k: usize) -> usize
 
 // `archive HASINDEX COUNT`
 pub fn announce(file: &mut [u8], at: usize, line: &[u8]) -> Archive
-    ensures { λ r. ⌜ toldAs (now (file .exit)) r ≡ announceOf (now (file .entry)) at (now (line .entry)) ⌝ }
+    ensures { λ r. ⌜ toldAs (after file) r ≡ announceOf (before file) at (before line) ⌝ }
 {
     if replay_words::is(line, 1, b"1") {
         let count = replay_words::number(line, 2);
@@ -67,7 +68,7 @@ pub fn announce(file: &mut [u8], at: usize, line: &[u8]) -> Archive
 
 // A name and its zero byte behind what is told.
 fn put_entry_name(file: &mut [u8], start: usize, a: Archive, name: &[u8]) -> Archive
-    ensures { λ r. ⌜ toldAs (now (file .exit)) r ≡ named (now (file .entry)) start a (now (name .entry)) ⌝ }
+    ensures { λ r. ⌜ toldAs (after file) r ≡ named (before file) start a (before name) ⌝ }
 {
     byte_slices::copy_in(file, start, name);
     put_byte(file, std::num::wrapping_add_usize(start, name.len()), 0);
@@ -81,7 +82,7 @@ fn put_entry_name(file: &mut [u8], start: usize, a: Archive, name: &[u8]) -> Arc
 
 // `entry OFFSET NAME`
 pub fn entry(file: &mut [u8], at: usize, a: Archive, line: &[u8]) -> Archive
-    ensures { λ r. ⌜ toldAs (now (file .exit)) r ≡ entryOf (now (file .entry)) at a (now (line .entry)) ⌝ }
+    ensures { λ r. ⌜ toldAs (after file) r ≡ entryOf (before file) at a (before line) ⌝ }
 {
     if a.length == 0 {
         return a;
@@ -94,10 +95,10 @@ pub fn entry(file: &mut [u8], at: usize, a: Archive, line: &[u8]) -> Archive
 
 // `index BYTES`
 pub fn told(file: &mut [u8], at: usize, a: Archive, line: &[u8]) -> Archive
-    ensures { λ r. ⌜ toldAs (now (file .exit)) r ≡ indexOf (now (file .entry)) at a (now (line .entry)) ⌝ }
+    ensures { λ r. ⌜ toldAs (after file) r ≡ indexOf (before file) at a (before line) ⌝ }
 {
     Archive {
-        length: replay_words::put_bytes(file, at, text_fields::field(line, 1)),
+        length: replay_words::put_bytes(file, at, text::field(line, 1)),
         entries: a.entries,
         offered: 0,
     }
@@ -107,7 +108,7 @@ pub fn told(file: &mut [u8], at: usize, a: Archive, line: &[u8]) -> Archive
 
 // Entries are given by their number and 1; 0 is none.
 fn name_of<'a>(index: &'a [u8], rows: &[u64], entry: usize) -> &'a [u8]
-    ensures { λ x. ⌜ now x ≡ entryName (now (index .entry)) (now (rows .entry)) entry ⌝ }
+    ensures { λ x. ⌜ now x ≡ entryName (before index) (before rows) entry ⌝ }
 {
     if entry == 0 {
         return byte_slices::part_of(index, 0, 0);
@@ -117,7 +118,7 @@ fn name_of<'a>(index: &'a [u8], rows: &[u64], entry: usize) -> &'a [u8]
 
 // Is entry k's name required of the member whose first entry is r?
 fn is_tied(rows: &[u64], r: u64, k: usize) -> bool
-    ensures { λ b. ⌜ b ≡ tiedTo (now (rows .entry)) r k ⌝ }
+    ensures { λ b. ⌜ b ≡ tiedTo (before rows) r k ⌝ }
 {
     if cells::row_get(rows, k, 0) == 1 {
         return cells::row_get(rows, k, 1) == r;
@@ -126,7 +127,7 @@ fn is_tied(rows: &[u64], r: u64, k: usize) -> bool
 }
 
 fn before_best(index: &[u8], rows: &[u64], best: usize, entry: usize) -> bool
-    ensures { λ b. ⌜ b ≡ beforeBest (now (index .entry)) (now (rows .entry)) best entry ⌝ }
+    ensures { λ b. ⌜ b ≡ beforeBest (before index) (before rows) best entry ⌝ }
 {
     if best == 0 {
         return true;
@@ -136,7 +137,7 @@ fn before_best(index: &[u8], rows: &[u64], best: usize, entry: usize) -> bool
 
 // Does the name stand behind the last one, and before the best so far?
 fn nearer(index: &[u8], rows: &[u64], last: usize, best: usize, entry: usize) -> bool
-    ensures { λ b. ⌜ b ≡ nearerOf (now (index .entry)) (now (rows .entry)) last best entry ⌝ }
+    ensures { λ b. ⌜ b ≡ nearerOf (before index) (before rows) last best entry ⌝ }
 {
     if last == 0 {
         return before_best(index, rows, best, entry);
@@ -148,7 +149,7 @@ fn nearer(index: &[u8], rows: &[u64], last: usize, best: usize, entry: usize) ->
 }
 
 fn nearest(index: &[u8], rows: &[u64], r: u64, last: usize, best: usize, k: usize) -> usize
-    ensures { λ t. ⌜ t ≡ nearestOf (now (index .entry)) (now (rows .entry)) r last best k ⌝ }
+    ensures { λ t. ⌜ t ≡ nearestOf (before index) (before rows) r last best k ⌝ }
 {
     if is_tied(rows, r, k) {
         let entry = symbol::next(k);
@@ -161,7 +162,7 @@ fn nearest(index: &[u8], rows: &[u64], r: u64, last: usize, best: usize, k: usiz
 
 // The required name that comes behind the last one, by bytes; 0 for none.
 fn next_required(index: &[u8], rows: &[u64], entries: usize, r: u64, last: usize) -> usize
-    ensures { λ t. ⌜ t ≡ nextRequired (now (index .entry)) (now (rows .entry)) entries r last ⌝ }
+    ensures { λ t. ⌜ t ≡ nextRequired (before index) (before rows) entries r last ⌝ }
 {
     let mut best = 0;
     let mut k = 0;
@@ -173,7 +174,7 @@ fn next_required(index: &[u8], rows: &[u64], entries: usize, r: u64, last: usize
 }
 
 fn required(index: &[u8], rows: &[u64], entries: usize, r: u64) -> usize
-    ensures { λ n. ⌜ n ≡ requiredCount (now (index .entry)) (now (rows .entry)) entries r ⌝ }
+    ensures { λ n. ⌜ n ≡ requiredCount (before index) (before rows) entries r ⌝ }
 {
     let mut n = 0;
     let mut last = next_required(index, rows, entries, r, 0);
@@ -190,13 +191,13 @@ fn required(index: &[u8], rows: &[u64], entries: usize, r: u64) -> usize
 }
 
 fn put_name(out: &mut [u8], n: usize, x: &[u8]) -> usize
-    ensures { λ k. ⌜ textOf (now (out .exit)) k ≡ putAll (textOf (now (out .entry)) n) (spacedName (now (x .entry))) ⌝ }
+    ensures { λ k. ⌜ textOf (after out) k ≡ putAll (textOf (before out) n) (spacedName (before x)) ⌝ }
 {
-    let k = text_out::put(out, n, b" ");
+    let k = text::put(out, n, b" ");
     if x.len() == 0 {
-        return text_out::put(out, k, b"-");
+        return text::put(out, k, b"-");
     }
-    text_out::put(out, k, x)
+    text::put(out, k, x)
 }
 
 // The first so many of the required names.
@@ -209,7 +210,7 @@ fn put_names(
     r: u64,
     count: usize,
 ) -> usize
-    ensures { λ k. ⌜ textOf (now (out .exit)) k ≡ putAll (textOf (now (out .entry)) from) (namesFrom (now (index .entry)) (now (rows .entry)) entries r count 0) ⌝ }
+    ensures { λ k. ⌜ textOf (after out) k ≡ putAll (textOf (before out) from) (namesFrom (before index) (before rows) entries r count 0) ⌝ }
 {
     let mut n = from;
     let mut last = 0;
@@ -230,7 +231,7 @@ fn put_required(
     entries: usize,
     r: u64,
 ) -> usize
-    ensures { λ k. ⌜ textOf (now (out .exit)) k ≡ putAll (textOf (now (out .entry)) from) (requiredText (now (index .entry)) (now (rows .entry)) entries r) ⌝ }
+    ensures { λ k. ⌜ textOf (after out) k ≡ putAll (textOf (before out) from) (requiredText (before index) (before rows) entries r) ⌝ }
 {
     let count = required(index, rows, entries, r);
     let n = replay_text::put_numbered(out, from, b" ", count as u64);
@@ -248,7 +249,7 @@ fn put_member(
     entry: usize,
     passes: usize,
 ) -> usize
-    ensures { λ k. ⌜ textOf (now (out .exit)) k ≡ putAll (textOf (now (out .entry)) 0) (memberText (now (index .entry)) (now (rows .entry)) entries offset entry passes) ⌝ }
+    ensures { λ k. ⌜ textOf (after out) k ≡ putAll (textOf (before out) 0) (memberText (before index) (before rows) entries offset entry passes) ⌝ }
 {
     let n = replay_text::put_numbered(out, 0, b"member ", offset);
     let k = replay_text::put_numbered(out, n, b" ", passes as u64);
@@ -257,7 +258,7 @@ fn put_member(
 }
 
 pub fn put_offer(out: &mut [u8], index: &[u8], rows: &[u64], entries: usize, offer: Offer) -> usize
-    ensures { λ k. ⌜ textOf (now (out .exit)) k ≡ putAll (textOf (now (out .entry)) 0) (offerText (now (index .entry)) (now (rows .entry)) entries offer) ⌝ }
+    ensures { λ k. ⌜ textOf (after out) k ≡ putAll (textOf (before out) 0) (offerText (before index) (before rows) entries offer) ⌝ }
 {
     match offer {
         Offer::Member {

@@ -1,3 +1,3 @@
 pub mod Told
 pub mod Load
-pub mod Ways
+pub mod Proof

@@ -5,17 +5,18 @@ use mathlib.Core.Bool.{cond}
 use mathlib.Core.List.{List, _++_}
 use lib.Dec.{ltb}
 use lib.ListN.{length, take, drop}
+use denote.Triple.Both.{Both}
 use Rattle.byte_slices.specs.Bytes.{part}
 use Rattle.link.specs.declared.Link.{Link}
 use Rattle.shared_objects.specs.declared.Answer.{Answer}
 use Rattle.shared_objects.specs.declared.Answer.the-variants as Answer
 use Rattle.shared_objects.specs.declared.Outcome.{Outcome}
-use Rattle.shared_objects.specs.Load.{All, allOf, Input, inputAs, Left, loadOf}
-use Rattle.replay_changes.specs.declared.Reply.{Reply}
-use Rattle.replay_changes.specs.declared.Reply.the-variants as Reply
-use Rattle.replay_changes.specs.declared.Changed.{Changed}
-use Rattle.replay_lend.specs.declared.Lend.{Lend}
-use Rattle.replay_lend.specs.Part as Part
+use Rattle.shared_objects.specs.Load.{All, allOf, Input, inputAs, Left, loadOf, Cells}
+use Rattle.replay_text.specs.declared.replies.Reply.{Reply}
+use Rattle.replay_text.specs.declared.replies.Reply.the-variants as Reply
+use Rattle.replay_text.specs.declared.replies.Changed.{Changed}
+use Rattle.replay_words.specs.declared.lend.Lend.{Lend}
+use Rattle.replay_words.specs.Part as Part
 use Rattle.replay_load.specs.declared.Library.{Library}
 
 -- ---- the answer
@@ -54,6 +55,10 @@ pub record Done : Type 0 where
 
 abbrev pub doneOf : List ℕ → List ℕ → List ℕ → List ℕ → List ℕ → List ℕ → List ℕ → Changed → Done
 doneOf b n s x i l m c = record { bytes = b; names = n; symbols = s; sections = x; inputs = i; lists = l; marks = m; changed = c }
+
+-- with the cells after the call
+abbrev pub doneAfter : Both Cells Cells → Changed → Done
+doneAfter c r = doneOf (c .exit .bytes) (c .exit .names) (c .exit .symbols) (c .exit .sections) (c .exit .inputs) (c .exit .lists) (c .exit .marks) r
 
 abbrev pub leftAs : Left → Done
 leftAs t =

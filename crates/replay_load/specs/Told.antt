@@ -6,10 +6,11 @@ use mathlib.Core.List.{List, [], _∷_}
 use lib.ListN.{set}
 use Rattle.cells.specs.Rows.{putRow}
 use Rattle.symbol.specs.Codes.{successor}
-use Rattle.text_fields.specs.Fields.{fieldOf}
-use Rattle.text_lines.specs.Text.{Text, putOf}
+use Rattle.text.specs.Fields.{fieldOf}
+use Rattle.text.specs.Text.{Text, putOf}
 use Rattle.replay_words.specs.Words.{wordIs, numberAt, nameAt}
 use Rattle.replay_words.specs.Spelled.{Spelled, putBytes}
+use Rattle.cells.specs.Slice.{Slice, after}
 use Rattle.replay_load.specs.declared.Library.{Library}
 
 -- an archived library without soname
@@ -58,6 +59,10 @@ pub record Told : Type 0 where
 
 abbrev pub toldOf : List ℕ → List ℕ → Library → Told
 toldOf c b l = record { cells = c; bytes = b; library = l }
+
+-- of lent slices after the call
+abbrev pub toldAfter : Slice → Slice → Library → Told
+toldAfter c b l = toldOf (after c) (after b) l
 
 abbrev pub moreOf : Library → ℕ → ℕ → ℕ → Library
 moreOf l entries needs bytes =

@@ -3,14 +3,15 @@
 // begins with the soname.
 ghost use mathlib.Core.Path.{_≡_};
 ghost use Prim.Native.Nat.{_-_};
-ghost use Rattle.text_lines.specs.Text.{textOf};
-ghost use Rattle.shared_objects.specs.Load.{allOf};
-ghost use Rattle.replay_load.specs.Told.{nothingTold, putEnded, sonameIn, bytesOf, cellsOf, toldOf, moreOf, announceOf, stringsOf, symbolOf, needOf};
-ghost use Rattle.replay_load.specs.Load.{changedAs, entryCells, doneOf, loadAll, loadLists, loadLent};
+ghost use Rattle.text.specs.Text.{textOf};
+ghost use Rattle.shared_objects.specs.Load.{cellsIn, linkBefore};
+ghost use Rattle.cells.specs.Slice.{after, before};
+ghost use Rattle.replay_load.specs.Told.{nothingTold, putEnded, sonameIn, bytesOf, cellsOf, moreOf, announceOf, stringsOf, symbolOf, needOf, toldAfter};
+ghost use Rattle.replay_load.specs.Load.{changedAs, entryCells, loadAll, loadLists, loadLent, doneAfter};
 use link::Link;
-use replay_changes::Changed;
-use replay_changes::Reply;
-use replay_lend::Lend;
+use replay_text::Changed;
+use replay_text::Reply;
+use replay_words::Lend;
 use symbols::Symbols;
 
 // Path: bytes of the library name. Soname: of the soname and its zero byte. Entries, needs, bytes: told so far.
@@ -59,14 +60,14 @@ fn span(from: usize, to: usize) -> usize
 
 // Bytes put behind the n bytes that are told, with a zero byte behind them; answers where they end.
 fn put_ended(bytes: &mut [u8], n: usize, x: &[u8]) -> usize
-    ensures { λ r. ⌜ textOf (now (bytes .exit)) r ≡ putEnded (now (bytes .entry)) n (now (x .entry)) ⌝ }
+    ensures { λ r. ⌜ textOf (after bytes) r ≡ putEnded (before bytes) n (before x) ⌝ }
 {
-    let end = text_out::put(bytes, n, x);
-    text_out::put(bytes, end, b"\0")
+    let end = text::put(bytes, n, x);
+    text::put(bytes, end, b"\0")
 }
 
 fn put_soname(bytes: &mut [u8], n: usize, line: &[u8]) -> usize
-    ensures { λ r. ⌜ textOf (now (bytes .exit)) r ≡ sonameIn (now (bytes .entry)) n (now (line .entry)) ⌝ }
+    ensures { λ r. ⌜ textOf (after bytes) r ≡ sonameIn (before bytes) n (before line) ⌝ }
 {
     if replay_words::is(line, 2, b"1") {
         return put_ended(bytes, n, replay_words::name_at(line, 3));
@@ -76,9 +77,9 @@ fn put_soname(bytes: &mut [u8], n: usize, line: &[u8]) -> usize
 
 // `library ASNEEDED OPTNAME OPTNAME SYMBOLS NEEDS`: the soname, the library name. A name that isn't there is written as the empty one.
 pub fn announce(bytes: &mut [u8], line: &[u8]) -> Library
-    ensures { λ r. ⌜ bytesOf (now (bytes .exit)) r ≡ announceOf (now (bytes .entry)) (now (line .entry)) ⌝ }
+    ensures { λ r. ⌜ bytesOf (after bytes) r ≡ announceOf (before bytes) (before line) ⌝ }
 {
-    let path = text_out::put(bytes, 0, replay_words::name_at(line, 5));
+    let path = text::put(bytes, 0, replay_words::name_at(line, 5));
     let end = put_soname(bytes, path, line);
     let soname = span(path, end);
     Library {
@@ -110,19 +111,19 @@ fn more(l: Library, entries: usize, needs: usize, bytes: usize) -> Library
 
 // `strings BYTES`
 pub fn strings(bytes: &mut [u8], l: Library, line: &[u8]) -> Library
-    ensures { λ r. ⌜ bytesOf (now (bytes .exit)) r ≡ stringsOf (now (bytes .entry)) l (now (line .entry)) ⌝ }
+    ensures { λ r. ⌜ bytesOf (after bytes) r ≡ stringsOf (before bytes) l (before line) ⌝ }
 {
-    let n = replay_words::put_bytes(bytes, l.bytes, text_fields::field(line, 1));
+    let n = replay_words::put_bytes(bytes, l.bytes, text::field(line, 1));
     let end = std::num::wrapping_add_usize(l.bytes, n);
     more(l, l.entries, l.needs, end)
 }
 
 // `symbol NAMEOFFSET BINDING TYPE VISIBILITY SECTION VALUE`
 pub fn symbol(cells: &mut [u64], l: Library, line: &[u8]) -> Library
-    ensures { λ r. ⌜ cellsOf (now (cells .exit)) r ≡ symbolOf (now (cells .entry)) l (now (line .entry)) ⌝ }
+    ensures { λ r. ⌜ cellsOf (after cells) r ≡ symbolOf (before cells) l (before line) ⌝ }
 {
     let offset = replay_words::number(line, 1);
-    cell_writes::row_store(
+    cells::row_store(
         cells,
         l.entries,
         std::num::wrapping_add_u64(offset, l.soname as u64),
@@ -139,7 +140,7 @@ pub fn symbol(cells: &mut [u64], l: Library, line: &[u8]) -> Library
 
 // `needs NAME`
 pub fn need(cells: &mut [u64], bytes: &mut [u8], l: Library, line: &[u8]) -> Library
-    ensures { λ r. ⌜ toldOf (now (cells .exit)) (now (bytes .exit)) r ≡ needOf (now (cells .entry)) (now (bytes .entry)) l (now (line .entry)) ⌝ }
+    ensures { λ r. ⌜ toldAfter cells bytes r ≡ needOf (before cells) (before bytes) l (before line) ⌝ }
 {
     let offset = span(l.path, l.bytes);
     cells::row_put(cells, ROWS, l.needs, offset as u64);
@@ -194,7 +195,8 @@ fn load_library(
     rows: &[u64],
     file: &[u8],
 ) -> Changed
-    ensures { λ r. ⌜ doneOf (now (bytes .exit)) (now (names .exit)) (now (symbols .exit)) (now (sections .exit)) (now (inputs .exit)) (now (lists .exit)) (now (marks .exit)) r ≡ loadAll library (now (rows .entry)) (now (file .entry)) (allOf (now (bytes .entry)) (now (names .entry)) (now (symbols .entry)) (now (sections .entry)) (now (inputs .entry)) (now (lists .entry)) (now (marks .entry)) l) ⌝ }
+    ensures { λ r. let c = cellsIn bytes names symbols sections inputs lists marks in
+        ⌜ doneAfter c r ≡ loadAll library (before rows) (before file) (linkBefore c l) ⌝ }
 {
     let path = byte_slices::part_of(file, 0, library.path);
     let strings = byte_slices::part_of(file, library.path, span(library.path, library.bytes));
@@ -235,11 +237,12 @@ fn load_lent(
     rows: &[u64],
     file: &[u8],
 ) -> Changed
-    ensures { λ r. ⌜ doneOf (now (bytes .exit)) (now (names .exit)) (now (symbols .exit)) (now (sections .exit)) (now (inputs .exit)) (now (lists .exit)) (now (marks .exit)) r ≡ loadLists lend library (now (rows .entry)) (now (file .entry)) (allOf (now (bytes .entry)) (now (names .entry)) (now (symbols .entry)) (now (sections .entry)) (now (inputs .entry)) (now (lists .entry)) (now (marks .entry)) l) ⌝ }
+    ensures { λ r. let c = cellsIn bytes names symbols sections inputs lists marks in
+        ⌜ doneAfter c r ≡ loadLists lend library (before rows) (before file) (linkBefore c l) ⌝ }
 {
-    let i = replay_lend::rows(lend.inputs, inputs.len());
-    let n = replay_lend::cells(lend.lists, lists.len());
-    let m = replay_lend::cells(lend.ids, marks.len());
+    let i = replay_words::rows(lend.inputs, inputs.len());
+    let n = replay_words::cells(lend.lists, lists.len());
+    let m = replay_words::cells(lend.ids, marks.len());
     load_library(
         l,
         library,
@@ -270,12 +273,13 @@ pub fn load(
     rows: &[u64],
     file: &[u8],
 ) -> Changed
-    ensures { λ r. ⌜ doneOf (now (bytes .exit)) (now (names .exit)) (now (symbols .exit)) (now (sections .exit)) (now (inputs .exit)) (now (lists .exit)) (now (marks .exit)) r ≡ loadLent lend library (now (rows .entry)) (now (file .entry)) (allOf (now (bytes .entry)) (now (names .entry)) (now (symbols .entry)) (now (sections .entry)) (now (inputs .entry)) (now (lists .entry)) (now (marks .entry)) l) ⌝ }
+    ensures { λ r. let c = cellsIn bytes names symbols sections inputs lists marks in
+        ⌜ doneAfter c r ≡ loadLent lend library (before rows) (before file) (linkBefore c l) ⌝ }
 {
-    let b = replay_lend::cells(lend.bytes, bytes.len());
-    let n = replay_lend::wide_rows(lend.names, names.len());
-    let s = replay_lend::rows(lend.symbols, symbols.len());
-    let t = replay_lend::wide_rows(lend.sections, sections.len());
+    let b = replay_words::cells(lend.bytes, bytes.len());
+    let n = replay_words::wide_rows(lend.names, names.len());
+    let s = replay_words::rows(lend.symbols, symbols.len());
+    let t = replay_words::wide_rows(lend.sections, sections.len());
     load_lent(
         l,
         lend,

@@ -3,18 +3,19 @@
 use Prim.Native.Nat.{ℕ}
 use mathlib.Core.List.{List, _++_}
 use lib.ListN.{length, take, drop}
+use denote.Triple.Both.{Both}
 use Rattle.byte_slices.specs.Bytes.{part}
 use Rattle.link.specs.declared.Link.{Link}
-use Rattle.merge_stages.specs.Stages.{All, allOf}
+use Rattle.merge_stages.specs.Stages.{All, allOf, Cells}
 use Rattle.merge_stages.specs.Stages as Stages
 use Rattle.merge_elf.specs.declared.Answer.{Answer}
 use Rattle.merge_elf.specs.declared.Answer.the-variants as Answer
 use Rattle.merge_elf.specs.Merge.{Left, mergeOf}
-use Rattle.replay_changes.specs.declared.Reply.{Reply}
-use Rattle.replay_changes.specs.declared.Reply.the-variants as Reply
-use Rattle.replay_changes.specs.declared.Changed.{Changed}
-use Rattle.replay_lend.specs.declared.Lend.{Lend}
-use Rattle.replay_lend.specs.Part as Part
+use Rattle.replay_text.specs.declared.replies.Reply.{Reply}
+use Rattle.replay_text.specs.declared.replies.Reply.the-variants as Reply
+use Rattle.replay_text.specs.declared.replies.Changed.{Changed}
+use Rattle.replay_words.specs.declared.lend.Lend.{Lend}
+use Rattle.replay_words.specs.Part as Part
 use Rattle.replay_object.specs.declared.Object.{Object}
 use Rattle.replay_object.specs.Told.{headersIn, entriesIn, contentsIn}
 
@@ -46,6 +47,11 @@ pub record Done : Type 0 where
 abbrev pub doneOf : List ℕ → List ℕ → List ℕ → List ℕ → List ℕ → List ℕ → List ℕ → List ℕ → Changed → Done
 doneOf b n s x i l w d c =
     record { bytes = b; names = n; symbols = s; sections = x; inputs = i; lists = l; work = w; ids = d; changed = c }
+
+-- with the cells after the call
+abbrev pub doneAfter : Both Cells Cells → Changed → Done
+doneAfter c r =
+    doneOf (c .exit .bytes) (c .exit .names) (c .exit .symbols) (c .exit .sections) (c .exit .inputs) (c .exit .lists) (c .exit .work) (c .exit .ids) r
 
 abbrev pub leftAs : Left → Done
 leftAs t =

@@ -1,13 +1,13 @@
 // The merge of an object that a list tells, with what it is lent of each store.
 ghost use mathlib.Core.Path.{_≡_};
-ghost use Rattle.link.specs.Judge.{goingOf};
-ghost use Rattle.merge_stages.specs.Stages.{allOf};
-ghost use Rattle.replay_merge.specs.Merge.{changedAs, doneOf, mergeAll, mergeLists, mergeLent};
+ghost use Rattle.merge_stages.specs.Stages.{cellsIn, linkBefore};
+ghost use Rattle.cells.specs.Slice.{before};
+ghost use Rattle.replay_merge.specs.Merge.{changedAs, mergeAll, mergeLists, mergeLent, doneAfter};
 use link::Link;
-use replay_changes::Changed;
-use replay_changes::Reply;
-use replay_lend::Lend;
 use replay_object::Object;
+use replay_text::Changed;
+use replay_text::Reply;
+use replay_words::Lend;
 use symbols::Symbols;
 
 fn merged(o: merge_elf::Outcome) -> Changed
@@ -42,9 +42,8 @@ fn merge_object(
     rows: &[u64],
     file: &[u8],
 ) -> Changed
-    ensures { λ r. ⌜ doneOf (now (bytes .exit)) (now (names .exit)) (now (symbols .exit)) (now (sections .exit)) (now (inputs .exit)) (now (lists .exit)) (now (work .exit)) (now (ids .exit)) r
-        ≡ mergeAll object (now (rows .entry)) (now (file .entry))
-        (allOf (now (bytes .entry)) (now (names .entry)) (now (symbols .entry)) (now (sections .entry)) (now (inputs .entry)) (now (lists .entry)) (now (work .entry)) (now (ids .entry)) (goingOf l)) ⌝ }
+    ensures { λ r. let c = cellsIn bytes names symbols sections inputs lists work ids in
+        ⌜ doneAfter c r ≡ mergeAll object (before rows) (before file) (linkBefore c l) ⌝ }
 {
     let headers = replay_object::headers(rows, object);
     let entries = replay_object::entries(rows, object);
@@ -84,14 +83,13 @@ fn merge_lent(
     rows: &[u64],
     file: &[u8],
 ) -> Changed
-    ensures { λ r. ⌜ doneOf (now (bytes .exit)) (now (names .exit)) (now (symbols .exit)) (now (sections .exit)) (now (inputs .exit)) (now (lists .exit)) (now (work .exit)) (now (ids .exit)) r
-        ≡ mergeLists lend object (now (rows .entry)) (now (file .entry))
-        (allOf (now (bytes .entry)) (now (names .entry)) (now (symbols .entry)) (now (sections .entry)) (now (inputs .entry)) (now (lists .entry)) (now (work .entry)) (now (ids .entry)) (goingOf l)) ⌝ }
+    ensures { λ r. let c = cellsIn bytes names symbols sections inputs lists work ids in
+        ⌜ doneAfter c r ≡ mergeLists lend object (before rows) (before file) (linkBefore c l) ⌝ }
 {
-    let i = replay_lend::rows(lend.inputs, inputs.len());
-    let n = replay_lend::cells(lend.lists, lists.len());
-    let w = replay_lend::rows(lend.work, work.len());
-    let d = replay_lend::cells(lend.ids, ids.len());
+    let i = replay_words::rows(lend.inputs, inputs.len());
+    let n = replay_words::cells(lend.lists, lists.len());
+    let w = replay_words::rows(lend.work, work.len());
+    let d = replay_words::cells(lend.ids, ids.len());
     merge_object(
         l,
         object,
@@ -123,14 +121,13 @@ pub fn merge(
     rows: &[u64],
     file: &[u8],
 ) -> Changed
-    ensures { λ r. ⌜ doneOf (now (bytes .exit)) (now (names .exit)) (now (symbols .exit)) (now (sections .exit)) (now (inputs .exit)) (now (lists .exit)) (now (work .exit)) (now (ids .exit)) r
-        ≡ mergeLent lend object (now (rows .entry)) (now (file .entry))
-        (allOf (now (bytes .entry)) (now (names .entry)) (now (symbols .entry)) (now (sections .entry)) (now (inputs .entry)) (now (lists .entry)) (now (work .entry)) (now (ids .entry)) (goingOf l)) ⌝ }
+    ensures { λ r. let c = cellsIn bytes names symbols sections inputs lists work ids in
+        ⌜ doneAfter c r ≡ mergeLent lend object (before rows) (before file) (linkBefore c l) ⌝ }
 {
-    let b = replay_lend::cells(lend.bytes, bytes.len());
-    let n = replay_lend::wide_rows(lend.names, names.len());
-    let s = replay_lend::rows(lend.symbols, symbols.len());
-    let t = replay_lend::wide_rows(lend.sections, sections.len());
+    let b = replay_words::cells(lend.bytes, bytes.len());
+    let n = replay_words::wide_rows(lend.names, names.len());
+    let s = replay_words::rows(lend.symbols, symbols.len());
+    let t = replay_words::wide_rows(lend.sections, sections.len());
     merge_lent(
         l,
         lend,

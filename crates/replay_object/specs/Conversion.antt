@@ -6,7 +6,7 @@ use mathlib.Core.List.{List, [], _∷_}
 use lib.Dec.{eqb}
 use lib.ListN.{set, length}
 use Rattle.byte_slices.specs.Bytes.{same}
-use Rattle.text_fields.specs.Fields.{fieldOf}
+use Rattle.text.specs.Fields.{fieldOf}
 use Rattle.replay_words.specs.Words.{numberIn}
 
 -- `none` and `unloaded`

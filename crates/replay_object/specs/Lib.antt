@@ -1,3 +1,3 @@
 pub mod Told
 pub mod Conversion
-pub mod Ways
+pub mod Proof

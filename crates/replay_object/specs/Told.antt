@@ -9,9 +9,10 @@ use lib.ListN.{set}
 use Rattle.byte_slices.specs.Bytes.{part}
 use Rattle.cells.specs.Rows.{putRow}
 use Rattle.symbol.specs.Codes.{successor}
-use Rattle.text_fields.specs.Fields.{fieldOf}
+use Rattle.text.specs.Fields.{fieldOf}
 use Rattle.replay_words.specs.Words.{wordIs, numberAt}
 use Rattle.replay_words.specs.Spelled.{Spelled, putBytes}
+use Rattle.cells.specs.Slice.{Slice, after}
 use Rattle.replay_object.specs.declared.Object.{Object}
 
 abbrev pub wrapped : ℕ → ℕ
@@ -111,6 +112,10 @@ pub record Told : Type 0 where
 
 abbrev pub toldAs : List ℕ → List ℕ → Object → Told
 toldAs c f o = record { cells = c; file = f; object = o }
+
+-- of lent slices after the call
+abbrev pub toldAfter : Slice → Slice → Object → Told
+toldAfter c f o = toldAs (after c) (after f) o
 
 -- s: its bytes in the file
 unfoldable pub sectionAfter : List ℕ → Object → List ℕ → Spelled → Told

@@ -2,7 +2,8 @@
 // behind them the conversion that direct adds are lent; the bytes of string tables in lent bytes.
 ghost use mathlib.Core.Path.{_≡_};
 ghost use Prim.Native.Nat.{_≤_};
-ghost use Rattle.replay_object.specs.Told.{announcedAs, announceOf, partCells, headersIn, entriesIn, contentsIn, conversionIn, flagOf, flagsOf, listedOf, putListOf, firstOf, countOf, headerOf, cellsAs, symbolOf, toldAs, sectionOf, moreOf};
+ghost use Rattle.cells.specs.Slice.{after, before};
+ghost use Rattle.replay_object.specs.Told.{announcedAs, announceOf, partCells, headersIn, entriesIn, contentsIn, conversionIn, flagOf, flagsOf, listedOf, putListOf, firstOf, countOf, headerOf, cellsAs, symbolOf, sectionOf, moreOf, toldAfter};
 ghost use Rattle.replay_object.specs.Conversion.{cellOf, convertOf};
 
 // Rows and the section-name string section that were announced; rows, contents and bytes that were told so far.
@@ -52,7 +53,7 @@ fn announced(sections: usize, symbols: usize, strings: usize) -> Object
 
 // `object SECTIONS SYMBOLS NAMES`
 pub fn announce(line: &[u8]) -> Object
-    ensures { λ r. ⌜ r ≡ announceOf (now (line .entry)) ⌝ }
+    ensures { λ r. ⌜ r ≡ announceOf (before line) ⌝ }
 {
     announced(
         replay_words::number(line, 1) as usize,
@@ -74,25 +75,25 @@ fn cells_of(rows: usize) -> usize
 }
 
 pub fn headers(cells: &[u64], o: Object) -> &[u64]
-    ensures { λ r. ⌜ now r ≡ headersIn (now (cells .entry)) o ⌝ }
+    ensures { λ r. ⌜ now r ≡ headersIn (before cells) o ⌝ }
 {
     cells::part_of(cells, 0, cells_of(o.sections))
 }
 
 pub fn entries(cells: &[u64], o: Object) -> &[u64]
-    ensures { λ r. ⌜ now r ≡ entriesIn (now (cells .entry)) o ⌝ }
+    ensures { λ r. ⌜ now r ≡ entriesIn (before cells) o ⌝ }
 {
     cells::part_of(cells, ENTRIES, cells_of(o.symbols))
 }
 
 pub fn contents(cells: &[u64], o: Object) -> &[u64]
-    ensures { λ r. ⌜ now r ≡ contentsIn (now (cells .entry)) o ⌝ }
+    ensures { λ r. ⌜ now r ≡ contentsIn (before cells) o ⌝ }
 {
     cells::part_of(cells, CONTENTS, o.contents)
 }
 
 pub fn conversion(cells: &[u64]) -> &[u64]
-    ensures { λ r. ⌜ now r ≡ conversionIn (now (cells .entry)) ⌝ }
+    ensures { λ r. ⌜ now r ≡ conversionIn (before cells) ⌝ }
 {
     cells::part_of(cells, CONVERSION, CONVERTED)
 }
@@ -100,7 +101,7 @@ pub fn conversion(cells: &[u64]) -> &[u64]
 // ---- rows
 
 fn flag(line: &[u8], k: usize, value: u64) -> u64
-    ensures { λ r. ⌜ r ≡ flagOf (now (line .entry)) k value ⌝ }
+    ensures { λ r. ⌜ r ≡ flagOf (before line) k value ⌝ }
     ensures small { λ r. ⌜ r ≤ value ⌝ }
 {
     if replay_words::is(line, k, b"1") {
@@ -111,13 +112,13 @@ fn flag(line: &[u8], k: usize, value: u64) -> u64
 
 // Exclude, retain, read, COMDAT.
 fn flags(line: &[u8]) -> u64
-    ensures { λ r. ⌜ r ≡ flagsOf (now (line .entry)) ⌝ }
+    ensures { λ r. ⌜ r ≡ flagsOf (before line) ⌝ }
 {
     flag(line, 3, 1) + flag(line, 4, 2) + flag(line, 5, 4) + flag(line, 8, 8)
 }
 
 fn put_listed(cells: &mut [u64], at: usize, line: &[u8], j: usize)
-    ensures { λ _. ⌜ now (cells .exit) ≡ listedOf (now (cells .entry)) at (now (line .entry)) j ⌝ }
+    ensures { λ _. ⌜ after cells ≡ listedOf (before cells) at (before line) j ⌝ }
 {
     let word = replay_words::number(line, std::num::wrapping_add_usize(11, j));
     cells::put(cells, std::num::wrapping_add_usize(at, j), word);
@@ -125,7 +126,7 @@ fn put_listed(cells: &mut [u64], at: usize, line: &[u8], j: usize)
 
 // The words of a section's LIST, at the contents' end; nothing where there is no room.
 fn put_list(cells: &mut [u64], at: usize, line: &[u8], count: usize)
-    ensures { λ _. ⌜ now (cells .exit) ≡ putListOf (now (cells .entry)) at (now (line .entry)) count ⌝ }
+    ensures { λ _. ⌜ after cells ≡ putListOf (before cells) at (before line) count ⌝ }
 {
     if PART < count {
         return;
@@ -139,7 +140,7 @@ fn put_list(cells: &mut [u64], at: usize, line: &[u8], count: usize)
 
 // Where a section's contents begin and how many they are: symbols by the LIST's words, bytes in the file, else among the contents.
 fn first(o: Object, line: &[u8], kind: u64) -> u64
-    ensures { λ r. ⌜ r ≡ firstOf o (now (line .entry)) kind ⌝ }
+    ensures { λ r. ⌜ r ≡ firstOf o (before line) kind ⌝ }
 {
     match kind {
         3 => replay_words::number(line, 11),
@@ -150,7 +151,7 @@ fn first(o: Object, line: &[u8], kind: u64) -> u64
 }
 
 fn count(line: &[u8], kind: u64, bytes: usize) -> u64
-    ensures { λ r. ⌜ r ≡ countOf (now (line .entry)) kind bytes ⌝ }
+    ensures { λ r. ⌜ r ≡ countOf (before line) kind bytes ⌝ }
 {
     match kind {
         3 => replay_words::number(line, 12),
@@ -161,10 +162,10 @@ fn count(line: &[u8], kind: u64, bytes: usize) -> u64
 }
 
 fn put_header(cells: &mut [u64], o: Object, line: &[u8], bytes: usize)
-    ensures { λ _. ⌜ now (cells .exit) ≡ headerOf (now (cells .entry)) o (now (line .entry)) bytes ⌝ }
+    ensures { λ _. ⌜ after cells ≡ headerOf (before cells) o (before line) bytes ⌝ }
 {
     let kind = replay_words::number(line, 1);
-    cell_writes::row_store(
+    cells::row_store(
         cells,
         o.headers,
         kind,
@@ -195,9 +196,9 @@ fn more(o: Object, headers: usize, entries: usize, contents: usize, bytes: usize
 
 // `section KIND NAMEOFFSET EXCLUDE RETAIN READ LINK INFO COMDAT BYTES LIST`
 pub fn section(cells: &mut [u64], file: &mut [u8], o: Object, line: &[u8]) -> Object
-    ensures { λ r. ⌜ toldAs (now (cells .exit)) (now (file .exit)) r ≡ sectionOf (now (cells .entry)) (now (file .entry)) o (now (line .entry)) ⌝ }
+    ensures { λ r. ⌜ toldAfter cells file r ≡ sectionOf (before cells) (before file) o (before line) ⌝ }
 {
-    let bytes = replay_words::put_bytes(file, o.bytes, text_fields::field(line, 9));
+    let bytes = replay_words::put_bytes(file, o.bytes, text::field(line, 9));
     let listed = replay_words::number(line, 10) as usize;
     let at = std::num::wrapping_add_usize(CONTENTS, o.contents);
     put_list(cells, at, line, listed);
@@ -213,9 +214,9 @@ pub fn section(cells: &mut [u64], file: &mut [u8], o: Object, line: &[u8]) -> Ob
 
 // `symbol NAMEOFFSET BINDING TYPE VISIBILITY SECTION VALUE`
 pub fn symbol(cells: &mut [u64], o: Object, line: &[u8]) -> Object
-    ensures { λ r. ⌜ cellsAs (now (cells .exit)) r ≡ symbolOf (now (cells .entry)) o (now (line .entry)) ⌝ }
+    ensures { λ r. ⌜ cellsAs (after cells) r ≡ symbolOf (before cells) o (before line) ⌝ }
 {
-    cell_writes::row_store(
+    cells::row_store(
         cells,
         std::num::wrapping_add_usize(ENTRIES / 8, o.entries),
         replay_words::number(line, 1),
@@ -234,7 +235,7 @@ pub fn symbol(cells: &mut [u64], o: Object, line: &[u8]) -> Object
 
 // A cell: 0 nothing, 1 not loaded, else the id and 2.
 fn cell_of(word: &[u8]) -> u64
-    ensures { λ r. ⌜ r ≡ cellOf (now (word .entry)) ⌝ }
+    ensures { λ r. ⌜ r ≡ cellOf (before word) ⌝ }
 {
     if word.len() == 0 {
         return 0;
@@ -250,15 +251,11 @@ fn cell_of(word: &[u8]) -> u64
 
 // `conversion WORD ...`
 pub fn convert(cells: &mut [u64], line: &[u8])
-    ensures { λ _. ⌜ now (cells .exit) ≡ convertOf (now (cells .entry)) (now (line .entry)) ⌝ }
+    ensures { λ _. ⌜ after cells ≡ convertOf (before cells) (before line) ⌝ }
 {
     let mut i = 0;
     while i < CONVERTED {
-        cells::put(
-            cells,
-            CONVERSION + i,
-            cell_of(text_fields::field(line, i + 1)),
-        );
+        cells::put(cells, CONVERSION + i, cell_of(text::field(line, i + 1)));
         i += 1;
     }
 }

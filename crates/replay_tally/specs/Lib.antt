@@ -1,3 +1,3 @@
 pub mod Answer
 pub mod Tally
-pub mod Ways
+pub mod Proof

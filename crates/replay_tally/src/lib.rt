@@ -1,6 +1,7 @@
 // For programs that replay the oracle's lists: how the answers compare with what a list expects, and the counts of it.
 ghost use mathlib.Core.Path.{_≡_};
 ghost use Rattle.symbol.specs.Codes.{successor};
+ghost use Rattle.cells.specs.Slice.{before};
 ghost use Rattle.replay_tally.specs.Answer.{lineLength, firstLine, meets};
 ghost use Rattle.replay_tally.specs.Tally.{started, onLine, onLink, answeredBy, differing, pendingOf, pastOf, comparedOf, compareOf, settleOf};
 
@@ -18,7 +19,7 @@ pub struct Tally {
 // ---- comparing
 
 fn line_length(text: &[u8]) -> usize
-    ensures { λ r. ⌜ r ≡ lineLength (now (text .entry)) ⌝ }
+    ensures { λ r. ⌜ r ≡ lineLength (before text) ⌝ }
 {
     let mut i = 0;
     while i < text.len() {
@@ -32,7 +33,7 @@ fn line_length(text: &[u8]) -> usize
 
 // The text before the first line end, or all of it.
 pub fn first_line(text: &[u8]) -> &[u8]
-    ensures { λ r. ⌜ now r ≡ firstLine (now (text .entry)) ⌝ }
+    ensures { λ r. ⌜ now r ≡ firstLine (before text) ⌝ }
     ensures place { λ r. ⌜ r .ptr .0 ≡ text .entry .ptr .0 ⌝ }
 {
     byte_slices::part_of(text, 0, line_length(text))
@@ -40,7 +41,7 @@ pub fn first_line(text: &[u8]) -> &[u8]
 
 // Is the answer what is expected? Where that ends in `?`, what stands there isn't compared.
 pub fn same_answer(expected: &[u8], got: &[u8]) -> bool
-    ensures { λ r. ⌜ r ≡ meets (now (expected .entry)) (now (got .entry)) ⌝ }
+    ensures { λ r. ⌜ r ≡ meets (before expected) (before got) ⌝ }
 {
     let n = expected.len();
     if n == 0 {
@@ -149,7 +150,7 @@ pub fn differs(t: Tally, expected: &[u8], got: &[u8]) -> Tally
 }
 
 fn pending<'a>(text: &'a [u8], from: usize, to: usize) -> &'a [u8]
-    ensures { λ r. ⌜ now r ≡ pendingOf (now (text .entry)) from to ⌝ }
+    ensures { λ r. ⌜ now r ≡ pendingOf (before text) from to ⌝ }
 {
     if to < from {
         return byte_slices::part_of(text, 0, 0);
@@ -185,7 +186,7 @@ fn compared(t: Tally, len: usize) -> Tally
 
 // An expected answer against the next one of the text.
 pub fn compare(t: Tally, text: &[u8], expected: &[u8]) -> Tally
-    ensures { λ r. ⌜ r ≡ compareOf t (now (text .entry)) (now (expected .entry)) ⌝ }
+    ensures { λ r. ⌜ r ≡ compareOf t (before text) (before expected) ⌝ }
 {
     let got = first_line(pending(text, t.from, t.to));
     let next = compared(t, got.len());

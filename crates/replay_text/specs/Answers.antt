@@ -6,7 +6,7 @@ use mathlib.Core.List.{List, [], _∷_, _++_}
 use lib.Dec.{eqb, ltb}
 use lib.ListN.{length}
 use lib.IntN.{ℤ}
-use Rattle.text_lines.specs.Text.{Text, putOf}
+use Rattle.text.specs.Text.{Text, putOf}
 use Rattle.link.specs.declared.Refusal.{Refusal}
 use Rattle.interner.specs.Names.{nameAt}
 use Rattle.symbol.specs.Offset.{wordOf}

@@ -1,9 +1,17 @@
 // For programs that replay the oracle's lists: answers as the lists write them.
 ghost use mathlib.Core.Path.{_≡_};
-ghost use Rattle.text_lines.specs.Text.{textOf};
+ghost use Rattle.text.specs.Text.{textOf};
+ghost use Rattle.cells.specs.Slice.{after, before};
 ghost use Rattle.replay_text.specs.Answers.{putAll, numbered, refusalText, nameText, signedText, valueText, flagged, visibilityText, typeText, kindText, fileText, headText, symbolText};
+
+mod replies;
+
 use link::Interned;
 use link::Refusal;
+pub use replies::Changed;
+pub use replies::Reply;
+pub use replies::look;
+pub use replies::put_reply;
 use symbol::SttFile;
 use symbol::Symbol;
 use symbol::SymbolType;
@@ -11,32 +19,32 @@ use symbol::SymbolValue;
 use symbol::SymbolVisibility;
 
 pub fn put_numbered(buf: &mut [u8], n: usize, word: &[u8], v: u64) -> usize
-    ensures { λ r. ⌜ textOf (now (buf .exit)) r ≡ putAll (textOf (now (buf .entry)) n) (numbered (now (word .entry)) v) ⌝ }
+    ensures { λ r. ⌜ textOf (after buf) r ≡ putAll (textOf (before buf) n) (numbered (before word) v) ⌝ }
 {
-    let k = text_out::put(buf, n, word);
-    text_out::put_decimal(buf, k, v)
+    let k = text::put(buf, n, word);
+    text::put_decimal(buf, k, v)
 }
 
 pub fn put_refusal(buf: &mut [u8], n: usize, r: Refusal) -> usize
-    ensures { λ k. ⌜ textOf (now (buf .exit)) k ≡ putAll (textOf (now (buf .entry)) n) (refusalText r) ⌝ }
+    ensures { λ k. ⌜ textOf (after buf) k ≡ putAll (textOf (before buf) n) (refusalText r) ⌝ }
 {
     let k = put_numbered(buf, n, b"refused ", r.number);
     put_numbered(buf, k, b" ", r.place)
 }
 
 pub fn put_name(buf: &mut [u8], n: usize, bytes: &[u8], names: &[u64], id: Interned) -> usize
-    ensures { λ r. ⌜ textOf (now (buf .exit)) r ≡ putAll (textOf (now (buf .entry)) n) (nameText (now (bytes .entry)) (now (names .entry)) (id .0)) ⌝ }
+    ensures { λ r. ⌜ textOf (after buf) r ≡ putAll (textOf (before buf) n) (nameText (before bytes) (before names) (id .0)) ⌝ }
 {
     let name = interner::name_of(bytes, names, id);
     if name.len() == 0 {
-        return text_out::put(buf, n, b"-");
+        return text::put(buf, n, b"-");
     }
-    text_out::put(buf, n, name)
+    text::put(buf, n, name)
 }
 
 // An offset, by its word.
 fn put_offset(buf: &mut [u8], n: usize, word: u64) -> usize
-    ensures { λ r. ⌜ textOf (now (buf .exit)) r ≡ putAll (textOf (now (buf .entry)) n) (signedText word) ⌝ }
+    ensures { λ r. ⌜ textOf (after buf) r ≡ putAll (textOf (before buf) n) (signedText word) ⌝ }
 {
     if word < 0x8000_0000_0000_0000 {
         return put_numbered(buf, n, b" + ", word);
@@ -45,10 +53,10 @@ fn put_offset(buf: &mut [u8], n: usize, word: u64) -> usize
 }
 
 fn put_value(buf: &mut [u8], n: usize, v: SymbolValue) -> usize
-    ensures { λ r. ⌜ textOf (now (buf .exit)) r ≡ putAll (textOf (now (buf .entry)) n) (valueText v) ⌝ }
+    ensures { λ r. ⌜ textOf (after buf) r ≡ putAll (textOf (before buf) n) (valueText v) ⌝ }
 {
     match v {
-        SymbolValue::Null => text_out::put(buf, n, b" null"),
+        SymbolValue::Null => text::put(buf, n, b" null"),
         SymbolValue::Absolute { value } => put_numbered(buf, n, b" abs ", value),
         SymbolValue::Section { section } => put_numbered(buf, n, b" sec ", section.0 as u64),
         SymbolValue::SectionRelative { section, offset } => {
@@ -59,33 +67,33 @@ fn put_value(buf: &mut [u8], n: usize, v: SymbolValue) -> usize
             let k = put_numbered(buf, n, b" addr ", section.0 as u64);
             put_numbered(buf, k, b" ", address)
         }
-        SymbolValue::SectionNotLoaded => text_out::put(buf, n, b" notloaded"),
-        SymbolValue::ExternallyDefined => text_out::put(buf, n, b" external"),
+        SymbolValue::SectionNotLoaded => text::put(buf, n, b" notloaded"),
+        SymbolValue::ExternallyDefined => text::put(buf, n, b" external"),
         SymbolValue::Undefined { zero } => {
             if zero {
-                return text_out::put(buf, n, b" undef 1");
+                return text::put(buf, n, b" undef 1");
             }
-            text_out::put(buf, n, b" undef 0")
+            text::put(buf, n, b" undef 0")
         }
     }
 }
 
 fn put_flagged(buf: &mut [u8], n: usize, word: &[u8], flag: bool) -> usize
-    ensures { λ r. ⌜ textOf (now (buf .exit)) r ≡ putAll (textOf (now (buf .entry)) n) (flagged (now (word .entry)) flag) ⌝ }
+    ensures { λ r. ⌜ textOf (after buf) r ≡ putAll (textOf (before buf) n) (flagged (before word) flag) ⌝ }
 {
-    let k = text_out::put(buf, n, word);
+    let k = text::put(buf, n, word);
     if flag {
-        return text_out::put(buf, k, b"1");
+        return text::put(buf, k, b"1");
     }
-    text_out::put(buf, k, b"0")
+    text::put(buf, k, b"0")
 }
 
 // Class and hidden.
 fn put_visibility(buf: &mut [u8], n: usize, v: SymbolVisibility) -> usize
-    ensures { λ r. ⌜ textOf (now (buf .exit)) r ≡ putAll (textOf (now (buf .entry)) n) (visibilityText v) ⌝ }
+    ensures { λ r. ⌜ textOf (after buf) r ≡ putAll (textOf (before buf) n) (visibilityText v) ⌝ }
 {
     match v {
-        SymbolVisibility::Local => text_out::put(buf, n, b" local 0"),
+        SymbolVisibility::Local => text::put(buf, n, b" local 0"),
         SymbolVisibility::Global { weak, hidden } => {
             if weak {
                 return put_flagged(buf, n, b" weak ", hidden);
@@ -96,30 +104,30 @@ fn put_visibility(buf: &mut [u8], n: usize, v: SymbolVisibility) -> usize
 }
 
 fn put_type(buf: &mut [u8], n: usize, t: SymbolType) -> usize
-    ensures { λ r. ⌜ textOf (now (buf .exit)) r ≡ putAll (textOf (now (buf .entry)) n) (typeText t) ⌝ }
+    ensures { λ r. ⌜ textOf (after buf) r ≡ putAll (textOf (before buf) n) (typeText t) ⌝ }
 {
     match t {
-        SymbolType::NoType => text_out::put(buf, n, b" 0"),
-        SymbolType::Object => text_out::put(buf, n, b" 1"),
-        SymbolType::Function => text_out::put(buf, n, b" 2"),
-        SymbolType::Section => text_out::put(buf, n, b" 3"),
+        SymbolType::NoType => text::put(buf, n, b" 0"),
+        SymbolType::Object => text::put(buf, n, b" 1"),
+        SymbolType::Function => text::put(buf, n, b" 2"),
+        SymbolType::Section => text::put(buf, n, b" 3"),
     }
 }
 
 fn put_file(buf: &mut [u8], n: usize, bytes: &[u8], names: &[u64], f: SttFile) -> usize
-    ensures { λ r. ⌜ textOf (now (buf .exit)) r ≡ putAll (textOf (now (buf .entry)) n) (fileText (now (bytes .entry)) (now (names .entry)) f) ⌝ }
+    ensures { λ r. ⌜ textOf (after buf) r ≡ putAll (textOf (before buf) n) (fileText (before bytes) (before names) f) ⌝ }
 {
     match f {
-        SttFile::None => text_out::put(buf, n, b" 0 -"),
+        SttFile::None => text::put(buf, n, b" 0 -"),
         SttFile::Name { id } => {
-            let k = text_out::put(buf, n, b" 1 ");
+            let k = text::put(buf, n, b" 1 ");
             put_name(buf, k, bytes, names, id)
         }
     }
 }
 
 fn put_kind(buf: &mut [u8], n: usize, s: Symbol) -> usize
-    ensures { λ r. ⌜ textOf (now (buf .exit)) r ≡ putAll (textOf (now (buf .entry)) n) (kindText s) ⌝ }
+    ensures { λ r. ⌜ textOf (after buf) r ≡ putAll (textOf (before buf) n) (kindText s) ⌝ }
 {
     let visibility = s.visibility;
     let k = put_visibility(buf, n, visibility);
@@ -129,17 +137,17 @@ fn put_kind(buf: &mut [u8], n: usize, s: Symbol) -> usize
 
 // `symbol ID NAME`
 fn put_head(buf: &mut [u8], n: usize, bytes: &[u8], names: &[u64], s: Symbol) -> usize
-    ensures { λ r. ⌜ textOf (now (buf .exit)) r ≡ putAll (textOf (now (buf .entry)) n) (headText (now (bytes .entry)) (now (names .entry)) s) ⌝ }
+    ensures { λ r. ⌜ textOf (after buf) r ≡ putAll (textOf (before buf) n) (headText (before bytes) (before names) s) ⌝ }
 {
     let id = s.id;
     let k = put_numbered(buf, n, b"symbol ", id.0 as u64);
-    let spaced = text_out::put(buf, k, b" ");
+    let spaced = text::put(buf, k, b" ");
     put_name(buf, spaced, bytes, names, s.name)
 }
 
 // `symbol ID NAME CLASS HIDDEN TYPE OPTNAME VALUE`
 pub fn put_symbol(buf: &mut [u8], n: usize, bytes: &[u8], names: &[u64], s: Symbol) -> usize
-    ensures { λ r. ⌜ textOf (now (buf .exit)) r ≡ putAll (textOf (now (buf .entry)) n) (symbolText (now (bytes .entry)) (now (names .entry)) s) ⌝ }
+    ensures { λ r. ⌜ textOf (after buf) r ≡ putAll (textOf (before buf) n) (symbolText (before bytes) (before names) s) ⌝ }
 {
     let named = put_head(buf, n, bytes, names, s);
     let kinded = put_kind(buf, named, s);

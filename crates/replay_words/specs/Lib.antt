@@ -1,4 +1,5 @@
 pub mod Words
 pub mod Spelled
 pub mod Order
-pub mod Ways
+pub mod Proof
+pub mod Part

@@ -4,10 +4,10 @@ use Prim.Native.Nat.{ℕ}
 use mathlib.Core.Bool.{Bool, cond}
 use mathlib.Core.List.{List, [], _∷_}
 use Rattle.byte_slices.specs.Bytes.{same}
-use Rattle.text_fields.specs.Fields.{fieldOf}
-use Rattle.text_fields.specs.Decimal.{decimalOf}
-use Rattle.text_fields.specs.declared.Number.{Number}
-use Rattle.text_fields.specs.declared.Number.the-variants.{None, Value}
+use Rattle.text.specs.Fields.{fieldOf}
+use Rattle.text.specs.Decimal.{decimalOf}
+use Rattle.text.specs.declared.fields.Number.{Number}
+use Rattle.text.specs.declared.fields.Number.the-variants.{None, Value}
 
 unfoldable pub wordIs : List ℕ → ℕ → List ℕ → Bool
 wordIs line k word = same (fieldOf line k) word

@@ -1,6 +1,6 @@
 -- Document 01, "Groups": 4, 5, 6, 7, then 2; "A signature met before, in this or an earlier object, marks the group's one section as removed".
 -- Assumes nothing.
-use Prim.Native.Nat.{ℕ, zero, suc, _+_, _*_, _/_}
+use Prim.Native.Nat.{ℕ, zero, suc, _+_, _*_}
 use mathlib.Core.Bool.{Bool, true, false, cond}
 use mathlib.Core.List.{List}
 use lib.Dec.{eqb, leb}
@@ -10,7 +10,9 @@ use Rattle.link.specs.declared.Stage.{Stage}
 use Rattle.link.specs.Judge.{goingOf, stoppedOf}
 use Rattle.strings.specs.Lookup.{Looked}
 use Rattle.interner.specs.Names.{Store, storeOf, findOf, fitsOf, keepOf}
-use Rattle.elf_object.specs.Rows.{rowsIn, field, comdatAt, linkAt, infoAt, firstAt, countAt, isLoaded, nameIn, markAt}
+use Rattle.elf_object.specs.Kinds.{group}
+use Rattle.elf_object.specs.Rows.{rowsIn, comdatAt, linkAt, infoAt, firstAt, countAt, isLoaded, nameIn, entryNameAt, markAt, withMark, groupMark, removedMark}
+use Rattle.cells.specs.Slice.{Slice, before, after}
 use Rattle.section_groups.specs.declared.Plan.{Plan}
 
 -- what is read of the object: its headers, the loaded symbol table's entries, lists, bytes, and that table's section
@@ -18,11 +20,15 @@ pub record Object : Type 0 where
   pub headers : List ℕ
   pub entries : List ℕ
   pub contents : List ℕ
-  pub file : List ℕ
+  pub image : List ℕ
   pub table : ℕ
 
 abbrev pub objectOf : List ℕ → List ℕ → List ℕ → List ℕ → ℕ → Object
-objectOf h e c f t = record { headers = h; entries = e; contents = c; file = f; table = t }
+objectOf h e c f t = record { headers = h; entries = e; contents = c; image = f; table = t }
+
+-- as it is lent
+abbrev pub objectIn : Slice → Slice → Slice → Slice → ℕ → Object
+objectIn h e c f t = objectOf (before h) (before e) (before c) (before f) t
 
 -- the lent cells that a group writes, with the link; and with a stage
 pub record State : Type 0 where
@@ -40,8 +46,22 @@ pub record Step : Type 0 where
 abbrev pub stateOf : List ℕ → List ℕ → List ℕ → Link → State
 stateOf b n w l = record { bytes = b; names = n; work = w; link = l }
 
+-- of lent slices before the call, and after it
+abbrev pub stateBefore : Slice → Slice → Slice → Link → State
+stateBefore b n w l = stateOf (before b) (before n) (before w) l
+
+abbrev pub stateAfter : Slice → Slice → Slice → Link → State
+stateAfter b n w l = stateOf (after b) (after n) (after w) l
+
 abbrev pub stepOf : List ℕ → List ℕ → List ℕ → Stage → Step
 stepOf b n w s = record { bytes = b; names = n; work = w; stage = s }
+
+-- of lent slices before the call, and after it
+abbrev pub stepBefore : Slice → Slice → Slice → Stage → Step
+stepBefore b n w s = stepOf (before b) (before n) (before w) s
+
+abbrev pub stepAfter : Slice → Slice → Slice → Stage → Step
+stepAfter b n w s = stepOf (after b) (after n) (after w) s
 
 abbrev pub stop : State → ℕ → ℕ → Step
 stop s number place = stepOf (s .bytes) (s .names) (s .work) (stoppedOf (s .link) number place)
@@ -58,11 +78,17 @@ shapeOf headers entries t n =
 
 -- the name of the signature's symbol, in the string section that the table links to
 unfoldable pub signatureOf : List ℕ → List ℕ → List ℕ → ℕ → ℕ → Looked
-signatureOf headers entries file t n = nameIn headers file (linkAt headers t) (field entries (infoAt headers n) 0)
+signatureOf headers entries image t n = nameIn headers image (linkAt headers t) (entryNameAt entries (infoAt headers n))
 
--- a name's row has 1 where a group of that signature is loaded
+-- the cell of a name's row that has 1 where a group of that signature is loaded
+abbrev pub signatureCell : ℕ → ℕ
+signatureCell id = id * 8 + 4
+
+abbrev pub withSignature : List ℕ → ℕ → List ℕ
+withSignature names id = set names (signatureCell id) 1
+
 unfoldable pub repeatedOf : List ℕ → ℕ → ℕ → Bool
-repeatedOf names count id = cond (leb count id) false (cond (eqb (getD names (id * 8 + 4) 0) 1) true false)
+repeatedOf names count id = cond (leb count id) false (cond (eqb (getD names (signatureCell id) 0) 1) true false)
 
 abbrev pub planned : ℕ → ℕ → Bool → Plan
 planned number id repeated = record { number = number; signature = record { 0 = id }; repeated = repeated }
@@ -80,16 +106,16 @@ planOf l bytes names marks x listed =
     planWith (storeOf bytes names l) marks (length x) listed (findOf bytes names l x)
     (repeatedOf names (l .names) (findOf bytes names l x))
 
--- 1 defines a group; 2, removed, is stronger
+-- it defines a group; one that is removed stays so
 unfoldable pub markGroupOf : List ℕ → ℕ → List ℕ
-markGroupOf work n = cond (eqb (markAt work n) 2) work (set work (n * 8 + 1) 1)
+markGroupOf work n = cond (eqb (markAt work n) removedMark) work (withMark work n groupMark)
 
 unfoldable pub markRemovedOf : List ℕ → Bool → ℕ → List ℕ
-markRemovedOf work repeated listed = cond repeated (set work (listed * 8 + 1) 2) work
+markRemovedOf work repeated listed = cond repeated (withMark work listed removedMark) work
 
 abbrev pub admitted : Store → List ℕ → Plan → ℕ → ℕ → State
 admitted k work p n listed =
-    stateOf (k .bytes) (set (k .names) (p .signature .0 * 8 + 4) 1) (markRemovedOf (markGroupOf work n) (p .repeated) listed) (k .link)
+    stateOf (k .bytes) (withSignature (k .names) (p .signature .0)) (markRemovedOf (markGroupOf work n) (p .repeated) listed) (k .link)
 
 unfoldable pub admitOf : State → List ℕ → Plan → ℕ → ℕ → State
 admitOf s x p n listed = admitted (keepOf (storeOf (s .bytes) (s .names) (s .link)) (p .signature) x) (s .work) p n listed
@@ -97,16 +123,16 @@ admitOf s x p n listed = admitted (keepOf (storeOf (s .bytes) (s .names) (s .lin
 unfoldable pub decidedOf : State → List ℕ → ℕ → ℕ → Plan → Step
 decidedOf s x n listed p = cond (eqb (p .number) 0) (go (admitOf s x p n listed)) (stop s (p .number) n)
 
-unfoldable pub namedOf : State → List ℕ → ℕ → ℕ → Step
-namedOf s x n listed = decidedOf s x n listed (planOf (s .link) (s .bytes) (s .names) (length (s .work) / 8) x listed)
+unfoldable pub groupNamed : State → List ℕ → ℕ → ℕ → Step
+groupNamed s x n listed = decidedOf s x n listed (planOf (s .link) (s .bytes) (s .names) (rowsIn (s .work)) x listed)
 
 -- "signature string missing" 7
 unfoldable pub signedOf : Object → State → ℕ → Looked → Step
-signedOf o s n x = cond (x .found) (namedOf s (x .name) n (getD (o .contents) (firstAt (o .headers) n) 0)) (stop s 7 n)
+signedOf o s n x = cond (x .found) (groupNamed s (x .name) n (getD (o .contents) (firstAt (o .headers) n) 0)) (stop s 7 n)
 
 unfoldable pub shapedOf : Object → State → ℕ → ℕ → Step
 shapedOf o s n number =
-    cond (eqb number 0) (signedOf o s n (signatureOf (o .headers) (o .entries) (o .file) (o .table) n)) (stop s number n)
+    cond (eqb number 0) (signedOf o s n (signatureOf (o .headers) (o .entries) (o .image) (o .table) n)) (stop s number n)
 
 unfoldable pub groupOf : Object → State → ℕ → Step
 groupOf o s n = shapedOf o s n (shapeOf (o .headers) (o .entries) (o .table) n)
@@ -114,7 +140,7 @@ groupOf o s n = shapedOf o s n (shapeOf (o .headers) (o .entries) (o .table) n)
 -- a group section that isn't excluded
 unfoldable pub groupSectionOf : Object → Step → ℕ → Step
 groupSectionOf o s n =
-    cond (isLoaded (o .headers) n 7) (groupOf o (stateOf (s .bytes) (s .names) (s .work) (s .stage .link)) n) s
+    cond (isLoaded (o .headers) n group) (groupOf o (stateOf (s .bytes) (s .names) (s .work) (s .stage .link)) n) s
 
 -- k sections from the n-th on, up to the first refusal
 unfoldable pub groupsFrom : Object → ℕ → ℕ → Step → Step

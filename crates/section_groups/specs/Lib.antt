@@ -1,4 +1,6 @@
 pub mod Group
 pub mod Filter
 pub mod Contract
-pub mod Ways
+pub mod Proof
+pub mod AddGroup
+pub mod AloneContract

@@ -2,11 +2,24 @@
 // Marks lie in the work rows of merge_sections, loaded signatures in the names' rows. The object's symbols are the loaded table's entries.
 ghost use mathlib.Core.Path.{_≡_};
 ghost use Rattle.strings.specs.Lookup.{looked};
-ghost use Rattle.section_groups.specs.Group.{objectOf, stateOf, stepOf, shapeOf, signatureOf, repeatedOf, markRefusal, planOf, markGroupOf, markRemovedOf, admitOf, namedOf, groupOf};
+ghost use Rattle.cells.specs.Slice.{after, before};
+ghost use Rattle.section_groups.specs.Group.{shapeOf, signatureOf, repeatedOf, markRefusal, planOf, markGroupOf, markRemovedOf, admitOf, groupNamed, groupOf, objectIn, stateAfter, stateBefore, stepAfter};
+
+mod alone;
+mod filter;
+mod groups;
+
+pub use alone::Answer;
+pub use alone::add_group;
+pub use filter::filter_symbol_table;
+pub use filter::section_after;
+pub use groups::add_groups;
 use link::Interned;
 use link::Link;
 use link::Stage;
 
+// The field of a name's row that has 1 where a group of that signature is loaded.
+const NAME_SIGNATURE: usize = 4;
 // What a group with a signature does: number 0 or its refusal, the id that the signature has or gets, and whether it was met before.
 pub struct Plan {
     pub number: u64,
@@ -16,18 +29,20 @@ pub struct Plan {
 
 // Not COMDAT 4, not one section 5, the signature's symbol not in the loaded table, of section t, 6.
 fn shape(headers: &[u64], entries: &[u64], t: usize, n: usize) -> u64
-    ensures { λ r. ⌜ r ≡ shapeOf (now (headers .entry)) (now (entries .entry)) t n ⌝ }
+    ensures { λ r. ⌜ r ≡ shapeOf (before headers) (before entries) t n ⌝ }
 {
-    if cells::row_get(headers, n, 2) / 8 % 2 == 0 {
+    if cells::row_get(headers, n, elf_object::HEADER_FLAGS) / elf_object::COMDAT_FLAG % 2 == 0 {
         return 4;
     }
-    if cells::row_get(headers, n, 6) != 1 {
+    if cells::row_get(headers, n, elf_object::HEADER_COUNT) != 1 {
         return 5;
     }
-    if cells::row_get(headers, n, 3) != t as u64 {
+    if cells::row_get(headers, n, elf_object::HEADER_LINK) != t as u64 {
         return 6;
     }
-    if (entries.len() / 8) as u64 <= cells::row_get(headers, n, 4) {
+    if (entries.len() / elf_object::ROW_WIDTH) as u64
+        <= cells::row_get(headers, n, elf_object::HEADER_INFO)
+    {
         return 6;
     }
     0
@@ -42,22 +57,22 @@ fn signature<'a>(
     n: usize,
     found: &mut bool,
 ) -> &'a [u8]
-    ensures { λ r. ⌜ looked (now r) (now (found .exit)) ≡ signatureOf (now (headers .entry)) (now (entries .entry)) (now (file .entry)) t n ⌝ }
+    ensures { λ r. ⌜ looked (now r) (after found) ≡ signatureOf (before headers) (before entries) (before file) t n ⌝ }
 {
-    let symbol = cells::row_get(headers, n, 4) as usize;
-    let strings = cells::row_get(headers, t, 3) as usize;
-    let offset = cells::row_get(entries, symbol, 0) as usize;
+    let symbol = cells::row_get(headers, n, elf_object::HEADER_INFO) as usize;
+    let strings = cells::row_get(headers, t, elf_object::HEADER_LINK) as usize;
+    let offset = cells::row_get(entries, symbol, elf_object::ENTRY_NAME) as usize;
     elf_object::name_in(headers, file, strings, offset, found)
 }
 
 // Was the signature met before, in this or an earlier object?
 fn is_repeated(names: &[u64], count: usize, id: usize) -> bool
-    ensures { λ r. ⌜ r ≡ repeatedOf (now (names .entry)) count id ⌝ }
+    ensures { λ r. ⌜ r ≡ repeatedOf (before names) count id ⌝ }
 {
     if count <= id {
         return false;
     }
-    if cells::row_get(names, id, 4) == 1 {
+    if cells::row_get(names, id, NAME_SIGNATURE) == 1 {
         return true;
     }
     false
@@ -77,11 +92,11 @@ fn mark_refusal(repeated: bool, marks: usize, listed: u64) -> u64
 
 // Room for the name (2), and for the mark (2).
 fn plan_group(l: Link, bytes: &[u8], names: &[u64], marks: usize, x: &[u8], listed: u64) -> Plan
-    ensures { λ r. ⌜ r ≡ planOf l (now (bytes .entry)) (now (names .entry)) marks (now (x .entry)) listed ⌝ }
+    ensures { λ r. ⌜ r ≡ planOf l (before bytes) (before names) marks (before x) listed ⌝ }
 {
     let id = interner::find(l, bytes, names, x);
     let repeated = is_repeated(names, l.names, id.0);
-    if interner_issue::fits(l, bytes, names, id, x.len()) {
+    if interner::fits(l, bytes, names, id, x.len()) {
         return Plan {
             number: mark_refusal(repeated, marks, listed),
             signature: id,
@@ -97,23 +112,28 @@ fn plan_group(l: Link, bytes: &[u8], names: &[u64], marks: usize, x: &[u8], list
 
 // The section defines a group; one that is removed stays so.
 fn mark_group(work: &mut [u64], n: usize)
-    ensures { λ _. ⌜ now (work .exit) ≡ markGroupOf (now (work .entry)) n ⌝ }
+    ensures { λ _. ⌜ after work ≡ markGroupOf (before work) n ⌝ }
 {
-    if cells::row_get(work, n, 1) != 2 {
-        cells::row_put(work, n, 1, 1);
+    if cells::row_get(work, n, elf_object::WORK_MARK) != elf_object::REMOVED_MARK {
+        cells::row_put(work, n, elf_object::WORK_MARK, elf_object::GROUP_MARK);
     }
 }
 
 fn mark_removed(work: &mut [u64], repeated: bool, listed: usize)
-    ensures { λ _. ⌜ now (work .exit) ≡ markRemovedOf (now (work .entry)) repeated listed ⌝ }
+    ensures { λ _. ⌜ after work ≡ markRemovedOf (before work) repeated listed ⌝ }
 {
     if repeated {
-        cells::row_put(work, listed, 1, 2);
+        cells::row_put(
+            work,
+            listed,
+            elf_object::WORK_MARK,
+            elf_object::REMOVED_MARK,
+        );
     }
 }
 
 // Issues the signature, notes that it is loaded, and marks the sections.
-fn admit(
+fn commit_group(
     l: Link,
     bytes: &mut [u8],
     names: &mut [u64],
@@ -123,11 +143,11 @@ fn admit(
     n: usize,
     listed: usize,
 ) -> Link
-    ensures { λ r. ⌜ stateOf (now (bytes .exit)) (now (names .exit)) (now (work .exit)) r ≡ admitOf (stateOf (now (bytes .entry)) (now (names .entry)) (now (work .entry)) l) (now (x .entry)) p n listed ⌝ }
+    ensures { λ r. ⌜ stateAfter bytes names work r ≡ admitOf (stateBefore bytes names work l) (before x) p n listed ⌝ }
 {
     let id = p.signature;
-    let kept = interner_issue::keep(l, bytes, names, id, x);
-    cells::row_put(names, id.0, 4, 1);
+    let kept = interner::keep(l, bytes, names, id, x);
+    cells::row_put(names, id.0, NAME_SIGNATURE, 1);
     mark_group(work, n);
     mark_removed(work, p.repeated, listed);
     kept
@@ -142,13 +162,20 @@ fn named_group(
     n: usize,
     listed: u64,
 ) -> Stage
-    ensures { λ r. ⌜ stepOf (now (bytes .exit)) (now (names .exit)) (now (work .exit)) r ≡ namedOf (stateOf (now (bytes .entry)) (now (names .entry)) (now (work .entry)) l) (now (x .entry)) n listed ⌝ }
+    ensures { λ r. ⌜ stepAfter bytes names work r ≡ groupNamed (stateBefore bytes names work l) (before x) n listed ⌝ }
 {
-    let p = plan_group(l, bytes, names, work.len() / 8, x, listed);
+    let p = plan_group(
+        l,
+        bytes,
+        names,
+        work.len() / elf_object::ROW_WIDTH,
+        x,
+        listed,
+    );
     if p.number != 0 {
         return link::stopped(l, p.number, n as u64);
     }
-    link::going(admit(l, bytes, names, work, x, p, n, listed as usize))
+    link::going(commit_group(l, bytes, names, work, x, p, n, listed as usize))
 }
 
 // One group, of section n: 4, 5, 6, 7, 2; else it is marked.
@@ -160,20 +187,23 @@ pub fn take_group(
     headers: &[u64],
     entries: &[u64],
     contents: &[u64],
-    file: &[u8],
+    image: &[u8],
     t: usize,
     n: usize,
 ) -> Stage
-    ensures { λ r. ⌜ stepOf (now (bytes .exit)) (now (names .exit)) (now (work .exit)) r ≡ groupOf (objectOf (now (headers .entry)) (now (entries .entry)) (now (contents .entry)) (now (file .entry)) t) (stateOf (now (bytes .entry)) (now (names .entry)) (now (work .entry)) l) n ⌝ }
+    ensures { λ r. ⌜ stepAfter bytes names work r ≡ groupOf (objectIn headers entries contents image t) (stateBefore bytes names work l) n ⌝ }
 {
     let number = shape(headers, entries, t, n);
     if number != 0 {
         return link::stopped(l, number, n as u64);
     }
     let mut found = false;
-    let x = signature(headers, entries, file, t, n, &mut found);
+    let x = signature(headers, entries, image, t, n, &mut found);
     if found {
-        let listed = cells::get(contents, cells::row_get(headers, n, 5) as usize);
+        let listed = cells::get(
+            contents,
+            cells::row_get(headers, n, elf_object::HEADER_FIRST) as usize,
+        );
         return named_group(l, bytes, names, work, x, n, listed);
     }
     link::stopped(l, 7, n as u64)

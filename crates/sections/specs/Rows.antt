@@ -9,6 +9,7 @@ use Rattle.cells.specs.Rows.{putRow}
 use Rattle.link.specs.declared.Link.{Link}
 use Rattle.link.specs.declared.SectionId.{SectionId}
 use Rattle.link.specs.Bounds.{lesser, sectionSlots, sectionRows}
+use Rattle.link.specs.Counts.{moreSections}
 use Rattle.sections.specs.declared.Section.{Section}
 
 -- the lent cells and the counts
@@ -19,15 +20,38 @@ pub record Sections : Type 0 where
 abbrev pub sectionsOf : List ℕ → Link → Sections
 sectionsOf rows l = record { rows = rows; link = l }
 
-abbrev pub field : List ℕ → ℕ → ℕ → ℕ
-field rows i f = getD rows (i * 8 + f) 0
+-- the cells of a row
+abbrev pub sectionWidth : ℕ
+sectionWidth = 8
 
--- 0 free, 1 reserved, 2 built, 3 dropped
+abbrev pub field : List ℕ → ℕ → ℕ → ℕ
+field rows i f = getD rows (i * sectionWidth + f) 0
+
+-- a row's state; 0 is free
+abbrev pub reservedState : ℕ
+reservedState = 1
+
+abbrev pub builtState : ℕ
+builtState = 2
+
+abbrev pub droppedState : ℕ
+droppedState = 3
+
+-- its kind, by document 01's numbers
+abbrev pub program : ℕ
+program = 1
+
+abbrev pub uninitialized : ℕ
+uninitialized = 2
+
 abbrev pub stateAt : List ℕ → ℕ → ℕ
 stateAt rows i = field rows i 0
 
 abbrev pub nameIdAt : List ℕ → ℕ → ℕ
 nameIdAt rows i = field rows i 1
+
+abbrev pub kindAt : List ℕ → ℕ → ℕ
+kindAt rows i = field rows i 2
 
 abbrev pub retainAt : List ℕ → ℕ → ℕ
 retainAt rows i = field rows i 3
@@ -46,33 +70,25 @@ countAt rows i = field rows i 6
 unfoldable pub roomOf : Link → List ℕ → Bool
 roomOf l rows = cond (ltb (l .sections) (sectionRows (lesser (l .slots) (sectionSlots (length rows))))) true false
 
-abbrev pub moreSections : Link → Link
-moreSections l =
-    record {
-      names = l .names;
-      bytes = l .bytes;
-      symbols = l .symbols;
-      sections = l .sections + 1;
-      inputs = l .inputs;
-      lists = l .lists;
-      chains = l .chains;
-      slots = l .slots;
-      key = l .key;
-      gabi = l .gabi;
-      broken = l .broken;
-    }
+-- a row's cells, in the fields' order; the last is unused
+abbrev pub sectionCells : ℕ → ℕ → ℕ → ℕ → ℕ → ℕ → ℕ → List ℕ
+sectionCells state name kind retain read first count = state ∷ name ∷ kind ∷ retain ∷ read ∷ first ∷ count ∷ 0 ∷ []
+
+abbrev pub reservedCells : List ℕ
+reservedCells = sectionCells reservedState 0 0 0 0 0 0
+
+abbrev pub builtCells : Section → List ℕ
+builtCells s = sectionCells builtState (s .name .0) (s .kind) (s .retain) (s .read) (s .first) (s .count)
 
 unfoldable pub reserveOf : Sections → Sections
 reserveOf s =
-    cond (roomOf (s .link) (s .rows))
-    (sectionsOf (putRow (s .rows) (s .link .sections) (1 ∷ 0 ∷ 0 ∷ 0 ∷ 0 ∷ 0 ∷ 0 ∷ 0 ∷ [])) (moreSections (s .link))) s
+    cond (roomOf (s .link) (s .rows)) (sectionsOf (putRow (s .rows) (s .link .sections) reservedCells) (moreSections (s .link))) s
 
 unfoldable pub builtOf : List ℕ → SectionId → Section → List ℕ
-builtOf rows id s =
-    putRow rows (id .0) (2 ∷ s .name .0 ∷ s .kind ∷ s .retain ∷ s .read ∷ s .first ∷ s .count ∷ 0 ∷ [])
+builtOf rows id s = putRow rows (id .0) (builtCells s)
 
 abbrev pub droppedOf : List ℕ → SectionId → List ℕ
-droppedOf rows id = set rows (id .0 * 8 + 0) 3
+droppedOf rows id = set rows (id .0 * sectionWidth + 0) droppedState
 
 unfoldable pub isBuilt : List ℕ → ℕ → ℕ → Bool
-isBuilt rows count i = cond (leb count i) false (cond (eqb (stateAt rows i) 2) true false)
+isBuilt rows count i = cond (leb count i) false (cond (eqb (stateAt rows i) builtState) true false)

@@ -1,10 +1,38 @@
-// Section rows: reserved, built, dropped. A row is 8 lent cells: state (0 free, 1 reserved, 2 built, 3 dropped), name, kind (1 program,
-// 2 uninitialized), retain, read, and where its relocations' symbols lie in the lists: the first and how many. One is unused.
+// Section rows: reserved, built, dropped. A row is 8 lent cells: state, name, kind, retain, read, and where its relocations' symbols lie in
+// the lists: the first and how many. One is unused.
 ghost use mathlib.Core.Path.{_≡_};
+ghost use Rattle.cells.specs.Slice.{after, before};
 ghost use Rattle.sections.specs.Rows.{roomOf, reserveOf, builtOf, droppedOf, isBuilt, sectionsOf};
 use link::Interned;
 use link::Link;
 use link::SectionId;
+
+// The fields of a row.
+pub const STATE: usize = 0;
+
+pub const NAME: usize = 1;
+
+pub const KIND: usize = 2;
+
+pub const RETAIN: usize = 3;
+
+pub const READ: usize = 4;
+
+pub const FIRST: usize = 5;
+
+pub const COUNT: usize = 6;
+
+// Its states; 0 is free.
+pub const RESERVED: u64 = 1;
+
+pub const BUILT: u64 = 2;
+
+pub const DROPPED: u64 = 3;
+
+// Its kinds, by document 01's numbers.
+pub const PROGRAM: u64 = 1;
+
+pub const UNINITIALIZED: u64 = 2;
 
 // What a built section's row holds. Retain and read: 0 no, else yes.
 pub struct Section {
@@ -18,7 +46,7 @@ pub struct Section {
 
 // Is there a free row?
 pub fn room(l: Link, sections: &[u64]) -> bool
-    ensures { λ r. ⌜ r ≡ roomOf l (now (sections .entry)) ⌝ }
+    ensures { λ r. ⌜ r ≡ roomOf l (before sections) ⌝ }
 {
     let slots = link::lesser_of(l.slots, link::section_slots(sections.len()));
     if l.sections < link::section_rows(slots) {
@@ -29,36 +57,24 @@ pub fn room(l: Link, sections: &[u64]) -> bool
 
 // One row more, reserved: its id is the count before. Nothing where there is no room.
 pub fn reserve(l: Link, sections: &mut [u64]) -> Link
-    ensures { λ r. ⌜ sectionsOf (now (sections .exit)) r ≡ reserveOf (sectionsOf (now (sections .entry)) l) ⌝ }
+    ensures { λ r. ⌜ sectionsOf (after sections) r ≡ reserveOf (sectionsOf (before sections) l) ⌝ }
 {
     if room(l, sections) {
         let id = l.sections;
-        cell_writes::row_store(sections, id, 1, 0, 0, 0, 0, 0, 0, 0);
-        return Link {
-            names: l.names,
-            bytes: l.bytes,
-            symbols: l.symbols,
-            sections: id + 1,
-            inputs: l.inputs,
-            lists: l.lists,
-            chains: l.chains,
-            slots: l.slots,
-            key: l.key,
-            gabi: l.gabi,
-            broken: l.broken,
-        };
+        cells::row_store(sections, id, RESERVED, 0, 0, 0, 0, 0, 0, 0);
+        return link::with_sections(l, id + 1);
     }
     l
 }
 
 pub fn build(sections: &mut [u64], id: SectionId, s: Section)
-    ensures { λ _. ⌜ now (sections .exit) ≡ builtOf (now (sections .entry)) id s ⌝ }
+    ensures { λ _. ⌜ after sections ≡ builtOf (before sections) id s ⌝ }
 {
     let name = s.name;
-    cell_writes::row_store(
+    cells::row_store(
         sections,
         id.0,
-        2,
+        BUILT,
         name.0 as u64,
         s.kind,
         s.retain,
@@ -71,19 +87,19 @@ pub fn build(sections: &mut [u64], id: SectionId, s: Section)
 
 // The state alone changes.
 pub fn drop_section(sections: &mut [u64], id: SectionId)
-    ensures { λ _. ⌜ now (sections .exit) ≡ droppedOf (now (sections .entry)) id ⌝ }
+    ensures { λ _. ⌜ after sections ≡ droppedOf (before sections) id ⌝ }
 {
-    cells::row_put(sections, id.0, 0, 3);
+    cells::row_put(sections, id.0, STATE, DROPPED);
 }
 
 // Built and not dropped, in a table of that many rows.
 pub fn is_built(sections: &[u64], count: usize, id: SectionId) -> bool
-    ensures { λ r. ⌜ r ≡ isBuilt (now (sections .entry)) count (id .0) ⌝ }
+    ensures { λ r. ⌜ r ≡ isBuilt (before sections) count (id .0) ⌝ }
 {
     if count <= id.0 {
         return false;
     }
-    if cells::row_get(sections, id.0, 0) == 2 {
+    if cells::row_get(sections, id.0, STATE) == BUILT {
         return true;
     }
     false

@@ -1,5 +1,10 @@
 pub mod Stages
-pub mod StageWays
 pub mod Load
 pub mod Contract
-pub mod LoadWays
+pub mod Proof
+pub mod Head
+pub mod Lists
+pub mod Need
+pub mod Record
+pub mod Define
+pub mod SymbolsLoad

@@ -5,10 +5,17 @@ ghost use mathlib.Core.Path.{_≡_};
 ghost use Prim.Native.Nat.{_-_};
 ghost use Rattle.link.specs.Judge.{goingOf};
 ghost use Rattle.link.specs.Counts.{lentOf};
-ghost use Rattle.library_need.specs.Need.{judgedAs};
-ghost use Rattle.shared_objects.specs.Stages.{inputLinks, inputOf, listLinks, listsOf, linksOf, contentsOf, libraryOf};
-ghost use Rattle.shared_objects.specs.Load.{wantOf, endedAs, allOf, outcome, namedOf};
-ghost use Rattle.shared_objects.specs.Contract.{cellsIn, libraryIn, LoadMeets};
+ghost use Rattle.shared_objects.specs.Need.{judgedAs};
+ghost use Rattle.cells.specs.Slice.{after, before};
+ghost use Rattle.shared_objects.specs.Stages.{inputLinks, libraryRowOf, listsOf, contentsIn, goingBefore, linksAfter, linksBefore, listsAfter, listsBefore, loadedIn};
+ghost use Rattle.shared_objects.specs.Load.{endedAs, cellsIn, libraryIn, linkBefore, namedIn, outcomeAfter, wantIn};
+ghost use Rattle.shared_objects.specs.Contract.{LoadMeets};
+
+mod checks;
+mod lists;
+mod need;
+mod symbols;
+
 use link::Interned;
 use link::Lent;
 use link::Link;
@@ -40,16 +47,16 @@ fn span(from: usize, to: usize) -> usize
 // The library's own row, taken last: its name, and where its dependencies and its undefined names lie in the lists. These start at `first`, those
 // at `middle`.
 fn input_row(l: Link, inputs: &mut [u64], id: Interned, first: usize, middle: usize) -> Stage
-    ensures { λ r. ⌜ inputLinks (now (inputs .exit)) r ≡ inputOf (now (inputs .entry)) l id first middle ⌝ }
+    ensures { λ r. ⌜ inputLinks (after inputs) r ≡ libraryRowOf (before inputs) l id first middle ⌝ }
 {
     let n = l.inputs;
     if n < link::input_rows(inputs.len()) {
         let dependencies = span(middle, l.lists);
         let undefined = span(first, middle);
-        cell_writes::row_store(
+        cells::row_store(
             inputs,
             n,
-            2,
+            crate::need::LIBRARY,
             id.0 as u64,
             middle as u64,
             dependencies as u64,
@@ -58,19 +65,7 @@ fn input_row(l: Link, inputs: &mut [u64], id: Interned, first: usize, middle: us
             0,
             0,
         );
-        return link::going(Link {
-            names: l.names,
-            bytes: l.bytes,
-            symbols: l.symbols,
-            sections: l.sections,
-            inputs: n + 1,
-            lists: l.lists,
-            chains: l.chains,
-            slots: l.slots,
-            key: l.key,
-            gabi: l.gabi,
-            broken: l.broken,
-        });
+        return link::going(link::with_inputs(l, n + 1));
     }
     link::stopped(l, 2, 0)
 }
@@ -82,15 +77,16 @@ fn load_lists(
     names: &mut [u64],
     inputs: &mut [u64],
     lists: &mut [u64],
-    file: &[u8],
+    image: &[u8],
     needs: &[u64],
     id: Interned,
     first: usize,
 ) -> Stage
-    ensures { λ r. ⌜ listLinks (now (bytes .exit)) (now (names .exit)) (now (inputs .exit)) (now (lists .exit)) r ≡ listsOf (now (file .entry)) (now (needs .entry)) (listLinks (now (bytes .entry)) (now (names .entry)) (now (inputs .entry)) (now (lists .entry)) (goingOf l)) id first ⌝ }
+    ensures { λ r. ⌜ listsAfter bytes names inputs lists r
+        ≡ listsOf (before image) (before needs) (listsBefore bytes names inputs lists (goingOf l)) id first ⌝ }
 {
     let middle = l.lists;
-    let s = library_lists::record_dependencies(link::going(l), bytes, names, lists, file, needs);
+    let s = crate::lists::record_dependencies(link::going(l), bytes, names, lists, image, needs);
     let number = s.number;
     if number != 0 {
         return s;
@@ -109,21 +105,22 @@ fn load_contents(
     inputs: &mut [u64],
     lists: &mut [u64],
     entries: &[u64],
-    file: &[u8],
+    image: &[u8],
     needs: &[u64],
     id: Interned,
 ) -> Stage
-    ensures { λ r. ⌜ linksOf (now (bytes .exit)) (now (names .exit)) (now (symbols .exit)) (now (sections .exit)) (now (inputs .exit)) (now (lists .exit)) r ≡ contentsOf (now (entries .entry)) (now (file .entry)) (now (needs .entry)) (linksOf (now (bytes .entry)) (now (names .entry)) (now (symbols .entry)) (now (sections .entry)) (now (inputs .entry)) (now (lists .entry)) s) id ⌝ }
+    ensures { λ r. ⌜ linksAfter bytes names symbols sections inputs lists r
+        ≡ contentsIn entries image needs (linksBefore bytes names symbols sections inputs lists s) id ⌝ }
 {
     let l = s.link;
     let first = l.lists;
-    let u = library_symbols::load_symbols(s, bytes, names, symbols, sections, lists, entries, file);
+    let u = crate::symbols::load_symbols(s, bytes, names, symbols, sections, lists, entries, image);
     let number = u.number;
     if number != 0 {
         return u;
     }
     let after = u.link;
-    load_lists(after, bytes, names, inputs, lists, file, needs, id, first)
+    load_lists(after, bytes, names, inputs, lists, image, needs, id, first)
 }
 
 // The library's name x, then its contents.
@@ -136,15 +133,16 @@ fn load_library(
     inputs: &mut [u64],
     lists: &mut [u64],
     entries: &[u64],
-    file: &[u8],
+    image: &[u8],
     needs: &[u64],
     x: &[u8],
 ) -> Stage
-    ensures { λ r. ⌜ linksOf (now (bytes .exit)) (now (names .exit)) (now (symbols .exit)) (now (sections .exit)) (now (inputs .exit)) (now (lists .exit)) r ≡ libraryOf (now (entries .entry)) (now (file .entry)) (now (needs .entry)) (linksOf (now (bytes .entry)) (now (names .entry)) (now (symbols .entry)) (now (sections .entry)) (now (inputs .entry)) (now (lists .entry)) (goingOf l)) (now (x .entry)) ⌝ }
+    ensures { λ r. ⌜ linksAfter bytes names symbols sections inputs lists r
+        ≡ loadedIn entries image needs (goingBefore bytes names symbols sections inputs lists l) x ⌝ }
 {
     let id = interner::find(l, bytes, names, x);
-    if interner_issue::fits(l, bytes, names, id, x.len()) {
-        let kept = interner_issue::keep(l, bytes, names, id, x);
+    if interner::fits(l, bytes, names, id, x.len()) {
+        let kept = interner::keep(l, bytes, names, id, x);
         return load_contents(
             link::going(kept),
             bytes,
@@ -154,7 +152,7 @@ fn load_library(
             inputs,
             lists,
             entries,
-            file,
+            image,
             needs,
             id,
         );
@@ -175,13 +173,13 @@ fn is_wanted(
     lists: &[u64],
     marks: &mut [u64],
     entries: &[u64],
-    file: &[u8],
+    image: &[u8],
     x: &[u8],
 ) -> bool
-    ensures { λ r. ⌜ judgedAs (now (marks .exit)) r ≡ wantOf asneeded l (now (bytes .entry)) (now (names .entry)) (now (symbols .entry)) (now (inputs .entry)) (now (lists .entry)) (now (marks .entry)) (now (entries .entry)) (now (file .entry)) (now (x .entry)) ⌝ }
+    ensures { λ r. ⌜ judgedAs (after marks) r ≡ wantIn asneeded l bytes names symbols inputs lists marks entries image x ⌝ }
 {
     if asneeded {
-        return library_need::is_needed(
+        return crate::need::is_needed(
             l,
             bytes,
             names,
@@ -190,7 +188,7 @@ fn is_wanted(
             lists,
             marks,
             entries,
-            file,
+            image,
             x,
         );
     }
@@ -230,12 +228,13 @@ fn load_named(
     lists: &mut [u64],
     marks: &mut [u64],
     entries: &[u64],
-    file: &[u8],
+    image: &[u8],
     needs: &[u64],
     x: &[u8],
     asneeded: bool,
 ) -> Outcome
-    ensures { λ r. ⌜ outcome (now (bytes .exit)) (now (names .exit)) (now (symbols .exit)) (now (sections .exit)) (now (inputs .exit)) (now (lists .exit)) (now (marks .exit)) r ≡ namedOf (now (entries .entry)) (now (file .entry)) (now (needs .entry)) asneeded (allOf (now (bytes .entry)) (now (names .entry)) (now (symbols .entry)) (now (sections .entry)) (now (inputs .entry)) (now (lists .entry)) (now (marks .entry)) l) (now (x .entry)) ⌝ }
+    ensures { λ r. let c = cellsIn bytes names symbols sections inputs lists marks in
+        ⌜ outcomeAfter c r ≡ namedIn entries image needs asneeded (linkBefore c l) x ⌝ }
 {
     if is_wanted(
         asneeded,
@@ -247,7 +246,7 @@ fn load_named(
         lists,
         marks,
         entries,
-        file,
+        image,
         x,
     ) {
         let s = load_library(
@@ -259,7 +258,7 @@ fn load_named(
             inputs,
             lists,
             entries,
-            file,
+            image,
             needs,
             x,
         );
@@ -300,7 +299,7 @@ pub fn load_shared_object<'a>(
         inputs: inputs.len(),
         lists: lists.len(),
     };
-    let h = library_head::head(
+    let h = crate::checks::check(
         l,
         lent,
         entries,
@@ -318,7 +317,7 @@ pub fn load_shared_object<'a>(
             answer: Answer::Refused { refusal: h },
         };
     }
-    let x = library_need::library_name(file, path, sonamed, soname);
+    let x = crate::need::library_name(file, path, sonamed, soname);
     load_named(
         l,
         bytes,

@@ -4,19 +4,7 @@ use Prim.Native.Nat.{ℕ}
 use mathlib.Core.Bool.{Bool, true, false, cond}
 use lib.Dec.{eqb}
 use Rattle.symbol.specs.declared.Row.{Row}
-
--- the codes of a row's visibility that aren't local (Codes.visibilityAt): each binding shown and hidden
-abbrev pub global : ℕ
-global = 1
-
-abbrev pub globalHidden : ℕ
-globalHidden = 2
-
-abbrev pub weak : ℕ
-weak = 3
-
-abbrev pub weakHidden : ℕ
-weakHidden = 4
+use Rattle.symbol.specs.Layout.{global, globalHidden, weak, weakHidden}
 
 unfoldable pub hiddenCode : ℕ → Bool
 hiddenCode v = cond (eqb v globalHidden) true (cond (eqb v weakHidden) true false)

@@ -9,14 +9,15 @@ use mathlib.Core.List.{List, [], _∷_}
 use lib.Dec.{eqb, ltb}
 use lib.ListN.{getD}
 use borrow.Author.Tests.{ltb-true, ltb-false, le-ltb, eqb-true}
-use Rattle.cells.specs.Split.{by-test}
+use Rattle.cells.specs.Proof.Split.{by-test}
 use Rattle.gabi.specs.SymbolTable.{Sym, stbGlobal, isGlobal, isWeak, isReference, isDefinition}
 use Rattle.gabi.specs.Resolution as Gabi
+use Rattle.gabi.specs.Proof.Resolution as GabiLaws
 use Rattle.gabi.specs.Resolution.{Resolution, defined, duplicate, unresolved, zeroValue, isGlobalDefinition, isWeakDefinition, isGlobalReference, has, resolve}
 use Rattle.symbol.specs.declared.Row.{Row}
 use Rattle.symbol.specs.declared.Words.{Words}
 use Rattle.symbol_laws.specs.Rank.{defines, weak, strongDefinition, weakDefinition, strongReference, weakReference, first, referenceOf, firstOf, count}
-use Rattle.symbol_laws.specs.Rows.{rowAt}
+use Rattle.symbol_laws.specs.Proof.Rows.{rowAt}
 use Rattle.symbol_laws.specs.Standing.{hiddenBy, same-by}
 use Rattle.symbol_laws.specs.History.{State, Entry, only, rows}
 use Rattle.symbol_laws.specs.Held.{Inv}
@@ -226,7 +227,7 @@ module _ (c : Row) (cs : List Row) (s : Sym) (ss : List Sym) (m : AllMean (c ∷
       let at : firstOf true c cs ≡ getD (c ∷ cs) k c =
       e ∙ place strongReference isGlobalReference (c ∷ cs) (s ∷ ss) c c (reference-match (c ∷ cs) (s ∷ ss) m) some in
       let g : (isReference (getD (s ∷ ss) k s) ≡ true) × (isWeak (getD (s ∷ ss) k s) ≡ false) =
-      global-strong _ (Gabi.first-passes isGlobalReference (s ∷ ss) s (omega (arith, some, reference-count true c cs s ss m))) in (
+      global-strong _ (GabiLaws.first-passes isGlobalReference (s ∷ ss) s (omega (arith, some, reference-count true c cs s ss m))) in (
         ap (hiddenBy true (c ∷ cs)) at,
         hidden-reference true (c ∷ cs) (firstOf true c cs) ∙ ap strongReference e ∙ first-passes strongReference isGlobalReference (c ∷ cs) c some,
         λ z. ap (λ (v : Words). v .a) (same-value true c cs s ss m at) ∙ z (g .0) ∙ rw (g .1),

@@ -3,41 +3,29 @@
 use Prim.Native.Nat.{ℕ, _+_, _*_, _≤_, _<_}
 use native.Mathlib.Omega.{arith}
 use mathlib.Core.Path.{_≡_, sym, _∙_, subst}
-use mathlib.Core.List.{List, [], _∷_}
+use mathlib.Core.List.{List}
 use mathlib.Core.Logic.{_≢_}
 use lib.Dec.{eqb, ltb}
 use lib.ListN.{set, length, length-set, List·getD-eq-default}
 use lib.Seq.{getD-set-same, getD-set-other}
 use borrow.Author.Tests.{eqb-true, eqb-false, lt-ltb, ltb-true, ltb-false}
-use Rattle.cells.specs.Split.{by-test}
-use Rattle.link.specs.Bounds.{nameRows}
-use Rattle.interner.specs.Names.{roomOf, added, keepOf}
-use Rattle.link.specs.declared.Interned.{Interned}
+use Rattle.cells.specs.Proof.Split.{by-test}
 use Rattle.symbol.specs.declared.Row.{Row}
 use Rattle.symbol.specs.declared.SttFile.the-variants as File
 use Rattle.symbol.specs.Codes.{successor}
-use Rattle.symbol_rows.specs.declared.Decision.{Decision}
-use Rattle.symbol_rows.specs.declared.Decision.the-variants.{Refuse}
-use Rattle.symbol_rows.specs.Holder.{globalAt}
-use Rattle.symbol_rows.specs.Apply.{Table, noteName, appendOf, applyOf}
+use Rattle.symbol_resolution.specs.declared.rows.Decision.{Decision}
+use Rattle.symbol_resolution.specs.declared.rows.Decision.the-variants.{Refuse}
+use Rattle.symbol_resolution.specs.Holder.{globalAt}
+use Rattle.symbol_resolution.specs.Apply.{Table, noteName, appendOf, applyOf}
 use Rattle.symbols.specs.Calls.{Left}
 use Rattle.symbols.specs.Add.{committedOf, addRowOf}
 use Rattle.symbol_laws.specs.View.{Free, View, refused, kept, amended, replaced, appended, local, view, decided}
-use Rattle.symbol_laws.specs.Refused.{commit-refused}
-use Rattle.symbol_laws.specs.History.{State, table, store, withTable, withStore, Entry, only, Part, issue, put, putOf, idOf, partNext}
-use Rattle.symbol_laws.specs.Held.{Held, Inv}
-use Rattle.symbol_laws.specs.Issue.{FreeRow, linked-new, linked-old, room-free}
+use Rattle.symbol_laws.specs.Proof.Refused.{commit-refused}
+use Rattle.symbol_laws.specs.History.{State, table, withTable, putOf}
 
 pub record Below (s : State) : Type 0 where
   pub few : s .link .symbols ≤ 65535
   pub held : (n : ℕ) → n < s .link .names → globalAt (s .names) n ≢ 0 → globalAt (s .names) n < s .link .symbols
-
-pub inv-below : (s : State) (past : List Entry) → Inv s past → Below s
-inv-below s past inv = record { few = inv .few; held = λ n h z. by-list n z (only n past) (inv .held-by n h) }
-  where
-    by-list : (n : ℕ) → globalAt (s .names) n ≢ 0 → (l : List Entry) → Held s n l → globalAt (s .names) n < s .link .symbols
-    by-list n z [] h = absurd (z h)
-    by-list n z (x ∷ xs) h = omega (arith, h .found, h .below)
 
 -- ---- a row added
 
@@ -53,7 +41,7 @@ module _ (s : State) (b : Below s) (r : Row) where
   unfolding successor
   one-more f = rw (lt-ltb (s .link .symbols) 0xffffffffffffffff (omega (arith, f .few)))
 
-  abbrev m : ℕ
+  abbrev pub m : ℕ
   m = r .name .0
 
   abbrev noted : List ℕ
@@ -102,38 +90,5 @@ module _ (s : State) (b : Below s) (r : Row) where
   viewed (appended e f k z) = decides _ e (appended-below f)
   viewed (local e f v) = decides _ e (appended-below f)
 
-  put-below : Below (withTable s (putOf s r .table))
+  pub put-below : Below (withTable s (putOf s r .table))
   put-below = viewed (view (table s) r)
-
--- ---- a name issued
-
-module _ (s : State) (b : Below s) (x : List ℕ) where
-  added-below : FreeRow (s .link) (s .names) → Below (withStore s (added (store s) x))
-  added-below row =
-      record {
-        few = b .few;
-        held = λ n h z.
-            by-test (eqb n (s .link .names))
-            (λ e.
-            let q : n ≡ s .link .names = eqb-true _ _ e in
-            absurd (z (rw q (linked-new (s .link) (s .names) (s .link .bytes) (length x) x row))))
-            (λ e.
-            let u : n ≢ s .link .names = eqb-false _ _ e in
-            let k : n < s .link .names = less n (s .link .names) u (omega arith) in
-            let q : globalAt (added (store s) x .names) n ≡ globalAt (s .names) n =
-            linked-old (s .link) (s .names) (s .link .bytes) (length x) x row n 3 (omega (arith, row .free)) (omega arith) u in
-            rw q (b .held n k (λ y. z (q ∙ y))));
-      }
-    where
-      less : (m c : ℕ) → m ≢ c → m ≤ c → m < c
-      less m c u h = by-test (ltb m c) (λ t. ltb-true _ _ t) (λ t. absurd (u (omega (arith, ltb-false m c t))))
-
-  issue-below : (id : Interned) → Below (withStore s (keepOf (store s) id x))
-  unfolding keepOf
-  issue-below id =
-      by-test (ltb (id .0) (s .link .names)) (λ a. rw a b)
-      (λ a. by-test (roomOf (store s) (length x)) (λ c. rw (a, c) (added-below (room-free (store s) (length x) c))) (λ c. rw (a, c) b))
-
-pub part-below : (p : Part) (s : State) → Below s → Below (partNext p s)
-part-below (issue x) s b = issue-below s b x (idOf s x)
-part-below (put r from) s b = put-below s b r

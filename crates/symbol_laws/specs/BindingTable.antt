@@ -9,7 +9,7 @@ use lib.Dec.{T, eqb, eqb→eq}
 use lib.ListN.{getD}
 use Rattle.gabi.specs.SymbolTable.{stbLocal, stbGlobal, stbWeak, stvInternal, stvHidden, stvProtected}
 use Rattle.upcoming_symbol.specs.Judge.{shownOf, hiddenOf, judgeOf}
-use Rattle.symbol_laws.specs.Table.{every, at}
+use Rattle.symbol_laws.specs.Proof.Table.{every, at}
 
 -- a row for each binding, a column for each visibility: the visibility of the symbol's row (0 local, 1 and 2 global, 3 and 4 weak, the second of each
 -- hidden), or the number of the refusal

@@ -8,9 +8,9 @@ use mathlib.Core.Bool.{Bool, true, false, not, false≢true}
 use mathlib.Core.List.{List}
 use mathlib.Core.Logic.{_≢_}
 use lib.IntN.{ℤ, pos, negsuc}
-use lib.Dec.{eqb, ltb, leb}
-use borrow.Author.Tests.{eqb-true, eqb-false, ne-eqb, ltb-true, ltb-false, leb-true}
-use Rattle.cells.specs.Split.{by-test}
+use lib.Dec.{eqb, ltb}
+use borrow.Author.Tests.{eqb-true, eqb-false, ne-eqb, ltb-true, ltb-false}
+use Rattle.cells.specs.Proof.Split.{by-test}
 use Rattle.gabi.specs.SymbolTable.{Sym, stbGlobal, stbWeak, sttNotype, sttObject, sttFunc, sttSection, sttFile, stvDefault, stvHidden}
 use Rattle.link.specs.declared.Link.{Link}
 use Rattle.symbol.specs.declared.Row.{Row}
@@ -20,11 +20,13 @@ use Rattle.symbol.specs.declared.SymbolVisibility.{SymbolVisibility}
 use Rattle.symbol.specs.declared.SymbolVisibility.the-variants.{Global}
 use Rattle.symbol.specs.Codes.{typeAt, visibilityAt}
 use Rattle.symbol.specs.Hidden.{passes}
-use Rattle.symbol.specs.Offset.{offsetOf, offset-low, offset-high}
-use Rattle.symbol_rows.specs.declared.Holder.{Holder}
-use Rattle.symbol_rows.specs.declared.Holder.the-variants.{Unissued, Nobody, Removed, Known}
-use Rattle.symbol_rows.specs.declared.Decision.{Decision}
-use Rattle.symbol_rows.specs.Decide.{refusalOf, newOf, knownOf, namedOf, localOf, decideOf}
+use Rattle.symbol.specs.Offset.{offsetOf}
+use Rattle.symbol.specs.Proof.Offset.{offset-low, offset-high}
+use Rattle.symbol.specs.Layout.{refusesScope}
+use Rattle.symbol.specs.Row.{scopeRefused, valueRefused}
+use Rattle.symbol_resolution.specs.declared.rows.Holder.{Holder}
+use Rattle.symbol_resolution.specs.Decide.{refusalOf, decideOf}
+use Rattle.symbol_resolution.specs.Proof.Outcomes.{Passing, accepted-passing}
 use Rattle.upcoming_symbol.specs.Judge.{shownOf, hiddenOf, judgeOf}
 use Rattle.upcoming_symbol.specs.Upcoming.{libraryCode}
 use Rattle.symbol_laws.specs.Standing.{unhidden, library-visible, library-refused, library-local}
@@ -93,7 +95,7 @@ offset-is v =
     (λ t. rw (offset-high v (ltb-false _ _ t)) (becomes (ltb-false _ _ t)))
 
 -- a row's visibility, of one that isn't local and passes
-pub shown-is : (b v : ℕ) → judgeOf b v ≢ 0 → leb 5 (judgeOf b v) ≡ false → visibilityAt (judgeOf b v) ≡ Global (eqb b stbWeak) (eqb v stvHidden)
+pub shown-is : (b v : ℕ) → judgeOf b v ≢ 0 → refusesScope (judgeOf b v) ≡ false → visibilityAt (judgeOf b v) ≡ Global (eqb b stbWeak) (eqb v stvHidden)
 unfolding judgeOf shownOf hiddenOf visibilityAt
 shown-is b v z p =
     by-test (eqb v 0)
@@ -113,7 +115,7 @@ shown-is b v z p =
     (λ d. by-test (eqb b 2) (λ g. let f : b ≡ 2 = eqb-true _ _ g in rw (e, f)) (λ g. absurd (false≢true (sym (rw (a, h, c, d, g) at p)))))))
     (λ h. absurd (false≢true (sym (rw (a, h) at p)))))
 
-pub admitted-is : (e : Sym) → judgeOf (e .binding) (e .visibility) ≢ 0 → leb 5 (judgeOf (e .binding) (e .visibility)) ≡ false → Admitted e
+pub admitted-is : (e : Sym) → judgeOf (e .binding) (e .visibility) ≢ 0 → refusesScope (judgeOf (e .binding) (e .visibility)) ≡ false → Admitted e
 unfolding judgeOf shownOf hiddenOf
 admitted-is e z p =
     let b : ℕ = e .binding in
@@ -141,43 +143,15 @@ unfolding libraryCode passes
 shared-shows false e k p = p
 shared-shows true e k p = library-visible k ∙ ap unhidden p
 
-pub shared-is : (gabi : Bool) (e : Sym) → libraryCode gabi (judgeOf (e .binding) (e .visibility)) ≢ 0 → leb 5 (libraryCode gabi (judgeOf (e .binding) (e .visibility))) ≡ false
+pub shared-is : (gabi : Bool) (e : Sym) → libraryCode gabi (judgeOf (e .binding) (e .visibility)) ≢ 0 → refusesScope (libraryCode gabi (judgeOf (e .binding) (e .visibility))) ≡ false
     → Admitted e × (visibilityAt (libraryCode gabi (judgeOf (e .binding) (e .visibility))) ≡ shows (sharedEntry gabi e))
 shared-is gabi e z p =
     let k : ℕ = judgeOf (e .binding) (e .visibility) in
     let n : k ≢ 0 = eqb-false _ _ (sym (library-local gabi k) ∙ ne-eqb _ _ z) in
-    let q : leb 5 k ≡ false = sym (library-refused gabi k) ∙ p in
+    let q : refusesScope k ≡ false = sym (library-refused gabi k) ∙ p in
     (admitted-is e n q, shared-shows gabi e k (shown-is (e .binding) (e .visibility) n q))
 
 -- what is accepted has a visibility and a value that pass
-module _ (l : Link) (symbols sections : List ℕ) (r : Row) where
-  Passes : Decision → Type 0
-  Passes d = refusalOf d ≡ 0 → leb 13 (r .value .kind) ≡ false
-
-  never : {P : Type 0} (n : ℕ) → n ≢ 0 → n ≡ 0 → P
-  never n u z = absurd (u z)
-
-  new-passes : Passes (newOf l symbols sections r)
-  unfolding Passes newOf
-  new-passes z =
-      by-test (leb 13 (r .value .kind))
-      (λ t. let e : r .value .kind ≡ 0 = rw t at z in absurd (omega (arith, leb-true 13 (r .value .kind) t))) (λ t. t)
-
-  pub decided-passes : (h : Holder) → refusalOf (decideOf l symbols sections r h) ≡ 0 → (leb 5 (r .visibility) ≡ false) × (leb 13 (r .value .kind) ≡ false)
-  unfolding decideOf knownOf Passes
-  decided-passes h z =
-      by-test (leb 5 (r .visibility)) (λ t. let e : r .visibility ≡ 0 = rw t at z in absurd (omega (arith, leb-true 5 (r .visibility) t)))
-      (λ t. (t, by-test (eqb (r .visibility) 0) (λ v. by-local h (rw (t, v) at z)) (λ v. by-named h (rw (t, v) at z))))
-    where
-      by-local : (h : Holder) → refusalOf (localOf l symbols sections r h) ≡ 0 → leb 13 (r .value .kind) ≡ false
-      by-local Unissued z = absurd (omega arith)
-      by-local Nobody z = new-passes z
-      by-local Removed z = new-passes z
-      by-local (Known id) z = new-passes z
-
-      by-named : (h : Holder) → refusalOf (namedOf l symbols sections r h) ≡ 0 → leb 13 (r .value .kind) ≡ false
-      by-named Unissued z = absurd (omega arith)
-      by-named Nobody z = new-passes z
-      by-named Removed z = absurd (omega arith)
-      by-named (Known id) z =
-          by-test (leb 13 (r .value .kind)) (λ t. let e : r .value .kind ≡ 0 = rw t at z in absurd (omega (arith, leb-true 13 (r .value .kind) t))) (λ t. t)
+pub decided-passes : (l : Link) (symbols sections : List ℕ) (r : Row) (h : Holder) → refusalOf (decideOf l symbols sections r h) ≡ 0
+    → (scopeRefused r ≡ false) × (valueRefused r ≡ false)
+decided-passes l symbols sections r h z = let p : Passing r = accepted-passing l symbols sections r h z in (p .scope, p .value)

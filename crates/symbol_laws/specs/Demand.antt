@@ -7,15 +7,15 @@ use mathlib.Core.Bool.{Bool, true, false}
 use mathlib.Core.List.{List, [], _∷_}
 use lib.Dec.{leb}
 use borrow.Author.Tests.{leb-true, leb-false, lt-leb, ne-eqb}
-use Rattle.cells.specs.Split.{by-test}
+use Rattle.cells.specs.Proof.Split.{by-test}
 use Rattle.symbol.specs.declared.Row.{Row}
 use Rattle.symbol.specs.Row.{stateAt}
-use Rattle.symbol_rows.specs.declared.Holder.the-variants.{Nobody, Known}
-use Rattle.symbol_rows.specs.Holder.{globalAt, heldBy, holderOf}
+use Rattle.symbol_resolution.specs.declared.rows.Holder.the-variants.{Nobody, Known}
+use Rattle.symbol_resolution.specs.Holder.{globalAt, heldBy, holderOf}
 use Rattle.symbol_laws.specs.Rank.{ranked, FirstOfGreatestRank, best-first, firstOf, best-terms}
 use Rattle.symbol_laws.specs.Hidden.{isHidden, someHidden}
 use Rattle.symbol_laws.specs.Standing.{hiddenBy, rowAfter, hidden-by, SameButHidden, same-by}
-use Rattle.symbol_laws.specs.Rows.{rowAt}
+use Rattle.symbol_laws.specs.Proof.Rows.{rowAt}
 use Rattle.symbol_laws.specs.History.{State, Entry, only, rows}
 use Rattle.symbol_laws.specs.Held.{Holds, Held, Inv}
 

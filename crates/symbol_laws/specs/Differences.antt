@@ -13,9 +13,9 @@ use Rattle.symbol.specs.declared.SymbolVisibility.the-variants.{Global}
 use Rattle.symbol.specs.declared.SymbolValue.the-variants.{Undefined}
 use Rattle.symbol.specs.Codes.{visibilityAt, valueAt}
 use Rattle.symbol.specs.Hidden.{hiddenCode, hideCode, passes, hideIf}
-use Rattle.symbol_rows.specs.declared.Decision.{Decision}
-use Rattle.symbol_rows.specs.declared.Decision.the-variants.{Refuse, Replace}
-use Rattle.symbol_rows.specs.Decide.{weakOf, rankOf, typeRefusal, replaceOf, rankedOf}
+use Rattle.symbol_resolution.specs.declared.rows.Decision.{Decision}
+use Rattle.symbol_resolution.specs.declared.rows.Decision.the-variants.{Refuse, Replace}
+use Rattle.symbol_resolution.specs.Decide.{weakOf, rankOf, typeRefusal, replaceOf, rankedOf}
 use Rattle.upcoming_symbol.specs.declared.ElfSymbol.{ElfSymbol}
 use Rattle.upcoming_symbol.specs.Judge.{shownOf, hiddenOf, judgeOf}
 use Rattle.upcoming_symbol.specs.declared.Conversion.the-variants as To

@@ -12,7 +12,7 @@ use lib.ListN.{getD}
 use mir.Syntax.{w64}
 use mir.Val.{SFits}
 use borrow.Author.Tests.{eqb-true, eqb-false, leb-true, leb-false, lt-ltb, ne-eqb}
-use Rattle.cells.specs.Split.{by-test}
+use Rattle.cells.specs.Proof.Split.{by-test}
 use Rattle.gabi.specs.SymbolTable.{Sym, stbWeak, stvHidden, shnUndef, shnAbs}
 use Rattle.link.specs.declared.Interned.{Interned}
 use Rattle.link.specs.Bounds.{notLent}
@@ -25,10 +25,12 @@ use Rattle.symbol.specs.declared.SymbolVisibility.the-variants.{Global}
 use Rattle.symbol.specs.declared.SymbolValue.{SymbolValue}
 use Rattle.symbol.specs.declared.SymbolValue.the-variants as Val
 use Rattle.symbol.specs.Codes.{typeAt, visibilityAt, valueAt, wordsOf, successor, fileAt, fileCell}
-use Rattle.symbol.specs.Offset.{offset-word}
-use Rattle.symbol_rows.specs.declared.Decision.{Decision}
-use Rattle.symbol_rows.specs.Decide.{refusalOf}
-use Rattle.symbol_rows.specs.Apply.{Table}
+use Rattle.symbol.specs.Proof.Offset.{offset-word}
+use Rattle.symbol.specs.Layout.{refusesValue}
+use Rattle.symbol.specs.Row.{scopeRefused, valueRefused}
+use Rattle.symbol_resolution.specs.declared.rows.Decision.{Decision}
+use Rattle.symbol_resolution.specs.Decide.{refusalOf}
+use Rattle.symbol_resolution.specs.Apply.{Table}
 use Rattle.upcoming_symbol.specs.declared.ElfSymbol.{ElfSymbol}
 use Rattle.upcoming_symbol.specs.declared.UpcomingSymbol.{UpcomingSymbol}
 use Rattle.upcoming_symbol.specs.declared.UpcomingSymbol.the-variants as Up
@@ -134,7 +136,7 @@ committed-passes t r d z =
     by-test (eqb (refusalOf d) 21) (λ a. let q : _≡_ {A = ℕ} 21 0 = rw a at z in absurd (omega arith))
     (λ a. by-test (eqb (refusalOf d) 0) (λ b. eqb-true _ _ b) (λ b. rw (a, b) at z))
 
-pub row-passes : (t : Table) (r : Row) → numberIn (addRowOf t r File.None .said) ≡ 0 → (leb 5 (r .visibility) ≡ false) × (leb 13 (r .value .kind) ≡ false)
+pub row-passes : (t : Table) (r : Row) → numberIn (addRowOf t r File.None .said) ≡ 0 → (scopeRefused r ≡ false) × (valueRefused r ≡ false)
 unfolding addRowOf decidedOf
 row-passes t r z =
     decided-passes (t .link) (t .symbols) (t .sections) r (directHolderOf (t .link) (t .names) (t .symbols) (r .name) File.None)
@@ -154,7 +156,7 @@ module _ (conversion : List ℕ) (empty : Bool) (e : ElfSymbol) where
   abbrev cell : ℕ
   cell = getD conversion (e .section) 0
 
-  converted-value : e .section ≢ shnUndef → leb 13 (convertedOf (conversionFrom cell) empty (e .value) .kind) ≡ false → ElfValue conversion empty e (valueAt (convertedOf (conversionFrom cell) empty (e .value)))
+  converted-value : e .section ≢ shnUndef → refusesValue (convertedOf (conversionFrom cell) empty (e .value) .kind) ≡ false → ElfValue conversion empty e (valueAt (convertedOf (conversionFrom cell) empty (e .value)))
   unfolding convertedOf conversionFrom valueAt
   converted-value n p =
       by-test (eqb cell 0) (λ a. absurd (false≢true (sym (rw a at p))))
@@ -174,7 +176,7 @@ module _ (conversion : List ℕ) (empty : Bool) (e : ElfSymbol) where
           small (suc zero) h u v = v refl
           small (suc (suc n)) h u v = omega arith
 
-  elf-value : leb 13 (valueOf (conversionFrom cell) e empty .kind) ≡ false → ElfValue conversion empty e (valueAt (valueOf (conversionFrom cell) e empty))
+  elf-value : refusesValue (valueOf (conversionFrom cell) e empty .kind) ≡ false → ElfValue conversion empty e (valueAt (valueOf (conversionFrom cell) e empty))
   unfolding valueOf valueAt
   elf-value p =
       by-test (eqb (e .section) 0) (λ a. rw (a, reference-value (e .binding)) (undefined (eqb-true _ _ a)))

@@ -3,25 +3,26 @@
 use Prim.Native.Nat.{ℕ, _+_, _≤_, _<_}
 use native.Mathlib.Omega.{arith}
 use mathlib.Core.Path.{_≡_, sym, ap, _∙_, subst}
-use mathlib.Core.Bool.{Bool, true, false}
+use mathlib.Core.Bool.{true, false}
 use mathlib.Core.List.{List, [], _∷_, _++_}
 use mathlib.Core.Logic.{_≢_}
-use lib.Dec.{eqb, ltb, leb}
+use lib.Dec.{ltb}
 use borrow.Author.Tests.{eqb-true, ne-eqb, ltb-true, ltb-false, lt-ltb, lt-leb}
 use Rattle.link.specs.Said.{numberIn}
-use Rattle.cells.specs.Split.{by-test}
+use Rattle.cells.specs.Proof.Split.{by-test}
 use Rattle.gabi.specs.SymbolTable.{Sym}
 use Rattle.gabi.specs.Resolution as Gabi
 use Rattle.gabi.specs.Resolution.{defined, duplicate, unresolved, zeroValue, isGlobalDefinition, isWeakDefinition, isGlobalReference, has, resolve}
 use Rattle.symbol.specs.declared.Row.{Row}
 use Rattle.symbol.specs.declared.SttFile.the-variants as File
-use Rattle.symbol.specs.Row.{visibilityCodeAt}
-use Rattle.symbol.specs.Hidden.{hiddenCode, passes}
+use Rattle.symbol.specs.Row.{scopeRefused, valueRefused}
 use Rattle.link.specs.declared.SymbolId.{SymbolId}
-use Rattle.symbol_rows.specs.declared.Holder.the-variants.{Known}
-use Rattle.symbol_rows.specs.declared.Decision.{Decision}
-use Rattle.symbol_rows.specs.Decide.{typeRefusal, replaceOf, keptOf, rankedOf, knownOf, decideOf, refusalOf}
-use Rattle.symbols.specs.Add.{issuedOf, directHolderOf, decidedOf, committedOf, addRowOf}
+use Rattle.symbol_resolution.specs.declared.rows.Holder.the-variants.{Known}
+use Rattle.symbol_resolution.specs.declared.rows.Decision.{Decision}
+use Rattle.symbol_resolution.specs.Decide.{refusalOf}
+use Rattle.symbol_resolution.specs.Proof.Outcomes.{Meets, heldRank, known-twice, seventeen-twice}
+use Rattle.symbols.specs.Add.{issuedOf, directHolderOf, decidedOf}
+use Rattle.symbols.specs.Proof.AddOutcomes.{added-number}
 use Rattle.symbol_laws.specs.Rank.{ranked, best-terms, best-counts, strongDefinition, firstOf, count, count-append, strong-rank, rank-most, rank-strong}
 use Rattle.symbol_laws.specs.Standing.{rank-by}
 use Rattle.symbol_laws.specs.View.{decided}
@@ -33,22 +34,11 @@ use Rattle.symbol_laws.specs.Agreement.{strong-match}
 
 -- the number answered is the decision's
 pub put-number : (s : State) (r : Row) → numberIn (putOf s r .said) ≡ refusalOf (decided (table s) r)
-unfolding addRowOf committedOf
-put-number s r =
-    by-test (eqb (refusalOf (decided (table s) r)) 21) (λ a. rw a (sym (eqb-true _ _ a)))
-    (λ a. by-test (eqb (refusalOf (decided (table s) r)) 0) (λ b. rw (a, b) (sym (eqb-true _ _ b))) (λ b. rw (a, b)))
-
-type-small : (k : ℕ) → typeRefusal k ≤ 16
-unfolding typeRefusal
-type-small k = by-test (ltb k 4) (λ a. rw a (omega arith)) (λ a. by-test (eqb k 4) (λ b. rw (a, b) (omega arith)) (λ b. rw (a, b) (omega arith)))
-
-pub kept-number : (gabi : Bool) (old new : ℕ) (id : SymbolId) → refusalOf (keptOf gabi old new id) ≡ 0
-unfolding keptOf
-kept-number gabi old new id = by-test (passes gabi new) (λ a. by-test (hiddenCode old) (λ b. rw (a, b)) (λ b. rw (a, b))) (λ a. rw a)
+put-number s r = added-number (table s) r File.None
 
 -- a global add of a row that passes, under a name that has a row
 module _ (s : State) (past : List Entry) (inv : Inv s past) (r : Row) (x : Entry) (xs : List Entry) (e : only (r .name .0) past ≡ x ∷ xs)
-    (global : r .visibility ≢ 0) (fine : leb 5 (r .visibility) ≡ false) (valued : leb 13 (r .value .kind) ≡ false) where
+    (global : r .visibility ≢ 0) (fine : scopeRefused r ≡ false) (valued : valueRefused r ≡ false) where
   abbrev old : Row
   old = firstOf (s .link .gabi) (x .row) (rows xs)
 
@@ -62,39 +52,36 @@ module _ (s : State) (past : List Entry) (inv : Inv s past) (r : Row) (x : Entry
   unfolding directHolderOf issuedOf
   holder = rw (lt-leb (s .link .names) (r .name .0) (found .issued)) (holder-known s past inv (r .name .0) x xs e)
 
-  -- the decision by the rank of old: hidden doesn't enter it
-  abbrev by-rank : Decision
-  by-rank = rankedOf (s .link .gabi) (visibilityCodeAt (s .symbols) (x .id)) (ranked (s .link .gabi) old) (ranked (s .link .gabi) r) r (record { 0 = x .id })
+  abbrev id : SymbolId
+  id = record { 0 = x .id }
 
-  known : decided (table s) r ≡ by-rank
-  unfolding decidedOf decideOf knownOf
-  known =
-      rw (fine, ne-eqb (r .visibility) 0 global, holder, valued)
-      (ap (λ (k : ℕ). rankedOf (s .link .gabi) (visibilityCodeAt (s .symbols) (x .id)) k (ranked (s .link .gabi) r) r (record { 0 = x .id }))
-      (ap (ranked (s .link .gabi)) (found .terms) ∙ rank-by (s .link .gabi) (rows (x ∷ xs)) old))
+  meets : Meets r (directHolderOf (s .link) (s .names) (s .symbols) (r .name) File.None) id
+  meets = record { global = ne-eqb (r .visibility) 0 global; known = holder }
 
-  answered : number ≡ refusalOf by-rank
-  answered = put-number s r ∙ ap (λ (d : Decision). refusalOf d) known
+  -- hidden doesn't enter the rank of the row that the name has
+  held-rank : heldRank (s .link .gabi) (s .symbols) id ≡ ranked (s .link .gabi) old
+  held-rank = ap (ranked (s .link .gabi)) (found .terms) ∙ rank-by (s .link .gabi) (rows (x ∷ xs)) old
 
   pub second-strong : strongDefinition r ≡ true → strongDefinition old ≡ true → number ≡ 17
-  unfolding rankedOf
-  second-strong a b = answered ∙ rw (strong-rank old (s .link .gabi) b, strong-rank r (s .link .gabi) a)
+  unfolding decidedOf
+  second-strong a b =
+      put-number s r
+      ∙ ap (λ (d : Decision). refusalOf d)
+      (known-twice (s .link) (s .symbols) (s .sections) r fine (directHolderOf (s .link) (s .names) (s .symbols) (r .name) File.None) id meets valued
+      (ap (λ (k : ℕ). ltb k (ranked (s .link .gabi) r)) held-rank ∙ rw (strong-rank old (s .link .gabi) b, strong-rank r (s .link .gabi) a)) (rw (strong-rank r (s .link .gabi) a)))
 
-  -- 17 has no other cause: type is judged after it, and only where the row yields
+  -- 17 has no other cause
   pub seventeen : number ≡ 17 → (strongDefinition r ≡ true) × (strongDefinition old ≡ true)
-  unfolding rankedOf replaceOf
+  unfolding decidedOf
   seventeen q =
-      let w : refusalOf by-rank ≡ 17 = sym answered ∙ q in
-      by-test (ltb (ranked (s .link .gabi) old) (ranked (s .link .gabi) r))
-      (λ y.
-      by-test (eqb (typeRefusal (r .kind)) 0) (λ k. let z : _≡_ {A = ℕ} 0 17 = rw (y, k) at w in absurd (omega arith))
-      (λ k. let z : typeRefusal (r .kind) ≡ 17 = rw (y, k) at w in absurd (omega (arith, z, type-small (r .kind)))))
-      (λ y.
-      by-test (eqb (ranked (s .link .gabi) r) 4)
-      (λ k.
-      let a : ranked (s .link .gabi) r ≡ 4 = eqb-true _ _ k in
-      (rank-strong r (s .link .gabi) a, rank-strong old (s .link .gabi) (omega (arith, a, ltb-false (ranked (s .link .gabi) old) (ranked (s .link .gabi) r) y, rank-most old (s .link .gabi)))))
-      (λ k. let z : _≡_ {A = ℕ} 0 17 = sym (kept-number _ _ _ _) ∙ (rw (y, k) at w) in absurd (omega arith)))
+      let t = seventeen-twice (s .link) (s .symbols) (s .sections) r (directHolderOf (s .link) (s .names) (s .symbols) (r .name) File.None) fine valued (sym (put-number s r) ∙ q) in
+      let a : ranked (s .link .gabi) r ≡ 4 = eqb-true _ _ (t .strong) in
+      let y : ltb (ranked (s .link .gabi) old) (ranked (s .link .gabi) r) ≡ false =
+      ap (λ (k : ℕ). ltb k (ranked (s .link .gabi) r)) (sym held-rank) ∙ subst (λ (i : SymbolId). ltb (heldRank (s .link .gabi) (s .symbols) i) (ranked (s .link .gabi) r) ≡ false) (one-holder (t .id) (t .meets .known)) (t .stays) in
+      (rank-strong r (s .link .gabi) a, rank-strong old (s .link .gabi) (omega (arith, a, ltb-false (ranked (s .link .gabi) old) (ranked (s .link .gabi) r) y, rank-most old (s .link .gabi))))
+    where
+      one-holder : (i : SymbolId) → directHolderOf (s .link) (s .names) (s .symbols) (r .name) File.None ≡ Known i → i ≡ id
+      one-holder i e = let p : Known i ≡ Known id = sym e ∙ holder in cc
 
   -- ---- the same in the gABI's terms
 

@@ -7,16 +7,18 @@ use mathlib.Core.Path.{_≡_, refl, sym, ap, _∙_}
 use mathlib.Core.Bool.{Bool, true, false, cond, not, _||_, false≢true}
 use mathlib.Core.List.{List, [], _∷_}
 use mathlib.Core.Logic.{_≢_}
-use lib.Dec.{eqb, leb}
+use lib.Dec.{eqb}
 use lib.ListN.{getD}
 use borrow.Author.Tests.{eqb-true, eq-eqb}
-use Rattle.cells.specs.Split.{by-test}
+use Rattle.cells.specs.Proof.Split.{by-test}
 use Rattle.link.specs.declared.Interned.{Interned}
 use Rattle.gabi.specs.SymbolTable.{Sym, stbGlobal, stbWeak, stvDefault, stvHidden, shnUndef, shnAbs, isGlobal, isWeak, isReference}
 use Rattle.gabi.specs.Resolution as Gabi
 use Rattle.gabi.specs.Visibility.{rank, combine, combined}
 use Rattle.symbol.specs.declared.Row.{Row}
-use Rattle.symbol_rows.specs.Decide.{weakOf}
+use Rattle.symbol.specs.Layout.{refusesScope}
+use Rattle.symbol.specs.Row.{scopeRefused}
+use Rattle.symbol_resolution.specs.Decide.{weakOf}
 use Rattle.upcoming_symbol.specs.declared.ElfSymbol.{ElfSymbol}
 use Rattle.upcoming_symbol.specs.Judge.{shownOf, hiddenOf, judgeOf}
 use Rattle.upcoming_symbol.specs.declared.Conversion.{Conversion}
@@ -135,8 +137,8 @@ module _ (to : Conversion) (e : ElfSymbol) (name : Interned) (empty : Bool) (fil
   abbrev code : ℕ → ℕ → ℕ → ℕ
   code x y z = cond (eqb (e .binding) 0) x (cond (eqb (e .binding) 1) y (cond (eqb (e .binding) 2) z 12))
 
-  bound-code : (x y z : ℕ) → (x ≢ 0 → leb 5 x ≡ false → ⊥) → weakOf y ≡ false → weakOf z ≡ true
-      → code x y z ≢ 0 → leb 5 (code x y z) ≡ false → Bound (code x y z)
+  bound-code : (x y z : ℕ) → (x ≢ 0 → refusesScope x ≡ false → ⊥) → weakOf y ≡ false → weakOf z ≡ true
+      → code x y z ≢ 0 → refusesScope (code x y z) ≡ false → Bound (code x y z)
   unfolding isWeak isGlobal
   bound-code x y z f g h n p =
       by-test (eqb (e .binding) 0) (λ a. absurd (f (rw a at n) (rw a at p)))
@@ -146,7 +148,7 @@ module _ (to : Conversion) (e : ElfSymbol) (name : Interned) (empty : Bool) (fil
       by-test (eqb (e .binding) 2) (λ c. let q : e .binding ≡ 2 = eqb-true _ _ c in rw q (record { weak-code = h; one-of = refl }))
       (λ c. absurd (false≢true (sym (rw (a, b, c) at p))))))
 
-  bound-judged : judgeOf (e .binding) (e .visibility) ≢ 0 → leb 5 (judgeOf (e .binding) (e .visibility)) ≡ false → Bound (judgeOf (e .binding) (e .visibility))
+  bound-judged : judgeOf (e .binding) (e .visibility) ≢ 0 → refusesScope (judgeOf (e .binding) (e .visibility)) ≡ false → Bound (judgeOf (e .binding) (e .visibility))
   unfolding judgeOf shownOf hiddenOf weakOf
   bound-judged n p =
       by-test (eqb (e .visibility) 0) (λ a. rw a (bound-code 0 1 3 (λ z q. z refl) refl refl (rw a at n) (rw a at p)))
@@ -156,7 +158,7 @@ module _ (to : Conversion) (e : ElfSymbol) (name : Interned) (empty : Bool) (fil
       (λ b. absurd (false≢true (sym (rw (a, b) at p)))))
 
   -- an Elf symbol that isn't local, and whose visibility passes
-  pub elf-means : row .visibility ≢ 0 → leb 5 (row .visibility) ≡ false → Means row (symOf e)
+  pub elf-means : row .visibility ≢ 0 → scopeRefused row ≡ false → Means row (symOf e)
   unfolding elfRowOf
   elf-means z p =
       let b : Bound (judgeOf (e .binding) (e .visibility)) = bound-judged z p in
@@ -164,7 +166,7 @@ module _ (to : Conversion) (e : ElfSymbol) (name : Interned) (empty : Bool) (fil
 
   -- a shared object's definition, which becomes a row without type and value
   pub external-means : (gabi : Bool) → eqb (e .section) 0 ≡ false → externalRowOf gabi name (e .binding) (e .visibility) .visibility ≢ 0
-      → leb 5 (externalRowOf gabi name (e .binding) (e .visibility) .visibility) ≡ false → Means (externalRowOf gabi name (e .binding) (e .visibility)) (symOf e)
+      → scopeRefused (externalRowOf gabi name (e .binding) (e .visibility)) ≡ false → Means (externalRowOf gabi name (e .binding) (e .visibility)) (symOf e)
   unfolding externalRowOf isReference
   external-means gabi d z p =
       let k : ℕ = judgeOf (e .binding) (e .visibility) in

@@ -8,14 +8,14 @@ use mathlib.Core.List.{List, [], _∷_, _++_}
 use mathlib.Core.Logic.{_≢_}
 use lib.Dec.{eqb}
 use lib.ListN.{length}
-use Rattle.cells.specs.Split.{by-test}
+use Rattle.cells.specs.Proof.Split.{by-test}
 use Rattle.symbol.specs.declared.Row.{Row}
 use Rattle.symbol.specs.Row.{stateAt}
-use Rattle.symbol_rows.specs.Holder.{globalAt}
+use Rattle.symbol_resolution.specs.Holder.{globalAt}
 use Rattle.symbol_laws.specs.Rank.{strongDefinition, count}
 use Rattle.symbol_laws.specs.Standing.{standing, rowAfter}
 use Rattle.symbol_laws.specs.Standing as Standing
-use Rattle.symbol_laws.specs.Rows.{rowAt}
+use Rattle.symbol_laws.specs.Proof.Rows.{rowAt}
 use Rattle.symbol_laws.specs.History.{State, Entry, only, rows}
 
 -- ---- who holds a name

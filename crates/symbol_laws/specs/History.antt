@@ -15,7 +15,7 @@ use Rattle.symbol.specs.declared.Row.{Row}
 use Rattle.symbol.specs.declared.SttFile.the-variants as File
 use Rattle.upcoming_symbol.specs.declared.UpcomingSymbol.{UpcomingSymbol}
 use Rattle.upcoming_symbol.specs.Upcoming.{nameOf, rowOf}
-use Rattle.symbol_rows.specs.Apply.{Table, tableOf}
+use Rattle.symbol_resolution.specs.Apply.{Table, tableOf}
 use Rattle.symbols.specs.Calls.{Left}
 use Rattle.symbols.specs.Add.{emptyAt, addRowOf, addOf}
 use Rattle.symbols.specs.New.{NewLeft}

@@ -3,16 +3,11 @@ pub mod Differences
 pub mod History
 pub mod Rank
 pub mod Standing
-pub mod Rows
 pub mod View
-pub mod Refused
 pub mod Held
 pub mod Put
-pub mod Issue
-pub mod Start
 pub mod Calls
 pub mod Demand
-pub mod Profile
 pub mod Within
 pub mod Below
 pub mod Writes
@@ -23,5 +18,5 @@ pub mod ObjectWords
 pub mod ContentWords
 pub mod DirectContents
 pub mod Hidden
-pub mod Table
 pub mod BindingTable
+pub mod Proof

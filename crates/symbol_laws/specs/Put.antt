@@ -11,27 +11,27 @@ use lib.ListN.{set, length, length-set}
 use lib.Seq.{getD-set-same, getD-set-other}
 use borrow.Author.Tests.{ltb-true, eqb-true, eqb-false, eq-eqb, ne-eqb, lt-ltb}
 use Rattle.link.specs.Said.{Said, accepted, numberIn}
-use Rattle.cells.specs.Split.{by-test}
+use Rattle.cells.specs.Proof.Split.{by-test}
 use Rattle.link.specs.declared.Interned.{Interned}
 use Rattle.link.specs.declared.SymbolId.{SymbolId}
-use Rattle.symbol.specs.RowLaws.{length-setRow}
+use Rattle.symbol.specs.Proof.RowLaws.{length-setRow}
 use Rattle.symbol.specs.declared.Row.{Row}
 use Rattle.symbol.specs.declared.SttFile.the-variants as File
 use Rattle.symbol.specs.Codes.{successor}
 use Rattle.symbol.specs.Row.{stateAt, setRow}
 use Rattle.symbol.specs.Hidden.{passHidden}
-use Rattle.symbol_rows.specs.declared.Decision.{Decision}
-use Rattle.symbol_rows.specs.declared.Decision.the-variants.{Refuse}
-use Rattle.symbol_rows.specs.Holder.{globalAt}
-use Rattle.symbol_rows.specs.Apply.{Table, noteName, appendOf, replacedIn, amendedIn, applyOf}
+use Rattle.symbol_resolution.specs.declared.rows.Decision.{Decision}
+use Rattle.symbol_resolution.specs.declared.rows.Decision.the-variants.{Refuse}
+use Rattle.symbol_resolution.specs.Holder.{globalAt}
+use Rattle.symbol_resolution.specs.Apply.{Table, noteName, appendOf, replacedIn, amendedIn, applyOf}
 use Rattle.symbols.specs.Calls.{Left}
 use Rattle.symbols.specs.Add.{committedOf, addRowOf}
 use Rattle.symbol_laws.specs.Rank.{ranked, best, strongDefinition, count, count-append, strong-rank, rank-most, best-low}
 use Rattle.symbol_laws.specs.Standing.{standing, rowAfter, after-first, rank-by, pass-rest}
-use Rattle.symbol_laws.specs.Rows.{rowAt, stored-there, stored-row, there-kept, row-kept}
+use Rattle.symbol_laws.specs.Proof.Rows.{rowAt, stored-there, stored-row, there-kept, row-kept}
 use Rattle.symbol_laws.specs.View.{Named, Free, View, refused, kept, amended, replaced, appended, local, view, decided, yields}
-use Rattle.symbol_laws.specs.Refused.{commit-refused}
-use Rattle.symbol_laws.specs.Below.{inv-below}
+use Rattle.symbol_laws.specs.Proof.Refused.{commit-refused}
+use Rattle.symbol_laws.specs.Proof.Below.{inv-below}
 use Rattle.symbol_laws.specs.History.{State, table, withTable, Source, Entry, noted, only, rows, putOf}
 use Rattle.symbol_laws.specs.Held.{Holds, Held, Inv, only-same, only-other, rows-snoc, after-snoc, held-kept, apart, none-held}
 

@@ -7,9 +7,9 @@ use mathlib.Core.Bool.{Bool, true, false, cond, not, _&&_}
 use mathlib.Core.List.{List, [], _∷_, _++_, append-assoc, append-nil}
 use lib.Dec.{eqb, ltb}
 use borrow.Author.Tests.{ltb-true, ltb-false, eqb-true, eqb-false, eq-eqb, ne-eqb}
-use Rattle.cells.specs.Split.{by-test}
+use Rattle.cells.specs.Proof.Split.{by-test}
 use Rattle.symbol.specs.declared.Row.{Row}
-use Rattle.symbol_rows.specs.Decide.{weakOf, referenceRank, rankOf}
+use Rattle.symbol_resolution.specs.Decide.{weakOf, referenceRank, rankOf}
 
 abbrev pub All : (Row → Type 0) → List Row → Type 0
 All P [] = Unit {0}

@@ -4,16 +4,17 @@ use Prim.Native.Nat.{ℕ}
 use mathlib.Core.Path.{_≡_, refl, sym, ap, _∙_, subst}
 use mathlib.Core.Bool.{Bool, true, false, cond, _||_, false≢true}
 use mathlib.Core.List.{List, [], _∷_, _++_}
-use lib.Dec.{eqb, ltb, leb}
+use lib.Dec.{eqb, ltb}
 use borrow.Author.Tests.{eqb-true}
-use Rattle.cells.specs.Split.{by-test}
+use Rattle.cells.specs.Proof.Split.{by-test}
 use Rattle.link.specs.declared.Interned.{Interned}
 use Rattle.symbol.specs.declared.Row.{Row}
 use Rattle.symbol.specs.declared.SymbolVisibility.{SymbolVisibility}
 use Rattle.symbol.specs.declared.SymbolVisibility.the-variants.{Local, Global}
 use Rattle.symbol.specs.Codes.{visibilityAt}
 use Rattle.symbol.specs.Hidden.{hiddenCode, hideCode, showCode, passes, withVisibility, hideIf, passHidden}
-use Rattle.symbol_rows.specs.Decide.{weakOf, referenceRank, rankOf}
+use Rattle.symbol.specs.Layout.{refusesScope}
+use Rattle.symbol_resolution.specs.Decide.{weakOf, referenceRank, rankOf}
 use Rattle.upcoming_symbol.specs.Judge.{judgeOf}
 use Rattle.upcoming_symbol.specs.Upcoming.{libraryCode, externalRowOf}
 use Rattle.symbol_laws.specs.Rank.{ranked, best, best-first, best-snoc, weak}
@@ -220,15 +221,15 @@ module _ (P : ℕ → ℕ → Type 0) (same : (k : ℕ) → P k k) (global : P 1
       by-test (eqb k 2) (λ a. let q : k ≡ 2 = eqb-true _ _ a in rw q global)
       (λ a. by-test (eqb k 4) (λ b. let q : k ≡ 4 = eqb-true _ _ b in rw q weakly) (λ b. rw (a, b) (same k)))
 
-pub library-refused : (gabi : Bool) (k : ℕ) → leb 5 (libraryCode gabi k) ≡ leb 5 k
-library-refused = library-by (λ x k. leb 5 x ≡ leb 5 k) (λ k. refl) refl refl
+pub library-refused : (gabi : Bool) (k : ℕ) → refusesScope (libraryCode gabi k) ≡ refusesScope k
+library-refused = library-by (λ x k. refusesScope x ≡ refusesScope k) (λ k. refl) refl refl
 
-pub library-number : (gabi : Bool) (k : ℕ) → leb 5 k ≡ true → libraryCode gabi k ≡ k
-library-number = library-by (λ x k. leb 5 k ≡ true → x ≡ k) (λ k e. refl) (λ e. absurd (false≢true e)) (λ e. absurd (false≢true e))
+pub library-number : (gabi : Bool) (k : ℕ) → refusesScope k ≡ true → libraryCode gabi k ≡ k
+library-number = library-by (λ x k. refusesScope k ≡ true → x ≡ k) (λ k e. refl) (λ e. absurd (false≢true e)) (λ e. absurd (false≢true e))
 
 -- what holds of the number of a refusal
-pub library-holds : (P : ℕ → Type 0) (gabi : Bool) (k : ℕ) → (leb 5 k ≡ true → P k) → leb 5 (libraryCode gabi k) ≡ true → P (libraryCode gabi k)
-library-holds P gabi k f e = let q : leb 5 k ≡ true = sym (library-refused gabi k) ∙ e in subst P (sym (library-number gabi k q)) (f q)
+pub library-holds : (P : ℕ → Type 0) (gabi : Bool) (k : ℕ) → (refusesScope k ≡ true → P k) → refusesScope (libraryCode gabi k) ≡ true → P (libraryCode gabi k)
+library-holds P gabi k f e = let q : refusesScope k ≡ true = sym (library-refused gabi k) ∙ e in subst P (sym (library-number gabi k q)) (f q)
 
 pub library-local : (gabi : Bool) (k : ℕ) → eqb (libraryCode gabi k) 0 ≡ eqb k 0
 library-local = library-by (λ x k. eqb x 0 ≡ eqb k 0) (λ k. refl) refl refl

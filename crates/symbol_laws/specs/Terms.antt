@@ -12,27 +12,28 @@ use Rattle.gabi.specs.Visibility.{combined}
 use Rattle.gabi.specs.Resolution.{duplicate, resolve}
 use Rattle.symbol.specs.RowLaws.{symbolOf}
 use Rattle.symbol.specs.declared.Row.{Row}
-use Rattle.symbol.specs.Row.{field}
-use Rattle.symbol_rows.specs.Holder.{globalAt}
-use Rattle.symbol_rows.specs.Apply.{Table}
+use Rattle.symbol.specs.Row.{field, scopeRefused, valueRefused}
+use Rattle.symbol_resolution.specs.Holder.{globalAt}
+use Rattle.symbol_resolution.specs.Apply.{Table}
 use Rattle.symbols.specs.declared.Found.the-variants as Fd
 use Rattle.symbols.specs.New.{newOf}
 use Rattle.symbols.specs.Lookup.{notFound, getGlobalOf}
 use Rattle.upcoming_symbol.specs.declared.UpcomingSymbol.{UpcomingSymbol}
 use Rattle.symbols.specs.Add.{addOf}
 use Rattle.symbol_laws.specs.Rank.{firstOf}
-use Rattle.symbol_laws.specs.Rows.{rowAt}
+use Rattle.symbol_laws.specs.Proof.Rows.{rowAt}
 use Rattle.symbol_laws.specs.History.{State, opened, Entry, only, rows, Part, putOf, runParts, logParts, Call, add, intern, callNext, callNumber, runCalls, logCalls, Removes, RemovesNothing}
 use Rattle.symbol_laws.specs.Held.{Inv}
-use Rattle.symbol_laws.specs.Start.{new-inv}
-use Rattle.symbol_laws.specs.Calls.{call-refused, parts-keep, calls-keep}
+use Rattle.symbol_laws.specs.Proof.Start.{new-inv}
+use Rattle.symbol_laws.specs.Proof.Calls.{call-refused, parts-keep, calls-keep}
 use Rattle.symbol_laws.specs.Hidden.{isHidden, someHidden, attribute}
 use Rattle.symbol_laws.specs.Standing.{hiddenBy, SameButHidden}
-use Rattle.symbol_laws.specs.Profile as Profile
+use Rattle.symbol_laws.specs.Proof.Profile as Profile
 use Rattle.symbol_laws.specs.Demand as Demand
 use Rattle.symbol_laws.specs.Within as Within
-use Rattle.symbol_laws.specs.Below.{inv-below}
+use Rattle.symbol_laws.specs.Proof.Below.{inv-below}
 use Rattle.symbol_laws.specs.Writes as Writes
+use Rattle.symbol_laws.specs.Proof.Writes as WritesLaws
 use Rattle.symbol_laws.specs.Gabi.{Means, AllMean, combined-rows, symOfRow, means-own, symsOf, all-mean-own}
 use Rattle.symbol_laws.specs.Agreement as Agreement
 use Rattle.symbol_laws.specs.Duplicate as Duplicate
@@ -104,12 +105,12 @@ module _ (key : ℕ) (gabi : Bool) (bytes names symbols sections : List ℕ) (ne
 
     -- "Rows past the count are never written": by one more call, accepted or refused, a removal too
     pub past-the-count : (k : Call) → Writes.Untouched end (callNext k end)
-    past-the-count k = Writes.call-past end (inv-below end _ kept) k
+    past-the-count k = WritesLaws.call-past end (inv-below end _ kept) k
 
     -- an id once given to a name stays its own
     pub ids-stay : (ls : List Call) → RemovesNothing ls end → (n : ℕ) → n < end .link .names → globalAt (end .names) n ≢ 0
         → Writes.Bears (runCalls ls end) n (globalAt (end .names) n)
-    ids-stay ls q n i z = Writes.stays end (runCalls ls end) _ _ kept (calls-keep ls end _ q kept) n i z
+    ids-stay ls q n i z = WritesLaws.stays end (runCalls ls end) _ _ kept (calls-keep ls end _ q kept) n i z
 
     -- ---- demand 2: agreement with the gABI
 
@@ -130,8 +131,8 @@ module _ (key : ℕ) (gabi : Bool) (bytes names symbols sections : List ℕ) (ne
     gabi-visible n x xs e g = ap attribute (hidden-3a n x xs e g) ∙ sym (combined-rows (rows (x ∷ xs)))
 
     -- a further add is refused with 17 exactly where the gABI sees a duplicate
-    module _ (r : Row) (x : Entry) (xs : List Entry) (e : adds (r .name .0) ≡ x ∷ xs) (global : r .visibility ≢ 0) (passes : leb 5 (r .visibility) ≡ false)
-        (valued : leb 13 (r .value .kind) ≡ false) where
+    module _ (r : Row) (x : Entry) (xs : List Entry) (e : adds (r .name .0) ≡ x ∷ xs) (global : r .visibility ≢ 0) (passes : scopeRefused r ≡ false)
+        (valued : valueRefused r ≡ false) where
       abbrev own : AllMean (rows (x ∷ xs)) (symsOf (rows (x ∷ xs)))
       own = all-mean-own (rows (x ∷ xs))
 
@@ -156,4 +157,4 @@ refusals-leave-all = call-refused
 -- an add writes no symbol row but the one whose id it answers
 pub one-row : (t : Table) (conversion : List ℕ) (u : UpcomingSymbol) (j f : ℕ) → f < 8 → j ≢ valueIn (addOf t conversion u .said)
     → field (addOf t conversion u .table .symbols) j f ≡ field (t .symbols) j f
-one-row = Writes.add-one-row
+one-row = WritesLaws.add-one-row

@@ -8,44 +8,46 @@ use mathlib.Core.List.{List, [], _∷_}
 use lib.Dec.{eqb, ltb, leb}
 use lib.ListN.{length, length-set}
 use borrow.Author.Tests.{eq-eqb, ne-eqb, ltb-false, eqb-false, lt-leb, le-leb}
-use Rattle.cells.specs.Split.{by-test}
+use Rattle.cells.specs.Proof.Split.{by-test}
 use Rattle.link.specs.declared.Link.{Link}
 use Rattle.link.specs.declared.Interned.{Interned}
 use Rattle.link.specs.declared.SymbolId.{SymbolId}
 use Rattle.link.specs.Bounds.{notLent, lesser, nameRows, nameBytes, symbolRows, sectionRows}
 use Rattle.link.specs.Judge.{none, judgeOf, judgeSections, judgeNames, judgeLists}
-use Rattle.link.specs.Ways as Link
+use Rattle.link.specs.Proof.Ways as Link
 use Rattle.interner.specs.Names.{Store, storeOf, roomOf, keepOf}
 use Rattle.interner.specs.Calls as Names
 use Rattle.symbol.specs.Row.{stateAt, symbolAt}
 use Rattle.symbol.specs.RowLaws.{symbolOf}
 use Rattle.symbol.specs.declared.Row.{Row}
 use Rattle.symbol.specs.declared.SttFile.the-variants as File
-use Rattle.symbol_rows.specs.declared.Decision.{Decision}
-use Rattle.symbol_rows.specs.declared.Decision.the-variants.{Refuse, Nothing, Keep, Append, Replace, Amend}
-use Rattle.symbol_rows.specs.declared.Holder.{Holder}
-use Rattle.symbol_rows.specs.declared.Holder.the-variants.{Nobody, Known}
-use Rattle.symbol_rows.specs.Holder.{holderOf}
-use Rattle.symbol_rows.specs.Decide.{refusalOf}
-use Rattle.symbol_rows.specs.Apply.{Table, appendOf, applyOf, noteName}
+use Rattle.symbol_resolution.specs.declared.rows.Decision.{Decision}
+use Rattle.symbol_resolution.specs.declared.rows.Holder.{Holder}
+use Rattle.symbol_resolution.specs.declared.rows.Holder.the-variants.{Nobody, Known}
+use Rattle.symbol_resolution.specs.Holder.{holderOf}
+use Rattle.symbol_resolution.specs.Apply.{Table, appendOf, applyOf, noteName}
+use Rattle.symbol_resolution.specs.Proof.Outcomes.{decision-left}
 use Rattle.link.specs.Said.{numberIn}
+use Rattle.link.specs.Counts.{noNames}
 use Rattle.interner.specs.Hash.{headOf}
-use Rattle.interner_laws.specs.Written.{linked-long}
+use Rattle.interner_laws.specs.Proof.Written.{linked-long}
 use Rattle.interner_laws.specs.Interns.{cleared-long, keeps}
 use mathlib.Core.Logic.{_≢_}
 use Rattle.symbols.specs.declared.Found.the-variants as Fd
 use Rattle.symbols.specs.Calls.{lentOf}
-use Rattle.symbols.specs.Add.{decidedOf, committedOf, addRowOf}
+use Rattle.symbols.specs.Add.{decidedOf, addRowOf}
+use Rattle.symbols.specs.Proof.AddOutcomes.{added-left}
 use Rattle.symbols.specs.New.{nullOf, newOf}
 use Rattle.symbols.specs.Lookup.{foundAt, heldOf, notFound, getOf, getGlobalOf}
 use Rattle.symbol_laws.specs.Rank.{firstOf}
 use Rattle.symbol_laws.specs.Standing.{hiddenBy}
-use Rattle.symbol_laws.specs.Rows.{means}
+use Rattle.symbol_laws.specs.Proof.Rows.{means}
 use Rattle.symbol_laws.specs.View.{lesser-first}
 use Rattle.symbol_laws.specs.History.{State, table, store, opened, Entry, only, rows, Part, issue, put, idOf, partNext, runParts, Call, runCalls, RemovesNothing}
 use Rattle.symbol_laws.specs.Held.{Inv}
-use Rattle.symbol_laws.specs.Issue.{room-free}
-use Rattle.symbol_laws.specs.Calls.{historyParts, history-run}
+use Rattle.symbol_laws.specs.Proof.Issue.{room-free}
+use Rattle.symbol_laws.specs.Calls.{historyParts}
+use Rattle.symbol_laws.specs.Proof.Calls.{history-run}
 use Rattle.symbol_laws.specs.Demand.{resolved, holder-known, holder-none}
 
 -- the counts that these calls aren't lent anything for, and the rows that the names were lent
@@ -64,27 +66,21 @@ unfolding noteName
 noted-long names r id = by-test (eqb (r .visibility) 0) (λ a. rw a) (λ a. rw a (length-set names (r .name .0 * 8 + 3) id))
 
 applied-within : (t : Table) (r : Row) (d : Decision) → Within (t .link) (t .names) → Within (applyOf t r d .link) (applyOf t r d .names)
-unfolding applyOf appendOf
-applied-within t r (Refuse n) w = w
-applied-within t r Nothing w = w
-applied-within t r (Keep id) w = w
-applied-within t r Append w =
-    record {
+unfolding appendOf
+applied-within t r d w =
+    decision-left (λ (u : Table). Within (u .link) (u .names)) t r w
+    (record {
       bytes-in = w .bytes-in;
       sections-in = w .sections-in;
       inputs-in = w .inputs-in;
       lists-in = w .lists-in;
       names-in = w .names-in;
       chains-lent = rw (noted-long (t .names) r (t .link .symbols)) (w .chains-lent);
-    }
-applied-within t r (Replace id) w = w
-applied-within t r (Amend id) w = w
+    })
+    (λ id x. w) d
 
 put-within : (t : Table) (r : Row) → Within (t .link) (t .names) → Within (addRowOf t r File.None .table .link) (addRowOf t r File.None .table .names)
-unfolding addRowOf committedOf
-put-within t r w =
-    let d : Decision = decidedOf t r File.None in
-    by-test (eqb (refusalOf d) 21) (λ a. rw a w) (λ a. by-test (eqb (refusalOf d) 0) (λ b. rw (a, b) (applied-within t r d w)) (λ b. rw (a, b) w))
+put-within t r w = added-left t r File.None (λ (u : Table). Within (u .link) (u .names)) w (applied-within t r (decidedOf t r File.None) w)
 
 room-bytes : (s : Store) (n : ℕ) → roomOf s n ≡ true → s .link .bytes + n ≤ 1048576
 unfolding roomOf
@@ -130,7 +126,7 @@ calls-within ks s q w = rw (history-run ks s q) (parts-within (historyParts ks s
 
 -- ---- a new table
 
-blank-within : (key : ℕ) (bytes names : List ℕ) → Within (Names.noNames key (nameRows (length names))) (Names.clearHeads names)
+blank-within : (key : ℕ) (bytes names : List ℕ) → Within (noNames key (nameRows (length names))) (Names.clearHeads names)
 blank-within key bytes names =
     record {
       bytes-in = omega arith;
@@ -148,7 +144,7 @@ names-within key bytes names z =
     by-test (eqb (nameRows (length names)) 0) (λ b. absurd (z (rw b)))
     (λ b.
     rw b
-    (keep-within (storeOf bytes (Names.clearHeads names) (Names.noNames key (nameRows (length names)))) (record { 0 = 0 }) [] (blank-within key bytes names)))
+    (keep-within (storeOf bytes (Names.clearHeads names) (noNames key (nameRows (length names)))) (record { 0 = 0 }) [] (blank-within key bytes names)))
 
 null-within : (gabi : Bool) (symbols sections : List ℕ) (s : Store) → s .link .sections ≡ 0 → (s .link .names ≢ 0 → Within (s .link) (s .names)) → numberIn (nullOf gabi symbols sections s .said) ≡ 0
     → Within (nullOf gabi symbols sections s .table .link) (nullOf gabi symbols sections s .table .names)
@@ -171,7 +167,7 @@ no-sections : (key : ℕ) (bytes names : List ℕ) → Names.newOf key bytes nam
 unfolding Names.newOf
 no-sections key bytes names =
     by-test (eqb (nameRows (length names)) 0) (λ a. rw a)
-    (λ a. rw a (keeps (λ (k : Store). k .link .sections ≡ 0) (storeOf bytes (Names.clearHeads names) (Names.noNames key (nameRows (length names)))) (record { 0 = 0 }) [] refl (λ h r. refl)))
+    (λ a. rw a (keeps (λ (k : Store). k .link .sections ≡ 0) (storeOf bytes (Names.clearHeads names) (noNames key (nameRows (length names)))) (record { 0 = 0 }) [] refl (λ h r. refl)))
 
 pub new-within : (key : ℕ) (gabi : Bool) (bytes names symbols sections : List ℕ) → numberIn (newOf key gabi bytes names symbols sections .said) ≡ 0
     → Within (opened (newOf key gabi bytes names symbols sections) .link) (opened (newOf key gabi bytes names symbols sections) .names)

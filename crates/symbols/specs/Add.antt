@@ -12,18 +12,19 @@ use Rattle.link.specs.declared.Refusal.{Refusal}
 use Rattle.link.specs.Bounds.{nameRows, sectionSlots}
 use Rattle.link.specs.Judge.{refused, changeOf}
 use Rattle.symbol.specs.declared.Row.{Row}
+use Rattle.symbol.specs.Layout.{lengthCell}
 use Rattle.symbol.specs.declared.SttFile.{SttFile}
 use Rattle.symbol.specs.declared.SttFile.the-variants as File
 use Rattle.upcoming_symbol.specs.declared.UpcomingSymbol.{UpcomingSymbol}
 use Rattle.upcoming_symbol.specs.declared.UpcomingSymbol.the-variants.{Null, GlobalUnknown, GlobalHidden, Section, ExternallyDefined, Elf}
 use Rattle.upcoming_symbol.specs.Judge.{inRange}
 use Rattle.upcoming_symbol.specs.Upcoming.{nameOf, rowOf}
-use Rattle.symbol_rows.specs.declared.Holder.{Holder}
-use Rattle.symbol_rows.specs.declared.Holder.the-variants.{Unissued}
-use Rattle.symbol_rows.specs.declared.Decision.{Decision}
-use Rattle.symbol_rows.specs.Holder.{holderOf}
-use Rattle.symbol_rows.specs.Decide.{decideOf, refusalOf, idOf}
-use Rattle.symbol_rows.specs.Apply.{Table, applyOf}
+use Rattle.symbol_resolution.specs.declared.rows.Holder.{Holder}
+use Rattle.symbol_resolution.specs.declared.rows.Holder.the-variants.{Unissued}
+use Rattle.symbol_resolution.specs.declared.rows.Decision.{Decision}
+use Rattle.symbol_resolution.specs.Holder.{holderOf}
+use Rattle.symbol_resolution.specs.Decide.{decideOf, refusalOf, idOf}
+use Rattle.symbol_resolution.specs.Apply.{Table, applyOf}
 use Rattle.link.specs.Said.{accepted, refusing}
 use Rattle.symbols.specs.Calls.{Left, left, lentOf}
 
@@ -71,7 +72,7 @@ committedOf t r file d =
 
 -- a name is empty where its length is 0
 abbrev pub emptyAt : List ℕ → Interned → Bool
-emptyAt names name = eqb (getD names (name .0 * 8 + 1) 0) 0
+emptyAt names name = eqb (getD names (name .0 * 8 + lengthCell) 0) 0
 
 unfoldable pub addRowOf : Table → Row → SttFile → Left
 addRowOf t r file = committedOf t r file (decidedOf t r file)

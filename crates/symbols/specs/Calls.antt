@@ -8,7 +8,9 @@ use Rattle.link.specs.declared.Lent.{Lent}
 use Rattle.link.specs.Judge.{refused}
 use Rattle.link.specs.Bounds.{notLent}
 use Rattle.link.specs.Said.{Said, accepted, refusing}
-use Rattle.symbol_rows.specs.Apply.{Table, tableOf}
+use Rattle.link.specs.Counts.{lentRows}
+use Rattle.symbol_resolution.specs.Apply.{Table, tableOf}
+use Rattle.cells.specs.Slice.{Slice, after}
 use Rattle.symbols.specs.declared.Answer.{Answer}
 use Rattle.symbols.specs.declared.Answer.the-variants.{Symbol, Refused}
 use Rattle.symbols.specs.declared.Outcome.{Outcome}
@@ -29,13 +31,13 @@ left t s = record { table = t; said = s }
 abbrev pub outcome : List ℕ → List ℕ → List ℕ → Outcome → Left
 outcome names symbols sections r = left (tableOf names symbols sections (r .table .link)) (said (r .answer))
 
+-- of lent slices after the call
+abbrev pub outcomeAfter : Slice → Slice → Slice → Outcome → Left
+outcomeAfter names symbols sections r = outcome (after names) (after symbols) (after sections) r
+
 abbrev pub refusedOf : Link → ℕ → ℕ → Outcome
 refusedOf l number place = record { table = record { link = l }; answer = Refused (refused number place) }
 
 -- the rows of names and sections, the length of the symbols
 abbrev pub lentOf : ℕ → ℕ → ℕ → Lent
-lentOf names symbols sections =
-    record { names = names; bytes = notLent; symbols = symbols; sections = sections; inputs = notLent; lists = notLent }
-
-abbrev pub noRows : Link
-noRows = record { names = 0; bytes = 0; symbols = 0; sections = 0; inputs = 0; lists = 0; chains = 0; slots = 0; key = 0; gabi = false; broken = false }
+lentOf names symbols sections = lentRows names notLent symbols sections notLent notLent

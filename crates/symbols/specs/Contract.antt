@@ -11,7 +11,7 @@ use Rattle.link.specs.declared.Interned.{Interned}
 use Rattle.link.specs.declared.SymbolId.{SymbolId}
 use Rattle.link.specs.declared.SectionId.{SectionId}
 use Rattle.upcoming_symbol.specs.declared.UpcomingSymbol.{UpcomingSymbol}
-use Rattle.symbol_rows.specs.Apply.{Table}
+use Rattle.symbol_resolution.specs.Apply.{Table}
 use Rattle.symbols.specs.declared.Outcome.{Outcome}
 use Rattle.symbols.specs.declared.Found.{Found}
 use Rattle.symbols.specs.declared.SectionSymbol.{SectionSymbol}

@@ -4,4 +4,4 @@ pub mod Add
 pub mod Lookup
 pub mod Remove
 pub mod Contract
-pub mod Ways
+pub mod Proof

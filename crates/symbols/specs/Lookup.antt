@@ -1,6 +1,6 @@
 -- `get`, `get_global`, `section_symbol_id`.
 -- Assumes nothing.
-use Prim.Native.Nat.{ℕ, _+_, _*_}
+use Prim.Native.Nat.{ℕ}
 use mathlib.Core.Bool.{cond}
 use mathlib.Core.List.{List, [], _∷_}
 use lib.Dec.{eqb, leb}
@@ -14,10 +14,11 @@ use Rattle.link.specs.Judge.{refused, judgeOf}
 use Rattle.link.specs.Said.{SaidWith}
 use Rattle.symbol.specs.declared.Symbol.{Symbol}
 use Rattle.symbol.specs.Row.{stateAt, symbolAt}
-use Rattle.symbol_rows.specs.declared.Holder.{Holder}
-use Rattle.symbol_rows.specs.declared.Holder.the-variants.{Unissued, Nobody, Removed, Known}
-use Rattle.symbol_rows.specs.Holder.{holderOf}
-use Rattle.symbol_rows.specs.Decide.{sectionCell}
+use Rattle.symbol.specs.Layout.{removedState}
+use Rattle.symbol_resolution.specs.declared.rows.Holder.{Holder}
+use Rattle.symbol_resolution.specs.declared.rows.Holder.the-variants.{Unissued, Nobody, Removed, Known}
+use Rattle.symbol_resolution.specs.Holder.{holderOf}
+use Rattle.symbol_resolution.specs.Decide.{sectionCell}
 use Rattle.symbols.specs.declared.Found.{Found}
 use Rattle.symbols.specs.declared.Found.the-variants as Fd
 use Rattle.symbols.specs.declared.SectionSymbol.{SectionSymbol}
@@ -51,7 +52,7 @@ notFound number place = Fd.Refused (refused number place)
 
 -- "absent or removed id" (21), at the symbol's id
 unfoldable pub foundAt : List ℕ → SymbolId → Found
-foundAt symbols id = cond (eqb (stateAt symbols (id .0)) 2) (notFound 21 (id .0)) (Fd.Row (symbolAt symbols id))
+foundAt symbols id = cond (eqb (stateAt symbols (id .0)) removedState) (notFound 21 (id .0)) (Fd.Row (symbolAt symbols id))
 
 unfoldable pub getOf : Link → List ℕ → SymbolId → Found
 getOf l symbols id =
@@ -72,10 +73,12 @@ getGlobalOf l names symbols name =
     (heldOf symbols name (holderOf l names symbols name))
     (Fd.Refused (judgeOf l (lentOf (nameRows (length names)) (length symbols) (l .slots))))
 
--- "A section without a symbol answers "none""
+-- the cell of a section's symbol, 0 for none
 abbrev pub sectionSymbolAt : Link → List ℕ → ℕ → ℕ
 sectionSymbolAt l sections s = getD sections (sectionCell l (length sections) s) 0
 
+-- "A section without a symbol answers "none""; an id past the count is of a later state of the link
 unfoldable pub sectionSymbolOf : Link → List ℕ → SectionId → SectionSymbol
 sectionSymbolOf l sections s =
-    cond (eqb (sectionSymbolAt l sections (s .0)) 0) Sym.None (Sym.Symbol (record { 0 = sectionSymbolAt l sections (s .0) }))
+    cond (eqb (sectionSymbolAt l sections (s .0)) 0) Sym.None
+    (cond (leb (l .symbols) (sectionSymbolAt l sections (s .0))) Sym.None (Sym.Symbol (record { 0 = sectionSymbolAt l sections (s .0) })))

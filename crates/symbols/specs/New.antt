@@ -13,13 +13,16 @@ use Rattle.interner.specs.Calls as Names
 use Rattle.symbol.specs.declared.Row.{Row}
 use Rattle.symbol.specs.Codes.{wordsAre}
 use Rattle.symbol.specs.Row.{setRow}
-use Rattle.symbol_rows.specs.Apply.{Table, tableOf}
+use Rattle.gabi.specs.SymbolTable.{sttNotype}
+use Rattle.symbol.specs.Layout.{local, nullKind}
+use Rattle.symbol_resolution.specs.Apply.{Table, tableOf}
 use Rattle.symbols.specs.declared.Outcome.{Outcome}
 use Rattle.link.specs.Said.{Said, accepted, refusing}
-use Rattle.symbols.specs.Calls.{said, noRows}
+use Rattle.link.specs.Counts.{noRows, withSymbols, withSlots, withProfile}
+use Rattle.symbols.specs.Calls.{said}
 
 abbrev pub nullRow : Row
-nullRow = record { name = record { 0 = 0 }; kind = 0; file = 0; visibility = 0; value = wordsAre 0 0 0 }
+nullRow = record { name = record { 0 = 0 }; kind = sttNotype; file = 0; visibility = local; value = wordsAre nullKind 0 0 }
 
 -- every lent cell, the counts and the answer
 pub record NewLeft : Type 0 where
@@ -35,20 +38,7 @@ newOutcome bytes names symbols sections r = newLeft bytes (tableOf names symbols
 
 -- in that profile: one symbol, and cells for that many sections' symbols
 abbrev pub oneSymbol : Bool → Link → ℕ → Link
-oneSymbol gabi l slots =
-    record {
-      names = l .names;
-      bytes = l .bytes;
-      symbols = 1;
-      sections = l .sections;
-      inputs = l .inputs;
-      lists = l .lists;
-      chains = l .chains;
-      slots = slots;
-      key = l .key;
-      gabi = gabi;
-      broken = l .broken;
-    }
+oneSymbol gabi l slots = withProfile (withSlots (withSymbols l 1) slots) gabi
 
 -- no section has a symbol
 unfoldable pub clearSymbols : List ℕ → List ℕ

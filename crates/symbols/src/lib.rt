@@ -2,16 +2,27 @@
 ghost use mathlib.Core.Path.{_≡_};
 ghost use mathlib.Core.List.{List};
 ghost use Prim.Native.Nat.{ℕ};
-ghost use Rattle.cells.specs.Slice.{before};
+ghost use Rattle.cells.specs.Slice.{before, after};
 ghost use Rattle.interner.specs.Names.{storeOf};
-ghost use Rattle.symbols.specs.Calls.{refusedOf, lentOf, noRows};
+ghost use Rattle.symbols.specs.Calls.{refusedOf, lentOf};
 ghost use Rattle.symbols.specs.New.{newOutcome, nullOf, nullRow, oneSymbol, clearSymbols};
 ghost use Rattle.symbols.specs.Contract.{NewMeets, newExit};
+
+mod adds;
+mod lookups;
+mod removal;
+
+pub use adds::add;
 use link::Interned;
 use link::Lent;
 use link::Link;
 use link::Refusal;
 use link::SymbolId;
+pub use lookups::get;
+pub use lookups::get_global;
+pub use lookups::section_symbol_id;
+pub use removal::remove;
+pub use removal::remove_row;
 use symbol::Row;
 use symbol::Symbol;
 use symbol::Words;
@@ -75,11 +86,11 @@ fn null_row() -> Row
 {
     Row {
         name: Interned(0),
-        kind: 0,
+        kind: symbol::STT_NOTYPE,
         file: 0,
-        visibility: 0,
+        visibility: symbol::LOCAL,
         value: Words {
-            kind: 0,
+            kind: symbol::KIND_NULL,
             a: 0,
             b: 0,
         },
@@ -88,52 +99,26 @@ fn null_row() -> Row
 
 // No section has a symbol.
 fn clear_section_symbols(sections: &mut [u64])
-    ensures { λ _. ⌜ now (sections .exit) ≡ clearSymbols (now (sections .entry)) ⌝ }
+    ensures { λ _. ⌜ after sections ≡ clearSymbols (before sections) ⌝ }
 {
     let rows = link::section_slots(sections.len());
-    cell_writes::clear_from(sections, rows * 8);
-}
-
-fn no_rows() -> Link
-    ensures { λ r. ⌜ r ≡ noRows ⌝ }
-{
-    Link {
-        names: 0,
-        bytes: 0,
-        symbols: 0,
-        sections: 0,
-        inputs: 0,
-        lists: 0,
-        chains: 0,
-        slots: 0,
-        key: 0,
-        gabi: false,
-        broken: false,
-    }
+    cells::clear_from(sections, rows * 8);
 }
 
 // One symbol, and cells for that many sections' symbols.
 fn one_symbol(gabi: bool, l: Link, slots: usize) -> Link
     ensures { λ r. ⌜ r ≡ oneSymbol gabi l slots ⌝ }
 {
-    Link {
-        names: l.names,
-        bytes: l.bytes,
-        symbols: 1,
-        sections: l.sections,
-        inputs: l.inputs,
-        lists: l.lists,
-        chains: l.chains,
-        slots: slots,
-        key: l.key,
-        gabi: gabi,
-        broken: l.broken,
-    }
+    let mut m = l;
+    m.symbols = 1;
+    m.slots = slots;
+    m.gabi = gabi;
+    m
 }
 
 // The null symbol over the names' counts l, where the empty name was issued; whatever the names' bytes and rows are.
 fn null_table(gabi: bool, l: Link, symbols: &mut [u64], sections: &mut [u64]) -> Outcome
-    ensures { λ r. ⌜ ((bytes names : List ℕ) → newOutcome bytes names (now (symbols .exit)) (now (sections .exit)) r ≡ nullOf gabi (now (symbols .entry)) (now (sections .entry)) (storeOf bytes names l)) ⌝ }
+    ensures { λ r. ⌜ ((bytes names : List ℕ) → newOutcome bytes names (after symbols) (after sections) r ≡ nullOf gabi (before symbols) (before sections) (storeOf bytes names l)) ⌝ }
 {
     if l.names == 0 {
         return refused(l, 2, 0);
@@ -168,9 +153,9 @@ impl Symbols {
         ensures { λ r. ⌜ NewMeets key gabi (before bytes) (before names) (before symbols) (before sections) (newExit bytes names symbols sections r) ⌝ }
     {
         if link::symbol_rows(symbols.len()) == 0 {
-            return refused(no_rows(), 2, 0);
+            return refused(link::no_names(0, 0), 2, 0);
         }
-        let named = interner_calls::new(key, bytes, names);
+        let named = interner::new(key, bytes, names);
         null_table(gabi, named.link, symbols, sections)
     }
 }

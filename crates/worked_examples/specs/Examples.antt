@@ -32,9 +32,9 @@ use Rattle.upcoming_symbol.specs.declared.UpcomingSymbol.{UpcomingSymbol}
 use Rattle.upcoming_symbol.specs.declared.UpcomingSymbol.the-variants.{Elf, ExternallyDefined}
 use Rattle.upcoming_symbol.specs.Judge as Fields
 use Rattle.upcoming_symbol.specs.Upcoming.{inSection, conversionFrom, convertedOf, undefinedOf, valueOf, elfRowOf, libraryCode, externalRowOf}
-use Rattle.symbol_rows.specs.Holder.{heldBy, holderOf}
-use Rattle.symbol_rows.specs.Decide as Decide
-use Rattle.symbol_rows.specs.Apply.{noteName, setSectionSymbol, noteSection, appendOf, replacedIn, amendedIn, applyOf}
+use Rattle.symbol_resolution.specs.Holder.{heldBy, holderOf}
+use Rattle.symbol_resolution.specs.Decide as Decide
+use Rattle.symbol_resolution.specs.Apply.{noteName, setSectionSymbol, noteSection, appendOf, replacedIn, amendedIn, applyOf}
 use Rattle.symbols.specs.declared.Found.{Found}
 use Rattle.symbols.specs.declared.Found.the-variants as Fd
 use Rattle.symbols.specs.Calls.{Left}
@@ -45,6 +45,7 @@ use Rattle.archive_laws.specs.Examples as Walks
 use Rattle.gc_laws.specs.Examples as Collections
 use Rattle.plain_laws.specs.Examples as PlainCollections
 use Rattle.worked_examples.specs.Groups as Groups
+use Rattle.worked_examples.specs.Proof.Groups as GroupsLaws
 use Rattle.symbol_laws.specs.History.{State, withTable, opened, callNext, intern, addTo}
 
 -- ---- the table that the examples start from
@@ -233,4 +234,4 @@ All P (x ∷ xs) = P x × All P xs
 pub promises : All Right cases
 unfolding start putRow same copied lesser Judge.judgeSections Judge.judgeNames Judge.judgeLists Judge.afterSymbols Judge.afterSections Judge.judgeOf Judge.changeOf wordAt Keyed.folded Keyed.mixed Keyed.hashFrom Keyed.pointOf Keyed.hashOf spread headCell Names.chase Names.seekOf Names.findFrom Names.findOf Names.roomOf Names.fitsOf Names.linked Names.keepOf Interns.issueOf Interns.internOf Interns.clearHeads Interns.newOf offsetOf wordOf typeAt successor fileAt visibilityAt valueAt symbolAt setRow Fields.sectionInRange Fields.elfInRange Fields.externalInRange Fields.shownOf Fields.hiddenOf Fields.judgeOf inSection conversionFrom convertedOf undefinedOf valueOf elfRowOf libraryCode externalRowOf heldBy holderOf Decide.weakOf Decide.referenceRank Decide.rankOf Decide.typeRefusal Decide.sectionCell Decide.sectionRoom Decide.roomOf Decide.newOf Decide.replaceOf hiddenCode hideCode showCode passes hideIf passHidden Decide.keptOf Decide.rankedOf Decide.knownOf Decide.decideOf noteName setSectionSymbol noteSection appendOf replacedIn amendedIn applyOf clearSymbols nullOf newOf judgeAddOf issuedOf directHolderOf placeOf decidedOf committedOf addRowOf addOf foundAt getOf
 promises =
-    (((refl, refl, refl), (refl, refl, refl)), (((refl, refl, refl), (refl, refl, refl)), (refl, (refl, (((refl, refl, refl), (refl, refl, refl)), (((refl, refl, refl), (refl, refl, refl)), ((refl, refl, refl), ((refl, refl, refl), ((refl, refl, refl), (((refl, refl, refl), (refl, refl, refl)), (Groups.p8-right, (Groups.p8-comdat-right, (((refl, refl, refl), (refl, refl, refl)), ((refl, refl, refl), ((refl, refl, refl), (Walks.p10-right, (Walks.p10-gabi-right, (Walks.p11-right, (Walks.p11-gabi-right, (Walks.weak-ties-right, (Walks.weak-ties-none-right, (Collections.p12-right, (PlainCollections.p12-right, (((refl, refl, refl), (refl, refl, refl)), ((refl, refl, refl), ((refl, refl, refl), (((refl, refl, refl), (refl, refl, refl)), (((refl, refl, refl), (refl, refl, refl)), (((refl, refl, refl), (refl, refl, refl)), ((refl, refl, refl), ((refl, refl, refl), ((refl, refl, refl), ((refl, refl, refl), ((refl, refl, refl), ((refl, refl, refl), ((refl, refl, refl), ((refl, refl, refl), (((refl, refl, refl), (refl, refl, refl)), tt))))))))))))))))))))))))))))))))))))))
+    (((refl, refl, refl), (refl, refl, refl)), (((refl, refl, refl), (refl, refl, refl)), (refl, (refl, (((refl, refl, refl), (refl, refl, refl)), (((refl, refl, refl), (refl, refl, refl)), ((refl, refl, refl), ((refl, refl, refl), ((refl, refl, refl), (((refl, refl, refl), (refl, refl, refl)), (GroupsLaws.p8-right, (GroupsLaws.p8-comdat-right, (((refl, refl, refl), (refl, refl, refl)), ((refl, refl, refl), ((refl, refl, refl), (Walks.p10-right, (Walks.p10-gabi-right, (Walks.p11-right, (Walks.p11-gabi-right, (Walks.weak-ties-right, (Walks.weak-ties-none-right, (Collections.p12-right, (PlainCollections.p12-right, (((refl, refl, refl), (refl, refl, refl)), ((refl, refl, refl), ((refl, refl, refl), (((refl, refl, refl), (refl, refl, refl)), (((refl, refl, refl), (refl, refl, refl)), (((refl, refl, refl), (refl, refl, refl)), ((refl, refl, refl), ((refl, refl, refl), ((refl, refl, refl), ((refl, refl, refl), ((refl, refl, refl), ((refl, refl, refl), ((refl, refl, refl), ((refl, refl, refl), (((refl, refl, refl), (refl, refl, refl)), tt))))))))))))))))))))))))))))))))))))))

@@ -1,17 +1,14 @@
 -- Document 01's example of a group, P8, computed from the definition of `add_group`.
 -- Assumes nothing.
 use Prim.Native.Nat.{ℕ}
-use mathlib.Core.Path.{_≡_, refl}
-use mathlib.Core.Bool.{false}
-use mathlib.Core.List.{List, [], _∷_}
+use mathlib.Core.Path.{_≡_}
+use mathlib.Core.List.{[], _∷_}
 use lib.ListN.{replicate}
-use Rattle.link.specs.Bounds.{lesser}
 use Rattle.link.specs.Judge as Judge
-use Rattle.elf_object.specs.Rows as Rows
-use Rattle.elf_object.specs.Judge as Elf
-use Rattle.section_groups.specs.Group.{Object, objectOf, State, stateOf, shapeOf, shapedOf, groupOf}
-use Rattle.add_group.specs.declared.Answer.the-variants.{Refused}
-use Rattle.add_group.specs.AddGroup.{leftOf, marksRefusal, rowsRefusal, headOf, answerOf, addGroupOf}
+use Rattle.link.specs.Counts.{noNames, withNames, withSymbols}
+use Rattle.section_groups.specs.Group.{Object, objectOf, State, stateOf}
+use Rattle.section_groups.specs.declared.alone.Answer.the-variants.{Refused}
+use Rattle.section_groups.specs.AddGroup.{leftOf, addGroupOf}
 
 -- an object whose section 1 is a group with these flags (8 is COMDAT) and so many sections
 pub record Example : Type 0 where
@@ -27,7 +24,7 @@ objectWith flags sections =
 abbrev pub table : State
 table =
     stateOf [] (replicate {A = ℕ} 9 0) (replicate {A = ℕ} 16 0)
-    (record { names = 1; bytes = 0; symbols = 1; sections = 0; inputs = 0; lists = 0; chains = 1; slots = 0; key = 0; gabi = false; broken = false })
+    (withSymbols (withNames (noNames 0 1) 1 0) 1)
 
 -- refused with that number at section 1, and everything left as it was
 abbrev pub Right : Example → Type 0
@@ -42,13 +39,3 @@ p8 = record { flags = 0; sections = 0; number = 4 }
 -- P8: COMDAT: 5
 abbrev pub p8Comdat : Example
 p8Comdat = record { flags = 8; sections = 0; number = 5 }
-
-both : Right p8 × Right p8Comdat
-unfolding lesser Judge.judgeSections Judge.judgeNames Judge.judgeLists Judge.afterSymbols Judge.afterSections Judge.judgeOf Judge.changeOf Rows.isExcluded Rows.isLoaded Elf.rangeOk Elf.contentsOk Elf.headerOk Elf.firstBad Elf.badHeader Elf.badEntry Elf.judgeOf shapeOf shapedOf groupOf marksRefusal rowsRefusal headOf answerOf addGroupOf
-both = (refl, refl)
-
-pub p8-right : Right p8
-p8-right = both .0
-
-pub p8-comdat-right : Right p8Comdat
-p8-comdat-right = both .1

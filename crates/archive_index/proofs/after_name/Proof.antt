@@ -1,6 +1,6 @@
 use borrow.Author.Needs.{needs}
 use native.Mathlib.Omega.{arith}
-use Rattle.archive_index.specs.Ways.{after-fits, after-found, after-cut}
+use Rattle.archive_index.specs.Proof.Ways.{after-fits, after-found, after-cut}
 use Rattle.archive_index.proofs.after_name.Statement.{statement}
 use Rattle.archive_index.proofs.after_name.Tie as tie
 

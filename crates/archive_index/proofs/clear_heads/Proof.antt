@@ -3,7 +3,7 @@ use Prim.Native.Nat.{_-_, _≤_}
 use mathlib.Core.Path.{_≡_}
 use lib.ListN.{length}
 use Rattle.archive_index.specs.Rows.{noHeads}
-use Rattle.archive_index.specs.Ways.{heads-none, heads-more, heads-all}
+use Rattle.archive_index.specs.Proof.Ways.{heads-none, heads-more, heads-all}
 use Rattle.archive_index.proofs.clear_heads.Statement.{statement}
 use Rattle.archive_index.proofs.clear_heads.Tie as tie
 

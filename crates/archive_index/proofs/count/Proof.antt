@@ -1,5 +1,5 @@
 use borrow.Author.Needs.{needs}
-use Rattle.archive_index.specs.Ways.{count-is}
+use Rattle.archive_index.specs.Proof.Ways.{count-is}
 use Rattle.archive_index.proofs.count.Statement.{statement}
 use Rattle.archive_index.proofs.count.Tie as tie
 

@@ -1,5 +1,5 @@
 use borrow.Author.Needs.{needs}
-use Rattle.archive_index.specs.Ways.{offset-in, offset-out}
+use Rattle.archive_index.specs.Proof.Ways.{offset-in, offset-out}
 use Rattle.archive_index.proofs.offset.Statement.{statement}
 use Rattle.archive_index.proofs.offset.Tie as tie
 

@@ -1,5 +1,5 @@
 use borrow.Author.Needs.{needs}
-use Rattle.archive_reader.specs.Ways.{part-name}
+use Rattle.archive_reader.specs.Proof.Ways.{part-name}
 use Rattle.archive_reader.proofs.name_from.Statement.{statement}
 use Rattle.archive_reader.proofs.name_from.Tie as tie
 

@@ -1,5 +1,5 @@
 use borrow.Author.Needs.{needs}
-use Rattle.archive_reader.specs.Ways.{name-none, name-short, name-there}
+use Rattle.archive_reader.specs.Proof.Ways.{name-none, name-short, name-there}
 use Rattle.archive_reader.proofs.name_in.Statement.{statement}
 use Rattle.archive_reader.proofs.name_in.Tie as tie
 

@@ -1,5 +1,5 @@
 use borrow.Author.Needs.{needs}
-use Rattle.archive_reader.specs.Ways.{offset-there, offset-none}
+use Rattle.archive_reader.specs.Proof.Ways.{offset-there, offset-none}
 use Rattle.archive_reader.proofs.offset_in.Statement.{statement}
 use Rattle.archive_reader.proofs.offset_in.Tie as tie
 

@@ -2,7 +2,7 @@ use borrow.Author.Needs.{needs}
 use Prim.Native.Nat.{_-_, _≤_}
 use mathlib.Core.Path.{_≡_}
 use Rattle.archive_index.specs.Index.{placeOf}
-use Rattle.archive_reader.specs.Ways.{place-first, place-next, place-there}
+use Rattle.archive_reader.specs.Proof.Ways.{place-first, place-next, place-there}
 use Rattle.archive_reader.proofs.place.Statement.{statement}
 use Rattle.archive_reader.proofs.place.Tie as tie
 

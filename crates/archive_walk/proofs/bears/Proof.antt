@@ -1,5 +1,5 @@
 use borrow.Author.Needs.{needs}
-use Rattle.archive_walk.specs.Ways.{bears-free, bears-other, bears-name}
+use Rattle.archive_walk.specs.Proof.Ways.{bears-free, bears-other, bears-name}
 use Rattle.archive_walk.proofs.bears.Statement.{statement}
 use Rattle.archive_walk.proofs.bears.Tie as tie
 

@@ -1,4 +1,4 @@
-use Rattle.archive_walk.specs.Ways.{begin-ready, begin-refused}
+use Rattle.archive_walk.specs.Proof.Ways.{begin-ready, begin-refused}
 use Rattle.archive_walk.proofs.begin.Statement.{statement}
 use Rattle.archive_walk.proofs.begin.Tie as tie
 

@@ -1,7 +1,7 @@
 use borrow.Author.Needs.{needs}
 use mathlib.Core.Path.{_≡_}
 use Rattle.archive_walk.specs.Names.{along, bearsOf, borneFrom}
-use Rattle.archive_walk.specs.Ways.{borne-start, along-end, along-hit, along-on, along-out}
+use Rattle.archive_walk.specs.Proof.Ways.{borne-start, along-end, along-hit, along-on, along-out}
 use Rattle.archive_walk.proofs.is_borne.Statement.{statement}
 use Rattle.archive_walk.proofs.is_borne.Tie as tie
 

@@ -1,5 +1,5 @@
 use borrow.Author.Needs.{needs}
-use Rattle.archive_walk.specs.Ways.{required-is, required-none}
+use Rattle.archive_walk.specs.Proof.Ways.{required-is, required-none}
 use Rattle.archive_walk.proofs.is_required.Statement.{statement}
 use Rattle.archive_walk.proofs.is_required.Tie as tie
 

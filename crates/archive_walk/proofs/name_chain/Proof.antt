@@ -1,5 +1,5 @@
 use borrow.Author.Needs.{needs}
-use Rattle.archive_walk.specs.Ways.{name-chain-none, name-chain-some}
+use Rattle.archive_walk.specs.Proof.Ways.{name-chain-none, name-chain-some}
 use Rattle.archive_walk.proofs.name_chain.Statement.{statement}
 use Rattle.archive_walk.proofs.name_chain.Tie as tie
 

@@ -1,5 +1,5 @@
 use borrow.Author.Needs.{needs}
-use Rattle.archive_walk.specs.Ways.{note-known, note-new}
+use Rattle.archive_walk.specs.Proof.Ways.{note-known, note-new}
 use Rattle.archive_walk.proofs.note.Statement.{statement}
 use Rattle.archive_walk.proofs.note.Tie as tie
 

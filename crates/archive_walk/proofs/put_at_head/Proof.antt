@@ -1,5 +1,5 @@
 use borrow.Author.Needs.{needs}
-use Rattle.archive_walk.specs.Ways.{head-is, head-past}
+use Rattle.archive_walk.specs.Proof.Ways.{head-is, head-past}
 use Rattle.archive_walk.proofs.put_at_head.Statement.{statement}
 use Rattle.archive_walk.proofs.put_at_head.Tie as tie
 

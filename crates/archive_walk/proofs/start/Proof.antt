@@ -1,5 +1,5 @@
 use borrow.Author.Needs.{needs}
-use Rattle.archive_walk.specs.Ways.{start-is}
+use Rattle.archive_walk.specs.Proof.Ways.{start-is}
 use Rattle.archive_walk.proofs.start.Statement.{statement}
 use Rattle.archive_walk.proofs.start.Tie as tie
 

@@ -1,5 +1,5 @@
 use borrow.Author.Needs.{needs}
-use Rattle.byte_slices.specs.Ways.{word-same, word-other}
+use Rattle.byte_slices.specs.Proof.Ways.{word-same, word-other}
 use Rattle.byte_slices.proofs.same_whole.Statement.{statement}
 use Rattle.byte_slices.proofs.same_whole.Tie as tie
 

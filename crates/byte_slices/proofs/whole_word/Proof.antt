@@ -1,5 +1,5 @@
 use borrow.Author.Needs.{needs}
-use Rattle.byte_slices.specs.Ways.{word-whole, whole-bytes}
+use Rattle.byte_slices.specs.Proof.Ways.{word-whole, whole-bytes}
 use Rattle.byte_slices.proofs.whole_word.Statement.{statement}
 use Rattle.byte_slices.proofs.whole_word.Tie as tie
 

@@ -1,5 +1,5 @@
 use borrow.Author.Needs.{needs}
-use Rattle.elf_file.specs.Ways.{rel-read}
+use Rattle.elf_file.specs.Proof.Ways.{rel-read}
 use Rattle.elf_file.proofs.r_sym.Statement.{statement}
 use Rattle.elf_file.proofs.r_sym.Tie as tie
 

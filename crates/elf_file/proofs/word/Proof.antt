@@ -1,5 +1,5 @@
 use borrow.Author.Needs.{needs}
-use Rattle.elf_file.specs.Ways.{word-read, word-small}
+use Rattle.elf_file.specs.Proof.Ways.{word-read, word-small}
 use Rattle.elf_file.proofs.word.Statement.{statement}
 use Rattle.elf_file.proofs.word.Tie as tie
 

@@ -1,5 +1,5 @@
 use borrow.Author.Needs.{needs}
-use Rattle.ffi_archive.specs.Ways.{admitted-known}
+use Rattle.ffi_archive.specs.Proof.Ways.{admitted-known}
 use Rattle.ffi_archive.proofs.admitted.Statement.{statement}
 use Rattle.ffi_archive.proofs.admitted.Tie as tie
 

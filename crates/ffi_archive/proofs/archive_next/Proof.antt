@@ -1,5 +1,5 @@
 use borrow.Author.Needs.{needs}
-use Rattle.ffi_archive.specs.Ways.{next-short, next-none, next-fits}
+use Rattle.ffi_archive.specs.Proof.Ways.{next-short, next-none, next-fits}
 use Rattle.ffi_archive.proofs.archive_next.Statement.{statement}
 use Rattle.ffi_archive.proofs.archive_next.Tie as tie
 

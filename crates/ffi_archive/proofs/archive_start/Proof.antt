@@ -1,5 +1,5 @@
 use borrow.Author.Needs.{needs}
-use Rattle.ffi_archive.specs.Ways.{start-short, start-none, start-fits}
+use Rattle.ffi_archive.specs.Proof.Ways.{start-short, start-none, start-fits}
 use Rattle.ffi_archive.proofs.archive_start.Statement.{statement}
 use Rattle.ffi_archive.proofs.archive_start.Tie as tie
 

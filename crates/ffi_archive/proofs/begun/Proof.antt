@@ -1,5 +1,5 @@
 use borrow.Author.Needs.{needs}
-use Rattle.ffi_archive.specs.Ways.{begun-known}
+use Rattle.ffi_archive.specs.Proof.Ways.{begun-known}
 use Rattle.ffi_archive.proofs.begun.Statement.{statement}
 use Rattle.ffi_archive.proofs.begun.Tie as tie
 

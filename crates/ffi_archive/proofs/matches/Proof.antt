@@ -1,5 +1,5 @@
 use borrow.Author.Needs.{needs}
-use Rattle.ffi_archive.specs.Ways.{matches-short, matches-none, matches-told}
+use Rattle.ffi_archive.specs.Proof.Ways.{matches-short, matches-none, matches-told}
 use Rattle.ffi_archive.proofs.matches.Statement.{statement}
 use Rattle.ffi_archive.proofs.matches.Tie as tie
 

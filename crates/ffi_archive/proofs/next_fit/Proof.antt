@@ -1,5 +1,5 @@
 use borrow.Author.Needs.{needs}
-use Rattle.ffi_archive.specs.Ways.{next-told}
+use Rattle.ffi_archive.specs.Proof.Ways.{next-told}
 use Rattle.ffi_archive.proofs.next_fit.Statement.{statement}
 use Rattle.ffi_archive.proofs.next_fit.Tie as tie
 

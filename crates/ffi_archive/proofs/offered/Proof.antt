@@ -1,5 +1,5 @@
 use borrow.Author.Needs.{needs}
-use Rattle.ffi_archive.specs.Ways.{offered-known}
+use Rattle.ffi_archive.specs.Proof.Ways.{offered-known}
 use Rattle.ffi_archive.proofs.offered.Statement.{statement}
 use Rattle.ffi_archive.proofs.offered.Tie as tie
 

@@ -1,5 +1,5 @@
 use borrow.Author.Needs.{needs}
-use Rattle.ffi_archive.specs.Ways.{counts-put}
+use Rattle.ffi_archive.specs.Proof.Ways.{counts-put}
 use Rattle.ffi_archive.proofs.put_counts.Statement.{statement}
 use Rattle.ffi_archive.proofs.put_counts.Tie as tie
 

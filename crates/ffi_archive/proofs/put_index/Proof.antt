@@ -1,5 +1,5 @@
 use borrow.Author.Needs.{needs}
-use Rattle.ffi_archive.specs.Ways.{index-put}
+use Rattle.ffi_archive.specs.Proof.Ways.{index-put}
 use Rattle.ffi_archive.proofs.put_index.Statement.{statement}
 use Rattle.ffi_archive.proofs.put_index.Tie as tie
 

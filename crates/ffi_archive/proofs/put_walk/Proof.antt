@@ -1,5 +1,5 @@
 use borrow.Author.Needs.{needs}
-use Rattle.ffi_archive.specs.Ways.{walk-put}
+use Rattle.ffi_archive.specs.Proof.Ways.{walk-put}
 use Rattle.ffi_archive.proofs.put_walk.Statement.{statement}
 use Rattle.ffi_archive.proofs.put_walk.Tie as tie
 

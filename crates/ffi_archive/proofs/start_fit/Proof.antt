@@ -1,5 +1,5 @@
 use borrow.Author.Needs.{needs}
-use Rattle.ffi_archive.specs.Ways.{start-told}
+use Rattle.ffi_archive.specs.Proof.Ways.{start-told}
 use Rattle.ffi_archive.proofs.start_fit.Statement.{statement}
 use Rattle.ffi_archive.proofs.start_fit.Tie as tie
 

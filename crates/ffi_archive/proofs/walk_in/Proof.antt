@@ -1,5 +1,5 @@
 use borrow.Author.Needs.{needs}
-use Rattle.ffi_archive.specs.Ways.{walk-read}
+use Rattle.ffi_archive.specs.Proof.Ways.{walk-read}
 use Rattle.ffi_archive.proofs.walk_in.Statement.{statement}
 use Rattle.ffi_archive.proofs.walk_in.Tie as tie
 

@@ -1,5 +1,5 @@
 use borrow.Author.Needs.{needs}
-use Rattle.ffi_cells.specs.Ways.{elf-read}
+use Rattle.ffi_cells.specs.Proof.Ways.{elf-read}
 use Rattle.ffi_cells.proofs.elf_in.Statement.{statement}
 use Rattle.ffi_cells.proofs.elf_in.Tie as tie
 

@@ -1,5 +1,5 @@
 use borrow.Author.Needs.{needs}
-use Rattle.ffi_cells.specs.Ways.{global-known}
+use Rattle.ffi_cells.specs.Proof.Ways.{global-known}
 use Rattle.ffi_cells.specs.Cells.{globalCode}
 use Rattle.ffi_cells.proofs.global_code.Statement.{statement}
 use Rattle.ffi_cells.proofs.global_code.Tie as tie

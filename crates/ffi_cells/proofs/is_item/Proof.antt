@@ -1,5 +1,5 @@
 use borrow.Author.Needs.{needs}
-use Rattle.ffi_cells.specs.Ways.{item-short, item-unknown, item-unvalued, item-valued, item-other}
+use Rattle.ffi_cells.specs.Proof.Ways.{item-short, item-unknown, item-unvalued, item-valued, item-other}
 use Rattle.ffi_cells.proofs.is_item.Statement.{statement}
 use Rattle.ffi_cells.proofs.is_item.Tie as tie
 

@@ -1,5 +1,5 @@
 use borrow.Author.Needs.{needs}
-use Rattle.ffi_cells.specs.Ways.{item-global, item-hidden, item-section, item-external, item-elf, item-null}
+use Rattle.ffi_cells.specs.Proof.Ways.{item-global, item-hidden, item-section, item-external, item-elf, item-null}
 use Rattle.ffi_cells.proofs.item_in.Statement.{statement}
 use Rattle.ffi_cells.proofs.item_in.Tie as tie
 

@@ -1,5 +1,5 @@
 use borrow.Author.Needs.{needs}
-use Rattle.ffi_cells.specs.Ways.{name-read}
+use Rattle.ffi_cells.specs.Proof.Ways.{name-read}
 use Rattle.ffi_cells.proofs.name_in.Statement.{statement}
 use Rattle.ffi_cells.proofs.name_in.Tie as tie
 

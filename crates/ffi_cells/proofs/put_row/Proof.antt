@@ -1,5 +1,5 @@
 use borrow.Author.Needs.{needs}
-use Rattle.ffi_cells.specs.Ways.{row-put}
+use Rattle.ffi_cells.specs.Proof.Ways.{row-put}
 use Rattle.ffi_cells.proofs.put_row.Statement.{statement}
 use Rattle.ffi_cells.proofs.put_row.Tie as tie
 

@@ -1,5 +1,5 @@
 use borrow.Author.Needs.{needs}
-use Rattle.ffi_cells.specs.Ways.{symbol-put}
+use Rattle.ffi_cells.specs.Proof.Ways.{symbol-put}
 use Rattle.ffi_cells.proofs.put_symbol.Statement.{statement}
 use Rattle.ffi_cells.proofs.put_symbol.Tie as tie
 

@@ -1,5 +1,5 @@
 use borrow.Author.Needs.{needs}
-use Rattle.ffi_cells.specs.Ways.{row-made}
+use Rattle.ffi_cells.specs.Proof.Ways.{row-made}
 use Rattle.ffi_cells.proofs.row_of.Statement.{statement}
 use Rattle.ffi_cells.proofs.row_of.Tie as tie
 

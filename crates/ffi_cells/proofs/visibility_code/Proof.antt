@@ -1,5 +1,5 @@
 use borrow.Author.Needs.{needs}
-use Rattle.ffi_cells.specs.Ways.{visibility-known}
+use Rattle.ffi_cells.specs.Proof.Ways.{visibility-known}
 use Rattle.ffi_cells.proofs.visibility_code.Statement.{statement}
 use Rattle.ffi_cells.proofs.visibility_code.Tie as tie
 

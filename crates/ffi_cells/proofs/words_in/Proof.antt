@@ -1,5 +1,5 @@
 use borrow.Author.Needs.{needs}
-use Rattle.ffi_cells.specs.Ways.{words-read}
+use Rattle.ffi_cells.specs.Proof.Ways.{words-read}
 use Rattle.ffi_cells.proofs.words_in.Statement.{statement}
 use Rattle.ffi_cells.proofs.words_in.Tie as tie
 

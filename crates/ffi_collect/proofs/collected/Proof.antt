@@ -1,5 +1,5 @@
 use borrow.Author.Needs.{needs}
-use Rattle.ffi_collect.specs.Ways.{collected-known}
+use Rattle.ffi_collect.specs.Proof.Ways.{collected-known}
 use Rattle.ffi_collect.proofs.collected.Statement.{statement}
 use Rattle.ffi_collect.proofs.collected.Tie as tie
 

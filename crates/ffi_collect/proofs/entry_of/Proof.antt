@@ -1,5 +1,5 @@
 use borrow.Author.Needs.{needs}
-use Rattle.ffi_collect.specs.Ways.{entry-known}
+use Rattle.ffi_collect.specs.Proof.Ways.{entry-known}
 use Rattle.ffi_collect.specs.Calls.{entryOf}
 use Rattle.ffi_collect.proofs.entry_of.Statement.{statement}
 use Rattle.ffi_collect.proofs.entry_of.Tie as tie

@@ -1,5 +1,5 @@
 use borrow.Author.Needs.{needs}
-use Rattle.ffi_collect.specs.Ways.{run-short, run-told}
+use Rattle.ffi_collect.specs.Proof.Ways.{run-short, run-told}
 use Rattle.ffi_collect.proofs.gc_run.Statement.{statement}
 use Rattle.ffi_collect.proofs.gc_run.Tie as tie
 

@@ -1,5 +1,5 @@
 use borrow.Author.Needs.{needs}
-use Rattle.ffi_collect.specs.Ways.{plain-short, plain-told}
+use Rattle.ffi_collect.specs.Proof.Ways.{plain-short, plain-told}
 use Rattle.ffi_collect.proofs.plain_run.Statement.{statement}
 use Rattle.ffi_collect.proofs.plain_run.Tie as tie
 

@@ -1,6 +1,6 @@
 use mathlib.Core.Path.{refl}
 use borrow.Author.Needs.{needs}
-use Rattle.ffi_load.specs.Ways.{load-short, load-told}
+use Rattle.ffi_load.specs.Proof.Ways.{load-short, load-told}
 use Rattle.ffi_load.proofs.load_shared_object.Statement.{statement}
 use Rattle.ffi_load.proofs.load_shared_object.Tie as tie
 

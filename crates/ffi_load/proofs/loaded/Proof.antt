@@ -1,5 +1,5 @@
 use borrow.Author.Needs.{needs}
-use Rattle.ffi_load.specs.Ways.{said-known}
+use Rattle.ffi_load.specs.Proof.Ways.{said-known}
 use Rattle.ffi_load.proofs.loaded.Statement.{statement}
 use Rattle.ffi_load.proofs.loaded.Tie as tie
 

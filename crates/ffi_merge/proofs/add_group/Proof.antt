@@ -1,5 +1,5 @@
 use borrow.Author.Needs.{needs}
-use Rattle.ffi_merge.specs.Ways.{group-short, group-told}
+use Rattle.ffi_merge.specs.Proof.Ways.{group-short, group-told}
 use Rattle.ffi_merge.proofs.add_group.Statement.{statement}
 use Rattle.ffi_merge.proofs.add_group.Tie as tie
 

@@ -1,5 +1,5 @@
 use borrow.Author.Needs.{needs}
-use Rattle.ffi_merge.specs.Ways.{grouped-known}
+use Rattle.ffi_merge.specs.Proof.Ways.{grouped-known}
 use Rattle.ffi_merge.proofs.grouped.Statement.{statement}
 use Rattle.ffi_merge.proofs.grouped.Tie as tie
 

@@ -1,6 +1,6 @@
 use mathlib.Core.Path.{refl}
 use borrow.Author.Needs.{needs}
-use Rattle.ffi_merge.specs.Ways.{merge-short, merge-told}
+use Rattle.ffi_merge.specs.Proof.Ways.{merge-short, merge-told}
 use Rattle.ffi_merge.proofs.merge_elf.Statement.{statement}
 use Rattle.ffi_merge.proofs.merge_elf.Tie as tie
 

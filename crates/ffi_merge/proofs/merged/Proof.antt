@@ -1,5 +1,5 @@
 use borrow.Author.Needs.{needs}
-use Rattle.ffi_merge.specs.Ways.{merged-known}
+use Rattle.ffi_merge.specs.Proof.Ways.{merged-known}
 use Rattle.ffi_merge.proofs.merged.Statement.{statement}
 use Rattle.ffi_merge.proofs.merged.Tie as tie
 

@@ -1,5 +1,5 @@
 use borrow.Author.Needs.{needs}
-use Rattle.ffi_names.specs.Ways.{find-short, find-told}
+use Rattle.ffi_names.specs.Proof.Ways.{find-short, find-told}
 use Rattle.ffi_names.proofs.find.Statement.{statement}
 use Rattle.ffi_names.proofs.find.Tie as tie
 

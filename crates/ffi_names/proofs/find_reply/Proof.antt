@@ -1,5 +1,5 @@
 use borrow.Author.Needs.{needs}
-use Rattle.ffi_names.specs.Ways.{find-refused, find-answered}
+use Rattle.ffi_names.specs.Proof.Ways.{find-refused, find-answered}
 use Rattle.ffi_names.proofs.find_reply.Statement.{statement}
 use Rattle.ffi_names.proofs.find_reply.Tie as tie
 

@@ -1,5 +1,5 @@
 use borrow.Author.Needs.{needs}
-use Rattle.ffi_names.specs.Ways.{first-in, first-past}
+use Rattle.ffi_names.specs.Proof.Ways.{first-in, first-past}
 use Rattle.ffi_names.proofs.first_of.Statement.{statement}
 use Rattle.ffi_names.proofs.first_of.Tie as tie
 

@@ -1,5 +1,5 @@
 use borrow.Author.Needs.{needs}
-use Rattle.ffi_names.specs.Ways.{found-issued, found-none}
+use Rattle.ffi_names.specs.Proof.Ways.{found-issued, found-none}
 use Rattle.ffi_names.proofs.found_reply.Statement.{statement}
 use Rattle.ffi_names.proofs.found_reply.Tie as tie
 

@@ -1,5 +1,5 @@
 use borrow.Author.Needs.{needs}
-use Rattle.ffi_names.specs.Ways.{intern-short, intern-told}
+use Rattle.ffi_names.specs.Proof.Ways.{intern-short, intern-told}
 use Rattle.ffi_names.proofs.intern.Statement.{statement}
 use Rattle.ffi_names.proofs.intern.Tie as tie
 

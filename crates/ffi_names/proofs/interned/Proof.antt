@@ -1,5 +1,5 @@
 use borrow.Author.Needs.{needs}
-use Rattle.ffi_names.specs.Ways.{said-known}
+use Rattle.ffi_names.specs.Proof.Ways.{said-known}
 use Rattle.ffi_names.proofs.interned.Statement.{statement}
 use Rattle.ffi_names.proofs.interned.Tie as tie
 

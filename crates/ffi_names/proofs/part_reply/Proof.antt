@@ -1,5 +1,5 @@
 use borrow.Author.Needs.{needs}
-use Rattle.ffi_names.specs.Ways.{part-found, part-refused}
+use Rattle.ffi_names.specs.Proof.Ways.{part-found, part-refused}
 use Rattle.ffi_names.proofs.part_reply.Statement.{statement}
 use Rattle.ffi_names.proofs.part_reply.Tie as tie
 

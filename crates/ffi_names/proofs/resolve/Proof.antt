@@ -1,5 +1,5 @@
 use borrow.Author.Needs.{needs}
-use Rattle.ffi_names.specs.Ways.{resolve-short, resolve-told}
+use Rattle.ffi_names.specs.Proof.Ways.{resolve-short, resolve-told}
 use Rattle.ffi_names.proofs.resolve.Statement.{statement}
 use Rattle.ffi_names.proofs.resolve.Tie as tie
 

@@ -1,5 +1,5 @@
 use borrow.Author.Needs.{needs}
-use Rattle.ffi_symbols.specs.Ways.{add-short, add-item, add-none}
+use Rattle.ffi_symbols.specs.Proof.Ways.{add-short, add-item, add-none}
 use Rattle.ffi_symbols.proofs.add.Statement.{statement}
 use Rattle.ffi_symbols.proofs.add.Tie as tie
 

@@ -1,5 +1,5 @@
 use borrow.Author.Needs.{needs}
-use Rattle.ffi_symbols.specs.Ways.{add-told}
+use Rattle.ffi_symbols.specs.Proof.Ways.{add-told}
 use Rattle.ffi_symbols.proofs.add_known.Statement.{statement}
 use Rattle.ffi_symbols.proofs.add_known.Tie as tie
 

@@ -1,5 +1,5 @@
 use borrow.Author.Needs.{needs}
-use Rattle.ffi_symbols.specs.Ways.{said-known}
+use Rattle.ffi_symbols.specs.Proof.Ways.{said-known}
 use Rattle.ffi_symbols.proofs.added.Statement.{statement}
 use Rattle.ffi_symbols.proofs.added.Tie as tie
 

@@ -1,5 +1,5 @@
 use borrow.Author.Needs.{needs}
-use Rattle.ffi_symbols.specs.Ways.{new-short, new-old, new-gabi, new-other}
+use Rattle.ffi_symbols.specs.Proof.Ways.{new-short, new-old, new-gabi, new-other}
 use Rattle.ffi_symbols.proofs.new.Statement.{statement}
 use Rattle.ffi_symbols.proofs.new.Tie as tie
 

@@ -1,5 +1,5 @@
 use borrow.Author.Needs.{needs}
-use Rattle.ffi_symbols.specs.Ways.{new-told}
+use Rattle.ffi_symbols.specs.Proof.Ways.{new-told}
 use Rattle.ffi_symbols.proofs.new_in.Statement.{statement}
 use Rattle.ffi_symbols.proofs.new_in.Tie as tie
 

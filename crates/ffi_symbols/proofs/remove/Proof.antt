@@ -1,5 +1,5 @@
 use borrow.Author.Needs.{needs}
-use Rattle.ffi_symbols.specs.Ways.{remove-short, remove-told}
+use Rattle.ffi_symbols.specs.Proof.Ways.{remove-short, remove-told}
 use Rattle.ffi_symbols.proofs.remove.Statement.{statement}
 use Rattle.ffi_symbols.proofs.remove.Tie as tie
 

@@ -1,5 +1,5 @@
 use borrow.Author.Needs.{needs}
-use Rattle.gc_sections.specs.ReachWays.{add-nowhere, add-section}
+use Rattle.gc_sections.specs.Proof.ReachWays.{add-nowhere, add-section}
 use Rattle.gc_sections.proofs.add.Statement.{statement}
 use Rattle.gc_sections.proofs.add.Tie as tie
 

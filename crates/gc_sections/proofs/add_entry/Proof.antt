@@ -1,5 +1,5 @@
 use borrow.Author.Needs.{needs}
-use Rattle.gc_sections.specs.ReachWays.{entry-none, entry-symbol}
+use Rattle.gc_sections.specs.Proof.ReachWays.{entry-none, entry-symbol}
 use Rattle.gc_sections.proofs.add_entry.Statement.{statement}
 use Rattle.gc_sections.proofs.add_entry.Tie as tie
 

@@ -1,5 +1,5 @@
 use borrow.Author.Needs.{needs}
-use Rattle.gc_sections.specs.ReachWays.{cell-cleared}
+use Rattle.gc_sections.specs.Proof.ReachWays.{cell-cleared}
 use Rattle.gc_sections.proofs.clear_cell.Statement.{statement}
 use Rattle.gc_sections.proofs.clear_cell.Tie as tie
 

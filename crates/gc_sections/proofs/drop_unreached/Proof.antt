@@ -1,5 +1,5 @@
 use borrow.Author.Needs.{needs}
-use Rattle.gc_sections.specs.RunWays.{drop-unbuilt, drop-reached, drop-now}
+use Rattle.gc_sections.specs.Proof.RunWays.{drop-unbuilt, drop-reached, drop-now}
 use Rattle.gc_sections.proofs.drop_unreached.Statement.{statement}
 use Rattle.gc_sections.proofs.drop_unreached.Tie as tie
 

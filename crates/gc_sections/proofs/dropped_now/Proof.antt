@@ -1,5 +1,5 @@
 use borrow.Author.Needs.{needs}
-use Rattle.gc_sections.specs.RunWays.{now-past, now-yes, now-no}
+use Rattle.gc_sections.specs.Proof.RunWays.{now-past, now-yes, now-no}
 use Rattle.gc_sections.proofs.dropped_now.Statement.{statement}
 use Rattle.gc_sections.proofs.dropped_now.Tie as tie
 

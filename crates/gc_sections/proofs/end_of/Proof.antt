@@ -1,5 +1,5 @@
 use borrow.Author.Needs.{needs}
-use Rattle.gc_sections.specs.ReachWays.{end-none, end-cut, end-whole}
+use Rattle.gc_sections.specs.Proof.ReachWays.{end-none, end-cut, end-whole}
 use Rattle.gc_sections.proofs.end_of.Statement.{statement}
 use Rattle.gc_sections.proofs.end_of.Tie as tie
 

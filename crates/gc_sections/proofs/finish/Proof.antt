@@ -1,5 +1,5 @@
 use borrow.Author.Needs.{needs}
-use Rattle.gc_sections.specs.RunWays.{finish-swept, finish-refused}
+use Rattle.gc_sections.specs.Proof.RunWays.{finish-swept, finish-refused}
 use Rattle.gc_sections.proofs.finish.Statement.{statement}
 use Rattle.gc_sections.proofs.finish.Tie as tie
 

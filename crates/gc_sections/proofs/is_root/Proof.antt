@@ -1,5 +1,5 @@
 use borrow.Author.Needs.{needs}
-use Rattle.gc_sections.specs.ReachWays.{root-built, root-unbuilt}
+use Rattle.gc_sections.specs.Proof.ReachWays.{root-built, root-unbuilt}
 use Rattle.gc_sections.proofs.is_root.Statement.{statement}
 use Rattle.gc_sections.proofs.is_root.Tie as tie
 

@@ -1,5 +1,5 @@
 use borrow.Author.Needs.{needs}
-use Rattle.gc_sections.specs.RunWays.{judge-head, judge-on}
+use Rattle.gc_sections.specs.Proof.RunWays.{judge-head, judge-on}
 use Rattle.gc_sections.proofs.judge.Statement.{statement}
 use Rattle.gc_sections.proofs.judge.Tie as tie
 

@@ -1,4 +1,4 @@
-use Rattle.gc_sections.specs.RunWays.{cells-marks, cells-work, cells-enough}
+use Rattle.gc_sections.specs.Proof.RunWays.{cells-marks, cells-work, cells-enough}
 use Rattle.gc_sections.proofs.judge_cells.Statement.{statement}
 use Rattle.gc_sections.proofs.judge_cells.Tie as tie
 

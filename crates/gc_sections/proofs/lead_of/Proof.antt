@@ -1,5 +1,5 @@
 use borrow.Author.Needs.{needs}
-use Rattle.gc_sections.specs.ReachWays.{lead-absent, lead-removed, lead-present}
+use Rattle.gc_sections.specs.Proof.ReachWays.{lead-absent, lead-removed, lead-present}
 use Rattle.gc_sections.proofs.lead_of.Statement.{statement}
 use Rattle.gc_sections.proofs.lead_of.Tie as tie
 

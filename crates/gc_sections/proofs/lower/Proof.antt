@@ -1,5 +1,5 @@
 use borrow.Author.Needs.{needs}
-use Rattle.gc_sections.specs.ReachWays.{lower-first, lower-new, lower-old}
+use Rattle.gc_sections.specs.Proof.ReachWays.{lower-first, lower-new, lower-old}
 use Rattle.gc_sections.proofs.lower.Statement.{statement}
 use Rattle.gc_sections.proofs.lower.Tie as tie
 

@@ -1,5 +1,5 @@
 use borrow.Author.Needs.{needs}
-use Rattle.gc_sections.specs.ReachWays.{name-compared}
+use Rattle.gc_sections.specs.Proof.ReachWays.{name-compared}
 use Rattle.gc_sections.proofs.name_is.Statement.{statement}
 use Rattle.gc_sections.proofs.name_is.Tie as tie
 

@@ -4,8 +4,8 @@ use mathlib.Core.Path.{_≡_}
 use lib.ListN.{length}
 use Rattle.gc_sections.specs.Each.{each}
 use Rattle.gc_sections.specs.Reach.{walkOf, visit, processOf}
-use Rattle.gc_sections.specs.EachWays.{each-on, each-end}
-use Rattle.gc_sections.specs.ReachWays.{process-start}
+use Rattle.gc_sections.specs.Proof.EachWays.{each-on, each-end}
+use Rattle.gc_sections.specs.Proof.ReachWays.{process-start}
 use Rattle.gc_sections.proofs.process.Statement.{statement}
 use Rattle.gc_sections.proofs.process.Tie as tie
 

@@ -1,5 +1,5 @@
 use borrow.Author.Needs.{needs}
-use Rattle.gc_sections.specs.RunWays.{purge-nowhere, purge-kept, purge-now}
+use Rattle.gc_sections.specs.Proof.RunWays.{purge-nowhere, purge-kept, purge-now}
 use Rattle.gc_sections.proofs.purge_symbol.Statement.{statement}
 use Rattle.gc_sections.proofs.purge_symbol.Tie as tie
 

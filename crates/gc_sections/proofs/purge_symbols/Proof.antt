@@ -5,8 +5,8 @@ use lib.ListN.{length}
 use Rattle.gc_sections.specs.Each.{each}
 use Rattle.symbols.specs.Remove.{rowsOf}
 use Rattle.gc_sections.specs.Sweep.{purgedOf, purgeSymbol, purgeSymbols}
-use Rattle.gc_sections.specs.EachWays.{each-on, each-end}
-use Rattle.gc_sections.specs.RunWays.{purge-start}
+use Rattle.gc_sections.specs.Proof.EachWays.{each-on, each-end}
+use Rattle.gc_sections.specs.Proof.RunWays.{purge-start}
 use Rattle.gc_sections.proofs.purge_symbols.Statement.{statement}
 use Rattle.gc_sections.proofs.purge_symbols.Tie as tie
 

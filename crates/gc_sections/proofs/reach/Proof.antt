@@ -1,5 +1,5 @@
 use borrow.Author.Needs.{needs}
-use Rattle.gc_sections.specs.ReachWays.{reach-built, reach-unbuilt}
+use Rattle.gc_sections.specs.Proof.ReachWays.{reach-built, reach-unbuilt}
 use Rattle.gc_sections.proofs.reach.Statement.{statement}
 use Rattle.gc_sections.proofs.reach.Tie as tie
 

@@ -1,5 +1,5 @@
 use borrow.Author.Needs.{needs}
-use Rattle.gc_sections.specs.ReachWays.{not-read, read-program, read-uninitialized, read-other}
+use Rattle.gc_sections.specs.Proof.ReachWays.{not-read, read-program, read-uninitialized, read-other}
 use Rattle.gc_sections.proofs.readable.Statement.{statement}
 use Rattle.gc_sections.proofs.readable.Tie as tie
 

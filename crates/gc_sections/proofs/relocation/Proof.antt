@@ -1,5 +1,5 @@
 use borrow.Author.Needs.{needs}
-use Rattle.gc_sections.specs.ReachWays.{relocation-added}
+use Rattle.gc_sections.specs.Proof.ReachWays.{relocation-added}
 use Rattle.gc_sections.proofs.relocation.Statement.{statement}
 use Rattle.gc_sections.proofs.relocation.Tie as tie
 

@@ -4,8 +4,8 @@ use mathlib.Core.Path.{_≡_}
 use lib.ListN.{length}
 use Rattle.gc_sections.specs.Each.{each}
 use Rattle.gc_sections.specs.Reach.{walkOf, relocation, relocations}
-use Rattle.gc_sections.specs.EachWays.{each-on, each-end}
-use Rattle.gc_sections.specs.ReachWays.{relocations-start}
+use Rattle.gc_sections.specs.Proof.EachWays.{each-on, each-end}
+use Rattle.gc_sections.specs.Proof.ReachWays.{relocations-start}
 use Rattle.gc_sections.proofs.relocations.Statement.{statement}
 use Rattle.gc_sections.proofs.relocations.Tie as tie
 

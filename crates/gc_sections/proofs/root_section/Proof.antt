@@ -1,5 +1,5 @@
 use borrow.Author.Needs.{needs}
-use Rattle.gc_sections.specs.ReachWays.{section-root, section-other}
+use Rattle.gc_sections.specs.Proof.ReachWays.{section-root, section-other}
 use Rattle.gc_sections.proofs.root_section.Statement.{statement}
 use Rattle.gc_sections.proofs.root_section.Tie as tie
 

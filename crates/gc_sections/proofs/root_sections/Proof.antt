@@ -4,7 +4,7 @@ use mathlib.Core.Path.{_≡_}
 use lib.ListN.{length}
 use Rattle.gc_sections.specs.Each.{each}
 use Rattle.gc_sections.specs.Reach.{walkOf, rootSection}
-use Rattle.gc_sections.specs.EachWays.{each-start, each-on, each-end}
+use Rattle.gc_sections.specs.Proof.EachWays.{each-start, each-on, each-end}
 use Rattle.gc_sections.proofs.root_sections.Statement.{statement}
 use Rattle.gc_sections.proofs.root_sections.Tie as tie
 

@@ -1,5 +1,5 @@
 use borrow.Author.Needs.{needs}
-use Rattle.gc_sections.specs.ReachWays.{symbol-marked, symbol-unmarked, symbol-past}
+use Rattle.gc_sections.specs.Proof.ReachWays.{symbol-marked, symbol-unmarked, symbol-past}
 use Rattle.gc_sections.proofs.root_symbol.Statement.{statement}
 use Rattle.gc_sections.proofs.root_symbol.Tie as tie
 

@@ -1,5 +1,5 @@
 use borrow.Author.Needs.{needs}
-use Rattle.gc_sections.specs.ReachWays.{rooted-unreadable, rooted-retained, rooted-named}
+use Rattle.gc_sections.specs.Proof.ReachWays.{rooted-unreadable, rooted-retained, rooted-named}
 use Rattle.gc_sections.proofs.rooted.Statement.{statement}
 use Rattle.gc_sections.proofs.rooted.Tie as tie
 

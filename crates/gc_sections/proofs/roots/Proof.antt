@@ -1,5 +1,5 @@
 use borrow.Author.Needs.{needs}
-use Rattle.gc_sections.specs.ReachWays.{roots-all}
+use Rattle.gc_sections.specs.Proof.ReachWays.{roots-all}
 use Rattle.gc_sections.proofs.roots.Statement.{statement}
 use Rattle.gc_sections.proofs.roots.Tie as tie
 

@@ -1,5 +1,5 @@
 use borrow.Author.Needs.{needs}
-use Rattle.gc_sections.specs.RunWays.{run-refused, run-done, few-sections}
+use Rattle.gc_sections.specs.Proof.RunWays.{run-refused, run-done, few-sections}
 use Rattle.gc_sections.proofs.run.Statement.{statement}
 use Rattle.gc_sections.proofs.run.Tie as tie
 

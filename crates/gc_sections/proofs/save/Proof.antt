@@ -1,5 +1,5 @@
 use borrow.Author.Needs.{needs}
-use Rattle.gc_sections.specs.ReachWays.{save-again, save-full, save-new}
+use Rattle.gc_sections.specs.Proof.ReachWays.{save-again, save-full, save-new}
 use Rattle.gc_sections.proofs.save.Statement.{statement}
 use Rattle.gc_sections.proofs.save.Tie as tie
 

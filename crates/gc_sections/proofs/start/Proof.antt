@@ -1,5 +1,5 @@
 use borrow.Author.Needs.{needs}
-use Rattle.gc_sections.specs.ReachWays.{start-cleared}
+use Rattle.gc_sections.specs.Proof.ReachWays.{start-cleared}
 use Rattle.gc_sections.proofs.start.Statement.{statement}
 use Rattle.gc_sections.proofs.start.Tie as tie
 

@@ -1,5 +1,5 @@
 use borrow.Author.Needs.{needs}
-use Rattle.gc_sections.specs.RunWays.{sweep-done}
+use Rattle.gc_sections.specs.Proof.RunWays.{sweep-done}
 use Rattle.gc_sections.proofs.sweep.Statement.{statement}
 use Rattle.gc_sections.proofs.sweep.Tie as tie
 

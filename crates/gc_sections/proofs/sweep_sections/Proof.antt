@@ -4,8 +4,8 @@ use mathlib.Core.Path.{_≡_}
 use lib.ListN.{length}
 use Rattle.gc_sections.specs.Each.{each}
 use Rattle.gc_sections.specs.Sweep.{sweptOf, dropUnreached, sweepSections}
-use Rattle.gc_sections.specs.EachWays.{each-on, each-end}
-use Rattle.gc_sections.specs.RunWays.{sweep-start}
+use Rattle.gc_sections.specs.Proof.EachWays.{each-on, each-end}
+use Rattle.gc_sections.specs.Proof.RunWays.{sweep-start}
 use Rattle.gc_sections.proofs.sweep_sections.Statement.{statement}
 use Rattle.gc_sections.proofs.sweep_sections.Tie as tie
 

@@ -1,4 +1,4 @@
-use Rattle.gc_sections.specs.ReachWays.{lead-section, lead-relative, lead-address, lead-none}
+use Rattle.gc_sections.specs.Proof.ReachWays.{lead-section, lead-relative, lead-address, lead-none}
 use Rattle.gc_sections.proofs.value_lead.Statement.{statement}
 use Rattle.gc_sections.proofs.value_lead.Tie as tie
 

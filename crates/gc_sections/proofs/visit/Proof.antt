@@ -1,5 +1,5 @@
 use borrow.Author.Needs.{needs}
-use Rattle.gc_sections.specs.ReachWays.{visit-none, visit-some}
+use Rattle.gc_sections.specs.Proof.ReachWays.{visit-none, visit-some}
 use Rattle.gc_sections.proofs.visit.Statement.{statement}
 use Rattle.gc_sections.proofs.visit.Tie as tie
 

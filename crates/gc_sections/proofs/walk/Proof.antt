@@ -1,5 +1,5 @@
 use borrow.Author.Needs.{needs}
-use Rattle.gc_sections.specs.ReachWays.{walk-done}
+use Rattle.gc_sections.specs.Proof.ReachWays.{walk-done}
 use Rattle.gc_sections.proofs.walk.Statement.{statement}
 use Rattle.gc_sections.proofs.walk.Tie as tie
 

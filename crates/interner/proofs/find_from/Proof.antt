@@ -1,5 +1,5 @@
 use borrow.Author.Needs.{needs}
-use Rattle.interner.specs.Ways.{find-known, find-new}
+use Rattle.interner.specs.Proof.Ways.{find-known, find-new}
 use Rattle.interner.proofs.find_from.Statement.{statement}
 use Rattle.interner.proofs.find_from.Tie as tie
 

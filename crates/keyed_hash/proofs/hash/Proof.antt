@@ -1,7 +1,8 @@
 use borrow.Author.Needs.{needs}
 use Prim.Native.Nat.{_+_, _-_, _<_, _≤_}
 use lib.ListN.{length}
-use Rattle.keyed_hash.specs.Ways.{start-small, half-small, Rest, rest-all, rest-whole, hash-end}
+use Rattle.keyed_hash.specs.Ways.{Rest}
+use Rattle.keyed_hash.specs.Proof.Ways.{start-small, half-small, rest-all, rest-whole, hash-end}
 use Rattle.keyed_hash.proofs.hash.Statement.{statement}
 use Rattle.keyed_hash.proofs.hash.Tie as tie
 

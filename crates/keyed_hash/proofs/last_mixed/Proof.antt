@@ -1,5 +1,5 @@
 use borrow.Author.Needs.{needs}
-use Rattle.keyed_hash.specs.Ways.{word-small, last-word, last-none}
+use Rattle.keyed_hash.specs.Proof.Ways.{word-small, last-word, last-none}
 use Rattle.keyed_hash.proofs.last_mixed.Statement.{statement}
 use Rattle.keyed_hash.proofs.last_mixed.Tie as tie
 

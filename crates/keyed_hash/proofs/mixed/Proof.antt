@@ -1,5 +1,5 @@
 use borrow.Author.Needs.{needs}
-use Rattle.keyed_hash.specs.Ways.{product-fits, mixed-is, mixed-small}
+use Rattle.keyed_hash.specs.Proof.Ways.{product-fits, mixed-is, mixed-small}
 use Rattle.keyed_hash.proofs.mixed.Statement.{statement}
 use Rattle.keyed_hash.proofs.mixed.Tie as tie
 

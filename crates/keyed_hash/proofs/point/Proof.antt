@@ -1,5 +1,6 @@
 use borrow.Author.Needs.{needs}
-use Rattle.keyed_hash.specs.Ways.{point-base, point-own, point-small}
+use Rattle.keyed_hash.specs.Ways.{point-base, point-own}
+use Rattle.keyed_hash.specs.Proof.Ways.{point-small}
 use Rattle.keyed_hash.proofs.point.Statement.{statement}
 use Rattle.keyed_hash.proofs.point.Tie as tie
 

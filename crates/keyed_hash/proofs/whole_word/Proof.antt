@@ -1,6 +1,6 @@
 use borrow.Author.Needs.{needs}
-use Rattle.byte_slices.specs.Ways.{word-whole}
-use Rattle.keyed_hash.specs.Ways.{four-small}
+use Rattle.byte_slices.specs.Proof.Ways.{word-whole}
+use Rattle.keyed_hash.specs.Proof.Ways.{four-small}
 use Rattle.keyed_hash.proofs.whole_word.Statement.{statement}
 use Rattle.keyed_hash.proofs.whole_word.Tie as tie
 

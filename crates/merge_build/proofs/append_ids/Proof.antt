@@ -2,7 +2,7 @@ use borrow.Author.Needs.{needs}
 use Prim.Native.Nat.{_-_}
 use mathlib.Core.Path.{_≡_, refl}
 use lib.ListN.{length}
-use Rattle.merge_build.specs.RelocationWays.{Appended, appended-none, appended-more, appended-all}
+use Rattle.merge_build.specs.Proof.RelocationWays.{Appended, appended-none, appended-more, appended-all}
 use Rattle.merge_build.proofs.append_ids.Statement.{statement}
 use Rattle.merge_build.proofs.append_ids.Tie as tie
 

@@ -1,5 +1,5 @@
 use borrow.Author.Needs.{needs}
-use Rattle.merge_build.specs.BuildWays.{lists-within, lists-sum, row-built, row-full}
+use Rattle.merge_build.specs.Proof.BuildWays.{lists-within, lists-sum, row-built, row-full}
 use Rattle.merge_build.proofs.build_row.Statement.{statement}
 use Rattle.merge_build.proofs.build_row.Tie as tie
 
@@ -8,7 +8,8 @@ build-row-spec =
     tie.close
     (tie.spec
     (λ c κs. search needs)
-    (λ c κs. search (needs, lists-sum))
+    (λ c. search (needs, lists-sum))
+    (λ c κs. search needs)
     (λ c κs. search (needs, lists-within))
     (λ c κs. search needs)
     (λ c κs. search needs)

@@ -1,5 +1,5 @@
 use borrow.Author.Needs.{needs}
-use Rattle.merge_build.specs.BuildWays.{section-skipped, section-nameless, section-named}
+use Rattle.merge_build.specs.Proof.BuildWays.{section-skipped, section-nameless, section-named}
 use Rattle.merge_build.proofs.build_section.Statement.{statement}
 use Rattle.merge_build.proofs.build_section.Tie as tie
 

@@ -3,7 +3,7 @@ use Prim.Native.Nat.{_-_, _<_}
 use mathlib.Core.Path.{_≡_}
 use lib.ListN.{length}
 use Rattle.merge_build.specs.Build.{objectOf, stateOf}
-use Rattle.merge_build.specs.BuildWays.{Reached, reached-start, reached-on, reached-stop, reached-end}
+use Rattle.merge_build.specs.Proof.BuildWays.{Reached, reached-start, reached-on, reached-stop, reached-end}
 use Rattle.merge_build.proofs.build_sections.Statement.{statement}
 use Rattle.merge_build.proofs.build_sections.Tie as tie
 

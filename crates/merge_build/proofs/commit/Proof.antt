@@ -1,5 +1,5 @@
 use borrow.Author.Needs.{needs}
-use Rattle.merge_build.specs.BuildWays.{commit-full, commit-refused, commit-built}
+use Rattle.merge_build.specs.Proof.BuildWays.{commit-full, commit-refused, commit-built}
 use Rattle.merge_build.proofs.commit.Statement.{statement}
 use Rattle.merge_build.proofs.commit.Tie as tie
 

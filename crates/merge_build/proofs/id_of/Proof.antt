@@ -1,5 +1,5 @@
 use borrow.Author.Needs.{needs}
-use Rattle.merge_build.specs.RelocationWays.{id-none, id-before}
+use Rattle.merge_build.specs.Proof.RelocationWays.{id-none, id-before}
 use Rattle.merge_build.proofs.id_of.Statement.{statement}
 use Rattle.merge_build.proofs.id_of.Tie as tie
 

@@ -1,5 +1,5 @@
 use borrow.Author.Needs.{needs}
-use Rattle.merge_build.specs.BuildWays.{from-other, from-removed, from-kept}
+use Rattle.merge_build.specs.Proof.BuildWays.{from-other, from-removed, from-kept}
 use Rattle.merge_build.proofs.is_built_from.Statement.{statement}
 use Rattle.merge_build.proofs.is_built_from.Tie as tie
 

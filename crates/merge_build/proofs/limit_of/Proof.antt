@@ -1,5 +1,5 @@
 use borrow.Author.Needs.{needs}
-use Rattle.merge_build.specs.RelocationWays.{limit-linked, limit-other}
+use Rattle.merge_build.specs.Proof.RelocationWays.{limit-linked, limit-other}
 use Rattle.merge_build.proofs.limit_of.Statement.{statement}
 use Rattle.merge_build.proofs.limit_of.Tie as tie
 

@@ -1,5 +1,5 @@
 use borrow.Author.Needs.{needs}
-use Rattle.elf_object.specs.Ways.{range-past, range-short, range-in}
+use Rattle.elf_object.specs.Proof.Ways.{range-past, range-short, range-in}
 use Rattle.merge_build.proofs.lists_fit.Statement.{statement}
 use Rattle.merge_build.proofs.lists_fit.Tie as tie
 

@@ -1,5 +1,5 @@
 use borrow.Author.Needs.{needs}
-use Rattle.merge_build.specs.BuildWays.{named-done}
+use Rattle.merge_build.specs.Proof.BuildWays.{named-done}
 use Rattle.merge_build.proofs.named_section.Statement.{statement}
 use Rattle.merge_build.proofs.named_section.Tie as tie
 

@@ -1,5 +1,5 @@
 use borrow.Author.Needs.{needs}
-use Rattle.merge_build.specs.BuildWays.{plan-nameless, plan-unknown, plan-full, plan-fine}
+use Rattle.merge_build.specs.Proof.BuildWays.{plan-nameless, plan-unknown, plan-full, plan-fine}
 use Rattle.merge_build.proofs.plan_section.Statement.{statement}
 use Rattle.merge_build.proofs.plan_section.Tie as tie
 

@@ -1,5 +1,5 @@
 use borrow.Author.Needs.{needs}
-use Rattle.merge_build.specs.RelocationWays.{id-put}
+use Rattle.merge_build.specs.Proof.RelocationWays.{id-put}
 use Rattle.merge_build.proofs.put_id.Statement.{statement}
 use Rattle.merge_build.proofs.put_id.Tie as tie
 

@@ -1,5 +1,5 @@
 use borrow.Author.Needs.{needs}
-use Rattle.merge_build.specs.BuildWays.{row-none, row-reserved}
+use Rattle.merge_build.specs.Proof.BuildWays.{row-none, row-reserved}
 use Rattle.merge_build.proofs.section_id.Statement.{statement}
 use Rattle.merge_build.proofs.section_id.Tie as tie
 

@@ -1,5 +1,5 @@
 use borrow.Author.Needs.{needs}
-use Rattle.merge_build.specs.BuildWays.{row-same}
+use Rattle.merge_build.specs.Proof.BuildWays.{row-same}
 use Rattle.merge_build.proofs.section_row.Statement.{statement}
 use Rattle.merge_build.proofs.section_row.Tie as tie
 

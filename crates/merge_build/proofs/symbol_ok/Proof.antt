@@ -1,5 +1,5 @@
 use borrow.Author.Needs.{needs}
-use Rattle.merge_build.specs.RelocationWays.{symbol-past, symbol-none, symbol-known}
+use Rattle.merge_build.specs.Proof.RelocationWays.{symbol-past, symbol-none, symbol-known}
 use Rattle.merge_build.proofs.symbol_ok.Statement.{statement}
 use Rattle.merge_build.proofs.symbol_ok.Tie as tie
 

@@ -3,7 +3,7 @@ use Prim.Native.Nat.{_-_}
 use mathlib.Core.Path.{_≡_}
 use lib.ListN.{length, drop}
 use Rattle.merge_build.specs.Relocations.{symbolsOk}
-use Rattle.merge_build.specs.RelocationWays.{symbols-on, symbols-stop, symbols-end}
+use Rattle.merge_build.specs.Proof.RelocationWays.{symbols-on, symbols-stop, symbols-end}
 use Rattle.merge_build.proofs.symbols_ok.Statement.{statement}
 use Rattle.merge_build.proofs.symbols_ok.Tie as tie
 

@@ -1,5 +1,5 @@
 use borrow.Author.Needs.{needs}
-use Rattle.merge_build.specs.RelocationWays.{table-program, table-none}
+use Rattle.merge_build.specs.Proof.RelocationWays.{table-program, table-none}
 use Rattle.merge_build.proofs.table_for.Statement.{statement}
 use Rattle.merge_build.proofs.table_for.Tie as tie
 

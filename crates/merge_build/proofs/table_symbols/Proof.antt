@@ -1,5 +1,5 @@
 use borrow.Author.Needs.{needs}
-use Rattle.merge_build.specs.RelocationWays.{symbols-none, symbols-part}
+use Rattle.merge_build.specs.Proof.RelocationWays.{symbols-none, symbols-part}
 use Rattle.merge_build.proofs.table_symbols.Statement.{statement}
 use Rattle.merge_build.proofs.table_symbols.Tie as tie
 

@@ -1,5 +1,5 @@
 use borrow.Author.Needs.{needs}
-use Rattle.merge_elf.specs.Ways.{ended-merged, ended-refused}
+use Rattle.merge_elf.specs.Proof.Ways.{ended-merged, ended-refused}
 use Rattle.merge_elf.proofs.ended.Statement.{statement}
 use Rattle.merge_elf.proofs.ended.Tie as tie
 

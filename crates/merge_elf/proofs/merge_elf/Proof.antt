@@ -1,5 +1,5 @@
 use borrow.Author.Needs.{needs}
-use Rattle.merge_elf.specs.Ways.{merge-refused, merge-judged}
+use Rattle.merge_elf.specs.Proof.Ways.{merge-refused, merge-judged}
 use Rattle.merge_elf.proofs.merge_elf.Statement.{statement}
 use Rattle.merge_elf.proofs.merge_elf.Tie as tie
 

@@ -1,5 +1,5 @@
 use borrow.Author.Needs.{needs}
-use Rattle.merge_elf.specs.Ways.{finished}
+use Rattle.merge_elf.specs.Proof.Ways.{finished}
 use Rattle.merge_elf.proofs.merge_judged.Statement.{statement}
 use Rattle.merge_elf.proofs.merge_judged.Tie as tie
 

@@ -1,6 +1,6 @@
 use borrow.Author.Needs.{needs}
 use mathlib.Core.Path.{refl}
-use Rattle.merge_file.specs.Ways.{read-room, file-broken, file-read}
+use Rattle.merge_file.specs.Proof.Ways.{read-room, file-broken, file-read}
 use Rattle.merge_file.proofs.merge_file.Statement.{statement}
 use Rattle.merge_file.proofs.merge_file.Tie as tie
 
@@ -10,7 +10,7 @@ returns-2 c =
     let merged = c .before .before .before .before .before .before .before .before .before .before .before .before .before .before .before .before in
     let reading = merged .before .before .before .before .before .before .before .before .before .before .before .before in
     let test = reading .before .before in
-    file-read _ _ _ _ _ _ _ (test .if1 .left) (reading .read .ensures) (merged .merge-read .ensures) refl
+    search (file-read, test .if1 .left, reading .read .ensures, merged .merge-read .ensures)
 
 pub merge-file-spec : {M : Type 1} → statement M
 merge-file-spec =

@@ -1,5 +1,5 @@
 use borrow.Author.Needs.{needs}
-use Rattle.merge_file.specs.Ways.{read-stopped, read-merged}
+use Rattle.merge_file.specs.Proof.Ways.{read-stopped, read-merged}
 use Rattle.merge_file.proofs.merge_read.Statement.{statement}
 use Rattle.merge_file.proofs.merge_read.Tie as tie
 

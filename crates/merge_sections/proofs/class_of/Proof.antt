@@ -1,5 +1,5 @@
 use borrow.Author.Needs.{needs}
-use Rattle.merge_sections.specs.Ways.{class-excluded, class-kind}
+use Rattle.merge_sections.specs.Proof.Ways.{class-excluded, class-kind}
 use Rattle.merge_sections.proofs.class_of.Statement.{statement}
 use Rattle.merge_sections.proofs.class_of.Tie as tie
 

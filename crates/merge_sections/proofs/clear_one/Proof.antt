@@ -1,5 +1,5 @@
 use borrow.Author.Needs.{needs}
-use Rattle.merge_sections.specs.Ways.{clear-absent, clear-present}
+use Rattle.merge_sections.specs.Proof.Ways.{clear-absent, clear-present}
 use Rattle.merge_sections.proofs.clear_one.Statement.{statement}
 use Rattle.merge_sections.proofs.clear_one.Tie as tie
 

@@ -1,5 +1,5 @@
 use borrow.Author.Needs.{needs}
-use Rattle.merge_sections.specs.Ways.{conversion-nothing, conversion-row, conversion-not-loaded}
+use Rattle.merge_sections.specs.Proof.Ways.{conversion-nothing, conversion-row, conversion-not-loaded}
 use Rattle.merge_sections.proofs.conversion_of.Statement.{statement}
 use Rattle.merge_sections.proofs.conversion_of.Tie as tie
 

@@ -1,5 +1,5 @@
 use borrow.Author.Needs.{needs}
-use Rattle.merge_sections.specs.Ways.{table-first, table-second}
+use Rattle.merge_sections.specs.Proof.Ways.{table-first, table-second}
 use Rattle.merge_sections.proofs.is_table.Statement.{statement}
 use Rattle.merge_sections.proofs.is_table.Tie as tie
 

@@ -1,5 +1,5 @@
 use Rattle.merge_sections.specs.Reserve.{kindClass}
-use Rattle.merge_sections.specs.Ways.{kind-other}
+use Rattle.merge_sections.specs.Proof.Ways.{kind-other}
 use Rattle.merge_sections.proofs.kind_class.Statement.{statement}
 use Rattle.merge_sections.proofs.kind_class.Tie as tie
 

@@ -1,5 +1,5 @@
 use borrow.Author.Needs.{needs}
-use Rattle.merge_sections.specs.Ways.{noted}
+use Rattle.merge_sections.specs.Proof.Ways.{noted}
 use Rattle.merge_sections.proofs.note.Statement.{statement}
 use Rattle.merge_sections.proofs.note.Tie as tie
 

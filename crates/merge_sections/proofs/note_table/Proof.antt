@@ -1,5 +1,5 @@
 use borrow.Author.Needs.{needs}
-use Rattle.merge_sections.specs.Ways.{note-absent, note-table, note-other}
+use Rattle.merge_sections.specs.Proof.Ways.{note-absent, note-table, note-other}
 use Rattle.merge_sections.proofs.note_table.Statement.{statement}
 use Rattle.merge_sections.proofs.note_table.Tie as tie
 

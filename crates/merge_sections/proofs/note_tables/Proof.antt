@@ -3,7 +3,7 @@ use Prim.Native.Nat.{_-_}
 use mathlib.Core.Path.{_≡_, refl}
 use lib.ListN.{length}
 use Rattle.merge_sections.specs.Notes.{eachFrom, noteTableOf, noteTablesOf}
-use Rattle.merge_sections.specs.Ways.{each-start, each-end, each-on}
+use Rattle.merge_sections.specs.Proof.Ways.{each-start, each-end, each-on}
 use Rattle.merge_sections.proofs.note_tables.Statement.{statement}
 use Rattle.merge_sections.proofs.note_tables.Tie as tie
 

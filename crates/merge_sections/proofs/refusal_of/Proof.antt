@@ -1,5 +1,5 @@
 use borrow.Author.Needs.{needs}
-use Rattle.merge_sections.specs.Ways.{refusal-kind, refusal-second, refusal-first, refusal-room, refusal-full, refusal-none}
+use Rattle.merge_sections.specs.Proof.Ways.{refusal-kind, refusal-second, refusal-first, refusal-room, refusal-full, refusal-none}
 use Rattle.merge_sections.proofs.refusal_of.Statement.{statement}
 use Rattle.merge_sections.proofs.refusal_of.Tie as tie
 

@@ -3,7 +3,7 @@ use Prim.Native.Nat.{_-_}
 use mathlib.Core.Path.{_≡_, refl}
 use lib.ListN.{length}
 use Rattle.merge_sections.specs.Reserve.{stateOf, reserveFrom, reserveAllOf}
-use Rattle.merge_sections.specs.Ways.{sections-start, sections-end, sections-stop, sections-on}
+use Rattle.merge_sections.specs.Proof.Ways.{sections-start, sections-end, sections-stop, sections-on}
 use Rattle.merge_sections.proofs.reserve_all.Statement.{statement}
 use Rattle.merge_sections.proofs.reserve_all.Tie as tie
 

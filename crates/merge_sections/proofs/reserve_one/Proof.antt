@@ -1,5 +1,5 @@
 use borrow.Author.Needs.{needs}
-use Rattle.merge_sections.specs.Ways.{one-refused, one-reserved}
+use Rattle.merge_sections.specs.Proof.Ways.{one-refused, one-reserved}
 use Rattle.merge_sections.proofs.reserve_one.Statement.{statement}
 use Rattle.merge_sections.proofs.reserve_one.Tie as tie
 

@@ -1,5 +1,5 @@
 use borrow.Author.Needs.{needs}
-use Rattle.merge_sections.specs.Ways.{table-new, table-same}
+use Rattle.merge_sections.specs.Proof.Ways.{table-new, table-same}
 use Rattle.merge_sections.proofs.table_after.Statement.{statement}
 use Rattle.merge_sections.proofs.table_after.Tie as tie
 

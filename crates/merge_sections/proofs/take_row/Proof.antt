@@ -1,5 +1,5 @@
 use borrow.Author.Needs.{needs}
-use Rattle.merge_sections.specs.Ways.{row-taken, row-not-taken}
+use Rattle.merge_sections.specs.Proof.Ways.{row-taken, row-not-taken}
 use Rattle.merge_sections.proofs.take_row.Statement.{statement}
 use Rattle.merge_sections.proofs.take_row.Tie as tie
 

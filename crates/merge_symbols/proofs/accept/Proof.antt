@@ -1,5 +1,5 @@
 use borrow.Author.Needs.{needs}
-use Rattle.merge_symbols.specs.Ways.{accept-done}
+use Rattle.merge_symbols.specs.Proof.Ways.{accept-done}
 use Rattle.merge_symbols.proofs.accept.Statement.{statement}
 use Rattle.merge_symbols.proofs.accept.Tie as tie
 

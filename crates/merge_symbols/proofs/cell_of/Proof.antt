@@ -1,5 +1,5 @@
 use borrow.Author.Needs.{needs}
-use Rattle.merge_symbols.specs.Ways.{cell-decided}
+use Rattle.merge_symbols.specs.Proof.Ways.{cell-decided}
 use Rattle.merge_symbols.proofs.cell_of.Statement.{statement}
 use Rattle.merge_symbols.proofs.cell_of.Tie as tie
 

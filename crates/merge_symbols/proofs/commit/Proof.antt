@@ -1,5 +1,5 @@
 use borrow.Author.Needs.{needs}
-use Rattle.merge_symbols.specs.Ways.{commit-full, commit-refused, commit-done}
+use Rattle.merge_symbols.specs.Proof.Ways.{commit-full, commit-refused, commit-done}
 use Rattle.merge_symbols.proofs.commit.Statement.{statement}
 use Rattle.merge_symbols.proofs.commit.Tie as tie
 

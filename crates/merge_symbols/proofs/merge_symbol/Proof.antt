@@ -1,5 +1,5 @@
 use borrow.Author.Needs.{needs}
-use Rattle.merge_symbols.specs.Ways.{symbol-nameless, symbol-named}
+use Rattle.merge_symbols.specs.Proof.Ways.{symbol-nameless, symbol-named}
 use Rattle.merge_symbols.proofs.merge_symbol.Statement.{statement}
 use Rattle.merge_symbols.proofs.merge_symbol.Tie as tie
 

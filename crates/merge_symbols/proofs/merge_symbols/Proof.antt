@@ -3,7 +3,7 @@ use Prim.Native.Nat.{_-_, _<_}
 use mathlib.Core.Path.{_≡_}
 use lib.ListN.{length}
 use Rattle.merge_symbols.specs.Stage.{objectOf, stateOf}
-use Rattle.merge_symbols.specs.Ways.{Reached, reached-start, reached-on, reached-stop, reached-end}
+use Rattle.merge_symbols.specs.Proof.Ways.{Reached, reached-start, reached-on, reached-stop, reached-end}
 use Rattle.merge_symbols.proofs.merge_symbols.Statement.{statement}
 use Rattle.merge_symbols.proofs.merge_symbols.Tie as tie
 

@@ -1,5 +1,5 @@
 use borrow.Author.Needs.{needs}
-use Rattle.object_requirement.specs.Ways.{bears-name, bears-missing, bears-other}
+use Rattle.object_requirement.specs.Proof.Ways.{bears-name, bears-missing, bears-other}
 use Rattle.object_requirement.proofs.bears_required.Statement.{statement}
 use Rattle.object_requirement.proofs.bears_required.Tie as tie
 

@@ -1,5 +1,5 @@
 use borrow.Author.Needs.{needs}
-use Rattle.object_requirement.specs.Ways.{defines-not, defines-global, defines-weak, defines-other}
+use Rattle.object_requirement.specs.Proof.Ways.{defines-not, defines-global, defines-weak, defines-other}
 use Rattle.object_requirement.proofs.defines_name.Statement.{statement}
 use Rattle.object_requirement.proofs.defines_name.Tie as tie
 

@@ -1,5 +1,5 @@
 use borrow.Author.Needs.{needs}
-use Rattle.object_requirement.specs.Ways.{section-table, section-none}
+use Rattle.object_requirement.specs.Proof.Ways.{section-table, section-none}
 use Rattle.object_requirement.proofs.in_section.Statement.{statement}
 use Rattle.object_requirement.proofs.in_section.Tie as tie
 

@@ -1,5 +1,5 @@
 use borrow.Author.Needs.{needs}
-use Rattle.object_requirement.specs.Ways.{offered-index, offered-rows, offered-entry, offered-none}
+use Rattle.object_requirement.specs.Proof.Ways.{offered-index, offered-rows, offered-entry, offered-none}
 use Rattle.object_requirement.proofs.is_offered.Statement.{statement}
 use Rattle.object_requirement.proofs.is_offered.Tie as tie
 

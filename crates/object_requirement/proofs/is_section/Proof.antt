@@ -1,5 +1,5 @@
 use borrow.Author.Needs.{needs}
-use Rattle.object_requirement.specs.Ways.{section-past, section-yes, section-other}
+use Rattle.object_requirement.specs.Proof.Ways.{section-past, section-yes, section-other}
 use Rattle.object_requirement.proofs.is_section.Statement.{statement}
 use Rattle.object_requirement.proofs.is_section.Tie as tie
 

@@ -1,5 +1,5 @@
 use borrow.Author.Needs.{needs}
-use Rattle.object_requirement.specs.Ways.{table-yes, table-other}
+use Rattle.object_requirement.specs.Proof.Ways.{table-yes, table-other}
 use Rattle.object_requirement.proofs.is_table.Statement.{statement}
 use Rattle.object_requirement.proofs.is_table.Tie as tie
 

@@ -1,5 +1,5 @@
 use borrow.Author.Needs.{needs}
-use Rattle.object_requirement.specs.Ways.{matches-refused, matches-unoffered, matches-yes, matches-no}
+use Rattle.object_requirement.specs.Proof.Ways.{matches-refused, matches-unoffered, matches-yes, matches-no}
 use Rattle.object_requirement.proofs.matches.Statement.{statement}
 use Rattle.object_requirement.proofs.matches.Tie as tie
 

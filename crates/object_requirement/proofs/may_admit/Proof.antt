@@ -1,5 +1,5 @@
 use borrow.Author.Needs.{needs}
-use Rattle.object_requirement.specs.Ways.{admits-gabi, admits-old}
+use Rattle.object_requirement.specs.Proof.Ways.{admits-gabi, admits-old}
 use Rattle.object_requirement.proofs.may_admit.Statement.{statement}
 use Rattle.object_requirement.proofs.may_admit.Tie as tie
 

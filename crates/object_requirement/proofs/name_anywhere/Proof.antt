@@ -1,5 +1,5 @@
 use borrow.Author.Needs.{needs}
-use Rattle.object_requirement.specs.Ways.{name-there, name-missing}
+use Rattle.object_requirement.specs.Proof.Ways.{name-there, name-missing}
 use Rattle.object_requirement.proofs.name_anywhere.Statement.{statement}
 use Rattle.object_requirement.proofs.name_anywhere.Tie as tie
 

@@ -1,4 +1,4 @@
--- `pending_archive::next` meets its contract: a walk of its MIR, by hand. The borrow is opened and the struct is copied out; `archive_pass::next` is called on the copy; of what it returns `walk` is stored back, and the borrow is closed at it.
+-- `pending_archive::next` meets its contract: a walk of its MIR, by hand. The borrow is opened and the struct is copied out; `archive_walk::next` is called on the copy; of what it returns `walk` is stored back, and the borrow is closed at it.
 -- Each `&` slice is Copy: what it owns is had twice, once for the call and once for the exit. A `&mut` slice goes to the callee for good, at its own lifetime: what is had of it at exit is what says its last list.
 -- All that the proof knows of `next` is that it meets its contract. Assumes nothing.
 use mathlib.Core.Path.{_≡_, refl, ap}
@@ -55,10 +55,10 @@ use Rattle.archive_walk.proofs.Moved as N
 use Rattle.archive_walk.proofs.Moved.Laws as N′
 use Rattle.archive_walk.proofs.Offer as O
 use Rattle.archive_walk.proofs.Offer.Laws as O′
-use Rattle.archive_pass.proofs.next as callee
-use Rattle.archive_pass.proofs.next.Symbol as callee-def
-use Rattle.archive_pass.proofs.next.Symbol.{name as #callee}
-use Rattle.archive_pass.proofs.next.Met as callee-thm
+use Rattle.archive_walk.proofs.passes.next as callee
+use Rattle.archive_walk.proofs.passes.next.Symbol as callee-def
+use Rattle.archive_walk.proofs.passes.next.Symbol.{name as #callee}
+use Rattle.archive_walk.proofs.passes.next.Met as callee-thm
 use Rattle.pending_archive.proofs.next.Key.{name as #self}
 use Rattle.pending_archive.proofs.next as self
 use Rattle.pending_archive.proofs.next.Statement as stated
@@ -203,4 +203,4 @@ next-spec 𝓤 H 𝓜 𝓖 𝓡 =
     entered 𝓤 H (tripleOf 𝓤 H (𝓖 .A) self.signature (self.spec 𝓤 H (𝓖 .A) (𝓜 .mem) (𝓡 .run)))
     (tables 𝓤 H 𝓜 𝓡 code.env .C) (tables 𝓤 H 𝓜 𝓡 code.env .Λ) #self code.function (code.unfolded 𝓤 H 𝓜 𝓡)
     (next-meets 𝓤 H (𝓖 .A) (givenOf 𝓤 H 𝓜 𝓖) (𝓜 .mem) (𝓡 .run) (tablesOf 𝓤 H 𝓜 (tables 𝓤 H 𝓜 𝓡 code.env))
-    (cited 𝓤 H (Callee 𝓤 H (𝓖 .A) (𝓜 .mem) (𝓡 .run)) 𝓜 𝓡 code.env #callee callee-def.routine code.calls-archive-pass·next (callee-thm.met 𝓤 H 𝓜 𝓖 𝓡)))
+    (cited 𝓤 H (Callee 𝓤 H (𝓖 .A) (𝓜 .mem) (𝓡 .run)) 𝓜 𝓡 code.env #callee callee-def.routine code.calls-archive-walk·passes·next (callee-thm.met 𝓤 H 𝓜 𝓖 𝓡)))

@@ -7,8 +7,8 @@ use borrow.Fn.Kinds.{In}
 use borrow.Fn.PlainCycle.{Measures, is, falls, and}
 use Rattle.gc_sections.specs.Each.{each}
 use Rattle.plain_collector.specs.Visit.{visitedOf, unvisited}
-use Rattle.plain_collector.specs.Depth.{relocationTo, built-falls}
-use Rattle.plain_collector.specs.Ways.{visit-nowhere, visit-unbuilt, visit-again, visit-new, visit-lessens, visit-falls, visit-long, turn-on}
+use Rattle.plain_collector.specs.Proof.Depth.{relocationTo, built-falls}
+use Rattle.plain_collector.specs.Proof.Ways.{visit-nowhere, visit-unbuilt, visit-again, visit-new, visit-lessens, visit-falls, visit-long, turn-on}
 use Rattle.plain_collector.proofs.visit.Reads as visit
 use Rattle.plain_collector.proofs.visit.Kinds as visit-kinds
 use Rattle.plain_collector.proofs.+visit.Lts-visit as visit-lts

@@ -2,9 +2,9 @@ use borrow.Author.Needs.{needs}
 use Prim.Native.Nat.{_-_, _≤_}
 use mathlib.Core.Path.{_≡_}
 use Rattle.gc_sections.specs.Each.{each}
-use Rattle.gc_sections.specs.EachWays.{each-on, each-end}
+use Rattle.gc_sections.specs.Proof.EachWays.{each-on, each-end}
 use Rattle.plain_collector.specs.Run.{countOne, countBuilt}
-use Rattle.plain_collector.specs.Ways.{count-start}
+use Rattle.plain_collector.specs.Proof.Ways.{count-start}
 use Rattle.plain_collector.proofs.count_built.Statement.{statement}
 use Rattle.plain_collector.proofs.count_built.Tie as tie
 

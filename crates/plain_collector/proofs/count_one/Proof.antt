@@ -1,5 +1,5 @@
 use borrow.Author.Needs.{needs}
-use Rattle.plain_collector.specs.Ways.{one-built, one-other}
+use Rattle.plain_collector.specs.Proof.Ways.{one-built, one-other}
 use Rattle.plain_collector.proofs.count_one.Statement.{statement}
 use Rattle.plain_collector.proofs.count_one.Tie as tie
 

@@ -1,5 +1,5 @@
 use borrow.Author.Needs.{needs}
-use Rattle.plain_collector.specs.Ways.{entry-none, entry-symbol}
+use Rattle.plain_collector.specs.Proof.Ways.{entry-none, entry-symbol}
 use Rattle.plain_collector.proofs.entry_lead.Statement.{statement}
 use Rattle.plain_collector.proofs.entry_lead.Tie as tie
 

@@ -1,5 +1,5 @@
 use borrow.Author.Needs.{needs}
-use Rattle.plain_collector.specs.Ways.{judge-broken, judge-short, judge-many, judge-few}
+use Rattle.plain_collector.specs.Proof.Ways.{judge-broken, judge-short, judge-many, judge-few}
 use Rattle.plain_collector.proofs.judge.Statement.{statement}
 use Rattle.plain_collector.proofs.judge.Tie as tie
 

@@ -1,5 +1,5 @@
 use borrow.Author.Needs.{needs}
-use Rattle.plain_collector.specs.Ways.{marked-yes, marked-no, marked-past}
+use Rattle.plain_collector.specs.Proof.Ways.{marked-yes, marked-no, marked-past}
 use Rattle.plain_collector.proofs.marked_lead.Statement.{statement}
 use Rattle.plain_collector.proofs.marked_lead.Tie as tie
 

@@ -1,5 +1,5 @@
 use borrow.Author.Needs.{needs}
-use Rattle.plain_collector.specs.Ways.{reach-all}
+use Rattle.plain_collector.specs.Proof.Ways.{reach-all}
 use Rattle.plain_collector.proofs.reach.Statement.{statement}
 use Rattle.plain_collector.proofs.reach.Tie as tie
 

@@ -1,5 +1,5 @@
 use borrow.Author.Needs.{needs}
-use Rattle.plain_collector.specs.Ways.{root-yes, root-no}
+use Rattle.plain_collector.specs.Proof.Ways.{root-yes, root-no}
 use Rattle.plain_collector.proofs.root_lead.Statement.{statement}
 use Rattle.plain_collector.proofs.root_lead.Tie as tie
 

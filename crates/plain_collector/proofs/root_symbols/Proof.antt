@@ -3,9 +3,9 @@ use Prim.Native.Nat.{_-_, _≤_}
 use mathlib.Core.Path.{_≡_}
 use lib.ListN.{length}
 use Rattle.gc_sections.specs.Each.{each}
-use Rattle.gc_sections.specs.EachWays.{each-start, each-on, each-end}
+use Rattle.gc_sections.specs.Proof.EachWays.{each-start, each-on, each-end}
 use Rattle.plain_collector.specs.Visit.{visitedOf, rootSymbol}
-use Rattle.plain_collector.specs.Ways.{symbol-turn}
+use Rattle.plain_collector.specs.Proof.Ways.{symbol-turn}
 use Rattle.plain_collector.proofs.root_symbols.Statement.{statement}
 use Rattle.plain_collector.proofs.root_symbols.Tie as tie
 

@@ -1,5 +1,5 @@
 use borrow.Author.Needs.{needs}
-use Rattle.plain_collector.specs.Ways.{run-refused, run-done, work-lent}
+use Rattle.plain_collector.specs.Proof.Ways.{run-refused, run-done, work-lent}
 use Rattle.plain_collector.proofs.run.Statement.{statement}
 use Rattle.plain_collector.proofs.run.Tie as tie
 

@@ -14,8 +14,14 @@ abbrev μ-loop : tie.MeasureT-loop
 -- twelve slices are lent to a turn: more places than a search goes back over
 loop-again : tie.Need-loop-again Inv-loop μ-loop
 loop-again c =
-    let turned = c .before .before .before .before .before .before .before .before .before .before .before .before .before .before .before .before .before .before .before .before .before .before .before .before in
-    let began = turned .before .before .before .before .before .before .before .before .before .before .before .before .before .before .before in
+    let c5 = c .before .before .before .before .before in
+    let c10 = c5 .before .before .before .before .before in
+    let c15 = c10 .before .before .before .before .before in
+    let c20 = c15 .before .before .before .before .before in
+    let turned = c20 .before .before .before .before in
+    let t5 = turned .before .before .before .before .before in
+    let t10 = t5 .before .before .before .before .before in
+    let began = t10 .before .before .before .before .before in
     let kept = turned .turn .kept in
     let inv = began .loop .inv in
     (kept .1 .0 ∙ inv .0, kept .1 .1 .0 ∙ inv .1, kept .1 .1 .1 .0 ∙ inv .2, kept .1 .1 .1 .1 .0 ∙ inv .3, kept .1 .1 .1 .1 .1 .0 ∙ inv .4, kept .1 .1 .1 .1 .1 .1 .0 ∙ inv .5, kept .1 .1 .1 .1 .1 .1 .1 .0 ∙ inv .6, kept .1 .1 .1 .1 .1 .1 .1 .1 .0 ∙ inv .7, kept .1 .1 .1 .1 .1 .1 .1 .1 .1 .0 ∙ inv .8, kept .1 .1 .1 .1 .1 .1 .1 .1 .1 .1 .0 ∙ inv .9, kept .1 .1 .1 .1 .1 .1 .1 .1 .1 .1 .1 .0 ∙ inv .10, kept .1 .1 .1 .1 .1 .1 .1 .1 .1 .1 .1 .1 .0 ∙ inv .11)
@@ -28,8 +34,24 @@ turns-spec =
     μ-loop
     (λ c. search needs)
     (λ c κs. search needs)
-    (λ c. omega (arith, c .before .before .before .before .before .before .before .before .before .before .before .before .before .before .before .before .before .before .before .before .before .before .before .before .before .before .before .before .before .before .before .before .before .before .before .before .before .before .loop-test .taken))
-    (λ c. omega (arith, c .before .before .before .before .before .before .before .before .before .before .before .before .before .before .before .before .before .before .before .before .before .before .before .before .before .before .before .before .before .before .before .before .before .before .before .before .before .before .loop-test .taken))
+    (λ c.
+    let c5 = c .before .before .before .before .before in
+    let c10 = c5 .before .before .before .before .before in
+    let c15 = c10 .before .before .before .before .before in
+    let c20 = c15 .before .before .before .before .before in
+    let c25 = c20 .before .before .before .before .before in
+    let c30 = c25 .before .before .before .before .before in
+    let c35 = c30 .before .before .before .before .before in
+    omega (arith, c35 .before .before .before .loop-test .taken))
+    (λ c.
+    let c5 = c .before .before .before .before .before in
+    let c10 = c5 .before .before .before .before .before in
+    let c15 = c10 .before .before .before .before .before in
+    let c20 = c15 .before .before .before .before .before in
+    let c25 = c20 .before .before .before .before .before in
+    let c30 = c25 .before .before .before .before .before in
+    let c35 = c30 .before .before .before .before .before in
+    omega (arith, c35 .before .before .before .loop-test .taken))
     loop-again
     (λ c κs. search needs)
     (λ c. search needs)

@@ -1,5 +1,5 @@
 use borrow.Author.Needs.{needs}
-use Rattle.replay_archive.specs.Ways.{announce-index, announce-none}
+use Rattle.replay_archive.specs.Proof.Ways.{announce-index, announce-none}
 use Rattle.replay_archive.proofs.announce.Statement.{statement}
 use Rattle.replay_archive.proofs.announce.Tie as tie
 

@@ -1,5 +1,5 @@
 use borrow.Author.Needs.{needs}
-use Rattle.replay_archive.specs.OfferWays.{best-none, best-some}
+use Rattle.replay_archive.specs.Proof.OfferWays.{best-none, best-some}
 use Rattle.replay_archive.proofs.before_best.Statement.{statement}
 use Rattle.replay_archive.proofs.before_best.Tie as tie
 

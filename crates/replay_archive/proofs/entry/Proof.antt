@@ -1,5 +1,5 @@
 use borrow.Author.Needs.{needs}
-use Rattle.replay_archive.specs.Ways.{entry-none, entry-put}
+use Rattle.replay_archive.specs.Proof.Ways.{entry-none, entry-put}
 use Rattle.replay_archive.proofs.entry.Statement.{statement}
 use Rattle.replay_archive.proofs.entry.Tie as tie
 

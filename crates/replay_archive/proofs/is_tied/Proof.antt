@@ -1,5 +1,5 @@
 use borrow.Author.Needs.{needs}
-use Rattle.replay_archive.specs.OfferWays.{tied-by, tied-not}
+use Rattle.replay_archive.specs.Proof.OfferWays.{tied-by, tied-not}
 use Rattle.replay_archive.proofs.is_tied.Statement.{statement}
 use Rattle.replay_archive.proofs.is_tied.Tie as tie
 

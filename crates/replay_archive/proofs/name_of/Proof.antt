@@ -1,5 +1,5 @@
 use borrow.Author.Needs.{needs}
-use Rattle.replay_archive.specs.OfferWays.{entry-none, entry-some}
+use Rattle.replay_archive.specs.Proof.OfferWays.{entry-none, entry-some}
 use Rattle.replay_archive.proofs.name_of.Statement.{statement}
 use Rattle.replay_archive.proofs.name_of.Tie as tie
 

@@ -1,5 +1,5 @@
 use borrow.Author.Needs.{needs}
-use Rattle.replay_archive.specs.OfferWays.{nearer-first, nearer-behind, nearer-not}
+use Rattle.replay_archive.specs.Proof.OfferWays.{nearer-first, nearer-behind, nearer-not}
 use Rattle.replay_archive.proofs.nearer.Statement.{statement}
 use Rattle.replay_archive.proofs.nearer.Tie as tie
 

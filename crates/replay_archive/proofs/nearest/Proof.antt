@@ -1,5 +1,5 @@
 use borrow.Author.Needs.{needs}
-use Rattle.replay_archive.specs.OfferWays.{nearest-this, nearest-best, nearest-not}
+use Rattle.replay_archive.specs.Proof.OfferWays.{nearest-this, nearest-best, nearest-not}
 use Rattle.replay_archive.proofs.nearest.Statement.{statement}
 use Rattle.replay_archive.proofs.nearest.Tie as tie
 

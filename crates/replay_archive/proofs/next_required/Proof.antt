@@ -2,7 +2,7 @@ use borrow.Author.Needs.{needs}
 use Prim.Native.Nat.{_-_}
 use mathlib.Core.Path.{_≡_}
 use Rattle.replay_archive.specs.Offer.{nearestFrom, nextRequired}
-use Rattle.replay_archive.specs.OfferWays.{next-start, next-on, next-end}
+use Rattle.replay_archive.specs.Proof.OfferWays.{next-start, next-on, next-end}
 use Rattle.replay_archive.proofs.next_required.Statement.{statement}
 use Rattle.replay_archive.proofs.next_required.Tie as tie
 

@@ -1,5 +1,5 @@
 use borrow.Author.Needs.{needs}
-use Rattle.replay_archive.specs.Ways.{place-in, place-out}
+use Rattle.replay_archive.specs.Proof.Ways.{place-in, place-out}
 use Rattle.replay_archive.proofs.offset_place.Statement.{statement}
 use Rattle.replay_archive.proofs.offset_place.Tie as tie
 

@@ -1,5 +1,5 @@
 use borrow.Author.Needs.{needs}
-use Rattle.replay_archive.specs.Ways.{byte-in, byte-out}
+use Rattle.replay_archive.specs.Proof.Ways.{byte-in, byte-out}
 use Rattle.replay_archive.proofs.put_byte.Statement.{statement}
 use Rattle.replay_archive.proofs.put_byte.Tie as tie
 

@@ -1,5 +1,5 @@
 use borrow.Author.Needs.{needs}
-use Rattle.replay_archive.specs.Ways.{named-done}
+use Rattle.replay_archive.specs.Proof.Ways.{named-done}
 use Rattle.replay_archive.proofs.put_entry_name.Statement.{statement}
 use Rattle.replay_archive.proofs.put_entry_name.Tie as tie
 

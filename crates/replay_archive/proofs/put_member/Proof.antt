@@ -1,5 +1,5 @@
 use borrow.Author.Needs.{needs}
-use Rattle.replay_archive.specs.OfferWays.{member-is}
+use Rattle.replay_archive.specs.Proof.OfferWays.{member-is}
 use Rattle.replay_archive.proofs.put_member.Statement.{statement}
 use Rattle.replay_archive.proofs.put_member.Tie as tie
 

@@ -1,5 +1,5 @@
 use borrow.Author.Needs.{needs}
-use Rattle.replay_archive.specs.OfferWays.{put-dash, put-own}
+use Rattle.replay_archive.specs.Proof.OfferWays.{put-dash, put-own}
 use Rattle.replay_archive.proofs.put_name.Statement.{statement}
 use Rattle.replay_archive.proofs.put_name.Tie as tie
 

@@ -2,10 +2,10 @@ use borrow.Author.Needs.{needs}
 use Prim.Native.Nat.{_-_}
 use mathlib.Core.Path.{_≡_}
 use lib.ListN.{length}
-use Rattle.text_lines.specs.Text.{textOf}
+use Rattle.text.specs.Text.{textOf}
 use Rattle.replay_text.specs.Answers.{putAll}
 use Rattle.replay_archive.specs.Offer.{namesFrom}
-use Rattle.replay_archive.specs.OfferWays.{names-start, names-on, names-end}
+use Rattle.replay_archive.specs.Proof.OfferWays.{names-start, names-on, names-end}
 use Rattle.replay_archive.proofs.put_names.Statement.{statement}
 use Rattle.replay_archive.proofs.put_names.Tie as tie
 

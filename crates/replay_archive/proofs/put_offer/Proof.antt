@@ -1,5 +1,5 @@
 use borrow.Author.Needs.{needs}
-use Rattle.replay_archive.specs.OfferWays.{offer-member, offer-done, offer-refused}
+use Rattle.replay_archive.specs.Proof.OfferWays.{offer-member, offer-done, offer-refused}
 use Rattle.replay_archive.proofs.put_offer.Statement.{statement}
 use Rattle.replay_archive.proofs.put_offer.Tie as tie
 

@@ -1,5 +1,5 @@
 use borrow.Author.Needs.{needs}
-use Rattle.replay_archive.specs.OfferWays.{required-is}
+use Rattle.replay_archive.specs.Proof.OfferWays.{required-is}
 use Rattle.replay_archive.proofs.put_required.Statement.{statement}
 use Rattle.replay_archive.proofs.put_required.Tie as tie
 

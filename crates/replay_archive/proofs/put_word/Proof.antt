@@ -1,5 +1,5 @@
 use borrow.Author.Needs.{needs}
-use Rattle.replay_archive.specs.Ways.{word-done}
+use Rattle.replay_archive.specs.Proof.Ways.{word-done}
 use Rattle.replay_archive.proofs.put_word.Statement.{statement}
 use Rattle.replay_archive.proofs.put_word.Tie as tie
 

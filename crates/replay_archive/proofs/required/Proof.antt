@@ -1,7 +1,7 @@
 use borrow.Author.Needs.{needs}
 use mathlib.Core.Path.{_≡_}
 use Rattle.replay_archive.specs.Offer.{requiredCount, countFrom}
-use Rattle.replay_archive.specs.OfferWays.{count-start, count-end, count-on, count-out}
+use Rattle.replay_archive.specs.Proof.OfferWays.{count-start, count-end, count-on, count-out}
 use Rattle.replay_archive.proofs.required.Statement.{statement}
 use Rattle.replay_archive.proofs.required.Tie as tie
 

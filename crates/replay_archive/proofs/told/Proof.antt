@@ -1,5 +1,5 @@
 use borrow.Author.Needs.{needs}
-use Rattle.replay_archive.specs.Ways.{index-done}
+use Rattle.replay_archive.specs.Proof.Ways.{index-done}
 use Rattle.replay_archive.proofs.told.Statement.{statement}
 use Rattle.replay_archive.proofs.told.Tie as tie
 

@@ -1,5 +1,5 @@
 use borrow.Author.Needs.{needs}
-use Rattle.replay_load.specs.Ways.{announce-done}
+use Rattle.replay_load.specs.Proof.Ways.{announce-done}
 use Rattle.replay_load.proofs.announce.Statement.{statement}
 use Rattle.replay_load.proofs.announce.Tie as tie
 

@@ -1,5 +1,5 @@
 use borrow.Author.Needs.{needs}
-use Rattle.replay_load.specs.Ways.{entry-some, entry-all}
+use Rattle.replay_load.specs.Proof.Ways.{entry-some, entry-all}
 use Rattle.replay_load.proofs.entry_cells.Statement.{statement}
 use Rattle.replay_load.proofs.entry_cells.Tie as tie
 

@@ -1,7 +1,7 @@
 use borrow.Author.Needs.{needs}
-use mathlib.Core.Path.{refl, sym}
-use lib.Seq.{length-take-le}
-use Rattle.replay_load.specs.Ways.{lists-done}
+use mathlib.Core.Path.{refl}
+use Rattle.replay_words.specs.Proof.LendWays.{lent-length}
+use Rattle.replay_load.specs.Proof.Ways.{lists-done}
 use Rattle.replay_load.proofs.load_lent.Statement.{statement}
 use Rattle.replay_load.proofs.load_lent.Tie as tie
 
@@ -13,11 +13,11 @@ load-lent-spec =
     (λ c κs. search needs)
     (λ c κs. search needs)
     (λ c. search needs)
-    (λ c. sym (length-take-le _ _ (c .before .before .before .before .before .before .before .rows .ensures .0)))
+    (λ c. search lent-length)
     (λ c. search needs)
-    (λ c. sym (length-take-le _ _ (c .before .before .before .before .before .before .before .cells .ensures .0)))
+    (λ c. search lent-length)
     (λ c. search needs)
-    (λ c. sym (length-take-le _ _ (c .before .before .before .before .before .before .before .cells2 .ensures .0)))
+    (λ c. search lent-length)
     (λ c κs. search needs)
     (λ c. search needs)
     (λ c. search needs)
@@ -26,4 +26,9 @@ load-lent-spec =
     (λ c. search needs)
     (λ c. search needs)
     (λ c. search needs)
-    (λ c. lists-done _ _ _ _ _ _ _ _ _ _ (c .before .before .before .before .before .before .before .before .before .before .before .before .before .before .before .before .before .before .before .before .before .before .before .before .rows .ensures .1) (c .before .before .before .before .before .before .before .before .before .before .before .before .before .before .before .before .before .before .before .before .before .before .before .cells .ensures .1) (c .before .before .before .before .before .before .before .before .before .before .before .before .before .before .before .before .before .before .before .before .before .before .cells2 .ensures .1) (c .before .before .before .before .before .before .before .before .before .before .before .before .before .before .load-library .ensures) refl))
+    (λ c.
+    let c5 = c .before .before .before .before .before in
+    let c10 = c5 .before .before .before .before .before in
+    let c15 = c10 .before .before .before .before .before in
+    let c20 = c15 .before .before .before .before .before in
+    lists-done _ _ _ _ _ _ _ _ _ _ (c20 .before .before .before .before .rows .ensures .1) (c20 .before .before .before .cells .ensures .1) (c20 .before .before .cells2 .ensures .1) (c10 .before .before .before .before .load-library .ensures) refl))

@@ -1,5 +1,5 @@
 use borrow.Author.Needs.{needs}
-use Rattle.replay_load.specs.Ways.{reply-loaded, reply-unneeded, reply-refused}
+use Rattle.replay_load.specs.Proof.Ways.{reply-loaded, reply-unneeded, reply-refused}
 use Rattle.replay_load.proofs.loaded.Statement.{statement}
 use Rattle.replay_load.proofs.loaded.Tie as tie
 

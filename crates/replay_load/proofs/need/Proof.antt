@@ -1,5 +1,5 @@
 use borrow.Author.Needs.{needs}
-use Rattle.replay_load.specs.Ways.{need-done}
+use Rattle.replay_load.specs.Proof.Ways.{need-done}
 use Rattle.replay_load.proofs.need.Statement.{statement}
 use Rattle.replay_load.proofs.need.Tie as tie
 

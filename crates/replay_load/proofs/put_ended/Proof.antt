@@ -1,5 +1,5 @@
 use borrow.Author.Needs.{needs}
-use Rattle.replay_load.specs.Ways.{ended-done}
+use Rattle.replay_load.specs.Proof.Ways.{ended-done}
 use Rattle.replay_load.proofs.put_ended.Statement.{statement}
 use Rattle.replay_load.proofs.put_ended.Tie as tie
 

@@ -1,5 +1,5 @@
 use borrow.Author.Needs.{needs}
-use Rattle.replay_load.specs.Ways.{soname-put, soname-none}
+use Rattle.replay_load.specs.Proof.Ways.{soname-put, soname-none}
 use Rattle.replay_load.proofs.put_soname.Statement.{statement}
 use Rattle.replay_load.proofs.put_soname.Tie as tie
 

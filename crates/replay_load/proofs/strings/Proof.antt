@@ -1,5 +1,5 @@
 use borrow.Author.Needs.{needs}
-use Rattle.replay_load.specs.Ways.{strings-done}
+use Rattle.replay_load.specs.Proof.Ways.{strings-done}
 use Rattle.replay_load.proofs.strings.Statement.{statement}
 use Rattle.replay_load.proofs.strings.Tie as tie
 

@@ -1,5 +1,5 @@
 use borrow.Author.Needs.{needs}
-use Rattle.replay_load.specs.Ways.{symbol-done}
+use Rattle.replay_load.specs.Proof.Ways.{symbol-done}
 use Rattle.replay_load.proofs.symbol.Statement.{statement}
 use Rattle.replay_load.proofs.symbol.Tie as tie
 

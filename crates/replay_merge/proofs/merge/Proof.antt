@@ -1,7 +1,7 @@
 use borrow.Author.Needs.{needs}
-use mathlib.Core.Path.{refl, sym}
-use lib.Seq.{length-take-le}
-use Rattle.replay_merge.specs.Ways.{stores-done}
+use mathlib.Core.Path.{refl}
+use Rattle.replay_words.specs.Proof.LendWays.{lent-length}
+use Rattle.replay_merge.specs.Proof.Ways.{stores-done}
 use Rattle.replay_merge.proofs.merge.Statement.{statement}
 use Rattle.replay_merge.proofs.merge.Tie as tie
 
@@ -14,13 +14,13 @@ merge-spec =
     (λ c κs. search needs)
     (λ c κs. search needs)
     (λ c. search needs)
-    (λ c. sym (length-take-le _ _ (c .before .before .before .before .cells .ensures .0)))
+    (λ c. search lent-length)
     (λ c. search needs)
-    (λ c. sym (length-take-le _ _ (c .before .before .before .before .wide-rows .ensures .0)))
+    (λ c. search lent-length)
     (λ c. search needs)
-    (λ c. sym (length-take-le _ _ (c .before .before .before .before .rows .ensures .0)))
+    (λ c. search lent-length)
     (λ c. search needs)
-    (λ c. sym (length-take-le _ _ (c .before .before .before .before .wide-rows2 .ensures .0)))
+    (λ c. search lent-length)
     (λ c κs. search needs)
     (λ c. search needs)
     (λ c. search needs)
@@ -30,4 +30,10 @@ merge-spec =
     (λ c. search needs)
     (λ c. search needs)
     (λ c. search needs)
-    (λ c. stores-done _ _ _ _ _ _ _ _ _ _ _ (c .before .before .before .before .before .before .before .before .before .before .before .before .before .before .before .before .before .before .before .before .before .before .before .before .before .before .before .before .cells .ensures .1) (c .before .before .before .before .before .before .before .before .before .before .before .before .before .before .before .before .before .before .before .before .before .before .before .before .before .before .before .wide-rows .ensures .1) (c .before .before .before .before .before .before .before .before .before .before .before .before .before .before .before .before .before .before .before .before .before .before .before .before .before .before .rows .ensures .1) (c .before .before .before .before .before .before .before .before .before .before .before .before .before .before .before .before .before .before .before .before .before .before .before .before .before .wide-rows2 .ensures .1) (c .before .before .before .before .before .before .before .before .before .before .before .before .before .before .before .before .merge-lent .ensures) refl))
+    (λ c.
+    let c5 = c .before .before .before .before .before in
+    let c10 = c5 .before .before .before .before .before in
+    let c15 = c10 .before .before .before .before .before in
+    let c20 = c15 .before .before .before .before .before in
+    let c25 = c20 .before .before .before .before .before in
+    stores-done _ _ _ _ _ _ _ _ _ _ _ (c25 .before .before .before .cells .ensures .1) (c25 .before .before .wide-rows .ensures .1) (c25 .before .rows .ensures .1) (c25 .wide-rows2 .ensures .1) (c15 .before .merge-lent .ensures) refl))

@@ -1,6 +1,6 @@
 use borrow.Author.Needs.{needs}
 use mathlib.Core.Path.{refl}
-use Rattle.replay_merge.specs.Ways.{object-done}
+use Rattle.replay_merge.specs.Proof.Ways.{object-done}
 use Rattle.replay_merge.proofs.merge_object.Statement.{statement}
 use Rattle.replay_merge.proofs.merge_object.Tie as tie
 
@@ -22,4 +22,11 @@ merge-object-spec =
     (λ c. search needs)
     (λ c. search needs)
     (λ c. search needs)
-    (λ c. object-done _ _ _ _ _ _ _ _ _ _ _ (c .before .before .before .before .before .before .before .before .before .before .before .before .before .before .before .before .before .before .before .before .before .before .before .before .before .before .before .before .before .headers .ensures) (c .before .before .before .before .before .before .before .before .before .before .before .before .before .before .before .before .before .before .before .before .before .before .before .before .before .before .before .before .entries .ensures) (c .before .before .before .before .before .before .before .before .before .before .before .before .before .before .before .before .before .before .before .before .before .before .before .before .before .before .before .contents .ensures) (c .before .before .before .before .before .before .before .before .before .before .before .before .before .before .before .before .before .before .before .before .before .before .before .before .before .before .part-of .ensures .0) (c .before .before .before .before .before .before .before .before .before .before .before .before .before .before .before .before .before .merge-elf .ensures) (c .merged .ensures) refl))
+    (λ c.
+    let c5 = c .before .before .before .before .before in
+    let c10 = c5 .before .before .before .before .before in
+    let c15 = c10 .before .before .before .before .before in
+    let c20 = c15 .before .before .before .before .before in
+    let c25 = c20 .before .before .before .before .before in
+    object-done _ _ _ _ _ _ _ _ _ _ _ (c25 .before .before .before .before .headers .ensures) (c25 .before .before .before .entries .ensures)
+    (c25 .before .before .contents .ensures) (c25 .before .part-of .ensures .0) (c15 .before .before .merge-elf .ensures) (c .merged .ensures) refl))

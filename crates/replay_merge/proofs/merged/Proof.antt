@@ -1,5 +1,5 @@
 use borrow.Author.Needs.{needs}
-use Rattle.replay_merge.specs.Ways.{reply-merged, reply-refused}
+use Rattle.replay_merge.specs.Proof.Ways.{reply-merged, reply-refused}
 use Rattle.replay_merge.proofs.merged.Statement.{statement}
 use Rattle.replay_merge.proofs.merged.Tie as tie
 

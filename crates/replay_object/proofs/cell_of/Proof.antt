@@ -1,5 +1,5 @@
 use borrow.Author.Needs.{needs}
-use Rattle.replay_object.specs.Ways.{cell-empty, cell-none, cell-unloaded, cell-id}
+use Rattle.replay_object.specs.Proof.Ways.{cell-empty, cell-none, cell-unloaded, cell-id}
 use Rattle.replay_object.proofs.cell_of.Statement.{statement}
 use Rattle.replay_object.proofs.cell_of.Tie as tie
 

@@ -1,5 +1,5 @@
 use borrow.Author.Needs.{needs}
-use Rattle.replay_object.specs.Ways.{part-some, part-all}
+use Rattle.replay_object.specs.Proof.Ways.{part-some, part-all}
 use Rattle.replay_object.proofs.cells_of.Statement.{statement}
 use Rattle.replay_object.proofs.cells_of.Tie as tie
 

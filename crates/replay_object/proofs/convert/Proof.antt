@@ -3,7 +3,7 @@ use Prim.Native.Nat.{_-_, _≤_}
 use mathlib.Core.Path.{_≡_}
 use lib.ListN.{length}
 use Rattle.replay_object.specs.Conversion.{convertFrom, convertOf}
-use Rattle.replay_object.specs.Ways.{convert-start, convert-more, convert-end}
+use Rattle.replay_object.specs.Proof.Ways.{convert-start, convert-more, convert-end}
 use Rattle.replay_object.proofs.convert.Statement.{statement}
 use Rattle.replay_object.proofs.convert.Tie as tie
 
@@ -27,6 +27,12 @@ convert-spec =
     (λ c κs. search needs)
     (λ c. search needs)
     (λ c. search needs)
-    (λ c. (convert-more _ _ _ _ _ _ _ (c .before .before .before .before .before .before .loop-test .taken) (c .before .before .before .before .field .ensures .0) (c .before .before .before .cell-of .ensures) (c .before .before .put .ensures) (c .before .before .before .before .before .before .before .loop .inv .0), search needs))
+    (λ c.
+    let told = c .before .before .before in
+    let turn = told .before .before .before in (
+      convert-more _ _ _ _ _ _ _ (turn .loop-test .taken) (told .before .field .ensures .0) (told .cell-of .ensures) (c .before .before .put .ensures)
+          (turn .before .loop .inv .0),
+      search needs,
+    ))
     (λ c. search needs)
     (λ c. search convert-end))

@@ -1,5 +1,5 @@
 use borrow.Author.Needs.{needs}
-use Rattle.replay_object.specs.Ways.{count-table, count-dynamic, count-strings, count-other}
+use Rattle.replay_object.specs.Proof.Ways.{count-table, count-dynamic, count-strings, count-other}
 use Rattle.replay_object.proofs.count.Statement.{statement}
 use Rattle.replay_object.proofs.count.Tie as tie
 

@@ -1,5 +1,5 @@
 use borrow.Author.Needs.{needs}
-use Rattle.replay_object.specs.Ways.{entries-done}
+use Rattle.replay_object.specs.Proof.Ways.{entries-done}
 use Rattle.replay_object.proofs.entries.Statement.{statement}
 use Rattle.replay_object.proofs.entries.Tie as tie
 

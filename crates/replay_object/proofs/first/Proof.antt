@@ -1,5 +1,5 @@
 use borrow.Author.Needs.{needs}
-use Rattle.replay_object.specs.Ways.{first-table, first-dynamic, first-strings, first-other}
+use Rattle.replay_object.specs.Proof.Ways.{first-table, first-dynamic, first-strings, first-other}
 use Rattle.replay_object.proofs.first.Statement.{statement}
 use Rattle.replay_object.proofs.first.Tie as tie
 

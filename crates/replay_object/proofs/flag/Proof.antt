@@ -1,5 +1,5 @@
 use borrow.Author.Needs.{needs}
-use Rattle.replay_object.specs.Ways.{flag-set, flag-none}
+use Rattle.replay_object.specs.Proof.Ways.{flag-set, flag-none}
 use Rattle.replay_object.proofs.flag.Statement.{statement}
 use Rattle.replay_object.proofs.flag.Tie as tie
 

@@ -1,5 +1,5 @@
 use borrow.Author.Needs.{needs}
-use Rattle.replay_object.specs.Ways.{flags-done}
+use Rattle.replay_object.specs.Proof.Ways.{flags-done}
 use Rattle.replay_object.proofs.flags.Statement.{statement}
 use Rattle.replay_object.proofs.flags.Tie as tie
 

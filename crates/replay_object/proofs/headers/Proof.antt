@@ -1,5 +1,5 @@
 use borrow.Author.Needs.{needs}
-use Rattle.replay_object.specs.Ways.{headers-done}
+use Rattle.replay_object.specs.Proof.Ways.{headers-done}
 use Rattle.replay_object.proofs.headers.Statement.{statement}
 use Rattle.replay_object.proofs.headers.Tie as tie
 

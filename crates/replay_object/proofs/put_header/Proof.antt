@@ -1,5 +1,5 @@
 use borrow.Author.Needs.{needs}
-use Rattle.replay_object.specs.Ways.{header-done}
+use Rattle.replay_object.specs.Proof.Ways.{header-done}
 use Rattle.replay_object.proofs.put_header.Statement.{statement}
 use Rattle.replay_object.proofs.put_header.Tie as tie
 

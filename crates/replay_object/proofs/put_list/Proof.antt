@@ -3,7 +3,7 @@ use Prim.Native.Nat.{_-_, _≤_}
 use mathlib.Core.Path.{_≡_}
 use lib.ListN.{length}
 use Rattle.replay_object.specs.Told.{listFrom}
-use Rattle.replay_object.specs.Ways.{list-long, list-start, list-more, list-end}
+use Rattle.replay_object.specs.Proof.Ways.{list-long, list-start, list-more, list-end}
 use Rattle.replay_object.proofs.put_list.Statement.{statement}
 use Rattle.replay_object.proofs.put_list.Tie as tie
 

@@ -1,5 +1,5 @@
 use borrow.Author.Needs.{needs}
-use Rattle.replay_object.specs.Ways.{listed-done}
+use Rattle.replay_object.specs.Proof.Ways.{listed-done}
 use Rattle.replay_object.proofs.put_listed.Statement.{statement}
 use Rattle.replay_object.proofs.put_listed.Tie as tie
 

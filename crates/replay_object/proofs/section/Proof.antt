@@ -1,5 +1,5 @@
 use borrow.Author.Needs.{needs}
-use Rattle.replay_object.specs.Ways.{section-done}
+use Rattle.replay_object.specs.Proof.Ways.{section-done}
 use Rattle.replay_object.proofs.section.Statement.{statement}
 use Rattle.replay_object.proofs.section.Tie as tie
 

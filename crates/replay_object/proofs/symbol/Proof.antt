@@ -1,5 +1,5 @@
 use borrow.Author.Needs.{needs}
-use Rattle.replay_object.specs.Ways.{symbol-done}
+use Rattle.replay_object.specs.Proof.Ways.{symbol-done}
 use Rattle.replay_object.proofs.symbol.Statement.{statement}
 use Rattle.replay_object.proofs.symbol.Tie as tie
 

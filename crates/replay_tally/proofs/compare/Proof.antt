@@ -1,5 +1,5 @@
 use borrow.Author.Needs.{needs}
-use Rattle.replay_tally.specs.Ways.{compare-same, compare-other}
+use Rattle.replay_tally.specs.Proof.Ways.{compare-same, compare-other}
 use Rattle.replay_tally.proofs.compare.Statement.{statement}
 use Rattle.replay_tally.proofs.compare.Tie as tie
 

@@ -1,5 +1,5 @@
 use borrow.Author.Needs.{needs}
-use Rattle.replay_tally.specs.Ways.{line-part}
+use Rattle.replay_tally.specs.Proof.Ways.{line-part}
 use Rattle.replay_tally.proofs.first_line.Statement.{statement}
 use Rattle.replay_tally.proofs.first_line.Tie as tie
 

@@ -3,7 +3,7 @@ use Prim.Native.Nat.{_+_, _-_, _≤_}
 use mathlib.Core.Path.{_≡_}
 use lib.ListN.{length, drop}
 use Rattle.replay_tally.specs.Answer.{lineLength}
-use Rattle.replay_tally.specs.Ways.{line-on, line-stop, line-out}
+use Rattle.replay_tally.specs.Proof.Ways.{line-on, line-stop, line-out}
 use Rattle.replay_tally.proofs.line_length.Statement.{statement}
 use Rattle.replay_tally.proofs.line_length.Tie as tie
 

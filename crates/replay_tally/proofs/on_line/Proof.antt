@@ -1,5 +1,5 @@
 use borrow.Author.Needs.{needs}
-use Rattle.replay_tally.specs.Ways.{tally-is}
+use Rattle.replay_tally.specs.Proof.Ways.{tally-is}
 use Rattle.replay_tally.proofs.on_line.Statement.{statement}
 use Rattle.replay_tally.proofs.on_line.Tie as tie
 

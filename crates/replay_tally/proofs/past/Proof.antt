@@ -1,5 +1,5 @@
 use borrow.Author.Needs.{needs}
-use Rattle.replay_tally.specs.Ways.{past-none, past-more, past-all}
+use Rattle.replay_tally.specs.Proof.Ways.{past-none, past-more, past-all}
 use Rattle.replay_tally.proofs.past.Statement.{statement}
 use Rattle.replay_tally.proofs.past.Tie as tie
 

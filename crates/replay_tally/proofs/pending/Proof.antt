@@ -1,5 +1,5 @@
 use borrow.Author.Needs.{needs}
-use Rattle.replay_tally.specs.Ways.{pending-none, pending-some}
+use Rattle.replay_tally.specs.Proof.Ways.{pending-none, pending-some}
 use Rattle.replay_tally.proofs.pending.Statement.{statement}
 use Rattle.replay_tally.proofs.pending.Tie as tie
 

@@ -1,5 +1,5 @@
 use borrow.Author.Needs.{needs}
-use Rattle.replay_tally.specs.Ways.{meets-empty, meets-any, meets-same}
+use Rattle.replay_tally.specs.Proof.Ways.{meets-empty, meets-any, meets-same}
 use Rattle.replay_tally.proofs.same_answer.Statement.{statement}
 use Rattle.replay_tally.proofs.same_answer.Tie as tie
 

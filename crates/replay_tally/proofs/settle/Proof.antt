@@ -1,5 +1,5 @@
 use borrow.Author.Needs.{needs}
-use Rattle.replay_tally.specs.Ways.{settle-some, settle-none}
+use Rattle.replay_tally.specs.Proof.Ways.{settle-some, settle-none}
 use Rattle.replay_tally.proofs.settle.Statement.{statement}
 use Rattle.replay_tally.proofs.settle.Tie as tie
 

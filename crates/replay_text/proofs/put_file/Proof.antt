@@ -1,5 +1,5 @@
 use borrow.Author.Needs.{needs}
-use Rattle.replay_text.specs.Ways.{file-none, file-named}
+use Rattle.replay_text.specs.Proof.Ways.{file-none, file-named}
 use Rattle.replay_text.proofs.put_file.Statement.{statement}
 use Rattle.replay_text.proofs.put_file.Tie as tie
 

@@ -1,5 +1,5 @@
 use borrow.Author.Needs.{needs}
-use Rattle.replay_text.specs.Ways.{flagged-one, flagged-zero}
+use Rattle.replay_text.specs.Proof.Ways.{flagged-one, flagged-zero}
 use Rattle.replay_text.proofs.put_flagged.Statement.{statement}
 use Rattle.replay_text.proofs.put_flagged.Tie as tie
 

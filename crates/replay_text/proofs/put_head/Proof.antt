@@ -1,5 +1,5 @@
 use borrow.Author.Needs.{needs}
-use Rattle.replay_text.specs.Ways.{head-done}
+use Rattle.replay_text.specs.Proof.Ways.{head-done}
 use Rattle.replay_text.proofs.put_head.Statement.{statement}
 use Rattle.replay_text.proofs.put_head.Tie as tie
 

@@ -1,5 +1,5 @@
 use borrow.Author.Needs.{needs}
-use Rattle.replay_text.specs.Ways.{kind-done}
+use Rattle.replay_text.specs.Proof.Ways.{kind-done}
 use Rattle.replay_text.proofs.put_kind.Statement.{statement}
 use Rattle.replay_text.proofs.put_kind.Tie as tie
 

@@ -1,5 +1,5 @@
 use borrow.Author.Needs.{needs}
-use Rattle.replay_text.specs.Ways.{name-empty, name-whole}
+use Rattle.replay_text.specs.Proof.Ways.{name-empty, name-whole}
 use Rattle.replay_text.proofs.put_name.Statement.{statement}
 use Rattle.replay_text.proofs.put_name.Tie as tie
 

@@ -1,5 +1,5 @@
 use borrow.Author.Needs.{needs}
-use Rattle.replay_text.specs.Ways.{numbered-done}
+use Rattle.replay_text.specs.Proof.Ways.{numbered-done}
 use Rattle.replay_text.proofs.put_numbered.Statement.{statement}
 use Rattle.replay_text.proofs.put_numbered.Tie as tie
 

@@ -1,5 +1,5 @@
 use borrow.Author.Needs.{needs}
-use Rattle.replay_text.specs.Ways.{signed-plus, signed-minus}
+use Rattle.replay_text.specs.Proof.Ways.{signed-plus, signed-minus}
 use Rattle.replay_text.proofs.put_offset.Statement.{statement}
 use Rattle.replay_text.proofs.put_offset.Tie as tie
 

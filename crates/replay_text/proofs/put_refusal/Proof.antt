@@ -1,5 +1,5 @@
 use borrow.Author.Needs.{needs}
-use Rattle.replay_text.specs.Ways.{refusal-done}
+use Rattle.replay_text.specs.Proof.Ways.{refusal-done}
 use Rattle.replay_text.proofs.put_refusal.Statement.{statement}
 use Rattle.replay_text.proofs.put_refusal.Tie as tie
 

@@ -1,5 +1,5 @@
 use borrow.Author.Needs.{needs}
-use Rattle.replay_text.specs.Ways.{symbol-done}
+use Rattle.replay_text.specs.Proof.Ways.{symbol-done}
 use Rattle.replay_text.proofs.put_symbol.Statement.{statement}
 use Rattle.replay_text.proofs.put_symbol.Tie as tie
 

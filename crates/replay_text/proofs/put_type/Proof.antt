@@ -1,5 +1,5 @@
 use borrow.Author.Needs.{needs}
-use Rattle.replay_text.specs.Ways.{type-none, type-object, type-function, type-section}
+use Rattle.replay_text.specs.Proof.Ways.{type-none, type-object, type-function, type-section}
 use Rattle.replay_text.proofs.put_type.Statement.{statement}
 use Rattle.replay_text.proofs.put_type.Tie as tie
 

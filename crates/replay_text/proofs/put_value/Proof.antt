@@ -1,5 +1,5 @@
 use borrow.Author.Needs.{needs}
-use Rattle.replay_text.specs.Ways.{value-null, value-absolute, value-section, value-relative, value-address, value-unloaded, value-external, value-zero, value-undefined}
+use Rattle.replay_text.specs.Proof.Ways.{value-null, value-absolute, value-section, value-relative, value-address, value-unloaded, value-external, value-zero, value-undefined}
 use Rattle.replay_text.proofs.put_value.Statement.{statement}
 use Rattle.replay_text.proofs.put_value.Tie as tie
 

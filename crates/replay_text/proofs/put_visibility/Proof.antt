@@ -1,5 +1,5 @@
 use borrow.Author.Needs.{needs}
-use Rattle.replay_text.specs.Ways.{visibility-local, visibility-weak, visibility-global}
+use Rattle.replay_text.specs.Proof.Ways.{visibility-local, visibility-weak, visibility-global}
 use Rattle.replay_text.proofs.put_visibility.Statement.{statement}
 use Rattle.replay_text.proofs.put_visibility.Tie as tie
 

@@ -3,7 +3,7 @@ use Prim.Native.Nat.{_-_, _≤_}
 use mathlib.Core.Path.{_≡_}
 use lib.ListN.{length, drop}
 use Rattle.replay_words.specs.Order.{beforeOf}
-use Rattle.replay_words.specs.Ways.{before-past, before-less, before-more, before-on, before-begins, before-same}
+use Rattle.replay_words.specs.Proof.Ways.{before-past, before-less, before-more, before-on, before-begins, before-same}
 use Rattle.replay_words.proofs.before.Statement.{statement}
 use Rattle.replay_words.proofs.before.Tie as tie
 

@@ -1,5 +1,5 @@
 use borrow.Author.Needs.{needs}
-use Rattle.replay_words.specs.Ways.{digit-below, digit-above, digit-in}
+use Rattle.replay_words.specs.Proof.Ways.{digit-below, digit-above, digit-in}
 use Rattle.replay_words.proofs.digit.Statement.{statement}
 use Rattle.replay_words.proofs.digit.Tie as tie
 

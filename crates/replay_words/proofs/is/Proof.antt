@@ -1,5 +1,5 @@
 use borrow.Author.Needs.{needs}
-use Rattle.replay_words.specs.Ways.{word-is}
+use Rattle.replay_words.specs.Proof.Ways.{word-is}
 use Rattle.replay_words.proofs.is.Statement.{statement}
 use Rattle.replay_words.proofs.is.Tie as tie
 

@@ -1,5 +1,5 @@
 use borrow.Author.Needs.{needs}
-use Rattle.replay_words.specs.Ways.{letter-below, letter-above, letter-in}
+use Rattle.replay_words.specs.Proof.Ways.{letter-below, letter-above, letter-in}
 use Rattle.replay_words.proofs.letter.Statement.{statement}
 use Rattle.replay_words.proofs.letter.Tie as tie
 

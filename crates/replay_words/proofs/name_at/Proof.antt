@@ -1,5 +1,5 @@
 use borrow.Author.Needs.{needs}
-use Rattle.replay_words.specs.Ways.{name-dash, name-word}
+use Rattle.replay_words.specs.Proof.Ways.{name-dash, name-word}
 use Rattle.replay_words.proofs.name_at.Statement.{statement}
 use Rattle.replay_words.proofs.name_at.Tie as tie
 

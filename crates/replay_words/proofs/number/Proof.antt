@@ -1,5 +1,5 @@
 use borrow.Author.Needs.{needs}
-use Rattle.replay_words.specs.Ways.{number-at}
+use Rattle.replay_words.specs.Proof.Ways.{number-at}
 use Rattle.replay_words.proofs.number.Statement.{statement}
 use Rattle.replay_words.proofs.number.Tie as tie
 

@@ -1,5 +1,5 @@
 use borrow.Author.Needs.{needs}
-use Rattle.replay_words.specs.Ways.{in-none, in-value}
+use Rattle.replay_words.specs.Proof.Ways.{in-none, in-value}
 use Rattle.replay_words.proofs.number_in.Statement.{statement}
 use Rattle.replay_words.proofs.number_in.Tie as tie
 

@@ -3,7 +3,7 @@ use Prim.Native.Nat.{_-_, _≤_}
 use mathlib.Core.Path.{_≡_}
 use lib.ListN.{length}
 use Rattle.replay_words.specs.Spelled.{putFrom}
-use Rattle.replay_words.specs.Ways.{put-start, put-more, put-end}
+use Rattle.replay_words.specs.Proof.Ways.{put-start, put-more, put-end}
 use Rattle.replay_words.proofs.put_bytes.Statement.{statement}
 use Rattle.replay_words.proofs.put_bytes.Tie as tie
 
@@ -25,6 +25,12 @@ put-bytes-spec =
     (λ c κs. search needs)
     (λ c. search needs)
     (λ c. search needs)
-    (λ c. (put-more _ _ _ _ _ _ _ _ _ (c .before .before .before .before .before .before .loop-test .taken) (c .before .before .before .before .wrapping-add-usize .ensures) (c .before .before .before .spelled .ensures) (c .before .before .put-byte .ensures) (c .before .before .before .before .before .before .before .loop .inv .0), search needs))
+    (λ c.
+    let spelt = c .before .before .before in
+    let turn = spelt .before .before .before in (
+      put-more _ _ _ _ _ _ _ _ _ (turn .loop-test .taken) (spelt .before .wrapping-add-usize .ensures) (spelt .spelled .ensures) (c .before .before .put-byte .ensures)
+          (turn .before .loop .inv .0),
+      search needs,
+    ))
     (λ c. search needs)
     (λ c. search put-end))

@@ -1,5 +1,5 @@
 use borrow.Author.Needs.{needs}
-use Rattle.replay_words.specs.Ways.{spelled-in, spelled-out}
+use Rattle.replay_words.specs.Proof.Ways.{spelled-in, spelled-out}
 use Rattle.replay_words.proofs.spelled.Statement.{statement}
 use Rattle.replay_words.proofs.spelled.Tie as tie
 

@@ -1,5 +1,5 @@
 use borrow.Author.Needs.{needs}
-use Rattle.section_groups.specs.Ways.{repeated-new, repeated-yes, repeated-no}
+use Rattle.section_groups.specs.Proof.Ways.{repeated-new, repeated-yes, repeated-no}
 use Rattle.section_groups.proofs.is_repeated.Statement.{statement}
 use Rattle.section_groups.proofs.is_repeated.Tie as tie
 

@@ -1,5 +1,5 @@
 use borrow.Author.Needs.{needs}
-use Rattle.section_groups.specs.Ways.{group-marked, group-removed}
+use Rattle.section_groups.specs.Proof.Ways.{group-marked, group-removed}
 use Rattle.section_groups.proofs.mark_group.Statement.{statement}
 use Rattle.section_groups.proofs.mark_group.Tie as tie
 

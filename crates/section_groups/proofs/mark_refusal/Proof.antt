@@ -1,4 +1,4 @@
-use Rattle.section_groups.specs.Ways.{mark-full, mark-room, mark-none}
+use Rattle.section_groups.specs.Proof.Ways.{mark-full, mark-room, mark-none}
 use Rattle.section_groups.proofs.mark_refusal.Statement.{statement}
 use Rattle.section_groups.proofs.mark_refusal.Tie as tie
 

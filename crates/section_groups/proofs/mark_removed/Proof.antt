@@ -1,5 +1,5 @@
 use borrow.Author.Needs.{needs}
-use Rattle.section_groups.specs.Ways.{removed-marked, removed-none}
+use Rattle.section_groups.specs.Proof.Ways.{removed-marked, removed-none}
 use Rattle.section_groups.proofs.mark_removed.Statement.{statement}
 use Rattle.section_groups.proofs.mark_removed.Tie as tie
 

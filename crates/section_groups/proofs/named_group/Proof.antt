@@ -1,5 +1,5 @@
 use borrow.Author.Needs.{needs}
-use Rattle.section_groups.specs.Ways.{named-stopped, named-going}
+use Rattle.section_groups.specs.Proof.Ways.{named-stopped, named-going}
 use Rattle.section_groups.proofs.named_group.Statement.{statement}
 use Rattle.section_groups.proofs.named_group.Tie as tie
 

@@ -1,5 +1,5 @@
 use borrow.Author.Needs.{needs}
-use Rattle.section_groups.specs.Ways.{plan-full, plan-fits}
+use Rattle.section_groups.specs.Proof.Ways.{plan-full, plan-fits}
 use Rattle.section_groups.proofs.plan_group.Statement.{statement}
 use Rattle.section_groups.proofs.plan_group.Tie as tie
 

@@ -1,5 +1,5 @@
 use borrow.Author.Needs.{needs}
-use Rattle.section_groups.specs.Ways.{shape-plain, shape-count, shape-link, shape-symbol, shape-fine}
+use Rattle.section_groups.specs.Proof.Ways.{shape-plain, shape-count, shape-link, shape-symbol, shape-fine}
 use Rattle.section_groups.proofs.shape.Statement.{statement}
 use Rattle.section_groups.proofs.shape.Tie as tie
 

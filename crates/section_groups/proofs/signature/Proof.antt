@@ -1,5 +1,5 @@
 use borrow.Author.Needs.{needs}
-use Rattle.section_groups.specs.Ways.{signature-read}
+use Rattle.section_groups.specs.Proof.Ways.{signature-read}
 use Rattle.section_groups.proofs.signature.Statement.{statement}
 use Rattle.section_groups.proofs.signature.Tie as tie
 

@@ -1,5 +1,5 @@
 use borrow.Author.Needs.{needs}
-use Rattle.section_groups.specs.Ways.{group-shapeless, group-unsigned, group-signed}
+use Rattle.section_groups.specs.Proof.Ways.{group-shapeless, group-unsigned, group-signed}
 use Rattle.section_groups.proofs.take_group.Statement.{statement}
 use Rattle.section_groups.proofs.take_group.Tie as tie
 

@@ -1,5 +1,5 @@
 use borrow.Author.Needs.{needs}
-use Rattle.sections.specs.Ways.{build-done}
+use Rattle.sections.specs.Proof.Ways.{build-done}
 use Rattle.sections.proofs.build.Statement.{statement}
 use Rattle.sections.proofs.build.Tie as tie
 

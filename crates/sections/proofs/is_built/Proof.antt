@@ -1,5 +1,5 @@
 use borrow.Author.Needs.{needs}
-use Rattle.sections.specs.Ways.{built-past, built-yes, built-no}
+use Rattle.sections.specs.Proof.Ways.{built-past, built-yes, built-no}
 use Rattle.sections.proofs.is_built.Statement.{statement}
 use Rattle.sections.proofs.is_built.Tie as tie
 

@@ -1,5 +1,5 @@
 use borrow.Author.Needs.{needs}
-use Rattle.sections.specs.Ways.{reserve-full, reserve-free, reserve-fits}
+use Rattle.sections.specs.Proof.Ways.{reserve-full, reserve-free, reserve-fits}
 use Rattle.sections.proofs.reserve.Statement.{statement}
 use Rattle.sections.proofs.reserve.Tie as tie
 
@@ -10,6 +10,7 @@ reserve-spec =
     (λ c κs. search needs)
     (λ c κs. search needs)
     (λ c. search (needs, reserve-fits))
+    (λ c κs. search needs)
     (λ c. search needs)
     (λ c. search reserve-free)
     (λ c. search needs)

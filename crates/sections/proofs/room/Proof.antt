@@ -1,5 +1,5 @@
 use borrow.Author.Needs.{needs}
-use Rattle.sections.specs.Ways.{room-yes, room-no}
+use Rattle.sections.specs.Proof.Ways.{room-yes, room-no}
 use Rattle.sections.proofs.room.Statement.{statement}
 use Rattle.sections.proofs.room.Tie as tie
 

@@ -1,5 +1,5 @@
 use borrow.Author.Needs.{needs}
-use Rattle.shared_objects.specs.LoadWays.{ended-loaded, ended-refused}
+use Rattle.shared_objects.specs.Proof.LoadWays.{ended-loaded, ended-refused}
 use Rattle.shared_objects.proofs.ended.Statement.{statement}
 use Rattle.shared_objects.proofs.ended.Tie as tie
 

@@ -1,5 +1,5 @@
 use borrow.Author.Needs.{needs}
-use Rattle.shared_objects.specs.StageWays.{input-full, input-taken}
+use Rattle.shared_objects.specs.Proof.StageWays.{input-full, input-taken}
 use Rattle.shared_objects.proofs.input_row.Statement.{statement}
 use Rattle.shared_objects.proofs.input_row.Tie as tie
 
@@ -12,6 +12,7 @@ input-row-spec =
     (λ c κs. search needs)
     (λ c κs. search needs)
     (λ c. search needs)
+    (λ c κs. search needs)
     (λ c κs. search needs)
     (λ c. search needs)
     (λ c. search input-taken)

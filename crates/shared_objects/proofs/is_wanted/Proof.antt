@@ -1,5 +1,5 @@
 use borrow.Author.Needs.{needs}
-use Rattle.shared_objects.specs.LoadWays.{want-judged, want-always}
+use Rattle.shared_objects.specs.Proof.LoadWays.{want-judged, want-always}
 use Rattle.shared_objects.proofs.is_wanted.Statement.{statement}
 use Rattle.shared_objects.proofs.is_wanted.Tie as tie
 

@@ -1,5 +1,5 @@
 use borrow.Author.Needs.{needs}
-use Rattle.shared_objects.specs.StageWays.{contents-stopped, contents-lists}
+use Rattle.shared_objects.specs.Proof.StageWays.{contents-stopped, contents-lists}
 use Rattle.shared_objects.proofs.load_contents.Statement.{statement}
 use Rattle.shared_objects.proofs.load_contents.Tie as tie
 

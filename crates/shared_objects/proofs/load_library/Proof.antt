@@ -1,5 +1,5 @@
 use borrow.Author.Needs.{needs}
-use Rattle.shared_objects.specs.StageWays.{library-full, library-issued}
+use Rattle.shared_objects.specs.Proof.StageWays.{library-full, library-issued}
 use Rattle.shared_objects.proofs.load_library.Statement.{statement}
 use Rattle.shared_objects.proofs.load_library.Tie as tie
 

@@ -1,5 +1,5 @@
 use borrow.Author.Needs.{needs}
-use Rattle.shared_objects.specs.StageWays.{lists-stopped, lists-input}
+use Rattle.shared_objects.specs.Proof.StageWays.{lists-stopped, lists-input}
 use Rattle.shared_objects.proofs.load_lists.Statement.{statement}
 use Rattle.shared_objects.proofs.load_lists.Tie as tie
 

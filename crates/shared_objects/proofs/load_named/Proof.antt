@@ -1,5 +1,5 @@
 use borrow.Author.Needs.{needs}
-use Rattle.shared_objects.specs.LoadWays.{named-unneeded, named-loaded}
+use Rattle.shared_objects.specs.Proof.LoadWays.{named-unneeded, named-loaded}
 use Rattle.shared_objects.proofs.load_named.Statement.{statement}
 use Rattle.shared_objects.proofs.load_named.Tie as tie
 

@@ -1,5 +1,5 @@
 use borrow.Author.Needs.{needs}
-use Rattle.shared_objects.specs.LoadWays.{load-refused, load-named}
+use Rattle.shared_objects.specs.Proof.LoadWays.{load-refused, load-named}
 use Rattle.shared_objects.proofs.load_shared_object.Statement.{statement}
 use Rattle.shared_objects.proofs.load_shared_object.Tie as tie
 
@@ -21,4 +21,4 @@ load-shared-object-spec =
     (λ c.
     let u = c .before .before .before .before .before .before .before .before .before .before .before .before .before .before in
     let h = u .before .before .before .before .before .before .before .before .before .before .before in
-    search (load-named, u .load-named .ensures, u .before .before .before .before .before .before .before .before .library-name .ensures, u .before .before .before .before .before .before .before .before .before .if1 .left, h .head .ensures)))
+    search (load-named, u .load-named .ensures, u .before .before .before .before .before .before .before .before .library-name .ensures, u .before .before .before .before .before .before .before .before .before .if1 .left, h .check .ensures)))

@@ -3,7 +3,7 @@ use native.Mathlib.Omega.{arith}
 use native.Mathlib.Nat.{le-of-lt}
 use mathlib.Core.Path.{sym, refl, _∙_}
 use lib.Seq.{length-take-le}
-use Rattle.strings.specs.Ways.{got, lost, past, lost-has, past-has, apart}
+use Rattle.strings.specs.Proof.Ways.{got, lost, past, lost-has, past-has, apart}
 use Rattle.strings.proofs.ended.Statement.{statement}
 use Rattle.strings.proofs.ended.Tie as tie
 

@@ -1,5 +1,5 @@
 use borrow.Author.Needs.{needs}
-use Rattle.symbol.specs.Ways.{hide-weak, hide-same, hide-other}
+use Rattle.symbol.specs.Proof.Ways.{hide-weak, hide-same, hide-other}
 use Rattle.symbol.proofs.hide.Statement.{statement}
 use Rattle.symbol.proofs.hide.Tie as tie
 

@@ -1,5 +1,5 @@
 use borrow.Author.Needs.{needs}
-use Rattle.symbol.specs.Ways.{hidden-global, hidden-weak, hidden-not}
+use Rattle.symbol.specs.Proof.Ways.{hidden-global, hidden-weak, hidden-not}
 use Rattle.symbol.proofs.is_hidden.Statement.{statement}
 use Rattle.symbol.proofs.is_hidden.Tie as tie
 

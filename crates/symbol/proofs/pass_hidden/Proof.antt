@@ -1,5 +1,5 @@
 use borrow.Author.Needs.{needs}
-use Rattle.symbol.specs.Ways.{pass-hides, pass-not}
+use Rattle.symbol.specs.Proof.Ways.{pass-hides, pass-not}
 use Rattle.symbol.proofs.pass_hidden.Statement.{statement}
 use Rattle.symbol.proofs.pass_hidden.Tie as tie
 

@@ -1,5 +1,5 @@
 use borrow.Author.Needs.{needs}
-use Rattle.symbol.specs.Ways.{passes-by, passes-never}
+use Rattle.symbol.specs.Proof.Ways.{passes-by, passes-never}
 use Rattle.symbol.proofs.passes_hidden.Statement.{statement}
 use Rattle.symbol.proofs.passes_hidden.Tie as tie
 

@@ -1,5 +1,5 @@
 use borrow.Author.Needs.{needs}
-use Rattle.symbol.specs.Ways.{row-read}
+use Rattle.symbol.specs.Proof.Ways.{row-read}
 use Rattle.symbol.proofs.row_in.Statement.{statement}
 use Rattle.symbol.proofs.row_in.Tie as tie
 

@@ -1,5 +1,5 @@
 use borrow.Author.Needs.{needs}
-use Rattle.symbol.specs.Ways.{show-same, show-weak, show-other}
+use Rattle.symbol.specs.Proof.Ways.{show-same, show-weak, show-other}
 use Rattle.symbol.proofs.show.Statement.{statement}
 use Rattle.symbol.proofs.show.Tie as tie
 

@@ -1,5 +1,5 @@
 use borrow.Author.Needs.{needs}
-use Rattle.symbol_rows.specs.DecideWays.{decide-judged, decide-local, decide-named}
+use Rattle.symbol_resolution.specs.Proof.DecideWays.{decide-judged, decide-local, decide-named}
 use Rattle.symbol_resolution.proofs.decide.Statement.{statement}
 use Rattle.symbol_resolution.proofs.decide.Tie as tie
 

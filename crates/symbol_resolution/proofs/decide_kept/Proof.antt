@@ -1,5 +1,5 @@
 use borrow.Author.Needs.{needs}
-use Rattle.symbol_rows.specs.DecideWays.{kept-shown, kept-hidden, kept-amended}
+use Rattle.symbol_resolution.specs.Proof.DecideWays.{kept-shown, kept-hidden, kept-amended}
 use Rattle.symbol_resolution.proofs.decide_kept.Statement.{statement}
 use Rattle.symbol_resolution.proofs.decide_kept.Tie as tie
 

@@ -1,5 +1,5 @@
 use borrow.Author.Needs.{needs}
-use Rattle.symbol_rows.specs.DecideWays.{known-value, known-yields, known-twice, known-kept}
+use Rattle.symbol_resolution.specs.Proof.DecideWays.{known-value, known-yields, known-twice, known-kept}
 use Rattle.symbol_resolution.proofs.decide_known.Statement.{statement}
 use Rattle.symbol_resolution.proofs.decide_known.Tie as tie
 

@@ -1,5 +1,5 @@
 use borrow.Author.Needs.{needs}
-use Rattle.symbol_rows.specs.DecideWays.{local-held}
+use Rattle.symbol_resolution.specs.Proof.DecideWays.{local-held}
 use Rattle.symbol_resolution.proofs.decide_local.Statement.{statement}
 use Rattle.symbol_resolution.proofs.decide_local.Tie as tie
 

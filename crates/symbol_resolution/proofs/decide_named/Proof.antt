@@ -1,5 +1,5 @@
 use borrow.Author.Needs.{needs}
-use Rattle.symbol_rows.specs.DecideWays.{named-held}
+use Rattle.symbol_resolution.specs.Proof.DecideWays.{named-held}
 use Rattle.symbol_resolution.proofs.decide_named.Statement.{statement}
 use Rattle.symbol_resolution.proofs.decide_named.Tie as tie
 

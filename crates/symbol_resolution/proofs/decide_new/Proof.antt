@@ -1,5 +1,5 @@
 use borrow.Author.Needs.{needs}
-use Rattle.symbol_rows.specs.DecideWays.{new-value, new-type, new-fits, new-full}
+use Rattle.symbol_resolution.specs.Proof.DecideWays.{new-value, new-type, new-fits, new-full}
 use Rattle.symbol_resolution.proofs.decide_new.Statement.{statement}
 use Rattle.symbol_resolution.proofs.decide_new.Tie as tie
 

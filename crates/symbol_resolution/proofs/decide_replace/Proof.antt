@@ -1,5 +1,5 @@
 use borrow.Author.Needs.{needs}
-use Rattle.symbol_rows.specs.DecideWays.{replace-type, replace-fine}
+use Rattle.symbol_resolution.specs.Proof.DecideWays.{replace-type, replace-fine}
 use Rattle.symbol_resolution.proofs.decide_replace.Statement.{statement}
 use Rattle.symbol_resolution.proofs.decide_replace.Tie as tie
 

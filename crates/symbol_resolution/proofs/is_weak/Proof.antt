@@ -1,5 +1,5 @@
 use borrow.Author.Needs.{needs}
-use Rattle.symbol_rows.specs.DecideWays.{weak-shown, weak-hidden, weak-not}
+use Rattle.symbol_resolution.specs.Proof.DecideWays.{weak-shown, weak-hidden, weak-not}
 use Rattle.symbol_resolution.proofs.is_weak.Statement.{statement}
 use Rattle.symbol_resolution.proofs.is_weak.Tie as tie
 

@@ -1,5 +1,5 @@
 use borrow.Author.Needs.{needs}
-use Rattle.symbol_rows.specs.DecideWays.{rank-undefined, rank-weak, rank-strong}
+use Rattle.symbol_resolution.specs.Proof.DecideWays.{rank-undefined, rank-weak, rank-strong}
 use Rattle.symbol_resolution.proofs.rank.Statement.{statement}
 use Rattle.symbol_resolution.proofs.rank.Tie as tie
 

@@ -1,5 +1,5 @@
 use borrow.Author.Needs.{needs}
-use Rattle.symbol_rows.specs.DecideWays.{reference-old, reference-weak, reference-strong}
+use Rattle.symbol_resolution.specs.Proof.DecideWays.{reference-old, reference-weak, reference-strong}
 use Rattle.symbol_resolution.proofs.reference_rank.Statement.{statement}
 use Rattle.symbol_resolution.proofs.reference_rank.Tie as tie
 

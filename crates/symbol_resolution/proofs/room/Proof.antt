@@ -1,5 +1,5 @@
 use borrow.Author.Needs.{needs}
-use Rattle.symbol_rows.specs.DecideWays.{room-full, room-global, room-local, room-cell, room-no-cell}
+use Rattle.symbol_resolution.specs.Proof.DecideWays.{room-full, room-global, room-local, room-cell, room-no-cell}
 use Rattle.symbol_resolution.proofs.room.Statement.{statement}
 use Rattle.symbol_resolution.proofs.room.Tie as tie
 

@@ -1,5 +1,5 @@
 use borrow.Author.Needs.{needs}
-use Rattle.symbol_rows.specs.DecideWays.{type-fine, type-file, type-other}
+use Rattle.symbol_resolution.specs.Proof.DecideWays.{type-fine, type-file, type-other}
 use Rattle.symbol_resolution.proofs.type_refusal.Statement.{statement}
 use Rattle.symbol_resolution.proofs.type_refusal.Tie as tie
 

@@ -1,5 +1,5 @@
 use borrow.Author.Needs.{needs}
-use Rattle.symbols.specs.Ways.{symbols-cleared}
+use Rattle.symbols.specs.Proof.Ways.{symbols-cleared}
 use Rattle.symbols.proofs.clear_section_symbols.Statement.{statement}
 use Rattle.symbols.proofs.clear_section_symbols.Tie as tie
 

@@ -1,5 +1,5 @@
 use borrow.Author.Needs.{needs}
-use Rattle.symbols.specs.Ways.{null-no-name, null-done}
+use Rattle.symbols.specs.Proof.Ways.{null-no-name, null-done}
 use Rattle.symbols.proofs.null_table.Statement.{statement}
 use Rattle.symbols.proofs.null_table.Tie as tie
 

@@ -1,5 +1,5 @@
 use borrow.Author.Needs.{needs}
-use Rattle.upcoming_symbol.specs.Ways.{from-nothing, from-not-loaded, from-section}
+use Rattle.upcoming_symbol.specs.Proof.Ways.{from-nothing, from-not-loaded, from-section}
 use Rattle.upcoming_symbol.proofs.conversion_from.Statement.{statement}
 use Rattle.upcoming_symbol.proofs.conversion_from.Tie as tie
 

@@ -1,5 +1,5 @@
 use borrow.Author.Needs.{needs}
-use Rattle.symbols.specs.Ways.{new-no-row, new-named}
+use Rattle.symbols.specs.Proof.Ways.{new-no-row, new-named}
 use Rattle.symbols.proofs.Symbols.new.Statement.{statement}
 use Rattle.symbols.proofs.Symbols.new.Tie as tie
 

@@ -1,3 +1,0 @@
-pub mod AddGroup
-pub mod Contract
-pub mod Ways

@@ -1,0 +1,2 @@
+pub mod OneOutcome
+pub mod Ways

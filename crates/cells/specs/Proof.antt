@@ -1,0 +1,5 @@
+pub mod Cell
+pub mod Part
+pub mod Split
+pub mod Rows
+pub mod Search

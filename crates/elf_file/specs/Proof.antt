@@ -1,0 +1,4 @@
+pub mod Ways
+pub mod ChecksWays
+pub mod RowsWays
+pub mod ReadingWays

@@ -1,0 +1,4 @@
+pub mod Written
+pub mod Rows
+pub mod Back
+pub mod Writer

@@ -1,0 +1,5 @@
+pub mod Find
+pub mod Written
+pub mod More
+pub mod Same
+pub mod Judged

@@ -1,0 +1,11 @@
+pub mod Rekeyed
+pub mod Tables
+pub mod Reads
+pub mod Groups
+pub mod SymbolStage
+pub mod BuildStage
+pub mod Merge
+pub mod Load
+pub mod SectionCalls
+pub mod PlainReads
+pub mod NewTables

@@ -1,4 +1,0 @@
-pub mod Define
-pub mod DefineWays
-pub mod Load
-pub mod LoadWays

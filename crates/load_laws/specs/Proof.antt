@@ -1,0 +1,14 @@
+pub mod Origin
+pub mod Refusals
+pub mod Unbroken
+pub mod Sections
+pub mod Unmarked
+pub mod Lists
+pub mod Counts
+pub mod Cleared
+pub mod LawsOwn
+pub mod LawsLists
+pub mod Marks
+pub mod Recorded
+pub mod Counted
+pub mod LawsNames

@@ -1,0 +1,3 @@
+pub mod RelocationWays
+pub mod BuildWays
+pub mod Ways

@@ -1,0 +1,4 @@
+pub mod Offset
+pub mod Signed
+pub mod RowLaws
+pub mod Ways

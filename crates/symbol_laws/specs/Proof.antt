@@ -1,0 +1,10 @@
+pub mod Rows
+pub mod View
+pub mod Refused
+pub mod Issue
+pub mod Start
+pub mod Calls
+pub mod Profile
+pub mod Below
+pub mod Writes
+pub mod Table

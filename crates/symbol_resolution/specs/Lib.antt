@@ -1,0 +1,5 @@
+pub mod Holder
+pub mod RowsUndefined
+pub mod Decide
+pub mod Apply
+pub mod Proof

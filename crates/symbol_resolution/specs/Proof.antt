@@ -1,0 +1,4 @@
+pub mod Undefined
+pub mod DecideWays
+pub mod ApplyWays
+pub mod Outcomes

@@ -1,0 +1,13 @@
+use borrow.Author.Needs.{needs}
+use Rattle.text.specs.Proof.LinesWays.{put-out}
+use Rattle.text.proofs.lines.put_byte.Statement.{statement}
+use Rattle.text.proofs.lines.put_byte.Tie as tie
+
+pub put-byte-spec : {M : Type 1} → statement M
+put-byte-spec =
+    tie.close
+    (tie.spec
+    (λ c. search needs)
+    (λ c. search needs)
+    (λ c. search needs)
+    (λ c. search put-out))
