@@ -24,6 +24,8 @@ fn main() {
     };
     println!("cargo:rustc-link-search=native={}", folder.display());
     println!("cargo:rustc-link-lib=static={name}");
+    // for the test of the C header
+    println!("cargo:rustc-env=HIDVORN_ARCHIVE={}", archive.display());
 }
 
 fn stop(message: &str) -> ! {

@@ -5,6 +5,7 @@ ghost use Rattle.cells.specs.Slice.{before};
 ghost use Rattle.ffi_cells.specs.Contract.{toldExit};
 ghost use Rattle.ffi_names.specs.Contract as Names;
 ghost use Rattle.ffi_symbols.specs.Contract as Symbols;
+ghost use Rattle.ffi_list.specs.Contract as Adds;
 ghost use Rattle.ffi_symbols.specs.LookupContract as Lookup;
 ghost use Rattle.ffi_merge.specs.Contract as Merge;
 ghost use Rattle.ffi_merge.specs.FileContract as File;
@@ -69,6 +70,21 @@ pub extern "C" fn hidvorn_add(
     ensures { λ r. ⌜ Symbols.AddMeets (before header) (before names) (before symbols) (before sections) (before conversion) (before item) (Symbols.addExit r header names symbols sections) ⌝ }
 {
     ffi_symbols::add(header, names, symbols, sections, conversion, item)
+}
+
+#[no_mangle]
+pub extern "C" fn hidvorn_add_list(
+    header: &mut [u64],
+    names: &mut [u64],
+    symbols: &mut [u64],
+    sections: &mut [u64],
+    conversion: &[u64],
+    adds: &[u64],
+    ids: &mut [u64],
+) -> u64
+    ensures { λ r. ⌜ Adds.ListMeets (before header) (before names) (before symbols) (before sections) (before conversion) (before adds) (before ids) (Adds.listExit r header names symbols sections ids) ⌝ }
+{
+    ffi_list::add_list(header, names, symbols, sections, conversion, adds, ids)
 }
 
 #[no_mangle]

@@ -11,7 +11,7 @@ pub const HEADER_CELLS: usize = 24;
 
 const PROFILE: usize = 16;
 
-// Number 0 is a result, with its values; a refusal has none.
+// Number 0 is a result, with its values; a refusal has none, but a list of adds, whose first value is the position.
 pub struct Reply {
     pub number: u64,
     pub place: u64,

@@ -1,5 +1,5 @@
 -- An exported call replies what the call itself says: number, place and values of the answer, by the definitions that the promises have. Names, symbols,
--- groups, merges, loads and collections are replied by what they say (`saying`, `refusedOf`, `collectedReply`); here the others, whose answers are told case by case.
+-- groups, merges, loads and collections are replied by what they say (`saying`, `refusedOf`, `collectedReply`), a list of adds by number, place and position (`replyOf`, ffi_list/specs/Calls.antt); here the others, whose answers are told case by case.
 -- Assumes nothing.
 use Prim.Native.Nat.{ℕ, zero, suc, _+_, _*_, _<_, _≤_}
 use native.Mathlib.Omega.{arith}

@@ -17,6 +17,8 @@ use Rattle.ffi_names.specs.Calls as NamesCalls
 use Rattle.ffi_names.specs.Contract as Names
 use Rattle.ffi_symbols.specs.Calls as SymbolsCalls
 use Rattle.ffi_symbols.specs.Contract as Symbols
+use Rattle.ffi_list.specs.Calls as ListCalls
+use Rattle.ffi_list.specs.Contract as Adds
 use Rattle.ffi_symbols.specs.LookupCalls as LookupCalls
 use Rattle.ffi_symbols.specs.LookupContract as Lookup
 use Rattle.ffi_merge.specs.Calls as MergeCalls
@@ -65,6 +67,11 @@ new-one-outcome h key profile bytes names symbols sections x y e f = ap {B = Sym
 pub add-one-outcome : (h names symbols sections conversion item : List ℕ) (x y : Symbols.AddExit) → Symbols.AddMeets h names symbols sections conversion item x
     → Symbols.AddMeets h names symbols sections conversion item y → x ≡ y
 add-one-outcome h names symbols sections conversion item x y e f = ap {B = Symbols.AddExit} (λ (o : SymbolsCalls.AddLeft). record { number = o .told .number; header = o .told .header; names = o .names; symbols = o .symbols; sections = o .sections }) (e ∙ sym f)
+
+-- add_list
+pub add-list-one-outcome : (h names symbols sections conversion adds ids : List ℕ) (x y : Adds.ListExit) → Adds.ListMeets h names symbols sections conversion adds ids x
+    → Adds.ListMeets h names symbols sections conversion adds ids y → x ≡ y
+add-list-one-outcome h names symbols sections conversion adds ids x y e f = ap {B = Adds.ListExit} (λ (o : ListCalls.ListLeft). record { number = o .told .number; header = o .told .header; names = o .names; symbols = o .symbols; sections = o .sections; ids = o .ids }) (e ∙ sym f)
 
 -- remove
 pub remove-one-outcome : (h symbols sections : List ℕ) (id : ℕ) (x y : Symbols.RemoveExit) → Symbols.RemoveMeets h symbols sections id x → Symbols.RemoveMeets h symbols sections id y → x ≡ y

@@ -34,15 +34,17 @@ use Rattle.gc_sections.specs.Run.{runOf}
 use Rattle.symbol_laws.specs.History.{store, table}
 use Rattle.merge_laws.specs.ByNumber as ByNumber
 use Rattle.merge_laws.specs.Calls.{Linked, allIn}
-use Rattle.link_laws.specs.Calls.{Call, intern, add, remove, addGroup, merge, mergeFile, load, collect, plainCollect, groupIn, listsIn, callRefusal, reads}
+use Rattle.link_laws.specs.Calls.{Call, intern, add, remove, addGroup, merge, mergeFile, load, collect, plainCollect, groupIn, listsIn, callRefusal, reads, addList}
 use Rattle.link_laws.specs.Proof.PlainCalls.{Compared, alike, many, compared}
 use Rattle.merge_file.specs.MergeFile.{fileHeadOf, mergeFileOf}
+use Rattle.add_list.specs.AddList.{addListOf}
 
 -- the calls that may change a link
 abbrev pub changes : Call → Bool
 changes (intern x) = true
 changes (reads k) = false
 changes (add conversion u) = true
+changes (addList conversion adds ids) = true
 changes (remove id) = true
 changes (addGroup o work n) = true
 changes (merge o work ids) = true
@@ -66,6 +68,10 @@ module _ (s : Linked) (b : s .table .link .broken ≡ true) where
   add-broken : (conversion : List ℕ) (u : UpcomingSymbol) → callRefusal (add conversion u) s ≡ refused 22 0
   unfolding addOf judgeAddOf
   add-broken conversion u = simp (change-broken l (Add.lent (table (s .table))) b)
+
+  list-broken : (conversion adds ids : List ℕ) → callRefusal (addList conversion adds ids) s ≡ refused 22 0
+  unfolding addListOf
+  list-broken conversion adds ids = rw b
 
   remove-broken : (id : SymbolId) → callRefusal (remove id) s ≡ refused 22 0
   unfolding removeOf
@@ -107,6 +113,7 @@ module _ (s : Linked) (b : s .table .link .broken ≡ true) where
   broken-refused (intern x) c = intern-broken x
   broken-refused (reads k) c = absurd (apart c)
   broken-refused (add conversion u) c = add-broken conversion u
+  broken-refused (addList conversion adds ids) c = list-broken conversion adds ids
   broken-refused (remove id) c = remove-broken id
   broken-refused (addGroup o work n) c = group-broken o work n
   broken-refused (merge o work ids) c = merge-broken o work ids

@@ -3,7 +3,7 @@
 use Prim.Native.Nat.{ℕ, _+_, _*_, _<_, _≤_}
 use native.Mathlib.Omega.{arith}
 use native.Mathlib.Nat.{le-refl, le-trans}
-use mathlib.Core.Path.{_≡_, refl, ap, _∙_, subst}
+use mathlib.Core.Path.{_≡_, refl, ap, _∙_, subst, sym}
 use mathlib.Core.List.{List, [], _∷_, _++_}
 use Rattle.byte_slices.specs.Bytes.{part}
 use Rattle.link.specs.Bounds.{sectionRows}
@@ -26,17 +26,20 @@ use Rattle.merge_laws.specs.BuiltRow.{BuiltAs, part-same}
 use Rattle.merge_laws.specs.Proof.RowsBelow.{merge-same}
 use Rattle.merge_laws.specs.Calls.{Linked, allIn}
 use Rattle.load_laws.specs.Proof.Sections.{load-sections}
-use Rattle.link_laws.specs.Calls.{Call, intern, add, remove, addGroup, merge, mergeFile, load, collect, plainCollect, libraryIn, listsIn, callLeft, callNext, runCalls, Drops, reads}
+use Rattle.link_laws.specs.Calls.{Call, intern, add, remove, addGroup, merge, mergeFile, load, collect, plainCollect, libraryIn, listsIn, callLeft, callNext, runCalls, Drops, reads, addList, listAdds}
 use Rattle.link_laws.specs.Proof.PlainCalls.{Compared, alike, many, compared}
 use Rattle.gc_sections.specs.Run.{Left}
 use Rattle.elf_laws.specs.Object as ElfFile
 use Rattle.link_laws.specs.Proof.FileCall.{by-file}
 use Rattle.link_laws.specs.CallSteps.{callSteps, Leads, made, cleared}
-use Rattle.link_laws.specs.Proof.CallSteps.{call-leads}
-use Rattle.link_laws.specs.Proof.Lists.{call-listed}
+use Rattle.link_laws.specs.Proof.CallSteps.{call-leads, direct-below}
+use Rattle.link_laws.specs.Proof.Lists.{call-listed, direct-count}
 use Rattle.link_laws.specs.Idle.{drops-nothing}
 use Rattle.link_laws.specs.Proof.NamesStay.{calls-stay}
 use Rattle.link_laws.specs.Kept.{signatures, Lasting, lasting-on}
+use Rattle.merge_laws.specs.Issue.{keep-slots}
+use Rattle.link_laws.specs.Proof.ListCall.{next-is, list-keeps}
+use Rattle.link.specs.declared.Link.{Link}
 
 -- row r of a link is a built section of that name, kind, flags, and names these symbols
 abbrev pub SectionIn : Linked → ℕ → List ℕ → ℕ → ℕ → ℕ → List ℕ → Type 0
@@ -52,6 +55,7 @@ abbrev pub Spares : Call → Linked → ℕ → Type 0
 Spares (intern x) s r = Unit {0}
 Spares (reads k) s r = Unit {0}
 Spares (add conversion u) s r = Unit {0}
+Spares (addList conversion adds ids) s r = Unit {0}
 Spares (remove id) s r = Unit {0}
 Spares (addGroup o work n) s r = Unit {0}
 Spares (merge o work ids) s r = Unit {0}
@@ -86,6 +90,14 @@ module _ (s : Linked) (below : Below (s .table)) (rows-in : s .table .link .sect
   row-cell (intern x) q = refl
   row-cell (reads k) q = refl
   row-cell (add conversion u) q = WritesLaws.call-past (s .table) below (History.add conversion u) .sections (r * 8 + f) behind
+  row-cell (addList conversion adds ids) q =
+      ap (λ (t : Linked). field (t .table .sections) r f) (next-is conversion adds ids s)
+      ∙ list-keeps (λ (t : State). Below t × (t .link .slots ≡ s .table .link .slots) × (field (t .sections) r f ≡ field (s .table .sections) r f)) conversion
+      (λ t u k. (
+        direct-below (History.add conversion u) t (λ (z : ⊥). z) (k .0),
+        direct-count (λ (l : Link). l .slots) keep-slots (λ l n. refl) (History.add conversion u) t (λ (z : ⊥). z) ∙ k .1,
+        WritesLaws.call-past t (k .0) (History.add conversion u) .sections (r * 8 + f) (subst (λ (n : ℕ). r * 8 + f < n * 8) (sym (k .1)) behind) ∙ k .2,
+      )) adds ids s (below, refl, refl) .2
   row-cell (remove id) q = WritesLaws.call-past (s .table) below (History.remove id) .sections (r * 8 + f) behind
   row-cell (addGroup o work n) q = refl
   row-cell (merge o work ids) q = merge-same o (allIn s work ids) r f low small

@@ -5,7 +5,7 @@ use mathlib.Core.List.{List, [], _++_}
 use lib.ListN.{length}
 use Rattle.merge_laws.specs.Calls.{Linked, allIn}
 use Rattle.link_laws.specs.Read as Read
-use Rattle.link_laws.specs.Calls.{Call, intern, add, remove, addGroup, merge, mergeFile, load, collect, plainCollect, libraryIn, reads}
+use Rattle.link_laws.specs.Calls.{Call, intern, add, remove, addGroup, merge, mergeFile, load, collect, plainCollect, libraryIn, reads, addList, addsUpTo}
 use Rattle.elf_laws.specs.Object as ElfFile
 use Rattle.link_laws.specs.Rules.{Rule}
 use Rattle.link_laws.specs.TableRules.{getHead, presentRules, getGlobalHead, globalRules, removeHead, absentRules, internHead, roomRules, resolveHead, issuedAlone, addHead, addRules}
@@ -15,11 +15,14 @@ use Rattle.link_laws.specs.FileRules.{fileRules}
 use Rattle.link_laws.specs.LoadRules.{loadRules}
 use Rattle.link_laws.specs.ArchiveRules.{startRules, nextRules, matchesRules}
 use Rattle.link_laws.specs.CollectRules.{collectRules, plainRules}
+use Rattle.link_laws.specs.ListRules.{listHead, listRules}
+use Rattle.add_list.specs.AddList.{itemsOf}
 
 abbrev pub rules : Call → Linked → List Rule
 rules (intern x) s = internHead (s .table) ++ roomRules (s .table) x
 rules (reads (Read.resolve id)) s = resolveHead (s .table) ++ issuedAlone (s .table) (id .0)
 rules (add conversion u) s = addHead (s .table) ++ addRules (s .table) conversion u
+rules (addList conversion adds ids) s = listHead (s .table) adds ids ++ listRules conversion (itemsOf adds) (s .table)
 rules (remove id) s = removeHead (s .table) ++ absentRules (s .table) (id .0)
 rules (reads (Read.get id)) s = getHead (s .table) ++ presentRules (s .table) (id .0)
 rules (reads (Read.getGlobal name)) s = getGlobalHead (s .table) ++ globalRules (s .table) (name .0)

@@ -32,7 +32,7 @@ use Rattle.merge_laws.specs.MergeSteps.{mergeSteps, signedSteps, groupSectionSt
 use Rattle.merge_laws.specs.GroupStage.{section-makes}
 use Rattle.merge_laws.specs.Calls.{Linked, allIn}
 use Rattle.load_laws.specs.LoadSteps.{loadSteps}
-use Rattle.link_laws.specs.Calls.{Call, intern, add, remove, addGroup, merge, mergeFile, load, collect, plainCollect, groupIn, libraryIn, fileSteps, reads}
+use Rattle.link_laws.specs.Calls.{Call, intern, add, remove, addGroup, merge, mergeFile, load, collect, plainCollect, groupIn, libraryIn, fileSteps, reads, addList, listAdds}
 
 abbrev pub partSteps : List Part → List Step
 partSteps [] = []
@@ -40,6 +40,11 @@ partSteps (p ∷ ps) = part p ∷ partSteps ps
 
 abbrev pub directSteps : History.Call → State → List Step
 directSteps k s = partSteps (historyParts (k ∷ []) s)
+
+-- ---- a list of adds
+
+abbrev pub listSteps : List History.Call → State → List Step
+listSteps ks t = partSteps (historyParts ks t)
 
 -- ---- a group added by itself
 
@@ -132,6 +137,7 @@ abbrev pub callSteps : Call → Linked → List Step
 callSteps (intern x) s = directSteps (History.intern x) (s .table)
 callSteps (reads k) s = []
 callSteps (add conversion u) s = directSteps (History.add conversion u) (s .table)
+callSteps (addList conversion adds ids) s = listSteps (listAdds conversion adds ids s) (s .table)
 callSteps (remove id) s = []
 callSteps (addGroup o work n) s = groupSteps o (s .table) work n
 callSteps (merge o work ids) s = mergeSteps o (allIn s work ids)

@@ -6,7 +6,7 @@ use mathlib.Core.Path.{_≡_}
 use mathlib.Core.Bool.{Bool, cond}
 use mathlib.Core.List.{List, [], _∷_}
 use mathlib.Core.Logic.{_≢_}
-use lib.Dec.{eqb}
+use lib.Dec.{eqb, ltb}
 use lib.ListN.{length}
 use Rattle.link.specs.declared.Interned.{Interned}
 use Rattle.link.specs.declared.SymbolId.{SymbolId}
@@ -48,6 +48,7 @@ use Rattle.load_laws.specs.Whole as Loads
 use Rattle.link_laws.specs.Read as Read
 use Rattle.link_laws.specs.Read.{ReadCall, ReadLeft, readLeft, readRefusal}
 pub use Rattle.link_laws.specs.Read.{viewIn}
+use Rattle.add_list.specs.AddList.{ListLeft, itemsOf, addListOf}
 
 -- ---- the calls, with what they are lent besides the link's own cells
 
@@ -57,6 +58,8 @@ pub data Call : Type 0 where
   intern : List ℕ → Call
   -- lent the conversion of its section numbers
   add : List ℕ → UpcomingSymbol → Call
+  -- the conversion, a list's rows, cells for ids
+  addList : List ℕ → List ℕ → List ℕ → Call
   remove : SymbolId → Call
   -- the object, cells for its sections' marks, the group's section
   addGroup : Group.Object → List ℕ → ℕ → Call
@@ -110,6 +113,7 @@ abbrev pub LeftBy : Call → Type 0
 LeftBy (intern x) = Names.Left
 LeftBy (reads k) = ReadLeft k
 LeftBy (add conversion u) = Symbols.Left
+LeftBy (addList conversion adds ids) = ListLeft
 LeftBy (remove id) = RemoveLeft
 LeftBy (addGroup o work n) = AddGroup.Left
 LeftBy (merge o work ids) = Merge.Left
@@ -123,6 +127,7 @@ abbrev pub callLeft : (k : Call) → Linked → LeftBy k
 callLeft (intern x) s = internOf (store (s .table)) x
 callLeft (reads k) s = readLeft k (s .table)
 callLeft (add conversion u) s = addOf (table (s .table)) conversion u
+callLeft (addList conversion adds ids) s = addListOf conversion (itemsOf adds) (table (s .table)) ids
 callLeft (remove id) s = removeOf (s .table .link) (rowsOf (s .table .symbols) (s .table .sections)) id
 callLeft (addGroup o work n) s = addGroupOf o (groupIn (s .table) work) n
 callLeft (merge o work ids) s = mergeOf o (allIn s work ids)
@@ -141,6 +146,7 @@ abbrev pub refusalIn : (k : Call) → LeftBy k → Refusal
 refusalIn (intern x) o = refusalBy (o .said)
 refusalIn (reads k) o = readRefusal k o
 refusalIn (add conversion u) o = refusalBy (o .said)
+refusalIn (addList conversion adds ids) o = o .refusal
 refusalIn (remove id) o = refusalBy (o .said)
 refusalIn (addGroup o work n) x = x .said
 refusalIn (merge o work ids) x = x .said
@@ -164,6 +170,7 @@ abbrev nextBy : (k : Call) → Linked → LeftBy k → Linked
 nextBy (intern x) s o = tabled s (withStore (s .table) (o .store))
 nextBy (reads k) s o = s
 nextBy (add conversion u) s o = tabled s (withTable (s .table) (o .table))
+nextBy (addList conversion adds ids) s o = tabled s (withTable (s .table) (o .table))
 nextBy (remove id) s o = tabled s (withRows (s .table) (o .rows) (o .link))
 nextBy (addGroup o work n) s x = tabled s (withStore (s .table) (storeOf (x .bytes) (x .names) (x .outcome .link)))
 nextBy (merge o work ids) s x = linkIn (x .cells)
@@ -186,12 +193,40 @@ isRead file cells s = eqb (fileHead file cells s .number) 0
 abbrev pub fileSteps : List ℕ → List ℕ → List ℕ → List ℕ → Linked → List Step
 fileSteps file cells work ids s = cond (isRead file cells s) (mergeSteps (ElfFile.rowsOf file) (allIn s work ids)) []
 
--- the accepted adds that aren't local: a direct one, those of an object, those of a library; a refused merge or load counts "with what it had
+-- the adds of a list that are accepted, up to the first that is refused
+abbrev pub addsUpTo : List ℕ → List UpcomingSymbol → State → List History.Call
+addsUpTo conversion [] t = []
+addsUpTo conversion (u ∷ us) t =
+    cond (eqb (History.callNumber (History.add conversion u) t) 0)
+    (History.add conversion u ∷ addsUpTo conversion us (History.callNext (History.add conversion u) t)) []
+
+-- none on a broken link, and none where cells for ids are too few
+abbrev pub listAdds : List ℕ → List ℕ → List ℕ → Linked → List History.Call
+listAdds conversion adds ids s =
+    cond (s .table .link .broken) []
+    (cond (ltb (length ids) (length (itemsOf adds))) [] (addsUpTo conversion (itemsOf adds) (s .table)))
+
+-- what a refused call that breaks nothing leaves: the adds of a list before the refused one stay
+abbrev pub earlier : Call → Linked → Linked
+earlier (intern x) s = s
+earlier (reads k) s = s
+earlier (add conversion u) s = s
+earlier (addList conversion adds ids) s = tabled s (History.runCalls (listAdds conversion adds ids s) (s .table))
+earlier (remove id) s = s
+earlier (addGroup o work n) s = s
+earlier (merge o work ids) s = s
+earlier (mergeFile file cells work ids) s = s
+earlier (load o marks) s = s
+earlier (collect marks entry work) s = s
+earlier (plainCollect marks entry work) s = s
+
+-- the accepted adds that aren't local: a direct one, those of a list, those of an object, those of a library; a refused merge or load counts "with what it had
 -- accepted"
 abbrev pub callNotes : Call → Linked → List Entry
 callNotes (intern x) s = []
 callNotes (reads k) s = []
 callNotes (add conversion u) s = noted (upcoming (s .table) conversion u) History.direct (callLeft (add conversion u) s .said)
+callNotes (addList conversion adds ids) s = History.logCalls (listAdds conversion adds ids s) (s .table)
 callNotes (remove id) s = []
 callNotes (addGroup o work n) s = []
 callNotes (merge o work ids) s = logSteps (mergeSteps o (allIn s work ids)) (s .table)
@@ -220,6 +255,7 @@ abbrev pub Removes : Call → Linked → Type 0
 Removes (intern x) s = ⊥
 Removes (reads k) s = ⊥
 Removes (add conversion u) s = ⊥
+Removes (addList conversion adds ids) s = ⊥
 Removes (remove id) s = callNumber (remove id) s ≡ 0
 Removes (addGroup o work n) s = ⊥
 Removes (merge o work ids) s = ⊥

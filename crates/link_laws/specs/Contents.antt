@@ -13,10 +13,10 @@ use Rattle.symbol.specs.declared.SttFile.the-variants as File
 use Rattle.upcoming_symbol.specs.declared.UpcomingSymbol.{UpcomingSymbol}
 use Rattle.upcoming_symbol.specs.Upcoming.{nameOf}
 use Rattle.symbols.specs.Calls as Symbols
-use Rattle.symbols.specs.Add.{addRowOf, emptyAt}
+use Rattle.symbols.specs.Add.{addRowOf, emptyAt, addOf}
 use Rattle.symbol_laws.specs.Rank as Rank
 use Rattle.symbol_laws.specs.Rank.{firstOf}
-use Rattle.symbol_laws.specs.History.{Entry, table, only, rows, noted, upcoming}
+use Rattle.symbol_laws.specs.History.{Entry, table, only, rows, noted, upcoming, State}
 use Rattle.symbol_laws.specs.History as History
 use Rattle.symbol_laws.specs.Held.{Inv}
 use Rattle.symbol_laws.specs.Demand.{resolved}
@@ -27,23 +27,41 @@ use Rattle.merge_laws.specs.Whole.{merge-makes}
 use Rattle.merge_laws.specs.Proof.Kept.{log-rows}
 use Rattle.merge_laws.specs.Marked.{Marked}
 use Rattle.merge_laws.specs.LogContents.{FromSymbol, merge-logged, all-append}
-use Rattle.merge_laws.specs.Calls.{Linked, allIn}
+use Rattle.merge_laws.specs.Calls.{Linked, allIn, linked}
 use Rattle.load_laws.specs.LoadSteps.{loadSteps}
 use Rattle.load_laws.specs.Whole.{load-makes}
 use Rattle.load_laws.specs.LibraryContents.{FromLibrary, load-logged}
-use Rattle.link_laws.specs.Calls.{Call, intern, add, remove, addGroup, merge, mergeFile, load, collect, plainCollect, libraryIn, callLeft, callNext, callNotes, runCalls, logCalls, isRead, reads}
+use Rattle.link_laws.specs.Calls.{Call, intern, add, remove, addGroup, merge, mergeFile, load, collect, plainCollect, libraryIn, callLeft, callNext, callNotes, runCalls, logCalls, isRead, reads, addList, listAdds, addsUpTo}
 use Rattle.merge_stages.specs.Stages as Stages
 use Rattle.elf_laws.specs.Object as ElfFile
 use Rattle.link_laws.specs.Proof.FileCall.{notes-read, notes-unread}
 use Rattle.link_laws.specs.Kept.{signatures, calls-marked}
+use Rattle.link_laws.specs.Proof.ListCall.{listed-adds}
+use Rattle.add_list.specs.AddList.{itemsOf}
 
 -- ---- the words
+
+-- adds of these, one by one
+abbrev pub addsOfEach : List ℕ → List UpcomingSymbol → List History.Call
+addsOfEach conversion [] = []
+addsOfEach conversion (u ∷ us) = History.add conversion u ∷ addsOfEach conversion us
+
+-- the row is from an add of the list, to the table that the adds before it left
+pub record FromList (conversion : List ℕ) (us : List UpcomingSymbol) (t : State) (r : Row) : Type 0 where
+  pub before : List UpcomingSymbol
+  pub symbol : UpcomingSymbol
+  pub after : List UpcomingSymbol
+  pub split : us ≡ before ++ symbol ∷ after
+  pub state : State
+  pub reached : state ≡ History.runCalls (addsOfEach conversion before) t
+  pub from : FromAdd (state .link .gabi) conversion (emptyAt (state .names) (nameOf symbol)) r symbol
 
 -- the row is that of an entry of this call, made on s, where these signatures are met
 abbrev pub FromCall : Call → Linked → List (List ℕ) → Row → Type 0
 FromCall (intern x) s met r = ⊥
 FromCall (reads k) s met r = ⊥
 FromCall (add conversion u) s met r = FromAdd (s .table .link .gabi) conversion (emptyAt (s .table .names) (nameOf u)) r u
+FromCall (addList conversion adds ids) s met r = FromList conversion (itemsOf adds) (s .table) r
 FromCall (remove id) s met r = ⊥
 FromCall (addGroup o work n) s met r = ⊥
 FromCall (merge o work ids) s met r = FromSymbol o (allIn s work ids) met r
@@ -92,6 +110,43 @@ add-logged conversion u s x e =
     rw (a, b) (from-add (table (s .table)) (s .table .link .gabi) conversion (emptyAt (s .table .names) (nameOf u)) u w (eqb-false _ _ a), tt))
     (λ b. rw (a, b) tt))
 
+adds-logged : (conversion : List ℕ) (us : List UpcomingSymbol) (t : State) → Rank.All (FromList conversion us t) (rows (History.logCalls (addsUpTo conversion us t) t))
+adds-logged conversion [] t = tt
+adds-logged conversion (u ∷ us) t =
+    let on : State = History.callNext (History.add conversion u) t in
+    let notes : List Entry = History.callNotes (History.add conversion u) t in
+    let rest : List Entry = History.logCalls (addsUpTo conversion us on) on in
+    by-test (eqb (History.callNumber (History.add conversion u) t) 0)
+    (λ a.
+    rw a
+    (subst (Rank.All (FromList conversion (u ∷ us) t)) (sym (rows-append notes rest))
+    (all-append (FromList conversion (u ∷ us) t) (rows notes) (rows rest)
+    (all-map (λ r. FromAdd (t .link .gabi) conversion (emptyAt (t .names) (nameOf u)) r u) (FromList conversion (u ∷ us) t) (λ r p. first-of r p) (rows notes)
+    (add-logged conversion u (linked t [] []) (addOf (table t) conversion u) refl))
+    (all-map (FromList conversion us on) (FromList conversion (u ∷ us) t) (λ r p. later-of r p) (rows rest) (adds-logged conversion us on)))))
+    (λ a. rw a tt)
+  where
+    first-of : (r : Row) → FromAdd (t .link .gabi) conversion (emptyAt (t .names) (nameOf u)) r u → FromList conversion (u ∷ us) t r
+    first-of r p = record { before = []; symbol = u; after = us; split = refl; state = t; reached = refl; from = p }
+
+    later-of : (r : Row) → FromList conversion us (History.callNext (History.add conversion u) t) r → FromList conversion (u ∷ us) t r
+    later-of r p =
+        record {
+          before = u ∷ p .before;
+          symbol = p .symbol;
+          after = p .after;
+          split = ap (_∷_ u) (p .split);
+          state = p .state;
+          reached = p .reached;
+          from = p .from;
+        }
+
+list-logged : (conversion adds ids : List ℕ) (s : Linked)
+    → Rank.All (FromList conversion (itemsOf adds) (s .table)) (rows (callNotes (addList conversion adds ids) s))
+list-logged conversion adds ids s =
+    listed-adds (λ (ks : List History.Call). Rank.All (FromList conversion (itemsOf adds) (s .table)) (rows (History.logCalls ks (s .table)))) conversion adds ids s tt
+    (adds-logged conversion (itemsOf adds) (s .table))
+
 object-logged : (o : Stages.Object) (work ids : List ℕ) (s : Linked) (met : List (List ℕ)) → Marked (s .table) met
     → Rank.All (FromSymbol o (allIn s work ids) met) (rows (callNotes (merge o work ids) s))
 object-logged o work ids s met m =
@@ -102,6 +157,7 @@ call-logged : (k : Call) (s : Linked) (met : List (List ℕ)) → Marked (s .tab
 call-logged (intern x) s met m = tt
 call-logged (reads k) s met m = tt
 call-logged (add conversion u) s met m = add-logged conversion u s (callLeft (add conversion u) s) refl
+call-logged (addList conversion adds ids) s met m = list-logged conversion adds ids s
 call-logged (remove id) s met m = tt
 call-logged (addGroup o work n) s met m = tt
 call-logged (merge o work ids) s met m = object-logged o work ids s met m

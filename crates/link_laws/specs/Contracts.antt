@@ -47,9 +47,12 @@ use Rattle.gc_sections.specs.Contract.{RunMeets}
 use Rattle.symbol_laws.specs.History.{table, store}
 use Rattle.merge_laws.specs.Calls.{Linked}
 use Rattle.link_laws.specs.Read as Read
-use Rattle.link_laws.specs.Calls.{Call, intern, add, remove, addGroup, merge, mergeFile, load, collect, plainCollect, LeftBy, callLeft, viewIn, groupIn, listsIn, reads}
+use Rattle.link_laws.specs.Calls.{Call, intern, add, remove, addGroup, merge, mergeFile, load, collect, plainCollect, LeftBy, callLeft, viewIn, groupIn, listsIn, reads, addList}
 use Rattle.plain_collector.specs.Contract.{PlainMeets}
 use Rattle.link_laws.specs.OneOutcome.{names-answer, symbols-answer}
+use Rattle.add_list.specs.Contract.{ListExit, ListMeets, listed}
+use Rattle.add_list.specs.AddList.{ListLeft}
+use Rattle.add_list.specs.declared.Listed.{Listed}
 
 -- ---- what a caller sees: the lent cells at exit, and the result
 
@@ -70,6 +73,7 @@ abbrev pub Exit : Call → Type 0
 Exit (intern x) = Interning.Exit
 Exit (reads (Read.resolve id)) = ResolveExit
 Exit (add conversion u) = AddExit
+Exit (addList conversion adds ids) = ListExit
 Exit (remove id) = RemoveExit
 Exit (reads (Read.get id)) = Found
 Exit (reads (Read.getGlobal name)) = Found
@@ -105,6 +109,7 @@ abbrev pub Meets : (k : Call) → Linked → Exit k → Type 0
 Meets (intern x) s e = InternMeets (store (s .table)) x e
 Meets (reads (Read.resolve id)) s e = ResolveMeets (store (s .table)) id e
 Meets (add conversion u) s e = AddMeets (table (s .table)) conversion u e
+Meets (addList conversion adds ids) s e = ListMeets (table (s .table)) conversion adds ids e
 Meets (remove id) s e = RemoveMeets (s .table .link) (rowsOf (s .table .symbols) (s .table .sections)) id e
 Meets (reads (Read.get id)) s e = GetMeets (s .table .link) (s .table .symbols) id e
 Meets (reads (Read.getGlobal name)) s e = GetGlobalMeets (s .table .link) (s .table .names) (s .table .symbols) name e
@@ -124,6 +129,7 @@ abbrev pub seen : (k : Call) → Exit k → LeftBy k
 seen (intern x) e = Names.outcome (e .bytes) (e .names) (e .result)
 seen (reads (Read.resolve id)) e = Names.resolved (e .result) (e .number) (e .place)
 seen (add conversion u) e = Calls.outcome (e .names) (e .symbols) (e .sections) (e .result)
+seen (addList conversion adds ids) e = listed (e .names) (e .symbols) (e .sections) (e .ids) (e .result)
 seen (remove id) e = removeOutcome (e .symbols) (e .sections) (e .result)
 seen (reads (Read.get id)) e = e
 seen (reads (Read.getGlobal name)) e = e
@@ -150,6 +156,7 @@ pub meets-left : (k : Call) (s : Linked) (e : Exit k) → Meets k s e → seen k
 meets-left (intern x) s e h = h
 meets-left (reads (Read.resolve id)) s e h = h
 meets-left (add conversion u) s e h = h
+meets-left (addList conversion adds ids) s e h = h
 meets-left (remove id) s e h = h
 meets-left (reads (Read.get id)) s e h = h
 meets-left (reads (Read.getGlobal name)) s e h = h
@@ -242,6 +249,19 @@ merge-one x y e =
     let same : mergeExit (x .cells .bytes) (x .cells .names) (x .cells .symbols) (x .cells .sections) (x .cells .inputs) (x .cells .lists) (x .cells .work) (x .cells .ids) (x .result) ≡ mergeExit (y .cells .bytes) (y .cells .names) (y .cells .symbols) (y .cells .sections) (y .cells .inputs) (y .cells .lists) (y .cells .work) (y .cells .ids) (y .result) = cc in
     same
 
+abbrev exitOfList : List ℕ → List ℕ → List ℕ → List ℕ → Listed → ListExit
+exitOfList a b c d r = record { names = a; symbols = b; sections = c; ids = d; result = r }
+
+list-one : (x y : ListExit) → listed (x .names) (x .symbols) (x .sections) (x .ids) (x .result) ≡ listed (y .names) (y .symbols) (y .sections) (y .ids) (y .result) → x ≡ y
+list-one x y e =
+    let a′ : x .names ≡ y .names = ap (λ (o : ListLeft). o .table .names) e in
+    let b′ : x .symbols ≡ y .symbols = ap (λ (o : ListLeft). o .table .symbols) e in
+    let c′ : x .sections ≡ y .sections = ap (λ (o : ListLeft). o .table .sections) e in
+    let d′ : x .ids ≡ y .ids = ap (λ (o : ListLeft). o .ids) e in
+    let r′ : x .result ≡ y .result = ap {B = Listed} (λ (o : ListLeft). record { table = record { link = o .table .link }; refusal = o .refusal; position = o .position }) e in
+    let same : exitOfList (x .names) (x .symbols) (x .sections) (x .ids) (x .result) ≡ exitOfList (y .names) (y .symbols) (y .sections) (y .ids) (y .result) = cc in
+    same
+
 file-one : (file cells work ids : List ℕ) (x y : FileExit) → seen (mergeFile file cells work ids) x ≡ seen (mergeFile file cells work ids) y → x ≡ y
 file-one file cells work ids x y e =
     ap {B = FileExit} (λ (l : List ℕ). record { rows = l; merged = x .merged }) (ap (λ (o : FileLeft). o .rows) e)
@@ -310,6 +330,7 @@ seen-one : (k : Call) (x y : Exit k) → seen k x ≡ seen k y → x ≡ y
 seen-one (intern b) x y e = intern-one x y e
 seen-one (reads (Read.resolve id)) x y e = resolve-one x y e
 seen-one (add conversion u) x y e = add-one x y e
+seen-one (addList conversion adds ids) x y e = list-one x y e
 seen-one (remove id) x y e = remove-one x y e
 seen-one (reads (Read.get id)) x y e = e
 seen-one (reads (Read.getGlobal name)) x y e = e

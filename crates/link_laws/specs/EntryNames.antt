@@ -17,6 +17,7 @@ use Rattle.interner_laws.specs.Histories.{issued-stays}
 use Rattle.symbol.specs.declared.Row.{Row}
 use Rattle.upcoming_symbol.specs.Upcoming.{nameOf}
 use Rattle.symbol_laws.specs.ObjectWords.{entryName}
+use Rattle.symbol_laws.specs.History as History
 use Rattle.symbol_laws.specs.History.{State, Source, Entry, store, only, rows, noted, issue, put}
 use Rattle.symbol_laws.specs.DirectContents as Direct
 use Rattle.symbol_laws.specs.DirectContents.{FromAdd}
@@ -26,7 +27,7 @@ use Rattle.merge_laws.specs.MergeSteps.{mergeSteps}
 use Rattle.merge_laws.specs.Marked.{Marked}
 use Rattle.merge_laws.specs.Calls.{Linked, allIn}
 use Rattle.load_laws.specs.LoadSteps.{loadSteps}
-use Rattle.link_laws.specs.Calls.{Call, intern, add, remove, addGroup, merge, mergeFile, load, collect, plainCollect, libraryIn, callNext, callNotes, runCalls, logCalls, fileSteps, reads}
+use Rattle.link_laws.specs.Calls.{Call, intern, add, remove, addGroup, merge, mergeFile, load, collect, plainCollect, libraryIn, callNext, callNotes, runCalls, logCalls, fileSteps, reads, addList, listAdds}
 use Rattle.elf_laws.specs.Object as ElfFile
 use Rattle.link_laws.specs.Proof.FileCall.{next-read}
 use Rattle.link_laws.specs.Kept.{signatures, calls-marked}
@@ -41,6 +42,7 @@ abbrev pub CallBears : List ℕ → ℕ → (k : Call) (s : Linked) (met : List 
 CallBears b n (intern x) s met r p = ⊥
 CallBears b n (reads k) s met r p = ⊥
 CallBears b n (add conversion u) s met r p = nameOf u .0 ≡ n
+CallBears b n (addList conversion adds ids) s met r p = nameOf (p .symbol) .0 ≡ n
 CallBears b n (remove id) s met r p = ⊥
 CallBears b n (addGroup o work i) s met r p = ⊥
 CallBears b n (merge o work ids) s met r p = Words.Bears (o .headers) (o .entries) (o .contents) (o .image) (p .number) b
@@ -69,6 +71,7 @@ module _ (b : List ℕ) (n : ℕ) (r : Row) (e : r .name .0 ≡ n) where
   call-bears (intern x) s t met p f = p
   call-bears (reads k) s t met p f = p
   call-bears (add conversion u) s t met p f = ap (λ (i : _). i .0) (sym (add-id _ conversion _ r u p)) ∙ e
+  call-bears (addList conversion adds ids) s t met p f = ap (λ (i : _). i .0) (sym (add-id _ conversion _ r (p .symbol) (p .from))) ∙ e
   call-bears (remove id) s t met p f = p
   call-bears (addGroup o work i) s t met p f = p
   call-bears (merge o work ids) s t met p f = record { found = p .bears .found; bytes = p .bears .bytes ∙ f _ (p .named) }
@@ -113,10 +116,17 @@ steps-own (part (put r from) ∷ ks) s = own-append (noted r from _) _ (noted-ow
 steps-own (mark n ∷ ks) s = steps-own ks (stepNext (mark n) s)
 steps-own (others x l ∷ ks) s = steps-own ks (stepNext (others x l) s)
 
+direct-own : (ks : List History.Call) (t : State) → Own (History.logCalls ks t)
+direct-own [] t = tt
+direct-own (History.add conversion u ∷ ks) t = own-append (noted _ _ _) _ (noted-own _ _ _) (direct-own ks (History.callNext (History.add conversion u) t))
+direct-own (History.intern x ∷ ks) t = direct-own ks (History.callNext (History.intern x) t)
+direct-own (History.remove id ∷ ks) t = direct-own ks (History.callNext (History.remove id) t)
+
 call-own : (k : Call) (s : Linked) → Own (callNotes k s)
 call-own (intern x) s = tt
 call-own (reads k) s = tt
 call-own (add conversion u) s = noted-own _ _ _
+call-own (addList conversion adds ids) s = direct-own (listAdds conversion adds ids s) (s .table)
 call-own (remove id) s = tt
 call-own (addGroup o work i) s = tt
 call-own (merge o work ids) s = steps-own (mergeSteps o (allIn s work ids)) (s .table)

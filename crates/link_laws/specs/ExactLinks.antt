@@ -15,8 +15,7 @@ use Rattle.merge_laws.specs.Proof.Marked.{new-marked}
 use Rattle.merge_laws.specs.Calls.{Linked, linked}
 use Rattle.link_laws.specs.Calls.{Call, callRefusal, callNumber}
 use Rattle.link_laws.specs.Kept.{signatures, calls-marked}
-use Rattle.link_laws.specs.Growth.{Turn, grow, turnNext, runTurns}
-use Rattle.link_laws.specs.Proof.Growth.{marked-grown}
+use Rattle.link_laws.specs.Growth.{Turn, grow, turnNext, runTurns, marked-grown}
 use Rattle.link_laws.specs.Rules.{firstOf, someHolds}
 use Rattle.link_laws.specs.Proof.Rules.{none-holds}
 use Rattle.link_laws.specs.CallRules.{rules}

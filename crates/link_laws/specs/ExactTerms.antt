@@ -18,7 +18,7 @@ use Rattle.merge_laws.specs.Marked.{Marked}
 use Rattle.merge_laws.specs.Proof.Marked.{new-marked}
 use Rattle.merge_laws.specs.Calls.{Linked, linked, allIn}
 use Rattle.link_laws.specs.Read as Read
-use Rattle.link_laws.specs.Calls.{Call, intern, add, remove, addGroup, merge, mergeFile, load, archiveNext, collect, plainCollect, libraryIn, callRefusal, callNumber, runCalls, reads}
+use Rattle.link_laws.specs.Calls.{Call, intern, add, remove, addGroup, merge, mergeFile, load, archiveNext, collect, plainCollect, libraryIn, callRefusal, callNumber, runCalls, reads, addList}
 use Rattle.elf_laws.specs.Object as ElfFile
 use Rattle.link_laws.specs.Kept.{signatures, calls-marked}
 use Rattle.link_laws.specs.Rules.{firstOf, numbered, someHolds}
@@ -40,12 +40,15 @@ use Rattle.link_laws.specs.Proof.ArchiveIndexed.{next-indexed}
 use Rattle.link_laws.specs.ArchiveExactly.{start-exactly, start-numbered, next-exactly, next-numbered, matches-exactly, matches-numbered}
 use Rattle.link_laws.specs.CollectExactly.{collect-exactly}
 use Rattle.link_laws.specs.PlainExactly.{plain-exactly}
+use Rattle.link_laws.specs.ListExactly.{list-exactly, list-numbered}
+use Rattle.add_list.specs.AddList.{itemsOf}
 
 -- over a link whose names are as every link has them
 pub call-exactly : (k : Call) (s : Linked) (met : List (List ℕ)) → Marked (s .table) met → callRefusal k s ≡ firstOf (rules k s)
 call-exactly (intern x) s met m = intern-exactly x s (m .good .chained)
 call-exactly (reads (Read.resolve id)) s met m = resolve-exactly s id
 call-exactly (add conversion u) s met m = add-exactly conversion u s
+call-exactly (addList conversion adds ids) s met m = list-exactly conversion adds ids s
 call-exactly (remove id) s met m = remove-exactly s id
 call-exactly (reads (Read.get id)) s met m = get-exactly s id
 call-exactly (reads (Read.getGlobal name)) s met m = global-exactly s name
@@ -65,6 +68,7 @@ pub rules-numbered : (k : Call) (s : Linked) → numbered (rules k s) ≡ true
 rules-numbered (intern x) s = refl
 rules-numbered (reads (Read.resolve id)) s = refl
 rules-numbered (add conversion u) s = refl
+rules-numbered (addList conversion adds ids) s = list-numbered conversion (itemsOf adds) (s .table)
 rules-numbered (remove id) s = refl
 rules-numbered (reads (Read.get id)) s = refl
 rules-numbered (reads (Read.getGlobal name)) s = refl

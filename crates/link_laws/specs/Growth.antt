@@ -2,23 +2,35 @@
 -- Assumes nothing.
 use Prim.Native.Nat.{ℕ, _+_, _-_, _*_, _≤_, _<_}
 use native.Mathlib.Omega.{arith}
-use mathlib.Core.Path.{_≡_, refl, sym, ap, _∙_}
-use mathlib.Core.List.{List, [], _∷_, _++_}
-use lib.Dec.{ltb}
+use mathlib.Core.Path.{_≡_, refl, sym, ap, subst, _∙_}
+use mathlib.Core.Bool.{Bool, true}
+use mathlib.Core.List.{List, [], _∷_, _++_, append-nil, append-assoc}
+use mathlib.Core.Logic.{_≢_}
+use lib.Dec.{eqb, ltb}
 use lib.ListN.{getD, length, length-append, length-drop, drop, List·getD-append}
 use lib.Seq.{take-append-le, drop-append-le}
 use borrow.Author.Tests.{ltb-true, ltb-false}
 use Rattle.cells.specs.Proof.Split.{by-test}
 use Rattle.byte_slices.specs.Bytes.{part}
-use Rattle.link.specs.Bounds.{notLent, lesser, nameRows}
-use Rattle.interner_laws.specs.Good.{Chained, count, cell, used, name, next, head, chain, find}
+use Rattle.link.specs.Bounds.{notLent, lesser, nameRows, nameBytes}
+use Rattle.gabi.specs.StringTable.{among}
+use Rattle.interner.specs.Names.{Store}
+use Rattle.interner_laws.specs.Good.{Chained, Good, count, cell, used, name, next, head, chain, find}
 use Rattle.interner_laws.specs.Proof.Written.{head-within, head-cell-same}
 use Rattle.interner_laws.specs.Proof.Find.{found, find-known}
+use Rattle.symbol.specs.declared.Row.{Row}
+use Rattle.symbol.specs.Row.{field, stateAt}
+use Rattle.symbol_resolution.specs.Holder.{globalAt}
+use Rattle.symbol_laws.specs.Proof.Rows.{rowAt}
 use Rattle.symbol_laws.specs.View.{lesser-first, lesser-second}
-use Rattle.symbol_laws.specs.History.{State, Entry, store, run, log}
+use Rattle.symbol_laws.specs.History.{State, Entry, store, only, run, log}
+use Rattle.symbol_laws.specs.Held.{Holds, Held, Inv}
+use Rattle.merge_laws.specs.Marked.{Marked}
 use Rattle.merge_laws.specs.Calls.{Linked, linked}
 use Rattle.link_laws.specs.Calls.{Call, callNext, callNotes, Removes}
-use Rattle.link_laws.specs.Kept.{Reached}
+use Rattle.link_laws.specs.Kept.{signatures, Reached, reached-on}
+
+-- ---- the histories
 
 -- the cells that are lent more
 pub record Growth : Type 0 where
@@ -29,7 +41,7 @@ pub record Growth : Type 0 where
   pub inputs : List ℕ
   pub lists : List ℕ
 
-abbrev pub grown : State → Growth → State
+abbrev grown : State → Growth → State
 grown t g =
     record {
       bytes = t .bytes ++ g .bytes;
@@ -76,25 +88,25 @@ unfolding lesser
 lesser-most a b n h k = by-test (ltb a b) (λ t. rw t h) (λ t. rw t k)
 
 module _ (s : State) (g : Growth) (c : Chained (store s)) where
-  abbrev pub t : State
+  abbrev t : State
   t = grown s g
 
-  pub lent : used (store s) ≤ length (s .bytes)
+  lent : used (store s) ≤ length (s .bytes)
   lent =
       let a : lesser 1048576 (length (s .bytes)) ≤ length (s .bytes) = lesser-second 1048576 _ in
       omega (arith, c .bytes-in)
 
   -- the cells of an issued name's row
-  pub cell-same : (i f : ℕ) → i < count (store s) → f < 8 → cell (store t) i f ≡ cell (store s) i f
+  cell-same : (i f : ℕ) → i < count (store s) → f < 8 → cell (store t) i f ≡ cell (store s) i f
   cell-same i f h u = List·getD-append (s .names) (g .names) 0 (i * 8 + f) (omega (arith, h, u, c .rows-in, c .rows-lent))
 
-  pub name-same : (i : ℕ) → i < count (store s) → name (store t) i ≡ name (store s) i
+  name-same : (i : ℕ) → i < count (store s) → name (store t) i ≡ name (store s) i
   name-same i h =
       ap (λ (v : ℕ). part (s .bytes ++ g .bytes) v (cell (store t) i 1)) (cell-same i 0 h (omega arith))
       ∙ ap (part (s .bytes ++ g .bytes) (cell (store s) i 0)) (cell-same i 1 h (omega arith))
       ∙ part-grown (s .bytes) (g .bytes) (cell (store s) i 0) (cell (store s) i 1) (omega (arith, c .names-in i h, lent))
 
-  pub lent-more : s .link .chains ≤ nameRows (length (s .names ++ g .names))
+  lent-more : s .link .chains ≤ nameRows (length (s .names ++ g .names))
   lent-more = omega (arith, c .rows-lent, length-append (s .names) (g .names))
 
   -- a chain begins where it began
@@ -112,10 +124,10 @@ module _ (s : State) (g : Growth) (c : Chained (store s)) where
   of-name : (i : ℕ) → i < count (store s) → chain (store t) (name (store t) i) ≡ chain (store s) (name (store s) i)
   of-name i h = chain-same (name (store t) i) ∙ ap (chain (store s)) (name-same i h)
 
-  pub below : (a : ℕ) → a ≤ count (store s) → (a ≡ 0 → ⊥) → a - 1 < count (store s)
+  below : (a : ℕ) → a ≤ count (store s) → (a ≡ 0 → ⊥) → a - 1 < count (store s)
   below a h u = by-test (ltb (a - 1) (count (store s))) (λ q. ltb-true _ _ q) (λ q. absurd (u (omega (arith, h, ltb-false (a - 1) (count (store s)) q))))
 
-  pub chained-grown : Chained (store t)
+  chained-grown : Chained (store t)
   chained-grown =
       record {
         rows-some = c .rows-some;
@@ -142,10 +154,92 @@ module _ (s : State) (g : Growth) (c : Chained (store s)) where
       }
 
   -- a name that is found stays so
-  pub find-grown : (x : List ℕ) → find (store s) x < count (store s) → find (store t) x ≡ find (store s) x
+  find-grown : (x : List ℕ) → find (store s) x < count (store s) → find (store t) x ≡ find (store s) x
   find-grown x h = find-known (store t) x chained-grown (find (store s) x) h (name-same (find (store s) x) h ∙ found (store s) x c .hit h)
+
+pub marked-grown : (s : State) (g : Growth) (met : List (List ℕ)) → Marked s met → Marked (grown s g) met
+marked-grown s g met m =
+    let c = m .good .chained in
+    record {
+      good = record { chained = chained-grown s g c; some = m .good .some; empty = name-same s g c 0 (m .good .some) ∙ m .good .empty };
+      marks = λ n h.
+          ap (λ (v : ℕ). eqb v 1) (cell-same s g c n 4 h (omega arith)) ∙ m .marks n h ∙ ap (λ (x : List ℕ). among x met) (sym (name-same s g c n h));
+      known = λ x e. let h = m .known x e in rw (find-grown s g c x h) h;
+    }
+
+-- ---- symbols
+
+field-grown : (x y : List ℕ) (i f k : ℕ) → i < k → k * 8 ≤ length x → f < 8 → field (x ++ y) i f ≡ field x i f
+field-grown x y i f k h l u = List·getD-append x y 0 (i * 8 + f) (omega (arith, h, l, u))
+
+row-grown : (x y : List ℕ) (i k : ℕ) → i < k → k * 8 ≤ length x → rowAt (x ++ y) i ≡ rowAt x i
+row-grown x y i k h l =
+    rw (
+      field-grown x y i 1 k h l (omega arith),
+      field-grown x y i 2 k h l (omega arith),
+      field-grown x y i 3 k h l (omega arith),
+      field-grown x y i 4 k h l (omega arith),
+      field-grown x y i 5 k h l (omega arith),
+      field-grown x y i 6 k h l (omega arith),
+      field-grown x y i 7 k h l (omega arith),
+    )
+
+module _ (s : State) (g : Growth) (past : List Entry) (inv : Inv s past) (c : Chained (store s)) where
+  held-grown : (n : ℕ) → n < s .link .names → (l : List Entry) → Held s n l → Held (grown s g) n l
+  held-grown n b [] h = cell-same s g c n 3 b (omega arith) ∙ h
+  held-grown n b (x ∷ xs) h =
+      record {
+        found = cell-same s g c n 3 b (omega arith) ∙ h .found;
+        there = field-grown (s .symbols) (g .symbols) (x .id) 0 (s .link .symbols) (h .below) (inv .room) (omega arith) ∙ h .there;
+        content = row-grown (s .symbols) (g .symbols) (x .id) (s .link .symbols) (h .below) (inv .room) ∙ h .content;
+        named = h .named;
+        above = h .above;
+        below = h .below;
+      }
+
+  inv-grown : Inv (grown s g) past
+  inv-grown =
+      record {
+        some = inv .some;
+        room = omega (arith, inv .room, length-append (s .symbols) (g .symbols));
+        few = inv .few;
+        names-room = omega (arith, inv .names-room, length-append (s .names) (g .names));
+        held-by = λ n h. held-grown n h (only n past) (inv .held-by n h);
+        unissued = inv .unissued;
+        once = inv .once;
+      }
+
+-- ---- the link, and histories
+
+pub reached-grown : (s : Linked) (g : Growth) (past : List Entry) (met : List (List ℕ)) → length (s .lists ++ g .lists) ≤ notLent → Reached s past met
+    → Reached (grow g s) past met
+reached-grown s g past met h r =
+    record {
+      held = inv-grown (s .table) g past (r .held) (r .marked .good .chained);
+      marked = marked-grown (s .table) g met (r .marked);
+      counted =
+          record {
+            bytes-in = r .counted .bytes-in;
+            bounded = r .counted .bounded;
+            names-in = r .counted .names-in;
+            chains-lent = lent-more (s .table) g (r .marked .good .chained);
+          };
+      lent = h;
+      inside = omega (arith, r .inside, length-append (s .lists) (g .lists));
+    }
 
 -- what the groups of the calls were
 pub record Some (s : Linked) (past : List Entry) : Type 0 where
   pub met : List (List ℕ)
   pub reached : Reached s past met
+
+pub turns-reached : (ts : List Turn) (s : Linked) (past : List Entry) → Quiet ts s → Some s past → Some (runTurns ts s) (past ++ logTurns ts s)
+turns-reached [] s past q r = subst (Some s) (sym (append-nil past)) r
+turns-reached (t ∷ ts) s past q r =
+    let on = grow (t .growth) s in
+    let a : Reached on past (r .met) = reached-grown s (t .growth) past (r .met) (q .1) (r .reached) in
+    let m : List (List ℕ) = r .met ++ signatures (t .call ∷ []) on in
+    let b = reached-on (t .call ∷ []) on past (r .met) (q .0, tt) a in
+    let e : past ++ (callNotes (t .call) on ++ []) ≡ past ++ callNotes (t .call) on = ap (_++_ past) (append-nil (callNotes (t .call) on)) in
+    subst (Some (runTurns ts (turnNext t s))) (append-assoc past (turnNotes t s) (logTurns ts (turnNext t s)))
+    (turns-reached ts (turnNext t s) (past ++ turnNotes t s) (q .2) (record { met = m; reached = subst (λ (l : List Entry). Reached (turnNext t s) l m) e b }))

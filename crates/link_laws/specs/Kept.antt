@@ -10,7 +10,8 @@ use lib.ListN.{length}
 use Rattle.cells.specs.Proof.Split.{by-test}
 use Rattle.link.specs.Bounds.{notLent}
 use Rattle.symbols.specs.Remove.{Rows}
-use Rattle.symbol_laws.specs.History.{State, Entry, withRows}
+use Rattle.symbol_laws.specs.History as History
+use Rattle.symbol_laws.specs.History.{State, Entry, withRows, Part, issue, put, partNext}
 use Rattle.symbol_laws.specs.Below.{Below}
 use Rattle.symbol_laws.specs.Held.{Inv}
 use Rattle.symbol_laws.specs.Within.{Within}
@@ -24,11 +25,12 @@ use Rattle.load_laws.specs.LoadSteps.{loadSteps}
 use Rattle.load_laws.specs.Proof.Unmarked.{load-markless}
 use Rattle.merge_laws.specs.Proof.Lookups.{CountedIn, steps-counted, within}
 use Rattle.merge_laws.specs.Calls.{Linked}
-use Rattle.link_laws.specs.Calls.{Call, intern, add, remove, addGroup, merge, mergeFile, load, collect, plainCollect, libraryIn, callNumber, callNext, callNotes, runCalls, logCalls, Removes, RemovesNothing, reads}
-use Rattle.link_laws.specs.CallSteps.{callSteps, Leads, made, cleared}
+use Rattle.link_laws.specs.Calls.{Call, intern, add, remove, addGroup, merge, mergeFile, load, collect, plainCollect, libraryIn, callNumber, callNext, callNotes, runCalls, logCalls, Removes, RemovesNothing, reads, addList, listAdds}
+use Rattle.link_laws.specs.CallSteps.{callSteps, Leads, made, cleared, partSteps}
 use Rattle.link_laws.specs.Proof.CallSteps.{call-makes, call-log, call-leads}
 use Rattle.link_laws.specs.Proof.Lists.{call-listed}
 use Rattle.merge_laws.specs.Lists.{ListsPast, lists-none, lists-both}
+use Rattle.symbol_laws.specs.Calls.{historyParts}
 
 -- ---- who holds each name
 
@@ -57,6 +59,7 @@ abbrev pub meetsGroups : Call → Bool
 meetsGroups (intern x) = false
 meetsGroups (reads k) = false
 meetsGroups (add conversion u) = false
+meetsGroups (addList conversion adds ids) = false
 meetsGroups (remove id) = false
 meetsGroups (addGroup o work n) = true
 meetsGroups (merge o work ids) = true
@@ -65,10 +68,19 @@ meetsGroups (load o marks) = false
 meetsGroups (collect marks entry work) = false
 meetsGroups (plainCollect marks entry work) = false
 
+direct-marks : (ks : List History.Call) (t : State) → marksOf (partSteps (historyParts ks t)) t ≡ []
+direct-marks ks t = go (historyParts ks t) t
+  where
+    go : (ps : List Part) (t : State) → marksOf (partSteps ps) t ≡ []
+    go [] t = refl
+    go (issue x ∷ ps) t = go ps (partNext (issue x) t)
+    go (put r from ∷ ps) t = go ps (partNext (put r from) t)
+
 pub no-signatures : (k : Call) (s : Linked) → meetsGroups k ≡ false → signatures (k ∷ []) s ≡ []
 no-signatures (intern x) s q = by-test (eqb (callNumber (intern x) s) 0) (λ a. rw a) (λ a. rw a)
 no-signatures (reads k) s q = refl
 no-signatures (add conversion u) s q = by-test (eqb (callNumber (add conversion u) s) 0) (λ a. rw a) (λ a. rw a)
+no-signatures (addList conversion adds ids) s q = append-nil _ ∙ direct-marks (listAdds conversion adds ids s) (s .table)
 no-signatures (remove id) s q = refl
 no-signatures (addGroup o work n) s q = absurd (false≢true (sym q))
 no-signatures (merge o work ids) s q = absurd (false≢true (sym q))

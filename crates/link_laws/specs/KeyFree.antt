@@ -1,14 +1,14 @@
 -- "Ids, symbol rows and answers don't depend on" the key of the hash. The same calls on two new tables of the same lent lists, under two keys: every
 -- answer is the same, and so is every list and count of the links but the names' hash chains.
 -- Assumes nothing.
-use Prim.Native.Nat.{ℕ}
+use Prim.Native.Nat.{ℕ, _+_}
 use mathlib.Core.Path.{_≡_, refl, ap, sym, _∙_, subst}
-use mathlib.Core.Bool.{Bool, true, false}
+use mathlib.Core.Bool.{Bool, true, false, cond}
 use mathlib.Core.List.{List, [], _∷_}
 use Rattle.cells.specs.Proof.Split.{by-test}
 use Rattle.link.specs.declared.Link.{Link}
 use Rattle.link.specs.declared.Refusal.{Refusal}
-use Rattle.link.specs.Said.{Said, numberIn}
+use Rattle.link.specs.Said.{Said, numberIn, accepted, refusing}
 use Rattle.interner.specs.Names.{storeOf}
 use Rattle.interner.specs.Calls as Names
 use Rattle.symbols.specs.declared.Found.{Found}
@@ -38,11 +38,18 @@ use Rattle.key_laws.specs.Proof.SectionCalls.{intern-named, add-named, remove-n
 use Rattle.key_laws.specs.Proof.NewTables.{new-said, new-moved, new-named}
 use Rattle.link_laws.specs.Read.{ReadLeft}
 use Rattle.link_laws.specs.Read as Read
-use Rattle.link_laws.specs.Calls.{Call, intern, add, remove, addGroup, merge, mergeFile, load, archiveNext, matches, collect, plainCollect, LeftBy, callLeft, refusalIn, refusalBy, callRefusal, callNext, runCalls, groupIn, libraryIn, listsIn, viewIn, isRead, reads}
+use Rattle.link_laws.specs.Calls.{Call, intern, add, remove, addGroup, merge, mergeFile, load, archiveNext, matches, collect, plainCollect, LeftBy, callLeft, refusalIn, refusalBy, callRefusal, callNext, runCalls, groupIn, libraryIn, listsIn, viewIn, isRead, reads, addList}
 use Rattle.link_laws.specs.Proof.PlainCalls.{plain-link}
 use Rattle.key_laws.specs.Proof.PlainReads.{plain-same, plain-named}
 use Rattle.elf_laws.specs.Object as ElfFile
 use Rattle.link_laws.specs.Proof.FileCall.{left-read, left-unread, next-read, next-unread, refusal-read, refusal-unread}
+use Rattle.add_list.specs.AddList.{ListLeft, listLeft, itemsOf, notedOf, turnOf, addsOf, addListOf}
+use Rattle.upcoming_symbol.specs.declared.UpcomingSymbol.{UpcomingSymbol}
+use Rattle.symbol_resolution.specs.Apply.{Table}
+use Rattle.link.specs.Judge.{refused, none}
+use lib.Dec.{eqb, ltb}
+use lib.ListN.{length}
+use Rattle.symbols.specs.Add.{addOf}
 
 -- ---- two links
 
@@ -67,6 +74,7 @@ abbrev pub AnswerBy : Call → Type 0
 AnswerBy (intern x) = Said
 AnswerBy (reads k) = ReadLeft k
 AnswerBy (add conversion u) = Said
+AnswerBy (addList conversion adds ids) = List ℕ × Refusal × ℕ
 AnswerBy (remove id) = Said
 AnswerBy (addGroup o work n) = List ℕ × Refusal
 AnswerBy (merge o work ids) = List ℕ × List ℕ × Refusal
@@ -79,6 +87,7 @@ abbrev pub answerIn : (k : Call) → LeftBy k → AnswerBy k
 answerIn (intern x) o = o .said
 answerIn (reads k) o = o
 answerIn (add conversion u) o = o .said
+answerIn (addList conversion adds ids) o = (o .ids, o .refusal, o .position)
 answerIn (remove id) o = o .said
 answerIn (addGroup o work n) x = (x .work, x .said)
 answerIn (merge o work ids) x = (x .cells .work, x .cells .ids, x .said)
@@ -101,6 +110,110 @@ pub record Same (key : ℕ) (k : Call) (s t : Linked) : Type 0 where
   pub answer : callAnswer k t ≡ callAnswer k s
   pub refusal : callRefusal k t ≡ callRefusal k s
   pub next : Alike key (callNext k s) (callNext k t)
+
+module _ (key : ℕ) (s : Linked) (n : List ℕ) (e : Rekeyed key (store (s .table)) n) (h : Named (s .table .link) (s .table .sections)) where
+  add-under : (conversion : List ℕ) (u : UpcomingSymbol) → Same key (add conversion u) s (linkUnder key n s)
+  add-under conversion u =
+      let m = add-moved key (s .table .bytes) (table (s .table)) n e conversion u in
+      record {
+        answer = ap (λ (o : Symbols.Left). o .said) (m .is);
+        refusal = ap (λ (o : Symbols.Left). refusalBy (o .said)) (m .is);
+        next = record {
+          names = m .names;
+          is = ap (λ (o : Symbols.Left). linked (withTable (s .table) (o .table)) (s .inputs) (s .lists)) (m .is);
+          rows = m .alike;
+          named = add-named (table (s .table)) conversion u h;
+        };
+      }
+
+-- a list of adds, by its adds
+pub record ListSame (key : ℕ) (s t : Linked) (o p : ListLeft) : Type 0 where
+  pub ids : p .ids ≡ o .ids
+  pub refusal : p .refusal ≡ o .refusal
+  pub position : p .position ≡ o .position
+  pub next : Alike key (linked (withTable (s .table) (o .table)) (s .inputs) (s .lists)) (linked (withTable (t .table) (p .table)) (t .inputs) (t .lists))
+
+add-alike : (key : ℕ) (conversion : List ℕ) (u : UpcomingSymbol) (s t : Linked) → Alike key s t → Same key (add conversion u) s t
+add-alike key conversion u s t a = subst (Same key (add conversion u) s) (sym (a .is)) (add-under key s (a .names) (a .rows) (a .named) conversion u)
+
+noted-same : (key : ℕ) (s t : Linked) (x y : Table) (a b : Said) (ids : List ℕ) (k : ℕ) → b ≡ a
+    → Alike key (linked (withTable (s .table) x) (s .inputs) (s .lists)) (linked (withTable (t .table) y) (t .inputs) (t .lists))
+    → ListSame key s t (notedOf a x ids k) (notedOf b y ids k)
+noted-same key s t x y (accepted v) b ids k e h = subst (λ (c : Said). ListSame key s t (notedOf (accepted v) x ids k) (notedOf c y ids k)) (sym e) (record { ids = refl; refusal = refl; position = refl; next = h })
+noted-same key s t x y (refusing r) b ids k e h = subst (λ (c : Said). ListSame key s t (notedOf (refusing r) x ids k) (notedOf c y ids k)) (sym e) (record { ids = refl; refusal = refl; position = refl; next = h })
+
+module _ (key : ℕ) (conversion : List ℕ) where
+  turn-same : (u : UpcomingSymbol) (s t : Linked) → Alike key s t → (v w : ListLeft) → v .table ≡ table (s .table) → w .table ≡ table (t .table) → w .ids ≡ v .ids → (k : ℕ)
+      → ListSame key s t (turnOf conversion u v k) (turnOf conversion u w k)
+  unfolding turnOf
+  turn-same u s t a v w e f g k =
+      let m = add-alike key conversion u s t a in
+      subst (λ (x : Table). ListSame key s t (notedOf (addOf x conversion u .said) (addOf x conversion u .table) (v .ids) k) (notedOf (addOf (w .table) conversion u .said) (addOf (w .table) conversion u .table) (w .ids) k)) (sym e)
+      (subst (λ (x : Table). ListSame key s t (notedOf (addOf (table (s .table)) conversion u .said) (addOf (table (s .table)) conversion u .table) (v .ids) k) (notedOf (addOf x conversion u .said) (addOf x conversion u .table) (w .ids) k)) (sym f)
+      (subst (λ (l : List ℕ). ListSame key s t (notedOf (addOf (table (s .table)) conversion u .said) (addOf (table (s .table)) conversion u .table) (v .ids) k) (notedOf (addOf (table (t .table)) conversion u .said) (addOf (table (t .table)) conversion u .table) l k)) (sym g)
+      (noted-same key s t (addOf (table (s .table)) conversion u .table) (addOf (table (t .table)) conversion u .table) (addOf (table (s .table)) conversion u .said) (addOf (table (t .table)) conversion u .said) (v .ids) k (m .answer) (m .next))))
+
+  cond-same : (s t : Linked) (b c : Bool) → c ≡ b → (x y x′ y′ : ListLeft) → ListSame key s t x x′ → ListSame key s t y y′ → ListSame key s t (cond b x y) (cond c x′ y′)
+  cond-same s t true c e x y x′ y′ p q = subst (λ (d : Bool). ListSame key s t x (cond d x′ y′)) (sym e) p
+  cond-same s t false c e x y x′ y′ p q = subst (λ (d : Bool). ListSame key s t y (cond d x′ y′)) (sym e) q
+
+  adds-same : (us : List UpcomingSymbol) (s t : Linked) → Alike key s t → (v w : ListLeft) → v .table ≡ table (s .table) → w .table ≡ table (t .table) → w .ids ≡ v .ids → (k : ℕ)
+      → ListSame key s t (addsOf conversion us v k) (addsOf conversion us w k)
+  unfolding addsOf
+  adds-same [] s t a v w e f g k =
+      record {
+        ids = g;
+        refusal = refl;
+        position = refl;
+        next =
+            subst (λ (x : Table). Alike key (linked (withTable (s .table) x) (s .inputs) (s .lists)) (linked (withTable (t .table) (w .table)) (t .inputs) (t .lists))) (sym e)
+            (subst (λ (x : Table). Alike key s (linked (withTable (t .table) x) (t .inputs) (t .lists))) (sym f) a);
+      }
+  adds-same (u ∷ us) s t a v w e f g k =
+      let m = turn-same u s t a v w e f g k in
+      cond-same s t (eqb (turnOf conversion u v k .refusal .number) 0) (eqb (turnOf conversion u w k .refusal .number) 0) (ap (λ (r : Refusal). eqb (r .number) 0) (m .refusal))
+      (addsOf conversion us (turnOf conversion u v k) (k + 1)) (turnOf conversion u v k) (addsOf conversion us (turnOf conversion u w k) (k + 1)) (turnOf conversion u w k)
+      (over
+      (adds-same us (linked (withTable (s .table) (turnOf conversion u v k .table)) (s .inputs) (s .lists)) (linked (withTable (t .table) (turnOf conversion u w k .table)) (t .inputs) (t .lists)) (m .next)
+      (turnOf conversion u v k) (turnOf conversion u w k) refl refl (m .ids) (k + 1))) m
+    where
+      over : {x y : Table} {o p : ListLeft} → ListSame key (linked (withTable (s .table) x) (s .inputs) (s .lists)) (linked (withTable (t .table) y) (t .inputs) (t .lists)) o p → ListSame key s t o p
+      over i = record { ids = i .ids; refusal = i .refusal; position = i .position; next = i .next }
+
+list-alike : (key : ℕ) (conversion adds ids : List ℕ) (s t : Linked) → Alike key s t → Same key (addList conversion adds ids) s t
+unfolding addListOf
+list-alike key conversion adds ids s t a =
+    let e : t .table .link .broken ≡ s .table .link .broken = ap (λ (x : Linked). x .table .link .broken) (a .is) in
+    told (subst (λ (x : Bool). ListSame key s t (listOf3 s (s .table .link .broken)) (listOf3 t x)) (sym e) (go (s .table .link .broken) (ltb (length ids) (length (itemsOf adds)))))
+  where
+    left-same : (r : Refusal) → ListSame key s t (listLeft (table (s .table)) ids r 0) (listLeft (table (t .table)) ids r 0)
+    left-same r = record { ids = refl; refusal = refl; position = refl; next = a }
+
+    lists : Linked → Bool → Bool → ListLeft
+    lists x b c =
+        cond b (listLeft (table (x .table)) ids (refused 22 0) 0)
+        (cond c (listLeft (table (x .table)) ids (refused 2 0) 0) (addsOf conversion (itemsOf adds) (listLeft (table (x .table)) ids none 0) 0))
+
+    listOf3 : Linked → Bool → ListLeft
+    listOf3 x b = lists x b (ltb (length ids) (length (itemsOf adds)))
+
+    go : (b c : Bool) → ListSame key s t (lists s b c) (lists t b c)
+    go true c = left-same (refused 22 0)
+    go false true = left-same (refused 2 0)
+    go false false =
+        adds-same key conversion (itemsOf adds) s t a (listLeft (table (s .table)) ids none 0) (listLeft (table (t .table)) ids none 0) refl refl refl 0
+
+    told : ListSame key s t (callLeft (addList conversion adds ids) s) (callLeft (addList conversion adds ids) t) → Same key (addList conversion adds ids) s t
+    told m =
+        let x = callLeft (addList conversion adds ids) s in
+        let y = callLeft (addList conversion adds ids) t in
+        record {
+          answer = ap {B = List ℕ × Refusal × ℕ} (λ (l : List ℕ). (l, y .refusal, y .position)) (m .ids)
+              ∙ ap {B = List ℕ × Refusal × ℕ} (λ (r : Refusal). (x .ids, r, y .position)) (m .refusal)
+              ∙ ap {B = List ℕ × Refusal × ℕ} (λ (p : ℕ). (x .ids, x .refusal, p)) (m .position);
+          refusal = m .refusal;
+          next = m .next;
+        }
 
 module _ (key : ℕ) (s : Linked) (n : List ℕ) (e : Rekeyed key (store (s .table)) n) (h : Named (s .table .link) (s .table .sections)) where
   abbrev t : Linked
@@ -163,18 +276,8 @@ module _ (key : ℕ) (s : Linked) (n : List ℕ) (e : Rekeyed key (store (s .tab
   under-same (reads (Read.resolve id)) =
       let q = resolve-same key (store (s .table)) n e id in
       record { answer = q; refusal = ap (λ (o : Names.Resolved). o .refusal) q; next = stays }
-  under-same (add conversion u) =
-      let m = add-moved key (s .table .bytes) (table (s .table)) n e conversion u in
-      record {
-        answer = ap (λ (o : Symbols.Left). o .said) (m .is);
-        refusal = ap (λ (o : Symbols.Left). refusalBy (o .said)) (m .is);
-        next = record {
-          names = m .names;
-          is = ap (λ (o : Symbols.Left). linked (withTable (s .table) (o .table)) (s .inputs) (s .lists)) (m .is);
-          rows = m .alike;
-          named = add-named (table (s .table)) conversion u h;
-        };
-      }
+  under-same (add conversion u) = add-under key s n e h conversion u
+  under-same (addList conversion adds ids) = list-alike key conversion adds ids s t stays
   under-same (remove id) =
       let l : Link = s .table .link in
       let x : Rows = rowsOf (s .table .symbols) (s .table .sections) in

@@ -31,10 +31,11 @@ use Rattle.merge_laws.specs.Refusals.{group-left}
 use Rattle.merge_laws.specs.Calls.{Linked, linked, allIn, linkIn}
 use Rattle.load_laws.specs.Whole as Loads
 use Rattle.load_laws.specs.NeedTerms as Unneeded
-use Rattle.link_laws.specs.Calls.{Call, intern, add, remove, addGroup, merge, mergeFile, load, collect, plainCollect, groupIn, libraryIn, listsIn, callLeft, callNumber, callNext, reads}
+use Rattle.link_laws.specs.Calls.{Call, intern, add, remove, addGroup, merge, mergeFile, load, collect, plainCollect, groupIn, libraryIn, listsIn, callLeft, callNumber, callNext, reads, addList, earlier}
 use Rattle.link_laws.specs.Proof.PlainCalls.{Compared, alike, many, compared, many-next}
 use Rattle.link_laws.specs.Idle.{drops-nothing, refused-drops}
 use Rattle.link_laws.specs.CallSteps.{grouped, head-loaded, section-is, answered-is}
+use Rattle.link_laws.specs.Proof.ListCall.{next-is}
 
 -- ---- calls that don't go through an object or a library
 
@@ -43,6 +44,7 @@ abbrev pub byElements : Call → Bool
 byElements (intern x) = false
 byElements (reads k) = false
 byElements (add conversion u) = false
+byElements (addList conversion adds ids) = false
 byElements (remove id) = false
 byElements (addGroup o work n) = false
 byElements (merge o work ids) = true
@@ -82,10 +84,11 @@ module _ (o : Group.Object) (t : State) (work : List ℕ) (n : ℕ) where
       ))
       (λ a u. (refl, refl))
 
-pub refused-leaves : (k : Call) (s : Linked) → byElements k ≡ false → callNumber k s ≢ 0 → callNext k s ≡ s
+pub refused-leaves : (k : Call) (s : Linked) → byElements k ≡ false → callNumber k s ≢ 0 → callNext k s ≡ earlier k s
 refused-leaves (intern x) s g u = direct-leaves (History.intern x) s u
 refused-leaves (reads k) s g u = refl
 refused-leaves (add conversion u) s g z = direct-leaves (History.add conversion u) s z
+refused-leaves (addList conversion adds ids) s g u = next-is conversion adds ids s
 refused-leaves (remove id) s g u = direct-leaves (History.remove id) s u
 refused-leaves (addGroup o work n) s g u = ap (λ (t : State). linked t (s .inputs) (s .lists)) (group-refused o (s .table) work n u .0)
 refused-leaves (merge o work ids) s g u = absurd (apart (sym g))

@@ -69,4 +69,7 @@ pub mod Contents
 pub mod OwnEntries
 pub mod EntryNames
 pub mod KeyFree
+pub mod ListRules
+pub mod ListExactly
+pub mod OneByOne
 pub mod Proof

@@ -51,7 +51,7 @@ use Rattle.symbol_laws.specs.History.{State, table, store, withTable, withStore
 use Rattle.merge_laws.specs.Steps.{Step, part, mark, others, rowsFrom, countsFrom, stepNext, runSteps, Goes, AllGo}
 use Rattle.merge_laws.specs.Proof.Past.{rows-all, rows-long}
 use Rattle.merge_laws.specs.Calls.{Linked}
-use Rattle.link_laws.specs.Calls.{Call, intern, add, remove, addGroup, merge, mergeFile, load, collect, plainCollect, listsIn, Drops, callLeft, callNext, runCalls, Removes, RemovesNothing, reads}
+use Rattle.link_laws.specs.Calls.{Call, intern, add, remove, addGroup, merge, mergeFile, load, collect, plainCollect, listsIn, Drops, callLeft, callNext, runCalls, Removes, RemovesNothing, reads, addList}
 use Rattle.link_laws.specs.Proof.PlainCalls.{Compared, alike, many, compared, many-drops}
 use Rattle.link_laws.specs.CallSteps.{callSteps}
 use Rattle.link_laws.specs.Proof.CallSteps.{call-makes}
@@ -717,6 +717,7 @@ call-stay k s g w = go k
     go (intern x) = quiet (intern x) (λ (e : ⊥). e)
     go (reads k) = quiet (reads k) (λ (e : ⊥). e)
     go (add conversion u) = quiet (add conversion u) (λ (e : ⊥). e)
+    go (addList conversion adds ids) = quiet (addList conversion adds ids) (λ (e : ⊥). e)
     go (remove id) = remove-stay s w id
     go (addGroup o work n) = quiet (addGroup o work n) (λ (e : ⊥). e)
     go (merge o work ids) = quiet (merge o work ids) (λ (e : ⊥). e)

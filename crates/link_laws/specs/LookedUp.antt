@@ -47,7 +47,7 @@ use Rattle.symbol_laws.specs.Proof.Refused.{remove-link}
 use Rattle.symbol_laws.specs.Within as Within
 use Rattle.merge_laws.specs.Steps.{Step, Makes, runSteps}
 use Rattle.merge_laws.specs.Calls.{Linked}
-use Rattle.link_laws.specs.Calls.{Call, intern, add, remove, get, getGlobal, addGroup, merge, mergeFile, load, collect, plainCollect, listsIn, Drops, callLeft, callNumber, callNext, runCalls, Removes, RemovesNothing, reads}
+use Rattle.link_laws.specs.Calls.{Call, intern, add, remove, get, getGlobal, addGroup, merge, mergeFile, load, collect, plainCollect, listsIn, Drops, callLeft, callNumber, callNext, runCalls, Removes, RemovesNothing, reads, addList}
 use Rattle.link_laws.specs.Proof.PlainCalls.{Compared, alike, many, compared, many-next}
 use Rattle.link_laws.specs.CallSteps.{callSteps}
 use Rattle.link_laws.specs.Proof.CallSteps.{call-makes}
@@ -195,6 +195,7 @@ call-later : (k : Call) (s : Linked) → Ready (s .table) → Later (s .table) (
 call-later (intern x) s g = quiet-later (intern x) s (λ (e : ⊥). e) g
 call-later (reads k) s g = later-none (s .table) g
 call-later (add conversion u) s g = quiet-later (add conversion u) s (λ (e : ⊥). e) g
+call-later (addList conversion adds ids) s g = quiet-later (addList conversion adds ids) s (λ (e : ⊥). e) g
 call-later (remove id) s g = remove-later (s .table) g id
 call-later (addGroup o work n) s g = quiet-later (addGroup o work n) s (λ (e : ⊥). e) g
 call-later (merge o work ids) s g = quiet-later (merge o work ids) s (λ (e : ⊥). e) g

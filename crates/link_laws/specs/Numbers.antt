@@ -51,10 +51,11 @@ use Rattle.gc_sections.specs.declared.Unbuilt.the-variants as Unbuilts
 use Rattle.gc_sections.specs.Reach as Reach
 use Rattle.gc_sections.specs.Run as Collection
 use Rattle.gc_sections.specs.Run.{judgeCells, judged, purgeOf, sweepOf, finishOf, finished, collectOf, runOf}
-use Rattle.symbol_laws.specs.History.{store, table}
+use Rattle.symbol_laws.specs.History.{store, table, State}
+use Rattle.symbol_laws.specs.History as History
 use Rattle.merge_laws.specs.Calls.{Linked, allIn}
 use Rattle.link_laws.specs.Read as Read
-use Rattle.link_laws.specs.Calls.{Call, intern, add, remove, addGroup, merge, mergeFile, load, collect, plainCollect, viewIn, libraryIn, listsIn, callNumber, fileHead, isRead, reads, resolve, get, getGlobal}
+use Rattle.link_laws.specs.Calls.{Call, intern, add, remove, addGroup, merge, mergeFile, load, collect, plainCollect, viewIn, libraryIn, listsIn, callNumber, fileHead, isRead, reads, resolve, get, getGlobal, addList}
 use Rattle.link_laws.specs.Proof.PlainCalls.{Compared, alike, many, compared, many-refusal}
 use Rattle.elf_laws.specs.Object as ElfFile
 use Rattle.link_laws.specs.Proof.FileCall.{refusal-read, refusal-unread, head-numbers}
@@ -67,6 +68,7 @@ use Rattle.link_laws.specs.Proof.MergeNumbers.{merge-numbers}
 use Rattle.link_laws.specs.Proof.LoadNumbers.{load-numbers}
 use Rattle.link_laws.specs.Proof.ArchiveNumbers.{start-numbers, next-numbers, matches-numbers}
 use Rattle.merge_laws.specs.Table.{oneOf, within, fileHeadNumbers, refusals}
+use Rattle.link_laws.specs.Proof.ListCall.{list-gives}
 
 -- ---- names
 
@@ -204,6 +206,12 @@ plain-numbers marks entry work s = go (compared marks entry work s)
         ∙ one-within (callNumber (collect marks entry work) s) (0 ∷ callNumbers (collect marks entry work)) (0 ∷ callNumbers (plainCollect marks entry work)) refl first
     go (many m u v e) = ap (λ (x : Refusal). oneOf (x .number) (0 ∷ callNumbers (plainCollect marks entry work))) (many-refusal marks entry work s e)
 
+list-numbers : (conversion adds ids : List ℕ) (s : Linked) → Among (callNumbers (addList conversion adds ids)) (callNumber (addList conversion adds ids) s)
+list-numbers conversion adds ids s =
+    list-gives (λ (t : State). Unit {0}) (λ (r : Refusal). Among (callNumbers (addList conversion adds ids)) (r .number)) conversion (λ t u q. tt) adds ids s (λ b. refl) refl refl
+    (λ t u q.
+    one-within (History.callNumber (History.add conversion u) t) (0 ∷ callNumbers (add conversion u)) (0 ∷ callNumbers (addList conversion adds ids)) refl (add-numbers (table t) conversion u)) tt
+
 -- ---- every call
 
 file-numbers : (file cells work ids : List ℕ) (s : Linked) → Among (callNumbers (mergeFile file cells work ids)) (callNumber (mergeFile file cells work ids) s)
@@ -221,6 +229,7 @@ pub numbers : (k : Call) (s : Linked) → oneOf (callNumber k s) (0 ∷ callNumb
 numbers (intern x) s = intern-numbers (store (s .table)) x
 numbers (reads (Read.resolve id)) s = resolve-numbers (store (s .table)) id
 numbers (add conversion u) s = add-numbers (table (s .table)) conversion u
+numbers (addList conversion adds ids) s = list-numbers conversion adds ids s
 numbers (remove id) s = remove-numbers (s .table .link) _ id
 numbers (reads (Read.get id)) s = get-numbers (s .table .link) (s .table .symbols) id
 numbers (reads (Read.getGlobal name)) s = global-numbers (s .table .link) (s .table .names) (s .table .symbols) name
@@ -240,6 +249,7 @@ pub in-table : (k : Call) → within (callNumbers k) refusals ≡ true
 in-table (intern x) = refl
 in-table (reads (Read.resolve id)) = refl
 in-table (add conversion u) = refl
+in-table (addList conversion adds ids) = refl
 in-table (remove id) = refl
 in-table (reads (Read.get id)) = refl
 in-table (reads (Read.getGlobal name)) = refl

@@ -34,7 +34,7 @@ use Rattle.merge_laws.specs.LogContents.{FromSymbol}
 use Rattle.merge_laws.specs.Calls.{Linked, allIn}
 use Rattle.shared_objects.specs.Load as Shared
 use Rattle.load_laws.specs.LibraryContents.{FromLibrary}
-use Rattle.link_laws.specs.Calls.{Call, intern, add, remove, addGroup, merge, mergeFile, load, collect, plainCollect, libraryIn, callNext, reads}
+use Rattle.link_laws.specs.Calls.{Call, intern, add, remove, addGroup, merge, mergeFile, load, collect, plainCollect, libraryIn, callNext, reads, addList}
 use Rattle.elf_laws.specs.Object as ElfFile
 use Rattle.link_laws.specs.Kept.{signatures}
 use Rattle.link_laws.specs.Contents.{FromCall, FromCalls, here, later}
@@ -191,6 +191,7 @@ abbrev pub callEntry : (k : Call) (s : Linked) (met : List (List ℕ)) (r : Row)
 callEntry (intern x) s met r p = absurd p
 callEntry (reads k) s met r p = absurd p
 callEntry (add conversion u) s met r p = addEntry p
+callEntry (addList conversion adds ids) s met r p = addEntry (p .from)
 callEntry (remove id) s met r p = absurd p
 callEntry (addGroup o work n) s met r p = absurd p
 callEntry (merge o work ids) s met r p = objectEntry o (allIn s work ids) met (p .number)
@@ -203,6 +204,8 @@ call-stands : (k : Call) (s : Linked) (met : List (List ℕ)) (r : Row) (p : Fro
 call-stands (intern x) s met r p = absurd p
 call-stands (reads k) s met r p = absurd p
 call-stands (add conversion u) s met r p = add-stands (s .table .link .gabi) conversion (emptyAt (s .table .names) (nameOf u)) r u p
+call-stands (addList conversion adds ids) s met r p =
+    add-stands (p .state .link .gabi) conversion (emptyAt (p .state .names) (nameOf (p .symbol))) r (p .symbol) (p .from)
 call-stands (remove id) s met r p = absurd p
 call-stands (addGroup o work n) s met r p = absurd p
 call-stands (merge o work ids) s met r p = object-stands o (allIn s work ids) met r p

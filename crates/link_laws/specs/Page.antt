@@ -16,7 +16,8 @@
 --   Before, After a section is built before a collection, after it; Reached (gc_laws/specs/Reached.antt) what relocations reach from the roots
 --   NeededIn      what makes a library needed, by lookups and by the libraries that were loaded (NeededIn.antt)
 --   Exit, Meets   what a caller sees of a call, and the call's contract (Contracts.antt)
--- Witness.antt has a history with every call in it that meets the premises.
+--   earlier k s   s; of a list of adds, the link after those of its adds that were accepted (Calls.antt)
+-- Witness.antt has a history that meets the premises.
 -- Assumes nothing.
 use Prim.Native.Nat.{ℕ, _+_, _<_, _≤_}
 use mathlib.Core.Path.{_≡_, sym, ap, _∙_, subst}
@@ -59,7 +60,7 @@ use Rattle.symbol_laws.specs.History.{Entry, opened, rows}
 use Rattle.merge_laws.specs.Calls.{Linked, linked}
 use Rattle.merge_laws.specs.Origin.{fromObjects}
 use Rattle.merge_laws.specs.MergeWords.{namedBy, isRemoved}
-use Rattle.link_laws.specs.Calls.{Call, remove, get, getGlobal, sectionSymbol, merge, load, archiveStart, archiveNext, collect, libraryIn, listsIn, viewIn, callLeft, refusalBy, callRefusal, callNumber, callNext, runCalls, RemovesNothing}
+use Rattle.link_laws.specs.Calls.{Call, remove, get, getGlobal, sectionSymbol, merge, load, archiveStart, archiveNext, collect, libraryIn, listsIn, viewIn, callLeft, refusalBy, callRefusal, callNumber, callNext, runCalls, RemovesNothing, earlier}
 use Rattle.link_laws.specs.Leaves.{byElements}
 use Rattle.link_laws.specs.Elements as Elements
 use Rattle.link_laws.specs.Contracts.{Exit, Meets}
@@ -112,8 +113,9 @@ exactly-any = Terms.exactly-any
 pub new-exactly : (key : ℕ) (gabi : Bool) (bytes names symbols sections : List ℕ) → refusalBy (newOf key gabi bytes names symbols sections .said) ≡ Rules.firstOf (newRules names symbols)
 new-exactly = Terms.new-exactly
 
--- "and leaves behind what that table says": a refused call leaves everything of the link; a merge or a load what its elements before left, and a broken link
-pub left : (k : Call) (s : Linked) → byElements k ≡ false → callNumber k s ≢ 0 → callNext k s ≡ s
+-- "and leaves behind what that table says": a refused call leaves everything of the link (a list of adds, with the adds before the refused one); a merge or a
+-- load what its elements before left, and a broken link
+pub left : (k : Call) (s : Linked) → byElements k ≡ false → callNumber k s ≢ 0 → callNext k s ≡ earlier k s
 left = Terms.refused-leaves
 
 pub left-merge : (o : _) (work ids : List ℕ) (s : Linked) → callNumber (merge o work ids) s ≢ 0 → Elements.MergeLeft o work ids s

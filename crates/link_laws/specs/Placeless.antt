@@ -50,12 +50,13 @@ use Rattle.gc_sections.specs.declared.Unbuilt.the-variants as Unbuilts
 use Rattle.gc_sections.specs.Reach as Reach
 use Rattle.gc_sections.specs.Run as Collection
 use Rattle.gc_sections.specs.Run.{judgeCells, judged, purgeOf, sweepOf, finishOf, finished, collectOf, runOf}
+use Rattle.symbol_laws.specs.History as History
 use Rattle.symbol_laws.specs.History.{State, store, table}
 use Rattle.merge_laws.specs.ByNumber as ByNumber
 use Rattle.merge_laws.specs.ByNumber.{disjoint, changed, elf-gives}
 use Rattle.merge_laws.specs.Calls.{Linked, allIn}
 use Rattle.link_laws.specs.Read as Read
-use Rattle.link_laws.specs.Calls.{Call, intern, resolve, add, remove, get, getGlobal, addGroup, merge, mergeFile, load, archiveStart, archiveNext, matches, collect, plainCollect, libraryIn, listsIn, groupIn, callRefusal, callNumber, fileHead, isRead, reads}
+use Rattle.link_laws.specs.Calls.{Call, intern, resolve, add, remove, get, getGlobal, addGroup, merge, mergeFile, load, archiveStart, archiveNext, matches, collect, plainCollect, libraryIn, listsIn, groupIn, callRefusal, callNumber, fileHead, isRead, reads, addList}
 use Rattle.link_laws.specs.Proof.PlainCalls.{Compared, alike, many, compared, many-refusal}
 use Rattle.merge_file.specs.MergeFile.{fileHeadOf}
 use Rattle.elf_laws.specs.Object as ElfFile
@@ -72,6 +73,7 @@ use Rattle.link_laws.specs.Places.{add-place}
 use Rattle.link_laws.specs.CallPlaces.{differ, intern-place, resolve-place, start-place, global-at, group-of-head}
 use Rattle.link_laws.specs.Starred.{headRefusal, Stopped, at-head, at-element, stopped, some}
 use Rattle.merge_laws.specs.Table.{oneOf, within, groupNumbers, starred, placeless}
+use Rattle.link_laws.specs.Proof.ListCall.{list-gives, add-broken-same}
 
 -- ---- 22 only on a broken link
 
@@ -236,7 +238,7 @@ stopped-only : (k : Call) (s : Linked) → byElements k ≡ true → (headRefusa
 stopped-only k s g h e = split (stopped k s g (λ z. differ 0 22 refl (sym z ∙ e)))
   where
     split : Stopped k s → s .table .link .broken ≡ true
-    split (at-head r n q) = h (sym (ap (λ (x : Refusal). x .number) r) ∙ e)
+    split (at-head r n q f) = h (sym (ap (λ (x : Refusal). x .number) r) ∙ e)
     split (at-element n q) = absurd (false≢true (ap (λ (m : ℕ). oneOf m (2 ∷ starred)) (sym e) ∙ n))
 
 file-only : (file cells work ids : List ℕ) (s : Linked) → callNumber (mergeFile file cells work ids) s ≡ 22 → s .table .link .broken ≡ true
@@ -244,6 +246,12 @@ file-only file cells work ids s e =
     stopped-only (mergeFile file cells work ids) s refl
     (pick (λ (r : Refusal). r .number ≡ 22 → s .table .link .broken ≡ true) (isRead file cells s) _ _ (λ t. merge-head-only (ElfFile.rowsOf file) (allIn s work ids))
     (λ t. file-head-only file cells s)) e
+
+list-only : (conversion adds ids : List ℕ) (s : Linked) → callNumber (addList conversion adds ids) s ≡ 22 → s .table .link .broken ≡ true
+list-only conversion adds ids s =
+    list-gives (λ (t : State). t .link .broken ≡ s .table .link .broken) (λ (r : Refusal). r .number ≡ 22 → s .table .link .broken ≡ true) conversion
+    (λ t u q. add-broken-same (table t) conversion u ∙ q) adds ids s (λ b e. b) (λ e. differ 2 22 refl e) (λ e. differ 0 22 refl e)
+    (λ t u q e. sym q ∙ add-only (table t) conversion u e) refl
 
 -- a number that the call doesn't give
 never : {P : Type 0} (k : Call) (s : Linked) (m : ℕ) → oneOf m (0 ∷ callNumbers k) ≡ false → callNumber k s ≡ m → P
@@ -253,6 +261,7 @@ pub broken-only : (k : Call) (s : Linked) → callNumber k s ≡ 22 → (changes
 broken-only (intern x) s e = (refl, intern-only (store (s .table)) x e)
 broken-only (reads (Read.resolve id)) s e = never (resolve id) s 22 refl e
 broken-only (add conversion u) s e = (refl, add-only (table (s .table)) conversion u e)
+broken-only (addList conversion adds ids) s e = (refl, list-only conversion adds ids s e)
 broken-only (remove id) s e = (refl, remove-only (s .table .link) _ id e)
 broken-only (reads (Read.get id)) s e = never (get id) s 22 refl e
 broken-only (reads (Read.getGlobal name)) s e = never (getGlobal name) s 22 refl e
@@ -298,7 +307,7 @@ load-at : (o : Shared.Input) (marks : List ℕ) (s : Linked) → oneOf (callNumb
 load-at o marks s p = split (stopped (load o marks) s refl (some (callNumber (load o marks) s) placeless refl p))
   where
     split : Stopped (load o marks) s → callRefusal (load o marks) s .place ≡ 0
-    split (at-head r n q) =
+    split (at-head r n q f) =
         ap (λ (x : Refusal). x .place) r
         ∙ head-gives (λ (x : Refusal). oneOf (x .number) placeless ≡ true → x .place ≡ 0) (λ k e. absurd (false≢true e)) (λ e. refl) (λ e. refl) (λ e. refl)
         (λ e. refl) o (libraryIn s marks) (sym (ap (λ (x : Refusal). oneOf (x .number) placeless) r) ∙ p)
@@ -322,6 +331,7 @@ pub zero-places : (k : Call) (s : Linked) → oneOf (callNumber k s) placeless �
 zero-places (intern x) s p = intern-place x s (other (callNumber (intern x) s) 1 refl p)
 zero-places (reads (Read.resolve id)) s p = resolve-place id s (other (callNumber (resolve id) s) 1 refl p)
 zero-places (add conversion u) s p = add-place conversion u s (other (callNumber (add conversion u) s) 21 refl p)
+zero-places (addList conversion adds ids) s p = only-22 (addList conversion adds ids) s (0 ∷ 2 ∷ 1 ∷ 10 ∷ 11 ∷ 12 ∷ 21 ∷ 13 ∷ 14 ∷ 15 ∷ 16 ∷ 17 ∷ []) refl refl p
 zero-places (remove id) s p = only-22 (remove id) s (0 ∷ 1 ∷ 21 ∷ []) refl refl p
 zero-places (reads (Read.get id)) s p = none-of (get id) s refl p
 zero-places (reads (Read.getGlobal name)) s p =
@@ -380,6 +390,7 @@ pub head-two-place : (k : Call) (s : Linked) → headRefusal k s .number ≡ 2 �
 head-two-place (intern x) s e = differ 0 2 refl e
 head-two-place (reads k) s e = differ 0 2 refl e
 head-two-place (add conversion u) s e = differ 0 2 refl e
+head-two-place (addList conversion adds ids) s e = differ 0 2 refl e
 head-two-place (remove id) s e = differ 0 2 refl e
 head-two-place (addGroup o work n) s e = differ 0 2 refl e
 head-two-place (merge o work ids) s e = object-two o work ids s e

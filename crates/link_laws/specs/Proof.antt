@@ -36,5 +36,5 @@ pub mod CallPast
 pub mod InputRows
 pub mod LibraryLoads
 pub mod SectionCount
-pub mod Growth
 pub mod Words
+pub mod ListCall

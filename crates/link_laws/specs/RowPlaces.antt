@@ -40,7 +40,7 @@ one-head : (k : Call) (s : Linked) → byElements k ≡ true → callNumber k s 
 one-head k s g e = split (stopped k s g (λ z. differ 0 1 refl (sym z ∙ e)))
   where
     split : Stopped k s → callRefusal k s ≡ headRefusal k s
-    split (at-head r n q) = r
+    split (at-head r n q f) = r
     split (at-element n q) = absurd (false≢true (ap (λ (m : ℕ). oneOf m (2 ∷ starred)) (sym e) ∙ n))
 
 -- ---- an object

@@ -43,6 +43,7 @@ use Rattle.gc_sections.specs.declared.Unbuilt.the-variants as Unbuilts
 use Rattle.gc_sections.specs.Reach as Reach
 use Rattle.gc_sections.specs.Run as Collection
 use Rattle.gc_sections.specs.Run.{judged, purgeOf, sweepOf, finishOf, finished, collectOf, runOf}
+use Rattle.symbol_laws.specs.History as History
 use Rattle.symbol_laws.specs.History.{store, table}
 use Rattle.merge_laws.specs.Issue.{keeps}
 use Rattle.merge_laws.specs.Proof.SymbolStage.{applied-count}
@@ -50,7 +51,7 @@ use Rattle.merge_laws.specs.ByNumber as ByNumber
 use Rattle.merge_laws.specs.ByNumber.{Between, allLeft, nameStays}
 use Rattle.merge_laws.specs.Calls.{Linked, allIn}
 use Rattle.load_laws.specs.Stops as Loading
-use Rattle.link_laws.specs.Calls.{Call, intern, add, remove, addGroup, merge, mergeFile, load, collect, plainCollect, libraryIn, listsIn, callRefusal, callNumber, callNext, runCalls, fileHead, isRead, reads}
+use Rattle.link_laws.specs.Calls.{Call, intern, add, remove, addGroup, merge, mergeFile, load, collect, plainCollect, libraryIn, listsIn, callRefusal, callNumber, callNext, runCalls, fileHead, isRead, reads, addList, earlier, listAdds}
 use Rattle.link_laws.specs.Proof.PlainCalls.{plain-link}
 use Rattle.elf_laws.specs.Object as ElfFile
 use Rattle.link_laws.specs.Proof.FileCall.{next-read, next-unread, refusal-read, refusal-unread, head-numbers}
@@ -62,6 +63,7 @@ use Rattle.link_laws.specs.Broken.{changes, broken-refused}
 use Rattle.link_laws.specs.Elements.{lentTo, MergeLeft, Merges, merges, merge-leaves, Ways, ways, Element, numbersAt, namedAt, LoadLeft, load-leaves}
 use Rattle.link_laws.specs.Elements as Elements
 use Rattle.merge_laws.specs.Table.{oneOf, within, mergeHeadNumbers, loadHeadNumbers, fileHeadNumbers, unstarred, starred}
+use Rattle.link_laws.specs.Proof.ListCall.{keep-broken, add-broken-same, list-broken-same}
 
 -- ---- the numbers of an element
 
@@ -104,6 +106,7 @@ abbrev pub headRefusal : Call → Linked → Refusal
 headRefusal (intern x) s = none
 headRefusal (reads k) s = none
 headRefusal (add conversion u) s = none
+headRefusal (addList conversion adds ids) s = none
 headRefusal (remove id) s = none
 headRefusal (addGroup o work n) s = none
 headRefusal (merge o work ids) s = Merge.headIn o (allIn s work ids)
@@ -113,14 +116,14 @@ headRefusal (collect marks entry work) s = none
 headRefusal (plainCollect marks entry work) s = none
 
 pub data Stopped (k : Call) (s : Linked) : Type 0 where
-  at-head : callRefusal k s ≡ headRefusal k s → oneOf (callNumber k s) (2 ∷ unstarred) ≡ true → callNext k s ≡ s → Stopped k s
+  at-head : callRefusal k s ≡ headRefusal k s → oneOf (callNumber k s) (2 ∷ unstarred) ≡ true → callNext k s ≡ s → earlier k s ≡ s → Stopped k s
   at-element : oneOf (callNumber k s) (2 ∷ starred) ≡ true → callNext k s .table .link .broken ≡ true → Stopped k s
 
 abbrev broke : Linked → Bool
 broke t = t .table .link .broken
 
 merge-stopped : (o : Stages.Object) (work ids : List ℕ) (s : Linked) → MergeLeft o work ids s → Stopped (merge o work ids) s
-merge-stopped o work ids s (Elements.at-head r h e) = at-head r (one-within (callNumber (merge o work ids) s) mergeHeadNumbers (2 ∷ unstarred) refl h) e
+merge-stopped o work ids s (Elements.at-head r h e) = at-head r (one-within (callNumber (merge o work ids) s) mergeHeadNumbers (2 ∷ unstarred) refl h) e refl
 merge-stopped o work ids s (Elements.at-element b at m h r e) =
     at-element (one-within (callNumber (merge o work ids) s) (allLeft o (lentTo o work ids s) at) (2 ∷ starred) (all-starred o work ids s at) h) (ap broke e)
 merge-stopped o work ids s (Elements.but-its-name b at found m h r e) =
@@ -138,19 +141,19 @@ file-stopped file cells work ids s u =
     at-head (r ∙ sym (ap (λ (b : Bool). cond b (Merge.headIn (ElfFile.rowsOf file) (allIn s work ids)) (fileHead file cells s)) t))
     (subst (λ (x : Refusal). oneOf (x .number) (2 ∷ unstarred) ≡ true) (sym r)
     (one-within (fileHead file cells s .number) fileHeadNumbers (2 ∷ unstarred) refl (subst (λ (b : Bool). cond b true (oneOf (fileHead file cells s .number) fileHeadNumbers) ≡ true) t (head-numbers file cells s))))
-    (next-unread file cells work ids s t))
+    (next-unread file cells work ids s t) refl)
   where
     go : isRead file cells s ≡ true → Stopped (merge (ElfFile.rowsOf file) work ids) s → Stopped (mergeFile file cells work ids) s
-    go t (at-head r n e) =
+    go t (at-head r n e f) =
         let q = refusal-read file cells work ids s t in
         at-head (q ∙ r ∙ sym (ap (λ (b : Bool). cond b (Merge.headIn (ElfFile.rowsOf file) (allIn s work ids)) (fileHead file cells s)) t))
-        (subst (λ (x : Refusal). oneOf (x .number) (2 ∷ unstarred) ≡ true) (sym q) n) (next-read file cells work ids s t ∙ e)
+        (subst (λ (x : Refusal). oneOf (x .number) (2 ∷ unstarred) ≡ true) (sym q) n) (next-read file cells work ids s t ∙ e) refl
     go t (at-element n e) =
         at-element (subst (λ (x : Refusal). oneOf (x .number) (2 ∷ starred) ≡ true) (sym (refusal-read file cells work ids s t)) n)
         (ap broke (next-read file cells work ids s t) ∙ e)
 
 load-stopped : (o : Shared.Input) (marks : List ℕ) (s : Linked) → LoadLeft o marks s → Stopped (load o marks) s
-load-stopped o marks s (Elements.at-head r h e) = at-head r (one-within (callNumber (load o marks) s) loadHeadNumbers (2 ∷ unstarred) refl h) e
+load-stopped o marks s (Elements.at-head r h e) = at-head r (one-within (callNumber (load o marks) s) loadHeadNumbers (2 ∷ unstarred) refl h) e refl
 load-stopped o marks s (Elements.at-element b at m h r e) =
     at-element (one-within (callNumber (load o marks) s) (numbersAt o marks s at) (2 ∷ starred) (load-starred o marks s at) h) (ap broke e)
 load-stopped o marks s (Elements.but-its-name b at found m h r e) =
@@ -160,6 +163,7 @@ pub stopped : (k : Call) (s : Linked) → byElements k ≡ true → callNumber k
 stopped (intern x) s g u = absurd (apart g)
 stopped (reads k) s g u = absurd (apart g)
 stopped (add conversion x) s g u = absurd (apart g)
+stopped (addList conversion adds ids) s g u = absurd (apart g)
 stopped (remove id) s g u = absurd (apart g)
 stopped (addGroup o work n) s g u = absurd (apart g)
 stopped (merge o work ids) s g u = merge-stopped o work ids s (merge-leaves o work ids s u)
@@ -175,15 +179,15 @@ pub some : (n : ℕ) (xs : List ℕ) → oneOf 0 xs ≡ false → oneOf n xs ≡
 some n xs z k e = false≢true (sym z ∙ sym (ap (λ (m : ℕ). oneOf m xs) e) ∙ k)
 
 -- "all"
-pub leaves-all : (k : Call) (s : Linked) → oneOf (callNumber k s) unstarred ≡ true → callNext k s ≡ s
+pub leaves-all : (k : Call) (s : Linked) → oneOf (callNumber k s) unstarred ≡ true → callNext k s ≡ earlier k s
 leaves-all k s h =
     by-test (byElements k) (λ g. go (stopped k s g u)) (λ g. Leaves.refused-leaves k s g u)
   where
     u : callNumber k s ≢ 0
     u = some (callNumber k s) unstarred refl h
 
-    go : Stopped k s → callNext k s ≡ s
-    go (at-head r n e) = e
+    go : Stopped k s → callNext k s ≡ earlier k s
+    go (at-head r n e f) = e ∙ sym f
     go (at-element n e) = absurd (ByNumber.apart (callNumber k s) unstarred (2 ∷ starred) refl h n)
 
 -- "Those marked * break the link when met inside an object or shared object"
@@ -191,7 +195,7 @@ pub starred-breaks : (k : Call) (s : Linked) → byElements k ≡ true → oneOf
 starred-breaks k s g h = go (stopped k s g (some (callNumber k s) starred refl h))
   where
     go : Stopped k s → callNext k s .table .link .broken ≡ true
-    go (at-head r n e) = absurd (ByNumber.apart (callNumber k s) starred (2 ∷ unstarred) refl h n)
+    go (at-head r n e f) = absurd (ByNumber.apart (callNumber k s) starred (2 ∷ unstarred) refl h n)
     go (at-element n e) = e
 
 -- 2 breaks it too, but where the head gives it: the cells for the call's own work are too few
@@ -199,13 +203,10 @@ pub two-breaks : (k : Call) (s : Linked) → byElements k ≡ true → callNumbe
 two-breaks k s g t u = go (stopped k s g (λ z. let q : _≡_ {A = ℕ} 0 2 = sym z ∙ t in omega arith))
   where
     go : Stopped k s → callNext k s .table .link .broken ≡ true
-    go (at-head r n e) = absurd (u (sym (ap (λ (x : Refusal). x .number) r) ∙ t))
+    go (at-head r n e f) = absurd (u (sym (ap (λ (x : Refusal). x .number) r) ∙ t))
     go (at-element n e) = e
 
 -- ---- nothing else breaks it
-
-keep-broken : (s : Store) (id : Interned) (x : List ℕ) → keepOf s id x .link .broken ≡ s .link .broken
-keep-broken s id x = keeps (λ (k : Store). k .link .broken ≡ s .link .broken) s id x refl (λ h r. refl)
 
 intern-same : (s : Store) (x : List ℕ) → internOf s x .store .link .broken ≡ s .link .broken
 unfolding internOf issueOf
@@ -217,22 +218,6 @@ intern-same s x =
   where
     P : Names.Left → Type 0
     P o = o .store .link .broken ≡ s .link .broken
-
-commit-same : (t : Table) (r : Row) (file : SttFile) (d : Decision) → committedOf t r file d .table .link .broken ≡ t .link .broken
-unfolding committedOf
-commit-same t r file d =
-    pick P (eqb (refusalOf d) 21) _ _ (λ a. refl)
-    (λ a. pick P (eqb (refusalOf d) 0) _ _ (λ b. applied-count (λ (l : Link). l .broken) keep-broken (λ l n. refl) t r d) (λ b. refl))
-  where
-    P : Symbols.Left → Type 0
-    P x = x .table .link .broken ≡ t .link .broken
-
-add-same : (t : Table) (conversion : List ℕ) (u : UpcomingSymbol) → addOf t conversion u .table .link .broken ≡ t .link .broken
-unfolding addOf addRowOf
-add-same t conversion u =
-    let r : Row = rowOf (t .link .gabi) conversion u (emptyAt (t .names) (nameOf u)) in
-    pick (λ (x : Symbols.Left). x .table .link .broken ≡ t .link .broken) (eqb (judgeAddOf (t .link) (Add.lent t) u .number) 0) _ _
-    (λ a. commit-same t r (fileOf u) (decidedOf t r (fileOf u))) (λ a. refl)
 
 remove-same : (l : Link) (x : Rows) (id : SymbolId) → removeOf l x id .link ≡ l
 unfolding removeOf
@@ -262,7 +247,8 @@ collect-same l x symbols sections entry work =
 direct-same : (k : Call) (s : Linked) → byElements k ≡ false → callNext k s .table .link .broken ≡ s .table .link .broken
 direct-same (intern x) s g = intern-same (store (s .table)) x
 direct-same (reads k) s g = refl
-direct-same (add conversion u) s g = add-same (table (s .table)) conversion u
+direct-same (add conversion u) s g = add-broken-same (table (s .table)) conversion u
+direct-same (addList conversion adds ids) s g = list-broken-same conversion adds ids s
 direct-same (remove id) s g = ap (λ (l : Link). l .broken) (remove-same (s .table .link) _ id)
 direct-same (addGroup o work n) s g = group-count o (s .table) work n (λ (l : Link). l .broken) keep-broken
 direct-same (merge o work ids) s g = absurd (apart (sym g))
@@ -290,6 +276,7 @@ accepted-whole : (k : Call) (s : Linked) → s .table .link .broken ≡ false �
 accepted-whole (intern x) s w z = direct-same (intern x) s refl ∙ w
 accepted-whole (reads k) s w z = w
 accepted-whole (add conversion u) s w z = direct-same (add conversion u) s refl ∙ w
+accepted-whole (addList conversion adds ids) s w z = direct-same (addList conversion adds ids) s refl ∙ w
 accepted-whole (remove id) s w z = direct-same (remove id) s refl ∙ w
 accepted-whole (addGroup o work n) s w z = direct-same (addGroup o work n) s refl ∙ w
 accepted-whole (merge o work ids) s w z = merge-whole o work ids s (merges o work ids s) w z
@@ -313,19 +300,34 @@ breaks-only k s w b =
     (λ g. absurd (false≢true (sym w ∙ sym (direct-same k s g) ∙ b)))
   where
     go : Stopped k s → oneOf (callNumber k s) (2 ∷ starred) ≡ true
-    go (at-head r n e) = absurd (false≢true (sym w ∙ sym (ap broke e) ∙ b))
+    go (at-head r n e f) = absurd (false≢true (sym w ∙ sym (ap broke e) ∙ b))
     go (at-element n e) = n
 
 -- ---- nothing mends it
 
 broken-leaves : (k : Call) (s : Linked) → s .table .link .broken ≡ true → callNext k s ≡ s
 broken-leaves k s b =
-    by-test (changes k) (λ c. leaves-all k s (ap (λ (r : Refusal). oneOf (r .number) unstarred) (broken-refused s b k c))) (λ c. idle k s c)
+    by-test (changes k)
+    (λ c. leaves-all k s (ap (λ (r : Refusal). oneOf (r .number) unstarred) (broken-refused s b k c)) ∙ none-earlier k) (λ c. idle k s c)
   where
+    none-earlier : (k : Call) → earlier k s ≡ s
+    none-earlier (intern x) = refl
+    none-earlier (reads k) = refl
+    none-earlier (add conversion u) = refl
+    none-earlier (addList conversion adds ids) = rw b
+    none-earlier (remove id) = refl
+    none-earlier (addGroup o work n) = refl
+    none-earlier (merge o work ids) = refl
+    none-earlier (mergeFile file cells work ids) = refl
+    none-earlier (load o marks) = refl
+    none-earlier (collect marks entry work) = refl
+    none-earlier (plainCollect marks entry work) = refl
+
     idle : (k : Call) (s : Linked) → changes k ≡ false → callNext k s ≡ s
     idle (intern x) s c = absurd (apart (sym c))
     idle (reads k) s c = refl
     idle (add conversion u) s c = absurd (apart (sym c))
+    idle (addList conversion adds ids) s c = absurd (apart (sym c))
     idle (remove id) s c = absurd (apart (sym c))
     idle (addGroup o work n) s c = absurd (apart (sym c))
     idle (merge o work ids) s c = absurd (apart (sym c))

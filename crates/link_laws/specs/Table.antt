@@ -4,7 +4,7 @@
 use Prim.Native.Nat.{ℕ}
 use mathlib.Core.List.{List, [], _∷_, _++_}
 use Rattle.link_laws.specs.Read as Read
-use Rattle.link_laws.specs.Calls.{Call, intern, add, remove, addGroup, merge, mergeFile, load, collect, plainCollect, reads}
+use Rattle.link_laws.specs.Calls.{Call, intern, add, remove, addGroup, merge, mergeFile, load, collect, plainCollect, reads, addList}
 use Rattle.merge_laws.specs.Table.{groupCauses, bindingCauses, valueCauses, typeCauses, earlyCauses, relocationCauses, mergeHeadNumbers, loadHeadNumbers, fileHeadNumbers}
 
 -- "Add checks in this order"
@@ -32,6 +32,8 @@ abbrev pub callNumbers : Call → List ℕ
 callNumbers (intern x) = 22 ∷ 1 ∷ 2 ∷ []
 callNumbers (reads (Read.resolve id)) = 1 ∷ 23 ∷ []
 callNumbers (add conversion u) = addNumbers
+-- "A broken link gives 22 to any list, then fewer cells than adds give 2"; then each add's
+callNumbers (addList conversion adds ids) = 22 ∷ 2 ∷ 1 ∷ (bindingCauses ++ (21 ∷ (valueCauses ++ (15 ∷ (typeCauses ++ (17 ∷ []))))))
 callNumbers (remove id) = 22 ∷ 1 ∷ 21 ∷ []
 callNumbers (reads (Read.get id)) = 1 ∷ 21 ∷ []
 callNumbers (reads (Read.getGlobal name)) = 1 ∷ 23 ∷ 21 ∷ []

@@ -70,7 +70,7 @@ use Rattle.gc_laws.specs.Terms as Collection
 use Rattle.gc_laws.specs.Reached as Roots
 use Rattle.symbol_laws.specs.Rank.{ranked, FirstOfGreatestRank, firstOf}
 use Rattle.symbol_laws.specs.Proof.Rows.{rowAt}
-use Rattle.symbol_laws.specs.History.{opened, Entry, only, rows, store, upcoming}
+use Rattle.symbol_laws.specs.History.{opened, Entry, only, rows, store, upcoming, table}
 use Rattle.symbol_laws.specs.Proof.Start.{new-inv}
 use Rattle.symbol_laws.specs.Held.{Inv}
 use Rattle.symbol_laws.specs.Proof.Below.{inv-below}
@@ -119,7 +119,7 @@ use Rattle.load_laws.specs.SymbolDuplicates as InLoad
 use Rattle.plain_laws.specs.Agrees.{Agrees}
 use Rattle.plain_laws.specs.Terms as Plain
 use Rattle.plain_laws.specs.Terms.{builtRows}
-use Rattle.link_laws.specs.Calls.{Call, intern, resolve, add, remove, get, getGlobal, sectionSymbol, addGroup, merge, mergeFile, load, archiveStart, archiveNext, matches, collect, plainCollect, viewIn, groupIn, libraryIn, listsIn, LeftBy, callLeft, refusalBy, callRefusal, callNumber, callNext, callNotes, runCalls, logCalls, Removes, RemovesNothing, fileHead}
+use Rattle.link_laws.specs.Calls.{Call, intern, resolve, add, remove, get, getGlobal, sectionSymbol, addGroup, merge, mergeFile, load, archiveStart, archiveNext, matches, collect, plainCollect, viewIn, groupIn, libraryIn, listsIn, LeftBy, callLeft, refusalBy, callRefusal, callNumber, callNext, callNotes, runCalls, logCalls, Removes, RemovesNothing, fileHead, addList, earlier}
 use Rattle.link_laws.specs.Proof.FileCall as FileCall
 use Rattle.elf_laws.specs.Object as ElfFile
 use Rattle.elf_laws.specs.Object.{laid}
@@ -180,8 +180,7 @@ use Rattle.link_laws.specs.LookedUp.{calls-later, calls-whole, inv-ready
 use Rattle.link_laws.specs.LocalRows.{Shown, Counted, calls-onto, calls-stay, inv-shown}
 use Rattle.link_laws.specs.SectionSymbols as SectionSymbols
 use Rattle.link_laws.specs.SectionSymbols.{SectionRow, LocalSection, LastOf}
-use Rattle.link_laws.specs.Growth.{Turn, Quiet, runTurns, logTurns, Some}
-use Rattle.link_laws.specs.Proof.Growth.{turns-reached}
+use Rattle.link_laws.specs.Growth.{Turn, Quiet, runTurns, logTurns, Some, turns-reached}
 use Rattle.link_laws.specs.NeededIn as NeededIn
 use Rattle.link_laws.specs.NeededIn.{NeededIn}
 use Rattle.link_laws.specs.Walks as Walks
@@ -208,6 +207,8 @@ use Rattle.link_laws.specs.OwnEntries.{entryOf, AllFrom, entriesOf, all-
 use Rattle.link_laws.specs.Admitted as Admitted
 use Rattle.link_laws.specs.Admitted.{answerIn}
 use Rattle.merge_laws.specs.Table.{oneOf, sectionCauses, groupCauses, earlyCauses, unstarred, starred, placeless, refusals}
+use Rattle.link_laws.specs.OneByOne as OneByOne
+use Rattle.add_list.specs.AddList.{itemsOf, listLeft}
 
 -- ---- 1. "The answer to every call is a result or, exactly where document 01's rules in their order give it, one of the refusals 1 to 25"; document 02 adds
 -- 26, 27 and 30
@@ -330,9 +331,9 @@ pub start-row : (key : ℕ) (index cells : List ℕ) (s : Linked) → callNumber
     → CutShort.CutShort index (callRefusal (archiveStart key index cells) s .place)
 start-row key index cells s = CutShort.start-row index key cells s
 
--- "and leaves behind what that table says": a refused call leaves every row, name, mark and count of the link; a merge and a load may leave "that call's
--- earlier elements"
-pub refused-leaves : (k : Call) (s : Linked) → byElements k ≡ false → callNumber k s ≢ 0 → callNext k s ≡ s
+-- "and leaves behind what that table says": a refused call leaves every row, name, mark and count of the link, and a list of adds those of the adds
+-- before the refused one (`earlier` is the link as it was for every other call); a merge and a load may leave "that call's earlier elements"
+pub refused-leaves : (k : Call) (s : Linked) → byElements k ≡ false → callNumber k s ≢ 0 → callNext k s ≡ earlier k s
 refused-leaves = Leaves.refused-leaves
 
 -- a new table leaves every lent cell, and a link without rows
@@ -351,9 +352,22 @@ pub walk-leaves : (index cells : List ℕ) (w : Walk) (s : Linked) → callNumbe
     → (callLeft (archiveNext index cells w) s .cells ≡ cells) × (callLeft (archiveNext index cells w) s .moved .walk ≡ w)
 walk-leaves index cells w s = ArchiveLeaves.walk-leaves index cells w _
 
--- 1, 15, 20, 22, 23, 25, 26, 27 and 30 leave "all", whichever call gives them
-pub leaves-all : (k : Call) (s : Linked) → oneOf (callNumber k s) unstarred ≡ true → callNext k s ≡ s
+-- 1, 15, 20, 22, 23, 25, 26, 27 and 30 leave "all", whichever call gives them, but what the earlier adds of a list made
+pub leaves-all : (k : Call) (s : Linked) → oneOf (callNumber k s) unstarred ≡ true → callNext k s ≡ earlier k s
 leaves-all = Starred.leaves-all
+
+-- request 2026-05: a list of adds is the adds one by one, stopped at the first that is refused: the link, the log, number and place, the position, the ids.
+-- "A broken link gives 22 to any list, then fewer cells than adds give 2, both at position 0, changing nothing"
+pub one-by-one : (conversion adds ids : List ℕ) (s : Linked) → s .table .link .broken ≡ false → length (itemsOf adds) ≤ length ids → OneByOne.OneByOne conversion adds ids s
+one-by-one = OneByOne.one-by-one
+
+pub list-broken : (conversion adds ids : List ℕ) (s : Linked) → s .table .link .broken ≡ true
+    → callLeft (addList conversion adds ids) s ≡ listLeft (table (s .table)) ids (refused 22 0) 0
+list-broken = OneByOne.list-broken
+
+pub list-short : (conversion adds ids : List ℕ) (s : Linked) → s .table .link .broken ≡ false → length ids < length (itemsOf adds)
+    → callLeft (addList conversion adds ids) s ≡ listLeft (table (s .table)) ids (refused 2 0) 0
+list-short = OneByOne.list-short
 
 -- a merge or a load that is refused at its head leaves all: 22, 1, 25, missing work cells or marks
 pub merge-head-leaves : (o : Stages.Object) (work ids : List ℕ) (s : Linked) → Merge.headIn o (allIn s work ids) .number ≢ 0 → callNext (merge o work ids) s ≡ s

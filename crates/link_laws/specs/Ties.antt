@@ -34,7 +34,7 @@ use Rattle.symbol_laws.specs.DirectContents.{FromAdd}
 use Rattle.upcoming_symbol.specs.declared.UpcomingSymbol.{UpcomingSymbol}
 use Rattle.merge_laws.specs.Calls.{Linked}
 use Rattle.extraction_laws.specs.Wanted.{row-strong}
-use Rattle.link_laws.specs.Calls.{Call, intern, add, remove, addGroup, merge, mergeFile, load, collect, plainCollect, viewIn, callNext, reads}
+use Rattle.link_laws.specs.Calls.{Call, intern, add, remove, addGroup, merge, mergeFile, load, collect, plainCollect, viewIn, callNext, reads, addList}
 use Rattle.link_laws.specs.Contents.{FromCall, FromCalls, here, later}
 use Rattle.link_laws.specs.Undefined.{isUndefinedRow, symbolsUnder, undefined-none}
 
@@ -57,6 +57,7 @@ call-of-name : (k : Call) (s : Linked) (met : List (List ℕ)) (r : Row) → Fro
 call-of-name (intern x) s met r p = absurd p
 call-of-name (reads k) s met r p = absurd p
 call-of-name (add conversion u) s met r p = add-of-name r u p
+call-of-name (addList conversion adds ids) s met r p = add-of-name r (p .symbol) (p .from)
 call-of-name (remove id) s met r p = absurd p
 call-of-name (addGroup o work n) s met r p = absurd p
 call-of-name (merge o work ids) s met r p = ap isOfName (p .content .shown)

@@ -1,4 +1,4 @@
--- A history with every call in it, but the merge of a file, that meets the
+-- A history with every call in it, but the merge of a file and a list of adds, which are the merge of its rows and its adds one by one, that meets the
 -- premises of the page, by computation: its links, answers and walk are not empty. Beside it what the page says of one more call: as-needed, refused merges and loads, removals; and a history whose lists grow.
 -- Assumes nothing.
 use Prim.Native.Nat.{ℕ, _+_}

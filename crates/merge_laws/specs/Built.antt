@@ -43,8 +43,7 @@ use Rattle.merge_laws.specs.Marked.{Marked, marksOf}
 use Rattle.merge_laws.specs.Proof.Marked.{steps-marked}
 use Rattle.merge_laws.specs.Placed.{rowOf, few, slots, converted, reserve-beside, reserve-placed}
 use Rattle.merge_laws.specs.Issue.{keep-sections}
-use Rattle.merge_laws.specs.Lists.{keep-lists}
-use Rattle.merge_laws.specs.Proof.Lists.{reserve-count}
+use Rattle.merge_laws.specs.Lists.{keep-lists, reserve-count}
 use Rattle.merge_laws.specs.Proof.GroupStage.{groups-count}
 use Rattle.merge_laws.specs.Proof.SymbolStage.{symbols-long, symbols-count}
 use Rattle.merge_laws.specs.Proof.BuildStage.{numberOf, build-loop}

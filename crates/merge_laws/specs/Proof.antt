@@ -1,4 +1,3 @@
-pub mod Calls
 pub mod Profile
 pub mod Origin
 pub mod Beside
@@ -17,7 +16,6 @@ pub mod Markless
 pub mod GroupMarks
 pub mod RowStays
 pub mod Past
-pub mod Lists
 pub mod WorkRows
 pub mod WorkNotes
 pub mod RowsBelow

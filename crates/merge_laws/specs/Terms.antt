@@ -52,8 +52,7 @@ use Rattle.merge_laws.specs.Whole.{tableIn, merge-makes}
 use Rattle.merge_laws.specs.Kept.{addedRows}
 use Rattle.merge_laws.specs.Proof.Kept.{log-rows}
 use Rattle.merge_laws.specs.Seen.{partsIn, MadeAlone, makes-parts}
-use Rattle.merge_laws.specs.Calls.{Linked, linked, allIn, Call, merge, callNext, runCalls, logCalls, RemovesNothing, signatures}
-use Rattle.merge_laws.specs.Proof.Calls.{calls-keep-inv, calls-marked}
+use Rattle.merge_laws.specs.Calls.{Linked, linked, allIn, Call, merge, callNext, runCalls, logCalls, RemovesNothing, signatures, calls-keep-inv, calls-marked}
 use Rattle.merge_laws.specs.Proof.Profile.{calls-profile}
 use Rattle.merge_laws.specs.Stops as Stages
 use Rattle.merge_laws.specs.Stops.{groupsTo}
@@ -71,7 +70,6 @@ use Rattle.merge_laws.specs.Proof.Lookups.{new-lists}
 use Rattle.merge_laws.specs.Past as Past
 use Rattle.merge_laws.specs.Proof.Past as PastLaws
 use Rattle.merge_laws.specs.Lists as Lists
-use Rattle.merge_laws.specs.Proof.Lists as ListsLaws
 use Rattle.merge_laws.specs.Table.{oneOf, sectionCauses, earlyCauses}
 
 -- ---- demand 3a
@@ -245,7 +243,7 @@ module _ (o : Object) (a : All) where
 
   -- inputs and lists that are counted before, and those past the counts that it leaves, are never written
   pub lists-past : Lists.Listed (a .inputs) (a .lists) (a .stage .link) (mergeOf o a .cells .inputs) (mergeOf o a .cells .lists) (mergeOf o a .cells .stage .link)
-  lists-past = ListsLaws.merge-left o a
+  lists-past = Lists.merge-left o a
 
 -- ---- symbols of a removed section
 

@@ -1,3 +1,4 @@
 pub mod Examples
 pub mod Groups
+pub mod Lists
 pub mod Proof

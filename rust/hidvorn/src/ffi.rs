@@ -101,6 +101,23 @@ unsafe extern "C" {
         item_len: usize,
     ) -> u64;
 
+    fn hidvorn_add_list(
+        header: *mut u64,
+        header_len: usize,
+        names: *mut u64,
+        names_len: usize,
+        symbols: *mut u64,
+        symbols_len: usize,
+        sections: *mut u64,
+        sections_len: usize,
+        conversion: *const u64,
+        conversion_len: usize,
+        adds: *const u64,
+        adds_len: usize,
+        ids: *mut u64,
+        ids_len: usize,
+    ) -> u64;
+
     fn hidvorn_remove(
         header: *mut u64,
         header_len: usize,
@@ -466,6 +483,37 @@ pub(crate) fn add(
             conversion.len(),
             item.as_ptr(),
             item.len(),
+        );
+    }
+    answer(header)
+}
+
+pub(crate) fn add_list(
+    header: &mut Header,
+    names: &mut [u64],
+    symbols: &mut [u64],
+    sections: &mut [u64],
+    conversion: &[u64],
+    adds: &[u64],
+    ids: &mut [u64],
+) -> Result<(), Refusal> {
+    // SAFETY: see the module.
+    unsafe {
+        hidvorn_add_list(
+            header.as_mut_ptr(),
+            header.len(),
+            names.as_mut_ptr(),
+            names.len(),
+            symbols.as_mut_ptr(),
+            symbols.len(),
+            sections.as_mut_ptr(),
+            sections.len(),
+            conversion.as_ptr(),
+            conversion.len(),
+            adds.as_ptr(),
+            adds.len(),
+            ids.as_mut_ptr(),
+            ids.len(),
         );
     }
     answer(header)

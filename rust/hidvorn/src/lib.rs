@@ -6,7 +6,7 @@
 //!
 //! | cuddld | here |
 //! |---|---|
-//! | `Symbols::{new, add, get, get_global, section_symbol_id, remove}` | [`Link::new`], [`Link::add`], .. |
+//! | `Symbols::{new, add, get, get_global, section_symbol_id, remove}` | [`Link::new`], [`Link::add`], [`Link::add_all`] for a list, .. |
 //! | `intern`, `Interned::resolve` | [`Link::intern`], [`Link::resolve`]; [`Link::find`] issues no name and works on a broken link |
 //! | `merge_elf` | [`Link::merge_elf`] of an [`Object`]; [`Merged`] has the ids of its sections and symbols |
 //! | reading an object file | [`Link::merge_file`]; [`Object::read`] for its rows alone |
@@ -60,17 +60,19 @@ mod symbol;
 
 #[cfg(test)]
 mod file_tests;
+#[cfg(test)]
+mod list_tests;
 
 pub use archive::{IndexEntry, Member, PendingArchive, Step};
 pub use group::GroupMarks;
 pub use ids::{Interned, SectionId, SymbolId};
 pub use library::{LibraryName, Load, SharedObject};
-pub use link::{Capacity, Collected, Link, Profile};
+pub use link::{Capacity, Collected, Link, ListRefused, Profile};
 pub use merged::Merged;
 pub use object::{Object, Relocations, SectionContent, SectionHeader};
 pub use refusal::{Cause, Refusal};
 pub use rows::{Ids, Input, Names, Relocations as SectionRelocations, Section};
 pub use symbol::{
-    Converted, ElfSymbol, SectionConversion, Symbol, SymbolType, SymbolValue, SymbolVisibility,
-    UpcomingSymbol,
+    Converted, ElfSymbol, ListedSymbol, SectionConversion, Symbol, SymbolType, SymbolValue,
+    SymbolVisibility, UpcomingSymbol,
 };

@@ -2,8 +2,8 @@
 use crate::ffi::{self, Header, KEY, PROFILE, VALUE};
 use crate::object::{cells_for, loaded_symbols};
 use crate::{
-    GroupMarks, Interned, LibraryName, Load, Merged, Object, Refusal, SectionId, SharedObject,
-    Symbol, SymbolId, UpcomingSymbol,
+    GroupMarks, Interned, LibraryName, ListedSymbol, Load, Merged, Object, Refusal,
+    SectionConversion, SectionId, SharedObject, Symbol, SymbolId, UpcomingSymbol,
 };
 use std::fmt;
 use std::hash::{BuildHasher, RandomState};
@@ -109,6 +109,25 @@ pub struct Collected {
     /// How many symbols it removed with them.
     pub symbols: usize,
 }
+
+/// A list of adds that was refused: the adds before the refused one stay.
+#[derive(Clone, Debug, PartialEq, Eq)]
+pub struct ListRefused {
+    /// The refusal of that add; its place is an add's own.
+    pub refusal: Refusal,
+    /// The add's position in the list, from 0; 0 too for a list that makes no add.
+    pub position: usize,
+    /// The ids of the adds before it.
+    pub ids: Vec<SymbolId>,
+}
+
+impl std::fmt::Display for ListRefused {
+    fn fmt(&self, f: &mut std::fmt::Formatter<'_>) -> std::fmt::Result {
+        write!(f, "add {}: {}", self.position, self.refusal)
+    }
+}
+
+impl std::error::Error for ListRefused {}
 
 impl Link {
     /// An empty link of `Capacity::BOUNDS`, in the old profile.
@@ -235,6 +254,27 @@ impl Link {
         let Link { header, names, symbols, sections, .. } = self;
         ffi::add(header, names, symbols, sections, symbol.conversion(), &symbol.cells())?;
         Ok(SymbolId::of_cell(header[VALUE]))
+    }
+
+    /// Adds the symbols one by one, in a single call, up to the first that is refused, and answers
+    /// the id of each. On a broken link every list is refused with 22, the empty one too.
+    pub fn add_all(
+        &mut self,
+        list: &[ListedSymbol],
+        conversion: &SectionConversion,
+    ) -> Result<Vec<SymbolId>, ListRefused> {
+        let adds: Vec<u64> = list.iter().flat_map(ListedSymbol::cells).collect();
+        let mut cells = vec![0; list.len()];
+        let Link { header, names, symbols, sections, .. } = self;
+        let conversion = conversion.cells();
+        let answer =
+            ffi::add_list(header, names, symbols, sections, conversion, &adds, &mut cells);
+        let position = header[VALUE] as usize;
+        let ids = cells[..position].iter().map(|cell| SymbolId::of_cell(*cell)).collect();
+        match answer {
+            Ok(()) => Ok(ids),
+            Err(refusal) => Err(ListRefused { refusal, position, ids }),
+        }
     }
 
     /// The symbol of that id; 21 if it is absent or removed.

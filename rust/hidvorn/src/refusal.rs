@@ -120,8 +120,8 @@ impl fmt::Display for Cause {
 /// Why a call was refused, and where.
 ///
 /// What a refused call leaves behind is stated by the same table. A call by itself (an add, a
-/// remove, a lookup, a group, a step of a walk, a collection) leaves all as it was. Inside a merge
-/// or a load the elements before the refused one stay, and the link is broken: every later call
+/// remove, a lookup, a group, a step of a walk, a collection) leaves all as it was. A list of adds
+/// leaves what the adds before the refused one made, and the link isn't broken. Inside a merge or a load the elements before the refused one stay, and the link is broken: every later call
 /// that would change it is refused with 22. Not so 1, 22, 25, 26 and 27, nor 2 for missing work cells
 /// or too few cells for a file's rows: they change nothing. A repeated COMDAT group that lists a section
 /// number of 65,280 or above gives 2 and breaks the link: it is the one 2 that more capacity
@@ -141,7 +141,7 @@ pub struct Refusal {
     /// | 21 | an id: the name's for an add, also inside a merge or a load, and for a lookup by name; the symbol's for `get` and `remove`, the section's for a collection; for a walk the index' entry (`PendingArchive::entry`) |
     /// | 27 | the section's number in the file; 0 for the section headers |
     ///
-    /// 0 for the others, and for a direct add but 21. For a group by itself symbols have their
+    /// 0 for the others, and for a direct add, also one of a list, but 21. For a group by itself symbols have their
     /// number in the table that was named.
     pub place: usize,
 }

@@ -254,6 +254,27 @@ impl FromIterator<Converted> for SectionConversion {
     }
 }
 
+/// A symbol of a list of adds: a symbol of an object with its name's id.
+#[derive(Clone, Copy, Debug)]
+pub struct ListedSymbol {
+    /// Its fields; the name's offset isn't used.
+    pub elf: ElfSymbol,
+    /// Its name.
+    pub name: Interned,
+    /// The name of its source file.
+    pub file: Option<Interned>,
+}
+
+impl ListedSymbol {
+    /// The cells of an object's symbol, with the name's id for its offset, and the file last.
+    pub(crate) fn cells(&self) -> [u64; 8] {
+        let mut cells = self.elf.cells();
+        cells[0] = self.name.cell();
+        cells[7] = Interned::optional_cell(self.file);
+        cells
+    }
+}
+
 /// A symbol that is to be added.
 #[derive(Clone, Copy, Debug)]
 pub enum UpcomingSymbol<'a> {

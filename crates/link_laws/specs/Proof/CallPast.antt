@@ -4,7 +4,7 @@ use Rattle.symbol_laws.specs.Below.{Below}
 use Rattle.merge_laws.specs.Past.{TablePast}
 use Rattle.merge_laws.specs.Proof.Past.{makes-past}
 use Rattle.merge_laws.specs.Calls.{Linked}
-use Rattle.link_laws.specs.Calls.{Call, intern, add, remove, addGroup, merge, mergeFile, load, collect, plainCollect, listsIn, callNext, Removes, reads}
+use Rattle.link_laws.specs.Calls.{Call, intern, add, remove, addGroup, merge, mergeFile, load, collect, plainCollect, listsIn, callNext, Removes, reads, addList}
 use Rattle.link_laws.specs.Proof.PlainCalls.{Compared, alike, many, compared, many-drops}
 use mathlib.Core.Path.{sym, subst}
 use Rattle.link_laws.specs.CallSteps.{callSteps}
@@ -22,6 +22,7 @@ module _ (s : Linked) (b : Below (s .table)) where
   call-past (intern x) = quiet-past (intern x) (λ (e : ⊥). e)
   call-past (reads k) = quiet-past (reads k) (λ (e : ⊥). e)
   call-past (add conversion u) = quiet-past (add conversion u) (λ (e : ⊥). e)
+  call-past (addList conversion adds ids) = quiet-past (addList conversion adds ids) (λ (e : ⊥). e)
   call-past (remove id) = remove-past (s .table) id
   call-past (addGroup o work n) = quiet-past (addGroup o work n) (λ (e : ⊥). e)
   call-past (merge o work ids) = quiet-past (merge o work ids) (λ (e : ⊥). e)

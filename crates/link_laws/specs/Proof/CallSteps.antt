@@ -21,22 +21,27 @@ use Rattle.gc_sections.specs.Run as Collection
 use Rattle.gc_sections.specs.Run.{runOf}
 use Rattle.symbol_laws.specs.History as History
 use Rattle.symbol_laws.specs.History.{State, store, table, withRows, idOf, Part, runParts, logParts, partNext}
+use Rattle.symbol_laws.specs.Below.{Below}
+use Rattle.merge_laws.specs.Proof.Past.{steps-below}
 use Rattle.symbol_laws.specs.Proof.Refused.{add-accepted, remove-link}
-use Rattle.symbol_laws.specs.Calls.{historyParts}
+use Rattle.symbol_laws.specs.Calls.{historyParts, callParts}
 use Rattle.symbol_laws.specs.Proof.Calls.{history-run, history-log}
-use Rattle.merge_laws.specs.Steps.{runSteps, logSteps, AllGo, Makes, makes-none}
+use Rattle.merge_laws.specs.Steps.{Step, part, runSteps, logSteps, AllGo, Makes, makes-none, makes-both}
 use Rattle.merge_laws.specs.MergeSteps.{mergeSteps}
 use Rattle.merge_laws.specs.Origin.{AllShown}
+use Rattle.merge_laws.specs.Proof.Origin.{shown-both}
 use Rattle.merge_laws.specs.Whole.{merge-makes}
 use Rattle.merge_laws.specs.Calls.{Linked, allIn}
 use Rattle.load_laws.specs.Whole.{load-makes}
-use Rattle.link_laws.specs.Calls.{Call, intern, add, remove, addGroup, merge, mergeFile, load, collect, plainCollect, libraryIn, listsIn, callLeft, callNext, callNotes, Removes, isRead, fileSteps, reads}
+use Rattle.link_laws.specs.Calls.{Call, intern, add, remove, addGroup, merge, mergeFile, load, collect, plainCollect, libraryIn, listsIn, callLeft, callNext, callNotes, Removes, isRead, fileSteps, reads, addList, listAdds}
 use Rattle.elf_laws.specs.Object as ElfFile
 use Rattle.link_laws.specs.Proof.FileCall.{next-read, next-unread}
 use Rattle.link_laws.specs.Proof.PlainCalls.{plain-link}
 use Rattle.link_laws.specs.Idle.{drops-nothing, plain-drops-nothing}
 use Rattle.link_laws.specs.Proof.CollectPast.{run-past}
-use Rattle.link_laws.specs.CallSteps.{partSteps, directSteps, at, group-makes, group-log, callSteps, Leads, made, cleared}
+use Rattle.add_list.specs.AddList.{itemsOf}
+use Rattle.link_laws.specs.Proof.ListCall.{listed-adds, up-to-quiet, next-is}
+use Rattle.link_laws.specs.CallSteps.{partSteps, directSteps, listSteps, at, group-makes, group-log, callSteps, Leads, made, cleared}
 
 -- none is a library's
 pub direct-shown : (k : History.Call) (s : State) → AllShown (directSteps k s)
@@ -79,6 +84,43 @@ direct-log : (k : History.Call) (s : State) → (History.Removes k s → ⊥) �
 direct-log k s q =
     sym (append-nil (History.callNotes k s)) ∙ history-log (k ∷ []) s (q, tt) ∙ sym (parts-log (historyParts (k ∷ []) s) s)
 
+parts-append : (ps qs : List Part) → partSteps (ps ++ qs) ≡ partSteps ps ++ partSteps qs
+parts-append [] qs = refl
+parts-append (p ∷ ps) qs = ap (_∷_ (part p)) (parts-append ps qs)
+
+list-log : (ks : List History.Call) (t : State) → History.RemovesNothing ks t → History.logCalls ks t ≡ logSteps (listSteps ks t) t
+list-log ks t q = history-log ks t q ∙ sym (parts-log (historyParts ks t) t)
+
+calls-make : (ks : List History.Call) (t : State) → History.RemovesNothing ks t → Makes t (listSteps ks t) (History.runCalls ks t)
+calls-make [] t q = makes-none t
+calls-make (k ∷ ks) t q =
+    subst (λ (x : List Step). Makes t x (History.runCalls ks (History.callNext k t)))
+    (sym (parts-append (callParts k t) (historyParts ks (History.callNext k t))))
+    (makes-both t (History.callNext k t) (History.runCalls ks (History.callNext k t)) (partSteps (callParts k t)) (listSteps ks (History.callNext k t))
+    (subst (λ (x : List Part). Makes t (partSteps x) (History.callNext k t)) (append-nil (callParts k t)) (direct-makes k t (q .0)))
+    (calls-make ks (History.callNext k t) (q .1)))
+
+-- none is a library's
+pub calls-shown-direct : (ks : List History.Call) (t : State) → AllShown (listSteps ks t)
+calls-shown-direct [] t = tt
+calls-shown-direct (k ∷ ks) t =
+    subst AllShown (sym (parts-append (callParts k t) (historyParts ks (History.callNext k t))))
+    (shown-both (partSteps (callParts k t)) (listSteps ks (History.callNext k t))
+    (subst (λ (x : List Part). AllShown (partSteps x)) (append-nil (callParts k t)) (direct-shown k t)) (calls-shown-direct ks (History.callNext k t)))
+
+pub direct-below : (k : History.Call) (t : State) → (History.Removes k t → ⊥) → Below t → Below (History.callNext k t)
+direct-below k t q b = let m = direct-makes k t q in subst Below (m .leads) (steps-below (directSteps k t) t b)
+
+list-quiet : (conversion adds ids : List ℕ) (s : Linked) → History.RemovesNothing (listAdds conversion adds ids s) (s .table)
+list-quiet conversion adds ids s =
+    listed-adds (λ (ks : List History.Call). History.RemovesNothing ks (s .table)) conversion adds ids s tt (up-to-quiet conversion (itemsOf adds) (s .table))
+
+list-makes : (conversion adds ids : List ℕ) (s : Linked)
+    → Makes (s .table) (listSteps (listAdds conversion adds ids s) (s .table)) (callNext (addList conversion adds ids) s .table)
+list-makes conversion adds ids s =
+    subst (Makes (s .table) (listSteps (listAdds conversion adds ids s) (s .table))) (ap (λ (x : Linked). x .table) (sym (next-is conversion adds ids s)))
+    (calls-make (listAdds conversion adds ids s) (s .table) (list-quiet conversion adds ids s))
+
 file-makes : (file cells work ids : List ℕ) (s : Linked) → Makes (s .table) (fileSteps file cells work ids s) (callNext (mergeFile file cells work ids) s .table)
 file-makes file cells work ids s =
     by-test (isRead file cells s)
@@ -89,6 +131,7 @@ pub call-makes : (k : Call) (s : Linked) → (Removes k s → ⊥) → Makes (s 
 call-makes (intern x) s q = direct-makes (History.intern x) (s .table) q
 call-makes (reads k) s q = makes-none (s .table)
 call-makes (add conversion u) s q = direct-makes (History.add conversion u) (s .table) q
+call-makes (addList conversion adds ids) s q = list-makes conversion adds ids s
 call-makes (remove id) s q = direct-makes (History.remove id) (s .table) q
 call-makes (addGroup o work n) s q = group-makes o (s .table) work n
 call-makes (merge o work ids) s q = merge-makes o (allIn s work ids)
@@ -103,6 +146,7 @@ pub call-log : (k : Call) (s : Linked) → (Removes k s → ⊥) → callNotes k
 call-log (intern x) s q = direct-log (History.intern x) (s .table) q
 call-log (reads k) s q = refl
 call-log (add conversion u) s q = direct-log (History.add conversion u) (s .table) q
+call-log (addList conversion adds ids) s q = list-log (listAdds conversion adds ids s) (s .table) (list-quiet conversion adds ids s)
 call-log (remove id) s q = refl
 call-log (addGroup o work n) s q = group-log o (s .table) work n
 call-log (merge o work ids) s q = refl
@@ -115,6 +159,7 @@ pub call-leads : (k : Call) (s : Linked) → Leads (s .table) (callSteps k s) (c
 call-leads (intern x) s = made (call-makes (intern x) s (λ (e : ⊥). e))
 call-leads (reads k) s = made (makes-none (s .table))
 call-leads (add conversion u) s = made (call-makes (add conversion u) s (λ (e : ⊥). e))
+call-leads (addList conversion adds ids) s = made (list-makes conversion adds ids s)
 call-leads (remove id) s =
     let x : Rows = rowsOf (s .table .symbols) (s .table .sections) in
     cleared (removeOf (s .table .link) x id .rows) refl

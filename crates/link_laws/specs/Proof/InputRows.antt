@@ -41,8 +41,7 @@ use Rattle.shared_objects.specs.SymbolsLoad as Symboled
 use Rattle.shared_objects.specs.Need.{Judged}
 use Rattle.load_laws.specs.LibraryRow.{below-rows}
 use Rattle.merge_laws.specs.Loop.{loop-holds}
-use Rattle.merge_laws.specs.Lists.{keep-inputs}
-use Rattle.merge_laws.specs.Proof.Lists.{reserve-count}
+use Rattle.merge_laws.specs.Lists.{keep-inputs, reserve-count}
 use Rattle.merge_laws.specs.Proof.GroupStage.{groups-count}
 use Rattle.merge_laws.specs.Proof.SymbolStage.{symbols-count}
 use Rattle.merge_laws.specs.Proof.BuildStage.{numberOf, build-loop}

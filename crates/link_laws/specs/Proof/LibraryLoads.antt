@@ -22,12 +22,12 @@ use Rattle.symbol_laws.specs.History as History
 use Rattle.symbol_laws.specs.Proof.Refused.{remove-link}
 use Rattle.merge_laws.specs.Lists.{keep-inputs}
 use Rattle.merge_laws.specs.Calls.{Linked, allIn}
-use Rattle.link_laws.specs.Calls.{Call, intern, add, remove, addGroup, merge, mergeFile, load, collect, plainCollect, libraryIn, listsIn, callLeft, callNext, runCalls, isRead, reads}
+use Rattle.link_laws.specs.Calls.{Call, intern, add, remove, addGroup, merge, mergeFile, load, collect, plainCollect, libraryIn, listsIn, callLeft, callNext, runCalls, isRead, reads, addList}
 use Rattle.link_laws.specs.Proof.PlainCalls.{plain-link}
 use Rattle.elf_laws.specs.Object as ElfFile
 use Rattle.link_laws.specs.Proof.FileCall.{next-read, next-unread}
 use Rattle.link_laws.specs.Leaves.{byElements}
-use Rattle.link_laws.specs.Proof.Lists.{direct-count, call-listed}
+use Rattle.link_laws.specs.Proof.Lists.{direct-count, call-listed, list-count}
 use Rattle.link_laws.specs.Proof.CollectPast.{run-past}
 use Rattle.link_laws.specs.CallSteps.{group-count}
 use Rattle.link_laws.specs.Proof.InputRows.{Took, none, one, merge-took, LoadTook, load-took}
@@ -43,6 +43,7 @@ other-count : (c : Call) (s : Linked) → byElements c ≡ false → inputs (cal
 other-count (intern x) s e = direct (History.intern x) s (λ (z : ⊥). z)
 other-count (reads k) s e = refl
 other-count (add conversion u) s e = direct (History.add conversion u) s (λ (z : ⊥). z)
+other-count (addList conversion adds ids) s e = list-count count keep-inputs (λ l n. refl) conversion adds ids s
 other-count (remove id) s e = ap count (remove-link (s .table .link) (rowsOf (s .table .symbols) (s .table .sections)) id)
 other-count (addGroup o work n) s e = group-count o (s .table) work n count keep-inputs
 other-count (merge o work ids) s e = absurd (false≢true (sym e))
@@ -99,6 +100,7 @@ module _ (k : ℕ) (cs : List Call) (s : Linked) (fresh : inputs s ≤ k) where
       element (intern x) t n h e = absurd (false≢true t)
       element (reads k) t n h e = absurd (false≢true t)
       element (add conversion u) t n h e = absurd (false≢true t)
+      element (addList conversion adds ids) t n h e = absurd (false≢true t)
       element (remove id) t n h e = absurd (false≢true t)
       element (addGroup o work m) t n h e = absurd (false≢true t)
       element (merge o work ids) t n h e = absurd (by-object o work ids n h e)

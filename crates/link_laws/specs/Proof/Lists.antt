@@ -21,16 +21,16 @@ use Rattle.symbol_laws.specs.Proof.Refused.{remove-link}
 use Rattle.symbol_laws.specs.Calls.{historyParts}
 use Rattle.symbol_laws.specs.Proof.Calls.{history-run}
 use Rattle.merge_laws.specs.Proof.SymbolStage.{applied-count}
-use Rattle.merge_laws.specs.Lists.{listed-none, keep-lists, keep-inputs}
-use Rattle.merge_laws.specs.Proof.Lists.{merge-left}
+use Rattle.merge_laws.specs.Lists.{listed-none, keep-lists, keep-inputs, merge-left}
 use Rattle.merge_laws.specs.Calls.{Linked, linked, allIn}
 use Rattle.load_laws.specs.Proof.Lists.{load-listed}
-use Rattle.link_laws.specs.Calls.{Call, intern, add, remove, addGroup, merge, mergeFile, load, collect, plainCollect, libraryIn, listsIn, callNext, reads}
+use Rattle.link_laws.specs.Calls.{Call, intern, add, remove, addGroup, merge, mergeFile, load, collect, plainCollect, libraryIn, listsIn, callNext, reads, addList}
 use Rattle.link_laws.specs.Proof.PlainCalls.{plain-link}
 use Rattle.elf_laws.specs.Object as ElfFile
 use Rattle.link_laws.specs.Proof.FileCall.{by-file}
 use Rattle.link_laws.specs.Proof.CollectPast.{run-past}
 use Rattle.link_laws.specs.CallSteps.{group-count}
+use Rattle.link_laws.specs.Proof.ListCall.{next-is, list-keeps}
 use Rattle.link_laws.specs.Lists.{ListsLeft}
 
 module _ (count : Link → ℕ) (same : (s : Store) (id : Interned) (x : List ℕ) → count (keepOf s id x .link) ≡ count (s .link))
@@ -45,6 +45,12 @@ module _ (count : Link → ℕ) (same : (s : Store) (id : Interned) (x : List �
 
   pub direct-count : (k : History.Call) (s : State) → (History.Removes k s → ⊥) → count (History.callNext k s .link) ≡ count (s .link)
   direct-count k s q = ap (λ (t : State). count (t .link)) (history-run (k ∷ []) s (q, tt)) ∙ parts-count (historyParts (k ∷ []) s) s
+
+  pub list-count : (conversion adds ids : List ℕ) (s : Linked) → count (callNext (addList conversion adds ids) s .table .link) ≡ count (s .table .link)
+  list-count conversion adds ids s =
+      ap (λ (t : Linked). count (t .table .link)) (next-is conversion adds ids s)
+      ∙ list-keeps (λ (t : State). count (t .link) ≡ count (s .table .link)) conversion
+      (λ t u e. direct-count (History.add conversion u) t (λ (z : ⊥). z) ∙ e) adds ids s refl
 
 none-listed : (s : Linked) → ListsLeft s s
 none-listed s = listed-none (s .inputs) (s .lists) (s .table .link) (s .table .link) refl refl
@@ -63,6 +69,9 @@ pub call-listed : (k : Call) (s : Linked) → length (s .lists) ≤ notLent → 
 call-listed (intern x) s h = direct-listed (History.intern x) s (λ (e : ⊥). e)
 call-listed (reads k) s h = none-listed s
 call-listed (add conversion u) s h = direct-listed (History.add conversion u) s (λ (e : ⊥). e)
+call-listed (addList conversion adds ids) s h =
+    listed-none (s .inputs) (s .lists) (s .table .link) (callNext (addList conversion adds ids) s .table .link)
+    (list-count (λ (l : Link). l .lists) keep-lists (λ l n. refl) conversion adds ids s) (list-count (λ (l : Link). l .inputs) keep-inputs (λ l n. refl) conversion adds ids s)
 call-listed (remove id) s h =
     same-listed s (callNext (remove id) s .table) (remove-link (s .table .link) (rowsOf (s .table .symbols) (s .table .sections)) id)
 call-listed (addGroup o work n) s h =

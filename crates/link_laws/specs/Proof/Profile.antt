@@ -14,11 +14,11 @@ use Rattle.merge_laws.specs.Calls.{Linked, allIn}
 use Rattle.merge_laws.specs.Origin.{AllShown, LogShown}
 use Rattle.merge_laws.specs.Proof.Origin.{log-both, log-shown, group-shown, merge-shown}
 use Rattle.load_laws.specs.Proof.Origin.{load-shown}
-use Rattle.link_laws.specs.Calls.{Call, intern, add, remove, addGroup, merge, mergeFile, load, collect, plainCollect, libraryIn, callNext, callNotes, runCalls, logCalls, RemovesNothing, isRead, reads}
+use Rattle.link_laws.specs.Calls.{Call, intern, add, remove, addGroup, merge, mergeFile, load, collect, plainCollect, libraryIn, callNext, callNotes, runCalls, logCalls, RemovesNothing, isRead, reads, addList, listAdds}
 use Rattle.elf_laws.specs.Object as ElfFile
 use Rattle.link_laws.specs.Growth.{Turn, turnNext, turnNotes, grow, runTurns, logTurns, Quiet}
 use Rattle.link_laws.specs.CallSteps.{callSteps, Leads, made, cleared, headNumber}
-use Rattle.link_laws.specs.Proof.CallSteps.{call-log, call-leads, direct-shown}
+use Rattle.link_laws.specs.Proof.CallSteps.{call-log, call-leads, direct-shown, calls-shown-direct}
 
 leads-profile : (s t : State) (ks : List Step) → Leads s ks t → t .link .gabi ≡ s .link .gabi
 leads-profile s t ks (made m) = makes-profile s t ks m
@@ -42,6 +42,7 @@ call-shown : (k : Call) (s : Linked) → s .table .link .gabi ≡ true → AllSh
 call-shown (intern x) s g = direct-shown (History.intern x) (s .table)
 call-shown (reads k) s g = tt
 call-shown (add conversion u) s g = direct-shown (History.add conversion u) (s .table)
+call-shown (addList conversion adds ids) s g = calls-shown-direct (listAdds conversion adds ids s) (s .table)
 call-shown (remove id) s g = tt
 call-shown (addGroup o work n) s g = pick AllShown (eqb (headNumber o (s .table) work n) 0) _ _ (λ a. group-shown (loadedIn o) _ n) (λ a. tt)
 call-shown (merge o work ids) s g = merge-shown o (allIn s work ids)

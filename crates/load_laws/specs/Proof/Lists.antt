@@ -29,8 +29,7 @@ use Rattle.shared_objects.specs.Stages as Stages
 use Rattle.shared_objects.specs.Load.{All, Input, endedAs, linksIn, wantedOf, headIn, nameOf, loadOf}
 use Rattle.shared_objects.specs.Load as Load
 use Rattle.merge_laws.specs.Loop.{loop-holds}
-use Rattle.merge_laws.specs.Lists.{Listed, listed-none, lists-listed, listed-both, keep-lists, keep-inputs}
-use Rattle.merge_laws.specs.Proof.Lists.{row-taken}
+use Rattle.merge_laws.specs.Lists.{Listed, listed-none, lists-listed, listed-both, row-taken, keep-lists, keep-inputs}
 use Rattle.load_laws.specs.LoadSteps.{recording, adding, listFirst, listsIn, symbolFirst}
 use Rattle.load_laws.specs.Whole.{record-room, symbols-loop, dependencies-loop}
 use Rattle.load_laws.specs.Proof.Unbroken.{commit-count}

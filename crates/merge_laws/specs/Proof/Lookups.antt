@@ -36,8 +36,7 @@ use Rattle.merge_laws.specs.MergeSteps.{mergeSteps}
 use Rattle.merge_laws.specs.Whole.{merge-makes}
 use Rattle.merge_laws.specs.Issue.{keeps}
 use Rattle.merge_laws.specs.Proof.SymbolStage.{applied-count}
-use Rattle.merge_laws.specs.Lists.{keep-lists}
-use Rattle.merge_laws.specs.Proof.Lists.{merge-left}
+use Rattle.merge_laws.specs.Lists.{keep-lists, merge-left}
 use Rattle.merge_laws.specs.Calls.{Linked, allIn, Call, direct, merge, callNext, runCalls, Removes, RemovesNothing}
 
 -- all but the count of the lists

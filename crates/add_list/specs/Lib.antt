@@ -1,0 +1,3 @@
+pub mod AddList
+pub mod Contract
+pub mod Proof
