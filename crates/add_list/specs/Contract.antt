@@ -1,7 +1,7 @@
 -- The contract of a list of adds: what a caller sees of the call, its result and every cell that it lent to be written, against the call's definition.
 -- Assumes nothing.
 use Rattle.std.specs.Prelude.{ℕ, ◌≡◌, List, set}
-use Rattle.cells.specs.Slice.{Slice, after, before}
+use Rattle.cells.specs.Slice.{SliceMut}
 use Rattle.link.specs.declared.Link.{Link}
 use Rattle.link.specs.declared.Refusal.{Refusal}
 use Rattle.link.specs.Judge.{none}
@@ -32,11 +32,11 @@ listed names symbols sections ids r =
     list_left (table_of names symbols sections r.table.link) ids r.refusal r.position
 
 -- of lent slices before the call, and after it
-abbrev pub listed_before : Slice → Slice → Slice → Slice → Listed → ListLeft
-listed_before names symbols sections ids r = listed (before names) (before symbols) (before sections) (before ids) r
+abbrev pub listed_before : SliceMut → SliceMut → SliceMut → SliceMut → Listed → ListLeft
+listed_before names symbols sections ids r = listed names.entry.now symbols.entry.now sections.entry.now ids.entry.now r
 
-abbrev pub listed_after : Slice → Slice → Slice → Slice → Listed → ListLeft
-listed_after names symbols sections ids r = listed (after names) (after symbols) (after sections) (after ids) r
+abbrev pub listed_after : SliceMut → SliceMut → SliceMut → SliceMut → Listed → ListLeft
+listed_after names symbols sections ids r = listed names.exit.now symbols.exit.now sections.exit.now ids.exit.now r
 
 pub record ListExit : Type 0 where
   pub names : List ℕ
@@ -45,9 +45,9 @@ pub record ListExit : Type 0 where
   pub ids : List ℕ
   pub result : Listed
 
-abbrev pub list_exit : Slice → Slice → Slice → Slice → Listed → ListExit
+abbrev pub list_exit : SliceMut → SliceMut → SliceMut → SliceMut → Listed → ListExit
 list_exit names symbols sections ids r =
-    record { names = after names; symbols = after symbols; sections = after sections; ids = after ids; result = r }
+    record { names = names.exit.now; symbols = symbols.exit.now; sections = sections.exit.now; ids = ids.exit.now; result = r }
 
 abbrev pub ListMeets : Table → List ℕ → List ℕ → List ℕ → ListExit → Type 0
 ListMeets t conversion adds ids e =

@@ -1,8 +1,9 @@
 // A list of adds in a single call, under one conversion: the direct adds one by one, up to the first that is refused. A row of the list has 8 cells:
 // the name's id, binding, type, visibility, section, value, one that isn't read, and the file: 0, or its name's id and 1. But for the name and the
 // file these are the cells of an object's symbol row (elf_object).
+#![tactic(auto)]
+
 ghost use Rattle.std.specs.Prelude.{◌≡◌};
-ghost use Rattle.cells.specs.Slice.{before, after};
 ghost use Rattle.link.specs.Judge.{refused};
 ghost use Rattle.symbol_resolution.specs.Apply.{table_before};
 ghost use Rattle.add_list.specs.AddList.{item_at, items_of, turn_of, adds_of};
@@ -19,7 +20,7 @@ const NAME: usize = 0;
 const FILE: usize = 7;
 
 // The table, and the first refusal with its add's position. Number 0: every add is accepted, and the position is their number.
-#[derive(Drop)]
+#[derive(Clone, Copy)]
 pub struct Listed {
     pub table: Symbols,
     pub refusal: Refusal,
@@ -46,7 +47,7 @@ fn refusal(number: u64) -> Refusal
 }
 
 fn item_at(adds: &[u64], k: usize) -> UpcomingSymbol
-    ensures { result ≡ item_at (before adds) k }
+    ensures { result ≡ item_at adds.now k }
 {
     UpcomingSymbol::Elf {
         elf: elf_object::elf_at(adds, k),
@@ -57,7 +58,7 @@ fn item_at(adds: &[u64], k: usize) -> UpcomingSymbol
 
 // An accepted add's id goes to its cell; a refused one leaves all cells.
 fn note(o: Outcome, ids: &mut [u64], k: usize) -> Listed
-    ensures { noted (after ids) result ≡ noted_as o.answer o.table (before ids) k }
+    ensures { noted ids.new result ≡ noted_as o.answer o.table ids.old k }
 {
     let table = o.table;
     let l = table.link;
@@ -83,7 +84,7 @@ fn turn(
     k: usize,
 ) -> Listed
     ensures { listed_after names symbols sections ids result
-        ≡ turn_of (before conversion) (item_at (before adds) k) (listed_before names symbols sections ids s) k }
+        ≡ turn_of conversion.now (item_at adds.now k) (listed_before names symbols sections ids s) k }
 {
     let o = symbols::add(
         s.table,
@@ -106,7 +107,7 @@ fn add_rows(
     ids: &mut [u64],
 ) -> Listed
     ensures { listed_after names symbols sections ids result
-        ≡ adds_of (before conversion) (items_of (before adds)) (listed_before names symbols sections ids s) 0 }
+        ≡ adds_of conversion.now (items_of adds.now) (listed_before names symbols sections ids s) 0 }
 {
     let rows = adds.len() / ROW_CELLS;
     let mut u = s;
@@ -132,7 +133,7 @@ pub fn add_list(
     adds: &[u64],
     ids: &mut [u64],
 ) -> Listed
-    ensures { ListMeets (table_before names symbols sections table.link) (before conversion) (before adds) (before ids) (list_exit names symbols sections ids result) }
+    ensures { ListMeets (table_before names symbols sections table.link) conversion.now adds.now ids.old (list_exit names symbols sections ids result) }
 {
     let l = table.link;
     if l.broken {

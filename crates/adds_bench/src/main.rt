@@ -1,6 +1,8 @@
 // What an add costs as the table grows: tables of 100, 10,000 and 65,000 adds, of each as many as make 650,000 adds. Half of them are weak
 // definitions of new names, half strong ones of the same names. The table that each makes is printed, and on standard error the processor
 // time of one add.
+#![tactic(auto)]
+
 use link::Interned;
 use symbol::SttFile;
 use symbols::Symbols;

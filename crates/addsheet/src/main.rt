@@ -2,6 +2,8 @@
 //
 // It lends 40,960 symbol rows, 40,961 name rows (one for the empty name), 524,288 bytes of names and ten sections, and keeps 65,536
 // refused lines; a line may have 589,824 bytes, or more if they are a name, which has no room then. All of it lies on a stack of 8 MB.
+#![tactic(auto)]
+
 use link::{Interned, Link, SymbolId};
 use symbol::{SttFile, Symbol, SymbolValue, SymbolVisibility};
 use symbols::Symbols;
@@ -10,7 +12,7 @@ use upcoming_symbol::{ElfSymbol, UpcomingSymbol};
 
 // taken: the line in the buffer that comes next; line: its number. blank: the first of the lines without fields just before, 0 for none.
 // refused: refused lines kept.
-#[derive(Drop)]
+#[derive(Clone, Copy)]
 struct Sheet {
     table: Symbols,
     lines: Lines,
@@ -21,14 +23,14 @@ struct Sheet {
     going: bool,
 }
 
-#[derive(Drop)]
+#[derive(Clone, Copy)]
 enum Parsed {
     Elf { elf: ElfSymbol },
     NotSix,
     NotNumber { field: usize },
 }
 
-#[derive(Drop)]
+#[derive(Clone, Copy)]
 struct Added {
     table: Symbols,
     number: u64,

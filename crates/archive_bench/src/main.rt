@@ -1,11 +1,13 @@
 // What chosen indexes cost, in steps: down the tree of members while an index is opened, and along a chain of names when admission asks for one. Every
 // entry's name is required. For each index: the steps to find each entry's member, and the most that one takes; the names that are chained, the steps
 // when each of them is asked for, and the most that a question takes.
+#![tactic(auto)]
+
 use archive_walk::Walk;
 
 const ENTRIES: usize = 4096;
 
-#[derive(Drop)]
+#[derive(Clone, Copy)]
 enum Kind {
     // offsets that leave the same remainder by the count of entries
     Multiples,
@@ -17,7 +19,7 @@ enum Kind {
     EqualMembers,
 }
 
-#[derive(Drop)]
+#[derive(Clone, Copy)]
 struct Tally {
     steps: u64,
     most: u64,

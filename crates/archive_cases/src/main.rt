@@ -1,4 +1,6 @@
 // Small cases of archives with their answers: the start over odd indexes, the order of offers, a pass that meets a removed name, and admission.
+#![tactic(auto)]
+
 use archive_walk::{Begun, Offer, Walk};
 use libc::STDOUT_FILENO;
 use link::{Interned, Link, Refusal, SymbolId};

@@ -1,6 +1,7 @@
 // The System V index of an archive, and a row of lent cells for each of its entries.
+#![tactic(auto)]
+
 ghost use Rattle.std.specs.Prelude.{◌≡◌, ◌+◌, ◌*◌, ◌<◌, get_or, length};
-ghost use Rattle.cells.specs.Slice.{after, before};
 ghost use Rattle.archive_index.specs.Index.{word_at, count_of, offset_of, after_of};
 ghost use Rattle.archive_index.specs.Rows.{stored_name, no_heads};
 
@@ -44,14 +45,14 @@ pub const PASS: usize = 6;
 pub const QUEUE: usize = 7;
 
 // Number 0: the rows are made. Else there are no entries, and nothing was written.
-#[derive(Drop)]
+#[derive(Clone, Copy)]
 pub struct Opened {
     pub entries: usize,
     pub refusal: Refusal,
 }
 
 // Where the search for an entry's member ends in the tree of members: at the member's representative, or at the empty cell of a child.
-#[derive(Drop)]
+#[derive(Clone, Copy)]
 pub enum Spot {
     Known { entry: usize },
     Free { parent: usize, field: usize },
@@ -66,7 +67,7 @@ fn wide(x: u8) -> u64
 
 // A byte, and 0 past the end.
 fn byte(s: &[u8], i: usize) -> u64
-    ensures { (result ≡ get_or (before s) i 0) × (result < 256) }
+    ensures { (result ≡ get_or s.now i 0) × (result < 256) }
 {
     if i < s.len() { wide(s[i]) } else { 0 }
 }
@@ -74,7 +75,7 @@ fn byte(s: &[u8], i: usize) -> u64
 // Four bytes that lie in the index, which are read at once.
 fn whole_word(index: &[u8], at: usize) -> u64
     requires { at + 3 < length index.now }
-    ensures { result ≡ word_at (before index) at }
+    ensures { result ≡ word_at index.now at }
 {
     wide(index[at]) * 16777216
         + wide(index[at + 1]) * 65536
@@ -84,7 +85,7 @@ fn whole_word(index: &[u8], at: usize) -> u64
 
 fn cut_word(index: &[u8], at: usize) -> u64
     requires { at < 0xfffffffffffffffd }
-    ensures { result ≡ word_at (before index) at }
+    ensures { result ≡ word_at index.now at }
 {
     let a = byte(index, at);
     let b = byte(index, at + 1);
@@ -95,7 +96,7 @@ fn cut_word(index: &[u8], at: usize) -> u64
 
 fn word(index: &[u8], at: usize) -> u64
     requires { at < 0xfffffffffffffffd }
-    ensures { result ≡ word_at (before index) at }
+    ensures { result ≡ word_at index.now at }
 {
     if at + 3 < index.len() {
         return whole_word(index, at);
@@ -105,14 +106,14 @@ fn word(index: &[u8], at: usize) -> u64
 
 // The number of entries that the index says.
 pub fn count(index: &[u8]) -> usize
-    ensures { result ≡ count_of (before index) }
+    ensures { result ≡ count_of index.now }
 {
     word(index, 0) as usize
 }
 
 // Entry k's member offset.
 pub fn offset(index: &[u8], k: usize) -> u64
-    ensures { result ≡ offset_of (before index) k }
+    ensures { result ≡ offset_of index.now k }
 {
     if k < index.len() / WORD_BYTES {
         return word(index, WORD_BYTES + WORD_BYTES * k);
@@ -122,7 +123,7 @@ pub fn offset(index: &[u8], k: usize) -> u64
 
 // The place after the name at this one and its zero byte; 0 where it is cut short.
 pub fn after_name(index: &[u8], at: usize) -> usize
-    ensures { result ≡ after_of (before index) at }
+    ensures { result ≡ after_of index.now at }
 {
     let mut found = false;
     let name = strings::ended(index, at, &mut found);
@@ -134,7 +135,7 @@ pub fn after_name(index: &[u8], at: usize) -> usize
 
 // Entry k's name, as that very part of the index: read by its row, whatever the cells hold.
 pub fn name<'a>(index: &'a [u8], cells: &[u64], k: usize) -> &'a [u8]
-    ensures result_value { result.now ≡ stored_name (before index) (before cells) k }
+    ensures result_value { result.now ≡ stored_name index.now cells.now k }
     ensures place { result.ref_ptr.0 ≡ index.entry.ref_ptr.0 }
 {
     let start = cells::row_get(cells, k, START);
@@ -146,7 +147,7 @@ pub fn name<'a>(index: &'a [u8], cells: &[u64], k: usize) -> &'a [u8]
 
 // No chain of names has an entry.
 pub fn clear_heads(cells: &mut [u64], entries: usize)
-    ensures { after cells ≡ no_heads entries (before cells) }
+    ensures { cells.new ≡ no_heads entries cells.old }
 {
     let mut k = 0;
     while k < entries {

@@ -3,14 +3,13 @@ ghost use Rattle.std.specs.Prelude.{◌≡◌, ◌+◌, ◌*◌, ◌-◌, ◌<�
 ghost use Rattle.archive_index.specs.Index.{offset_of, after_of, cut_of};
 ghost use Rattle.archive_index.specs.Rows.{descend, spot_of, entered, enter_of, enter_all};
 ghost use Rattle.archive_index.specs.Open.{left, opened_as, open_names_of, open_of};
-ghost use Rattle.cells.specs.Slice.{after, before};
 
 use crate::{Opened, Spot};
 use link::Refusal;
 
 // The first entry whose name is cut short, of those whose names start at place `start`, or the number of entries.
 fn cut_name(index: &[u8], entries: usize, start: usize) -> usize
-    ensures { result ≡ cut_of (before index) start entries 0 }
+    ensures { result ≡ cut_of index.now start entries 0 }
 {
     let mut at = start;
     let mut k = 0;
@@ -26,14 +25,14 @@ fn cut_name(index: &[u8], entries: usize, start: usize) -> usize
 
 // Is entry k of the member at the offset?
 fn is_of(index: &[u8], k: usize, o: u64) -> bool
-    ensures { result ≡ eqb (offset_of (before index) k) o }
+    ensures { result ≡ eqb (offset_of index.now k) o }
 {
     crate::offset(index, k) == o
 }
 
 // From the first entry down the tree of members: the representative of the member at offset o, else the empty cell of a child.
 fn search(index: &[u8], cells: &[u64], o: u64, k: usize) -> Spot
-    ensures { result ≡ descend (before index) (before cells) o k 0 o k }
+    ensures { result ≡ descend index.now cells.now o k 0 o k }
 {
     let mut at = 0;
     let mut key = o;
@@ -59,7 +58,7 @@ fn search(index: &[u8], cells: &[u64], o: u64, k: usize) -> Spot
 
 // Entry k's: that of the entry before it, where both are of one member.
 fn spot(index: &[u8], cells: &[u64], k: usize) -> Spot
-    ensures { result ≡ spot_of (before index) (before cells) k }
+    ensures { result ≡ spot_of index.now cells.now k }
 {
     if k == 0 {
         return Spot::Known { entry: k };
@@ -84,7 +83,7 @@ fn span(at: usize, after: usize) -> usize
 
 fn enter_as(cells: &mut [u64], k: usize, spot: Spot, at: usize, len: usize)
     requires { k < 0xffffffffffffffff }
-    ensures { after cells ≡ entered (before cells) k spot at len }
+    ensures { cells.new ≡ entered cells.old k spot at len }
 {
     match spot {
         Spot::Known { entry } => {
@@ -100,7 +99,7 @@ fn enter_as(cells: &mut [u64], k: usize, spot: Spot, at: usize, len: usize)
 // Entry k, whose name starts at the place: answers the place after it.
 fn enter(index: &[u8], cells: &mut [u64], k: usize, at: usize) -> usize
     requires { k < 0xffffffffffffffff }
-    ensures { (result ≡ after_of (before index) at) × (after cells ≡ enter_of (before index) (before cells) k at result) }
+    ensures { (result ≡ after_of index.now at) × (cells.new ≡ enter_of index.now cells.old k at result) }
 {
     let after = crate::after_name(index, at);
     let x = spot(index, cells, k);
@@ -109,7 +108,7 @@ fn enter(index: &[u8], cells: &mut [u64], k: usize, at: usize) -> usize
 }
 
 fn enter_all(index: &[u8], cells: &mut [u64], entries: usize, start: usize)
-    ensures { after cells ≡ enter_all (before index) entries 0 start (before cells) }
+    ensures { cells.new ≡ enter_all index.now entries 0 start cells.old }
 {
     let mut at = start;
     let mut k = 0;
@@ -133,7 +132,7 @@ fn answer(entries: usize, number: u64, place: usize) -> Opened
 
 // The names, then the room for the rows, then the rows.
 fn open_names(index: &[u8], cells: &mut [u64], entries: usize, start: usize) -> Opened
-    ensures { left (after cells) result ≡ open_names_of (before index) (before cells) entries start }
+    ensures { left cells.new result ≡ open_names_of index.now cells.old entries start }
 {
     let cut = cut_name(index, entries, start);
     if cut < entries {
@@ -148,7 +147,7 @@ fn open_names(index: &[u8], cells: &mut [u64], entries: usize, start: usize) -> 
 
 // Judges the index, and makes a row for each of its entries: 20; 1; 2.
 pub fn open(index: &[u8], cells: &mut [u64]) -> Opened
-    ensures { left (after cells) result ≡ open_of (before index) (before cells) }
+    ensures { left cells.new result ≡ open_of index.now cells.old }
 {
     let n = index.len();
     if n == 0 {

@@ -1,1 +1,2 @@
 // Theorems on whole walks over an archive's members. No functions.
+#![tactic(auto)]

@@ -2,6 +2,8 @@
 //
 // It reads the bytes of the index member from standard input, and takes the name as its argument. It lends rows for 8,192 entries; of an index over
 // 65,536 bytes the rest isn't read.
+#![tactic(auto)]
+
 use archive_walk::{Begun, Offer, Walk};
 use libc::{STDIN_FILENO, STDOUT_FILENO};
 use link::{Interned, Link, Refusal};

@@ -1,9 +1,10 @@
 // The archive index as a struct that holds the caller's slice and the number of entries, and gives an entry's offset and name. The functions over the
 // struct are thin, and proved by hand; each has one of plain parameters above it.
+#![tactic(auto)]
+
 ghost use Rattle.std.specs.Prelude.{◌≡◌, ◌+◌, ◌*◌, ◌≤◌, length};
 ghost use Rattle.gabi.specs.StringTable.{name_at};
 ghost use Rattle.archive_index.specs.Index.{place_of};
-ghost use Rattle.cells.specs.Slice.{before};
 ghost use Rattle.archive_reader.specs.Entry.{entry_offset, entry_name};
 ghost use Rattle.archive_reader.specs.Contract.{ReaderMeets, OffsetMeets, NameMeets};
 
@@ -12,7 +13,7 @@ ghost use Rattle.archive_reader.specs.Contract.{ReaderMeets, OffsetMeets, NameMe
 // Where entry k's name starts: the names before it are passed over.
 fn place(bytes: &[u8], entries: usize, k: usize) -> usize
     requires { 4 + 4 * entries ≤ length bytes.now }
-    ensures { result ≡ place_of (before bytes) entries k }
+    ensures { result ≡ place_of bytes.now entries k }
 {
     let mut at = archive_index::WORD_BYTES + archive_index::WORD_BYTES * entries;
     let mut i = 0;
@@ -24,7 +25,7 @@ fn place(bytes: &[u8], entries: usize, k: usize) -> usize
 }
 
 fn name_from(bytes: &[u8], at: usize) -> &[u8]
-    ensures { (result.now ≡ name_at (before bytes) at) × (result.ref_ptr.0 ≡ bytes.entry.ref_ptr.0) }
+    ensures { (result.now ≡ name_at bytes.now at) × (result.ref_ptr.0 ≡ bytes.entry.ref_ptr.0) }
 {
     let mut found = false;
     let name = strings::ended(bytes, at, &mut found);
@@ -32,7 +33,7 @@ fn name_from(bytes: &[u8], at: usize) -> &[u8]
 }
 
 fn offset_in(bytes: &[u8], entries: usize, k: usize) -> u64
-    ensures { result ≡ entry_offset (before bytes) entries k }
+    ensures { result ≡ entry_offset bytes.now entries k }
 {
     if k < entries {
         return archive_index::offset(bytes, k);
@@ -41,7 +42,7 @@ fn offset_in(bytes: &[u8], entries: usize, k: usize) -> u64
 }
 
 fn name_in(bytes: &[u8], entries: usize, k: usize) -> &[u8]
-    ensures { (result.now ≡ entry_name (before bytes) entries k) × (result.ref_ptr.0 ≡ bytes.entry.ref_ptr.0) }
+    ensures { (result.now ≡ entry_name bytes.now entries k) × (result.ref_ptr.0 ≡ bytes.entry.ref_ptr.0) }
 {
     if entries <= k {
         return &bytes[..0];
@@ -55,7 +56,7 @@ fn name_in(bytes: &[u8], entries: usize, k: usize) -> &[u8]
 
 // ---- the struct
 
-#[derive(Drop)]
+#[derive(Clone, Copy)]
 pub struct ArchiveIndex<'a> {
     pub bytes: &'a [u8],
     pub entries: usize,
@@ -85,7 +86,7 @@ pub fn name_of<'a>(x: ArchiveIndex<'a>, k: usize) -> &'a [u8]
 // ---- the same with plain parameters
 
 pub fn entry_offset(bytes: &[u8], entries: usize, k: usize) -> u64
-    ensures { OffsetMeets (before bytes) entries k result }
+    ensures { OffsetMeets bytes.now entries k result }
 {
     offset_of(new(bytes, entries), k)
 }

@@ -2,7 +2,7 @@
 -- their definitions.
 -- Assumes nothing.
 use Rattle.std.specs.Prelude.{ℕ, ◌≡◌, List}
-use Rattle.cells.specs.Slice.{Slice, after}
+use Rattle.cells.specs.Slice.{SliceMut}
 use Rattle.archive_walk.specs.declared.Walk.{Walk}
 use Rattle.archive_walk.specs.declared.Started.{Started}
 use Rattle.archive_walk.specs.declared.Moved.{Moved}
@@ -15,8 +15,8 @@ pub record StartExit : Type 0 where
   pub cells : List ℕ
   pub result : Started
 
-abbrev pub start_exit : Slice → Started → StartExit
-start_exit cells r = record { cells = after cells; result = r }
+abbrev pub start_exit : SliceMut → Started → StartExit
+start_exit cells r = record { cells = cells.exit.now; result = r }
 
 abbrev pub StartMeets : ℕ → List ℕ → List ℕ → StartExit → Type 0
 StartMeets key index cells e = start_left e.cells e.result ≡ start_of key index cells
@@ -27,8 +27,8 @@ pub record NextExit : Type 0 where
   pub cells : List ℕ
   pub result : Moved
 
-abbrev pub next_exit : Slice → Moved → NextExit
-next_exit cells r = record { cells = after cells; result = r }
+abbrev pub next_exit : SliceMut → Moved → NextExit
+next_exit cells r = record { cells = cells.exit.now; result = r }
 
 abbrev pub NextMeets : List ℕ → List ℕ → Walk → Table → NextExit → Type 0
 NextMeets index cells w t e = step_moved e.cells e.result ≡ next_of index cells w t

@@ -13,7 +13,7 @@ use Rattle.symbol_resolution.specs.declared.rows.Holder.{Holder}
 use Rattle.symbol_resolution.specs.declared.rows.Holder.TheVariants.{Unissued, Nobody, Removed, Known}
 use Rattle.symbol_resolution.specs.Holder.{holder_of}
 use Rattle.symbol_resolution.specs.RowsUndefined.{undefined_row, strong_undefined}
-use Rattle.cells.specs.Slice.{Slice, before}
+use Rattle.cells.specs.Slice.{Slice}
 
 -- the link, and what of it a call is lent
 pub record Table : Type 0 where
@@ -27,7 +27,7 @@ table_of l b n y = record { link = l; bytes = b; names = n; symbols = y }
 
 -- as it is lent
 abbrev pub table_in : Link → Slice → Slice → Slice → Table
-table_in l b n y = table_of l (before b) (before n) (before y)
+table_in l b n y = table_of l b.entry.now n.entry.now y.entry.now
 
 abbrev pub lent_of : Link → ℕ → ℕ → ℕ → Lent
 lent_of l bytes names symbols = lent_rows (name_rows names) bytes symbols l.slots not_lent not_lent

@@ -1,7 +1,8 @@
 // The walk over an archive's members, by value: a call for the next member is lent the index, the entries' rows and the table as it stands then.
 // The queue lies in the rows, and so do the chains of required names; nothing of the link is written.
+#![tactic(auto)]
+
 ghost use Rattle.std.specs.Prelude.{◌≡◌, length};
-ghost use Rattle.cells.specs.Slice.{before, after};
 ghost use Rattle.archive_walk.specs.Walk.{begun_of};
 ghost use Rattle.archive_walk.specs.Contract.{start_exit, StartMeets};
 ghost use Rattle.archive_walk.specs.Names.{name_chain, bears_of, borne_from, headed_of, noted_of, required_of};
@@ -15,7 +16,7 @@ pub use passes::next;
 // The key of the chains of names; entries and length of the index at the start; passes made; members queued since the start, and how many of them
 // were offered. A walk is plain data: one of an earlier call can be used again, or one that nobody started. Every call with it ends, and touches no row
 // that isn't lent; with one of the same start the rows keep their members, names and chains (archive_laws, Again).
-#[derive(Drop)]
+#[derive(Clone, Copy)]
 pub struct Walk {
     pub key: usize,
     pub entries: usize,
@@ -26,20 +27,20 @@ pub struct Walk {
     pub done: bool,
 }
 
-#[derive(Drop)]
+#[derive(Clone, Copy)]
 pub enum Begun {
     Ready { entries: usize },
     Refused { refusal: Refusal },
 }
 
-#[derive(Drop)]
+#[derive(Clone, Copy)]
 pub struct Started {
     pub walk: Walk,
     pub begun: Begun,
 }
 
 // A member by its offset, with the entry that queued it; the passes made so far.
-#[derive(Drop)]
+#[derive(Clone, Copy)]
 pub enum Offer {
     Member {
         offset: u64,
@@ -54,7 +55,7 @@ pub enum Offer {
     },
 }
 
-#[derive(Drop)]
+#[derive(Clone, Copy)]
 pub struct Moved {
     pub walk: Walk,
     pub offer: Offer,
@@ -64,7 +65,7 @@ pub struct Moved {
 
 // The chain of the name x of the member that r represents, among c chains.
 fn name_chain(key: usize, c: usize, r: u64, x: &[u8]) -> usize
-    ensures { result ≡ name_chain key c r (before x) }
+    ensures { result ≡ name_chain key c r x.now }
 {
     if c == 0 {
         return 0;
@@ -75,7 +76,7 @@ fn name_chain(key: usize, c: usize, r: u64, x: &[u8]) -> usize
 }
 
 fn bears(index: &[u8], cells: &[u64], r: u64, x: &[u8], k: usize) -> bool
-    ensures { result ≡ bears_of (before index) (before cells) r (before x) k }
+    ensures { result ≡ bears_of index.now cells.now r x.now k }
 {
     if cells::row_get(cells, k, archive_index::REQUIRED) == 1 {
         if cells::row_get(cells, k, archive_index::MEMBER) == r {
@@ -87,7 +88,7 @@ fn bears(index: &[u8], cells: &[u64], r: u64, x: &[u8], k: usize) -> bool
 
 // Does an entry from this head on bear the name? Cells that are not a walk's may lead round in a ring: as many steps as rows are lent, at most.
 fn is_borne(index: &[u8], cells: &[u64], r: u64, x: &[u8], head: usize) -> bool
-    ensures { result ≡ borne_from (before index) (before cells) r (before x) head }
+    ensures { result ≡ borne_from index.now cells.now r x.now head }
 {
     let mut at = head;
     let mut left = cells.len() / archive_index::ROW_WIDTH;
@@ -106,7 +107,7 @@ fn is_borne(index: &[u8], cells: &[u64], r: u64, x: &[u8], head: usize) -> bool
 
 // Entry k is marked, and goes to the head of chain b; one whose row isn't lent is in no chain.
 fn put_at_head(cells: &mut [u64], k: usize, b: usize)
-    ensures { after cells ≡ headed_of (before cells) k b }
+    ensures { cells.new ≡ headed_of cells.old k b }
 {
     let rows = cells.len() / archive_index::ROW_WIDTH;
     let head = cells::row_get(cells, b, archive_index::HEAD);
@@ -119,7 +120,7 @@ fn put_at_head(cells: &mut [u64], k: usize, b: usize)
 
 // Entry k's name is required of its member: in the name's chain, unless that has it.
 pub fn note(w: Walk, index: &[u8], cells: &mut [u64], k: usize)
-    ensures { after cells ≡ noted_of w.key w.entries (before index) (before cells) k }
+    ensures { cells.new ≡ noted_of w.key w.entries index.now cells.old k }
 {
     let r = cells::row_get(cells, k, archive_index::MEMBER);
     let x = archive_index::name(index, cells, k);
@@ -134,7 +135,7 @@ pub fn note(w: Walk, index: &[u8], cells: &mut [u64], k: usize)
 
 // Is the name required of the member that was offered by this entry: was it undefined in the pass that queued it?
 pub fn is_required(w: Walk, index: &[u8], cells: &[u64], entry: usize, x: &[u8]) -> bool
-    ensures { result ≡ required_of (before index) (before cells) w entry (before x) }
+    ensures { result ≡ required_of index.now cells.now w entry x.now }
 {
     let r = cells::row_get(cells, entry, archive_index::MEMBER);
     let b = name_chain(w.key, w.entries, r, x);
@@ -182,7 +183,7 @@ fn begin(key: usize, length: usize, o: Opened) -> Started
 // A row of cells for each entry of the index: 20; 1; 2. No pass is made. Any number is a key; one that nobody can guess keeps chosen names from
 // sharing a chain.
 pub fn start(key: usize, index: &[u8], cells: &mut [u64]) -> Started
-    ensures { StartMeets key (before index) (before cells) (start_exit cells result) }
+    ensures { StartMeets key index.now cells.old (start_exit cells result) }
 {
     let opened = archive_index::open(index, cells);
     archive_index::clear_heads(cells, opened.entries);

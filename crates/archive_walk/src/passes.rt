@@ -1,6 +1,5 @@
 // The walk's calls for the next member, and its passes.
 ghost use Rattle.std.specs.Prelude.{◌≡◌, ◌+◌, ◌<◌, length};
-ghost use Rattle.cells.specs.Slice.{before, after};
 ghost use Rattle.archive_walk.specs.Look.{table_of, judge_table, name_holder, was_removed, ties_row, ties, tied_name, table_in};
 ghost use Rattle.archive_walk.specs.Walk.{step_moved, refused_move, offer_of, queue_of, marked, enqueue, tie_of, tie_all, removed_of, make_of, pass_of, walk_fits};
 ghost use Rattle.archive_walk.specs.Contract.{next_exit, NextMeets};
@@ -31,7 +30,7 @@ fn judge_table(l: Link, bytes: &[u8], names: &[u64], symbols: &[u64]) -> Refusal
 
 // Who holds a name of the index, which is looked up and never interned.
 fn name_holder(l: Link, bytes: &[u8], names: &[u64], symbols: &[u64], x: &[u8]) -> Holder
-    ensures { result ≡ name_holder (table_in l bytes names symbols) (before x) }
+    ensures { result ≡ name_holder (table_in l bytes names symbols) x.now }
 {
     let id = interner::find(l, bytes, names, x);
     symbol_resolution::holder_of(l, names, symbols, id)
@@ -50,7 +49,7 @@ fn was_removed(holder: Holder) -> bool
 
 // A row that is undefined, weak or not; in the gABI's profile strong too.
 fn row_ties(gabi: bool, symbols: &[u64], id: SymbolId) -> bool
-    ensures { result ≡ ties_row gabi (before symbols) id }
+    ensures { result ≡ ties_row gabi symbols.now id }
 {
     if gabi {
         return symbol_resolution::is_strong_undefined(symbols, id);
@@ -59,7 +58,7 @@ fn row_ties(gabi: bool, symbols: &[u64], id: SymbolId) -> bool
 }
 
 fn does_tie(gabi: bool, symbols: &[u64], holder: Holder) -> bool
-    ensures { result ≡ ties gabi (before symbols) holder }
+    ensures { result ≡ ties gabi symbols.now holder }
 {
     match holder {
         Holder::Unissued => false,
@@ -70,7 +69,7 @@ fn does_tie(gabi: bool, symbols: &[u64], holder: Holder) -> bool
 }
 
 fn is_tied(l: Link, bytes: &[u8], names: &[u64], symbols: &[u64], x: &[u8]) -> bool
-    ensures { result ≡ tied_name (table_in l bytes names symbols) (before x) }
+    ensures { result ≡ tied_name (table_in l bytes names symbols) x.now }
 {
     let holder = name_holder(l, bytes, names, symbols, x);
     does_tie(l.gabi, symbols, holder)
@@ -79,7 +78,7 @@ fn is_tied(l: Link, bytes: &[u8], names: &[u64], symbols: &[u64], x: &[u8]) -> b
 // ---- notes of which entries may tie
 
 fn is_noted(notes: &[u8], k: usize) -> bool
-    ensures { result ≡ is_noted (before notes) k }
+    ensures { result ≡ is_noted notes.now k }
 {
     let i = k % NOTE_BYTES;
     if i < notes.len() {
@@ -90,7 +89,7 @@ fn is_noted(notes: &[u8], k: usize) -> bool
 
 // Entry k is noted if its name's holder ties.
 fn note_tie(gabi: bool, symbols: &[u64], holder: Holder, notes: &mut [u8], k: usize)
-    ensures { after notes ≡ note_tie gabi (before symbols) holder (before notes) k }
+    ensures { notes.new ≡ note_tie gabi symbols.now holder notes.old k }
 {
     if does_tie(gabi, symbols, holder) {
         let i = k % NOTE_BYTES;
@@ -110,7 +109,7 @@ fn entry_holder(
     names: &[u64],
     symbols: &[u64],
 ) -> Holder
-    ensures { result ≡ entry_holder (before index) (before cells) (table_in l bytes names symbols) k }
+    ensures { result ≡ entry_holder index.now cells.now (table_in l bytes names symbols) k }
 {
     let name = archive_index::name(index, cells, k);
     name_holder(l, bytes, names, symbols, name)
@@ -128,8 +127,8 @@ fn survey(
     notes: &mut [u8],
 ) -> usize
     requires { length notes.old ≡ 4096 }
-    ensures value { result ≡ removed_of (before index) (before cells) (table_in l bytes names symbols) entries 0 }
-    ensures noted { Noted (before index) (before cells) (table_in l bytes names symbols) result (after notes) }
+    ensures value { result ≡ removed_of index.now cells.now (table_in l bytes names symbols) entries 0 }
+    ensures noted { Noted index.now cells.now (table_in l bytes names symbols) result notes.new }
 {
     let mut k = 0;
     while k < entries {
@@ -147,7 +146,7 @@ fn survey(
 
 // Entry k goes to the end of the queue, and its name is required of its member.
 fn mark(w: Walk, index: &[u8], cells: &mut [u64], queued: usize, p: usize, k: usize, r: usize)
-    ensures { after cells ≡ marked w.key w.entries (before index) p k r (before cells) queued }
+    ensures { cells.new ≡ marked w.key w.entries index.now p k r cells.old queued }
 {
     crate::note(w, index, cells, k);
     cells::row_put(cells, r, archive_index::PASS, p as u64);
@@ -165,7 +164,7 @@ fn put_in_queue(
     r: usize,
 ) -> usize
     requires { queued < 0xffffffffffffffff }
-    ensures { queue_of (after cells) result ≡ enqueue w.key w.entries (before index) p k r (queue_of (before cells) queued) }
+    ensures { queue_of cells.new result ≡ enqueue w.key w.entries index.now p k r (queue_of cells.old queued) }
 {
     let by = cells::row_get(cells, r, archive_index::PASS) as usize;
     if by == 0 {
@@ -192,8 +191,8 @@ fn tie(
     symbols: &[u64],
 ) -> usize
     requires { queued < 0xffffffffffffffff }
-    ensures { queue_of (after cells) result
-        ≡ tie_of w.key w.entries (before index) (table_in l bytes names symbols) p k (queue_of (before cells) queued) }
+    ensures { queue_of cells.new result
+        ≡ tie_of w.key w.entries index.now (table_in l bytes names symbols) p k (queue_of cells.old queued) }
 {
     if is_tied(
         l,
@@ -225,8 +224,8 @@ fn tie_noted(
     requires queued_bound { queued < 0xffffffffffffffff }
     requires k_lt_entries { k < w.entries }
     requires noted { Noted index.now cells.old (table_of l bytes.now names.now symbols.now) w.entries notes.now }
-    ensures { queue_of (after cells) result
-        ≡ tie_of w.key w.entries (before index) (table_in l bytes names symbols) p k (queue_of (before cells) queued) }
+    ensures { queue_of cells.new result
+        ≡ tie_of w.key w.entries index.now (table_in l bytes names symbols) p k (queue_of cells.old queued) }
 {
     if is_noted(notes, k) {
         return tie(w, index, cells, queued, p, k, l, bytes, names, symbols);
@@ -248,8 +247,8 @@ fn tie_all(
 ) -> usize
     requires entries_bound { w.queued + w.entries < 0xffffffffffffffff }
     requires noted { Noted index.now cells.old (table_of l bytes.now names.now symbols.now) w.entries notes.now }
-    ensures { queue_of (after cells) result
-        ≡ tie_all w.key w.entries (before index) (table_in l bytes names symbols) p w.entries 0 (queue_of (before cells) w.queued) }
+    ensures { queue_of cells.new result
+        ≡ tie_all w.key w.entries index.now (table_in l bytes names symbols) p w.entries 0 (queue_of cells.old w.queued) }
 {
     let mut n = w.queued;
     let mut k = 0;
@@ -276,7 +275,7 @@ fn refuse(w: Walk, number: u64, place: u64) -> Moved
 
 // The front of the queue; an empty queue ends the walk.
 fn hand_out(index: &[u8], cells: &[u64], w: Walk) -> Moved
-    ensures { step_moved (before cells) result ≡ offer_of (before index) (before cells) w }
+    ensures { step_moved cells.now result ≡ offer_of index.now cells.now w }
 {
     if w.offered < w.queued {
         let e = cells::row_get(cells, w.offered, archive_index::QUEUE) as usize;
@@ -325,7 +324,7 @@ fn make_pass(
     requires entries_bound { w.queued + w.entries < 0xffffffffffffffff }
     requires passes_bound { w.passes < 0xffffffffffffffff }
     requires noted { Noted index.now cells.old (table_of l bytes.now names.now symbols.now) w.entries notes.now }
-    ensures { step_moved (after cells) result ≡ make_of (before index) (before cells) w (table_in l bytes names symbols) }
+    ensures { step_moved cells.new result ≡ make_of index.now cells.old w (table_in l bytes names symbols) }
 {
     let p = w.passes + 1;
     let n = tie_all(w, index, cells, p, l, bytes, names, symbols, notes);
@@ -353,7 +352,7 @@ fn pass(
 ) -> Moved
     requires entries_bound { w.queued + w.entries < 0xffffffffffffffff }
     requires passes_bound { w.passes < 0xffffffffffffffff }
-    ensures { step_moved (after cells) result ≡ pass_of (before index) (before cells) w (table_in l bytes names symbols) }
+    ensures { step_moved cells.new result ≡ pass_of index.now cells.old w (table_in l bytes names symbols) }
 {
     let judged = judge_table(l, bytes, names, symbols);
     if judged.number != 0 {
@@ -371,7 +370,7 @@ fn pass(
 
 // The index and the rows are as long as at the start, and the counts are those of a walk.
 pub fn fits(w: Walk, index: &[u8], cells: &[u64]) -> bool
-    ensures { result ≡ walk_fits (before index) (before cells) w }
+    ensures { result ≡ walk_fits index.now cells.now w }
 {
     if index.len() < w.length {
         return false;
@@ -402,7 +401,7 @@ pub fn next(
     names: &[u64],
     symbols: &[u64],
 ) -> Moved
-    ensures { NextMeets (before index) (before cells) w (table_in l bytes names symbols) (next_exit cells result) }
+    ensures { NextMeets index.now cells.old w (table_in l bytes names symbols) (next_exit cells result) }
 {
     if w.done {
         return Moved {

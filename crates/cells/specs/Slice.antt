@@ -1,15 +1,13 @@
--- What is lent to a call, in its contract: before the call and after it.
+-- What is lent to a call, in its contract: at its entry and, where it is lent to be changed, at its exit.
 -- Assumes nothing.
 use Rattle.std.specs.Prelude.{ℕ, List}
-use Rattle.std.specs.Borrow.{Bor}
+use Rattle.std.specs.Borrow.{Bor, MutBor}
 use denote.Triple.Both.{Both}
 
--- cells or bytes
+-- cells or bytes behind a `&`
 abbrev pub Slice : Type 0
 Slice = Both (Bor (List ℕ)) (Bor (List ℕ))
 
-abbrev pub before : {A : Type 0} → Both (Bor A) (Bor A) → A
-before s = s.entry.now
-
-abbrev pub after : {A : Type 0} → Both (Bor A) (Bor A) → A
-after s = s.exit.now
+-- behind a `&mut`
+abbrev pub SliceMut : Type 0
+SliceMut = Both (MutBor (List ℕ)) (MutBor (List ℕ))

@@ -1,10 +1,9 @@
 // A whole row written at once, and cells cleared from a place on.
 ghost use Rattle.std.specs.Prelude.{◌≡◌, [], ◌∷◌, ◌++◌, ◌-◌, length, replicate, take};
 ghost use Rattle.cells.specs.Rows.{put_row, front_of, back_of};
-ghost use Rattle.cells.specs.Slice.{after, before};
 
 fn row_front(cells: &mut [u64], i: usize, x0: u64, x1: u64, x2: u64, x3: u64)
-    ensures { after cells ≡ front_of (before cells) i x0 x1 x2 x3 }
+    ensures { cells.new ≡ front_of cells.old i x0 x1 x2 x3 }
 {
     crate::row_put(cells, i, 0, x0);
     crate::row_put(cells, i, 1, x1);
@@ -13,7 +12,7 @@ fn row_front(cells: &mut [u64], i: usize, x0: u64, x1: u64, x2: u64, x3: u64)
 }
 
 fn row_back(cells: &mut [u64], i: usize, x4: u64, x5: u64, x6: u64, x7: u64)
-    ensures { after cells ≡ back_of (before cells) i x4 x5 x6 x7 }
+    ensures { cells.new ≡ back_of cells.old i x4 x5 x6 x7 }
 {
     crate::row_put(cells, i, 4, x4);
     crate::row_put(cells, i, 5, x5);
@@ -34,7 +33,7 @@ pub fn row_store(
     x6: u64,
     x7: u64,
 )
-    ensures { after cells ≡ put_row (before cells) i (x0 ∷ x1 ∷ x2 ∷ x3 ∷ x4 ∷ x5 ∷ x6 ∷ x7 ∷ []) }
+    ensures { cells.new ≡ put_row cells.old i (x0 ∷ x1 ∷ x2 ∷ x3 ∷ x4 ∷ x5 ∷ x6 ∷ x7 ∷ []) }
 {
     row_front(cells, i, x0, x1, x2, x3);
     row_back(cells, i, x4, x5, x6, x7);
@@ -42,7 +41,7 @@ pub fn row_store(
 
 // Zero in every cell from the place on.
 pub fn clear_from(cells: &mut [u64], from: usize)
-    ensures { after cells ≡ take from (before cells) ++ replicate (length (before cells) - from) 0 }
+    ensures { cells.new ≡ take from cells.old ++ replicate (length cells.old - from) 0 }
 {
     let mut i = from;
     while i < cells.len() {

@@ -1,6 +1,5 @@
 // What a file is refused with before anything of it is read into rows: 26, then 27.
 ghost use Rattle.std.specs.Prelude.{◌≡◌};
-ghost use Rattle.cells.specs.Slice.{before};
 ghost use Rattle.elf_file.specs.Check.{is_object, headers_fit, excluded, entry_size, entries_ok, section_ok, table_ok, bad_table, file_refusal};
 
 use crate::Header;
@@ -16,7 +15,7 @@ const ELF_DATA_2_LSB: u64 = 1;
 const ET_REL: u64 = 1;
 
 fn is_object(file: &[u8]) -> bool
-    ensures { result ≡ is_object (before file) }
+    ensures { result ≡ is_object file.now }
 {
     if file.len() < crate::EHDR_SIZE {
         return false;
@@ -121,14 +120,14 @@ fn section_ok(len: usize, h: Header) -> bool
 }
 
 fn table_ok(len: usize, table: &[u8], i: usize) -> bool
-    ensures { result ≡ table_ok len (before table) i }
+    ensures { result ≡ table_ok len table.now i }
 {
     section_ok(len, crate::header_at(table, i))
 }
 
 // The first table that isn't right; n where all are.
 fn bad_table(len: usize, table: &[u8], n: usize) -> usize
-    ensures { result ≡ bad_table len (before table) n }
+    ensures { result ≡ bad_table len table.now n }
 {
     let mut i = 0;
     while i < n {
@@ -142,7 +141,7 @@ fn bad_table(len: usize, table: &[u8], n: usize) -> usize
 }
 
 pub fn refusal(file: &[u8]) -> Refusal
-    ensures { result ≡ file_refusal (before file) }
+    ensures { result ≡ file_refusal file.now }
 {
     if is_object(file) {
         let n = crate::section_count(file);

@@ -1,8 +1,9 @@
 // The fields of an ELF file of the 64-bit class, little-endian: numbers, a section header, the parts of a table that are its entries. Total:
 // a byte that isn't there is 0.
+#![tactic(auto)]
+
 ghost use Rattle.std.specs.Prelude.{◌≡◌, ◌*◌, ◌+◌, ◌<◌};
 ghost use Rattle.gabi.specs.File.{byte_at, half_at, word_at, xword_at, header_bytes_at, first_header, section_count, header_table, name_section, symbol_at, rel_at, r_sym, member_at};
-ghost use Rattle.cells.specs.Slice.{before};
 ghost use Rattle.elf_file.specs.File.{header_of, header_at};
 
 mod checks;
@@ -12,7 +13,7 @@ mod rows;
 pub use reading::{Reading, read};
 
 // A section header: sh_name, sh_type, and so on.
-#[derive(Drop)]
+#[derive(Clone, Copy)]
 pub struct Header {
     pub name: u64,
     pub kind: u64,
@@ -111,26 +112,26 @@ pub const SHF_EXCLUDE: u64 = 0x8000_0000;
 
 // ---- numbers
 pub fn byte(x: &[u8], i: usize) -> u64
-    ensures { result ≡ byte_at (before x) i }
+    ensures { result ≡ byte_at x.now i }
 {
     (byte_slices::word_at(x, i) % 0x100) as u64
 }
 
 pub fn half(x: &[u8], i: usize) -> u64
-    ensures { result ≡ half_at (before x) i }
+    ensures { result ≡ half_at x.now i }
 {
     (byte_slices::word_at(x, i) % 0x1_0000) as u64
 }
 
 pub fn word(x: &[u8], i: usize) -> u64
-    ensures value { result ≡ word_at (before x) i }
+    ensures value { result ≡ word_at x.now i }
     ensures small { result < 0x100000000 }
 {
     byte_slices::word_at(x, i) as u64
 }
 
 pub fn xword(x: &[u8], i: usize) -> u64
-    ensures { result ≡ xword_at (before x) i }
+    ensures { result ≡ xword_at x.now i }
 {
     if x.len() <= i {
         return 0;
@@ -141,7 +142,7 @@ pub fn xword(x: &[u8], i: usize) -> u64
 // ---- entries of a table; none lies past 2^63 bytes
 
 pub fn entry_64(table: &[u8], i: usize) -> &[u8]
-    ensures { result.now ≡ header_bytes_at (before table) i }
+    ensures { result.now ≡ header_bytes_at table.now i }
 {
     if i < 0x0200_0000_0000_0000 {
         return byte_slices::part_of(table, i * SHDR_SIZE, SHDR_SIZE);
@@ -150,7 +151,7 @@ pub fn entry_64(table: &[u8], i: usize) -> &[u8]
 }
 
 pub fn entry_24(table: &[u8], i: usize) -> &[u8]
-    ensures { result.now ≡ symbol_at (before table) i }
+    ensures { result.now ≡ symbol_at table.now i }
 {
     if i < 0x0800_0000_0000_0000 {
         return byte_slices::part_of(table, i * SYM_SIZE, SYM_SIZE);
@@ -159,7 +160,7 @@ pub fn entry_24(table: &[u8], i: usize) -> &[u8]
 }
 
 pub fn entry_16(table: &[u8], i: usize) -> &[u8]
-    ensures { result.now ≡ rel_at (before table) i }
+    ensures { result.now ≡ rel_at table.now i }
 {
     if i < 0x0800_0000_0000_0000 {
         return byte_slices::part_of(table, i * REL_SIZE, REL_SIZE);
@@ -168,7 +169,7 @@ pub fn entry_16(table: &[u8], i: usize) -> &[u8]
 }
 
 pub fn member(table: &[u8], i: usize) -> u64
-    ensures { result ≡ member_at (before table) i }
+    ensures { result ≡ member_at table.now i }
 {
     if i < 0x2000_0000_0000_0000 {
         return word(table, i * WORD_SIZE + WORD_SIZE);
@@ -177,7 +178,7 @@ pub fn member(table: &[u8], i: usize) -> u64
 }
 
 pub fn r_sym(e: &[u8]) -> u64
-    ensures { result ≡ r_sym (before e) }
+    ensures { result ≡ r_sym e.now }
 {
     xword(e, R_INFO) / 0x1_0000_0000
 }
@@ -185,7 +186,7 @@ pub fn r_sym(e: &[u8]) -> u64
 // ---- section headers
 
 pub fn header_of(e: &[u8]) -> Header
-    ensures { result ≡ header_of (before e) }
+    ensures { result ≡ header_of e.now }
 {
     Header {
         name: word(e, SH_NAME),
@@ -199,14 +200,14 @@ pub fn header_of(e: &[u8]) -> Header
 }
 
 pub fn header_at(table: &[u8], i: usize) -> Header
-    ensures { result ≡ header_at (before table) i }
+    ensures { result ≡ header_at table.now i }
 {
     let e = entry_64(table, i);
     header_of(e)
 }
 
 fn first_header(file: &[u8]) -> Header
-    ensures { result ≡ header_of (first_header (before file)) }
+    ensures { result ≡ header_of (first_header file.now) }
 {
     let shoff = xword(file, E_SHOFF);
     let e = byte_slices::part_of(file, shoff as usize, SHDR_SIZE);
@@ -215,7 +216,7 @@ fn first_header(file: &[u8]) -> Header
 
 // How many sections the file says it has.
 pub fn section_count(file: &[u8]) -> u64
-    ensures { result ≡ section_count (before file) }
+    ensures { result ≡ section_count file.now }
 {
     let shoff = xword(file, E_SHOFF);
     if shoff == 0 {
@@ -231,7 +232,7 @@ pub fn section_count(file: &[u8]) -> u64
 
 // The section with the sections' names; 0 for none.
 pub fn name_section(file: &[u8]) -> u64
-    ensures { result ≡ name_section (before file) }
+    ensures { result ≡ name_section file.now }
 {
     let shstrndx = half(file, E_SHSTRNDX);
     if shstrndx == SHN_XINDEX {
@@ -243,7 +244,7 @@ pub fn name_section(file: &[u8]) -> u64
 
 // The section headers, as far as they are there.
 pub fn header_table(file: &[u8]) -> &[u8]
-    ensures { result.now ≡ header_table (before file) }
+    ensures { result.now ≡ header_table file.now }
 {
     let shoff = xword(file, E_SHOFF);
     let n = section_count(file);

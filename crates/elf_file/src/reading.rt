@@ -3,7 +3,6 @@ ghost use Rattle.std.specs.Prelude.{◌≡◌, ◌+◌, ◌*◌, ◌≤◌, leng
 ghost use Rattle.elf_object.specs.Rows.{row_width};
 ghost use Rattle.cells.specs.Rows.{put_row};
 ghost use Rattle.elf_file.specs.Rows.{entry_count, content_count, room_of, header_row_of};
-ghost use Rattle.cells.specs.Slice.{after, before};
 ghost use Rattle.elf_file.specs.Read.{headers_into, symbol_row, symbols_into, all_symbols_into, element_at, elements_into, all_elements_into, written_of, done, read_as, roomed_of};
 ghost use Rattle.elf_file.specs.Contract.{ReadMeets};
 
@@ -11,7 +10,7 @@ use crate::Header;
 use crate::rows::Room;
 
 // A refusal, or number 0 and how many rows and cells of each sort were written, and the section of the sections' names.
-#[derive(Drop)]
+#[derive(Clone, Copy)]
 pub struct Reading {
     pub number: u64,
     pub place: u64,
@@ -26,7 +25,7 @@ pub struct Reading {
 // ---- headers
 
 fn header_row(file: &[u8], names: &[u8], rows: &mut [u64], i: usize, h: Header, e: u64, c: u64)
-    ensures { after rows ≡ put_row (before rows) i (header_row_of (before file) (before names) h e c) }
+    ensures { rows.new ≡ put_row rows.old i (header_row_of file.now names.now h e c) }
 {
     let kind = crate::rows::named_kind(names, h);
     let flags = crate::rows::flags_of(file, h);
@@ -39,7 +38,7 @@ fn header_row(file: &[u8], names: &[u8], rows: &mut [u64], i: usize, h: Header, 
 
 fn headers(file: &[u8], names: &[u8], table: &[u8], rows: &mut [u64], n: usize)
     requires { entry_count table.now 0 n + content_count table.now 0 n ≤ 0x1000000000000000 }
-    ensures { after rows ≡ headers_into (before file) (before names) (before table) (before rows) 0 0 0 n }
+    ensures { rows.new ≡ headers_into file.now names.now table.now rows.old 0 0 0 n }
 {
     let mut e = 0;
     let mut c = 0;
@@ -56,7 +55,7 @@ fn headers(file: &[u8], names: &[u8], table: &[u8], rows: &mut [u64], n: usize)
 // ---- symbols
 
 fn symbol_row(entry: &[u8], rows: &mut [u64], i: usize)
-    ensures { after rows ≡ put_row (before rows) i (symbol_row (before entry)) }
+    ensures { rows.new ≡ put_row rows.old i (symbol_row entry.now) }
 {
     let name = crate::word(entry, crate::ST_NAME);
     let info = crate::byte(entry, crate::ST_INFO);
@@ -79,7 +78,7 @@ fn symbol_row(entry: &[u8], rows: &mut [u64], i: usize)
 
 fn symbols(bytes: &[u8], rows: &mut [u64], at: usize, count: usize)
     requires { at + count ≤ length rows.old }
-    ensures { after rows ≡ symbols_into (before bytes) (before rows) at 0 count }
+    ensures { rows.new ≡ symbols_into bytes.now rows.old at 0 count }
 {
     let mut j = 0;
     while j < count {
@@ -91,7 +90,7 @@ fn symbols(bytes: &[u8], rows: &mut [u64], at: usize, count: usize)
 fn all_symbols(file: &[u8], table: &[u8], rows: &mut [u64], start: usize, n: usize)
     requires n_in_bounds { start + entry_count table.now 0 n ≤ length rows.old }
     requires n_bound { start + entry_count table.now 0 n ≤ 0x1000000000000000 }
-    ensures { after rows ≡ all_symbols_into (before file) (before table) (before rows) start 0 n }
+    ensures { rows.new ≡ all_symbols_into file.now table.now rows.old start 0 n }
 {
     let mut at = start;
     let mut i = 0;
@@ -108,7 +107,7 @@ fn all_symbols(file: &[u8], table: &[u8], rows: &mut [u64], start: usize, n: usi
 // ---- symbols of relocations, sections of groups
 
 fn element(kind: u64, bytes: &[u8], j: usize) -> u64
-    ensures { result ≡ element_at kind (before bytes) j }
+    ensures { result ≡ element_at kind bytes.now j }
 {
     if kind == crate::SHT_GROUP {
         return crate::member(bytes, j);
@@ -121,7 +120,7 @@ fn element(kind: u64, bytes: &[u8], j: usize) -> u64
 
 fn elements(kind: u64, bytes: &[u8], rows: &mut [u64], at: usize, count: usize)
     requires { at + count ≤ length rows.old }
-    ensures { after rows ≡ elements_into kind (before bytes) (before rows) at 0 count }
+    ensures { rows.new ≡ elements_into kind bytes.now rows.old at 0 count }
 {
     let mut j = 0;
     while j < count {
@@ -134,7 +133,7 @@ fn elements(kind: u64, bytes: &[u8], rows: &mut [u64], at: usize, count: usize)
 fn all_elements(file: &[u8], table: &[u8], rows: &mut [u64], start: usize, n: usize)
     requires n_in_bounds { start + content_count table.now 0 n ≤ length rows.old }
     requires n_bound { start + content_count table.now 0 n ≤ 0x1000000000000000 }
-    ensures { after rows ≡ all_elements_into (before file) (before table) (before rows) start 0 n }
+    ensures { rows.new ≡ all_elements_into file.now table.now rows.old start 0 n }
 {
     let mut at = start;
     let mut i = 0;
@@ -153,7 +152,7 @@ fn all_elements(file: &[u8], table: &[u8], rows: &mut [u64], start: usize, n: us
 fn write(file: &[u8], names: &[u8], table: &[u8], rows: &mut [u64], n: usize, entries: usize)
     requires n_in_bounds { n * row_width + entries * row_width + content_count table.now 0 n ≤ length rows.old }
     requires entries_value { entries ≡ entry_count table.now 0 n }
-    ensures { after rows ≡ written_of (before file) (before names) (before table) (before rows) n entries }
+    ensures { rows.new ≡ written_of file.now names.now table.now rows.old n entries }
 {
     headers(file, names, table, rows, n);
     all_symbols(file, table, rows, n, n);
@@ -175,7 +174,7 @@ fn stopped(number: u64, place: u64) -> Reading
 
 fn roomed(file: &[u8], table: &[u8], rows: &mut [u64], n: usize, s: u64, m: Room) -> Reading
     requires { m ≡ room_of (length rows.old) table.now n }
-    ensures { done (after rows) result ≡ roomed_of (before file) (before table) (before rows) n s m }
+    ensures { done rows.new result ≡ roomed_of file.now table.now rows.old n s m }
 {
     if m.fits {
         let names = crate::rows::names_of(file, table, s, n);
@@ -194,7 +193,7 @@ fn roomed(file: &[u8], table: &[u8], rows: &mut [u64], n: usize, s: u64, m: Room
 
 // 26, 27, 2: all lent cells are left.
 pub fn read(file: &[u8], rows: &mut [u64]) -> Reading
-    ensures { ReadMeets (before file) (before rows) (after rows) result }
+    ensures { ReadMeets file.now rows.old rows.new result }
 {
     let r = crate::checks::refusal(file);
     if r.number != 0 {

@@ -3,7 +3,6 @@ ghost use Rattle.std.specs.Prelude.{◌≡◌, true, false, ◌<◌, ◌-◌, �
 ghost use Rattle.gabi.specs.StringTable.{name_at};
 ghost use Rattle.gabi.specs.File.{word_size};
 ghost use Rattle.byte_slices.specs.Bytes.{same};
-ghost use Rattle.cells.specs.Slice.{before};
 ghost use Rattle.elf_file.specs.Rows.{entries_in, contents_in, room_of, room_as, kind_of, eh_frame_hdr, named_kind, strings_of, names_of, strings_number, comdat_of, flags_of, first_of, count_of};
 
 use crate::Header;
@@ -50,7 +49,7 @@ fn members(size: u64) -> u64
     size / crate::WORD_BYTES - 1
 }
 
-#[derive(Drop)]
+#[derive(Clone, Copy)]
 pub struct Room {
     pub fits: bool,
     pub entries: u64,
@@ -69,7 +68,7 @@ fn no_room() -> Room
 
 // Do n headers and all that they need fit into that many cells? Table by table against what is left: the sum may pass 2^64.
 pub fn room_for(cells: usize, table: &[u8], n: usize) -> Room
-    ensures { result ≡ room_of cells (before table) n }
+    ensures { result ≡ room_of cells table.now n }
 {
     if cells / elf_object::ROW_WIDTH < n {
         return no_room();
@@ -137,7 +136,7 @@ fn kind_of(kind: u64) -> u64
 }
 
 fn is_frame_header(names: &[u8], offset: usize) -> bool
-    ensures { result ≡ same (name_at (before names) offset) eh_frame_hdr }
+    ensures { result ≡ same (name_at names.now offset) eh_frame_hdr }
 {
     let mut found = false;
     let name = strings::get(names, offset, &mut found);
@@ -145,7 +144,7 @@ fn is_frame_header(names: &[u8], offset: usize) -> bool
 }
 
 pub fn named_kind(names: &[u8], h: Header) -> u64
-    ensures { result ≡ named_kind (before names) h }
+    ensures { result ≡ named_kind names.now h }
 {
     if h.kind == crate::SHT_PROGBITS {
         if is_frame_header(names, h.name as usize) {
@@ -157,7 +156,7 @@ pub fn named_kind(names: &[u8], h: Header) -> u64
 }
 
 fn strings_of(image: &[u8], h: Header) -> &[u8]
-    ensures { result.now ≡ strings_of (before image) h }
+    ensures { result.now ≡ strings_of image.now h }
 {
     if crate::checks::excluded(h) {
         return &image[..0];
@@ -170,7 +169,7 @@ fn strings_of(image: &[u8], h: Header) -> &[u8]
 
 // The section names' bytes.
 pub fn names_of<'a>(file: &'a [u8], table: &[u8], s: u64, n: usize) -> &'a [u8]
-    ensures { result.now ≡ names_of (before file) (before table) s n }
+    ensures { result.now ≡ names_of file.now table.now s n }
 {
     if s == 0 {
         return &file[..0];
@@ -194,7 +193,7 @@ pub fn strings_number(s: u64, n: u64) -> u64
 }
 
 fn comdat_of(image: &[u8], h: Header) -> u64
-    ensures value { result ≡ comdat_of (before image) h }
+    ensures value { result ≡ comdat_of image.now h }
     ensures small { result < 2 }
 {
     if crate::checks::excluded(h) {
@@ -208,7 +207,7 @@ fn comdat_of(image: &[u8], h: Header) -> u64
 }
 
 pub fn flags_of(image: &[u8], h: Header) -> u64
-    ensures { result ≡ flags_of (before image) h }
+    ensures { result ≡ flags_of image.now h }
 {
     h.flags / crate::SHF_EXCLUDE % 2
         + h.flags / crate::SHF_GNU_RETAIN % 2 * elf_object::RETAIN_FLAG

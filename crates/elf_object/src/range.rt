@@ -1,7 +1,6 @@
 // Whether the rows of an object are in range: refusal 1.
 ghost use Rattle.std.specs.Prelude.{◌≡◌};
 ghost use Rattle.elf_object.specs.Judge.{range_ok, contents_ok, header_ok, entry_ok, bad_header, bad_entry, judge_of};
-ghost use Rattle.cells.specs.Slice.{before};
 
 use link::Refusal;
 
@@ -45,7 +44,7 @@ fn contents_ok(
 }
 
 fn header_ok(headers: &[u64], n: usize, entries: usize, contents: usize, file: usize) -> bool
-    ensures { result ≡ header_ok (before headers) entries contents file n }
+    ensures { result ≡ header_ok headers.now entries contents file n }
 {
     if SECTION_BOUND <= n {
         return false;
@@ -64,7 +63,7 @@ fn header_ok(headers: &[u64], n: usize, entries: usize, contents: usize, file: u
 
 // The first header out of range; as many as there are where none is.
 fn bad_header(headers: &[u64], entries: usize, contents: usize, file: usize) -> usize
-    ensures { result ≡ bad_header (before headers) entries contents file }
+    ensures { result ≡ bad_header headers.now entries contents file }
 {
     let rows = headers.len() / crate::ROW_WIDTH;
     let mut n = 0;
@@ -79,7 +78,7 @@ fn bad_header(headers: &[u64], entries: usize, contents: usize, file: usize) -> 
 }
 
 fn entry_ok(entries: &[u64], i: usize) -> bool
-    ensures { result ≡ entry_ok (before entries) i }
+    ensures { result ≡ entry_ok entries.now i }
 {
     if SYMBOL_BOUND <= i {
         return false;
@@ -89,7 +88,7 @@ fn entry_ok(entries: &[u64], i: usize) -> bool
 
 // The first symbol row out of range; as many as there are where none is.
 pub fn bad_entry(entries: &[u64]) -> usize
-    ensures { result ≡ bad_entry (before entries) }
+    ensures { result ≡ bad_entry entries.now }
 {
     let rows = entries.len() / crate::ROW_WIDTH;
     let mut i = 0;
@@ -105,7 +104,7 @@ pub fn bad_entry(entries: &[u64]) -> usize
 
 // Sections, then symbols: 1 at the first row that is out of range.
 pub fn judge(headers: &[u64], entries: &[u64], contents: usize, file: usize) -> Refusal
-    ensures { result ≡ judge_of (before headers) (before entries) contents file }
+    ensures { result ≡ judge_of headers.now entries.now contents file }
 {
     let n = bad_header(headers, entries.len() / crate::ROW_WIDTH, contents, file);
     if n < headers.len() / crate::ROW_WIDTH {

@@ -1,1 +1,2 @@
 // Theorems alone: the members that a walk takes and admits, against those that the gABI extracts. They stand in specs/.
+#![tactic(auto)]

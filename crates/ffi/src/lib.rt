@@ -1,7 +1,8 @@
 // The calls for another language, as numbers and slices: `rt staticlib ffi` writes target/staticlib/libffi.a. A slice is a pointer and a length. A
 // header of at least 24 cells holds the link and the answer (ffi_cells); the result is the number of the refusal, 0 for a result. The library that
 // a call stands for says which values it answers.
-ghost use Rattle.cells.specs.Slice.{before};
+#![tactic(auto)]
+
 ghost use Rattle.ffi_cells.specs.Contract.{told_exit};
 ghost use Rattle.ffi_names.specs.Contract as Names;
 ghost use Rattle.ffi_symbols.specs.Contract as Symbols;
@@ -27,7 +28,7 @@ pub extern "C" fn hidvorn_new(
     symbols: &mut [u64],
     sections: &mut [u64],
 ) -> u64
-    ensures { Symbols.NewMeets (before header) key profile (before bytes) (before names) (before symbols) (before sections) (Symbols.new_exit result header bytes names symbols sections) }
+    ensures { Symbols.NewMeets header.old key profile bytes.old names.old symbols.old sections.old (Symbols.new_exit result header bytes names symbols sections) }
 {
     ffi_symbols::new(header, key, profile, bytes, names, symbols, sections)
 }
@@ -39,21 +40,21 @@ pub extern "C" fn hidvorn_intern(
     names: &mut [u64],
     name: &[u8],
 ) -> u64
-    ensures { Names.InternMeets (before header) (before bytes) (before names) (before name) (Names.intern_exit result header bytes names) }
+    ensures { Names.InternMeets header.old bytes.old names.old name.now (Names.intern_exit result header bytes names) }
 {
     ffi_names::intern(header, bytes, names, name)
 }
 
 #[unsafe(no_mangle)]
 pub extern "C" fn hidvorn_resolve(header: &mut [u64], bytes: &[u8], names: &[u64], id: usize) -> u64
-    ensures { Names.ResolveMeets (before header) (before bytes) (before names) id (told_exit result header) }
+    ensures { Names.ResolveMeets header.old bytes.now names.now id (told_exit result header) }
 {
     ffi_names::resolve(header, bytes, names, id)
 }
 
 #[unsafe(no_mangle)]
 pub extern "C" fn hidvorn_find(header: &mut [u64], bytes: &[u8], names: &[u64], name: &[u8]) -> u64
-    ensures { Names.FindMeets (before header) (before bytes) (before names) (before name) (told_exit result header) }
+    ensures { Names.FindMeets header.old bytes.now names.now name.now (told_exit result header) }
 {
     ffi_names::find(header, bytes, names, name)
 }
@@ -67,7 +68,7 @@ pub extern "C" fn hidvorn_add(
     conversion: &[u64],
     item: &[u64],
 ) -> u64
-    ensures { Symbols.AddMeets (before header) (before names) (before symbols) (before sections) (before conversion) (before item) (Symbols.add_exit result header names symbols sections) }
+    ensures { Symbols.AddMeets header.old names.old symbols.old sections.old conversion.now item.now (Symbols.add_exit result header names symbols sections) }
 {
     ffi_symbols::add(header, names, symbols, sections, conversion, item)
 }
@@ -82,7 +83,7 @@ pub extern "C" fn hidvorn_add_list(
     adds: &[u64],
     ids: &mut [u64],
 ) -> u64
-    ensures { Adds.ListMeets (before header) (before names) (before symbols) (before sections) (before conversion) (before adds) (before ids) (Adds.list_exit result header names symbols sections ids) }
+    ensures { Adds.ListMeets header.old names.old symbols.old sections.old conversion.now adds.now ids.old (Adds.list_exit result header names symbols sections ids) }
 {
     ffi_list::add_list(header, names, symbols, sections, conversion, adds, ids)
 }
@@ -94,7 +95,7 @@ pub extern "C" fn hidvorn_remove(
     sections: &mut [u64],
     id: usize,
 ) -> u64
-    ensures { Symbols.RemoveMeets (before header) (before symbols) (before sections) id (Symbols.remove_exit result header symbols sections) }
+    ensures { Symbols.RemoveMeets header.old symbols.old sections.old id (Symbols.remove_exit result header symbols sections) }
 {
     ffi_symbols::remove(header, symbols, sections, id)
 }
@@ -106,7 +107,7 @@ pub extern "C" fn hidvorn_get(
     id: usize,
     out: &mut [u64],
 ) -> u64
-    ensures { Lookup.GetMeets (before header) (before symbols) id (before out) (Lookup.found_exit result header out) }
+    ensures { Lookup.GetMeets header.old symbols.now id out.old (Lookup.found_exit result header out) }
 {
     ffi_symbols::get(header, symbols, id, out)
 }
@@ -119,7 +120,7 @@ pub extern "C" fn hidvorn_get_global(
     name: usize,
     out: &mut [u64],
 ) -> u64
-    ensures { Lookup.GetGlobalMeets (before header) (before names) (before symbols) name (before out) (Lookup.found_exit result header out) }
+    ensures { Lookup.GetGlobalMeets header.old names.now symbols.now name out.old (Lookup.found_exit result header out) }
 {
     ffi_symbols::get_global(header, names, symbols, name, out)
 }
@@ -130,7 +131,7 @@ pub extern "C" fn hidvorn_section_symbol_id(
     sections: &[u64],
     section: usize,
 ) -> u64
-    ensures { Lookup.SectionSymbolMeets (before header) (before sections) section (told_exit result header) }
+    ensures { Lookup.SectionSymbolMeets header.old sections.now section (told_exit result header) }
 {
     ffi_symbols::section_symbol_id(header, sections, section)
 }
@@ -148,7 +149,7 @@ pub extern "C" fn hidvorn_add_group(
     t: usize,
     n: usize,
 ) -> u64
-    ensures { Merge.GroupMeets (before header) (Merge.group_object headers entries contents file t) (before bytes) (before names) (before work) n (Merge.group_exit result header bytes names work) }
+    ensures { Merge.GroupMeets header.old (Merge.group_object headers entries contents file t) bytes.old names.old work.old n (Merge.group_exit result header bytes names work) }
 {
     ffi_merge::add_group(
         header, bytes, names, work, headers, entries, contents, file, t, n,
@@ -172,7 +173,7 @@ pub extern "C" fn hidvorn_merge_elf(
     file: &[u8],
     strings: usize,
 ) -> u64
-    ensures { Merge.MergeMeets (before header) (Merge.merge_object headers entries contents file strings) (Merge.link_rows bytes names symbols sections inputs lists work ids) (told_exit result header) }
+    ensures { Merge.MergeMeets header.old (Merge.merge_object headers entries contents file strings) (Merge.link_rows bytes names symbols sections inputs lists work ids) (told_exit result header) }
 {
     ffi_merge::merge_elf(
         header, bytes, names, symbols, sections, inputs, lists, work, ids, headers, entries,
@@ -182,7 +183,7 @@ pub extern "C" fn hidvorn_merge_elf(
 
 #[unsafe(no_mangle)]
 pub extern "C" fn hidvorn_read_file(answer: &mut [u64], rows: &mut [u64], file: &[u8]) -> u64
-    ensures { File.ReadMeets (before answer) (before file) (before rows) (File.read_exit result answer rows) }
+    ensures { File.ReadMeets answer.old file.now rows.old (File.read_exit result answer rows) }
 {
     ffi_merge::read_file(answer, rows, file)
 }
@@ -201,7 +202,7 @@ pub extern "C" fn hidvorn_merge_file(
     rows: &mut [u64],
     file: &[u8],
 ) -> u64
-    ensures { File.FileMeets (before header) (before file) (File.lent_rows bytes names symbols sections inputs lists work ids rows) (told_exit result header) }
+    ensures { File.FileMeets header.old file.now (File.lent_rows bytes names symbols sections inputs lists work ids rows) (told_exit result header) }
 {
     ffi_merge::merge_file(
         header, bytes, names, symbols, sections, inputs, lists, work, ids, rows, file,
@@ -227,7 +228,7 @@ pub extern "C" fn hidvorn_load_shared_object<'a>(
     soname: usize,
     asneeded: bool,
 ) -> u64
-    ensures { LoadMeets (before header) (library_in entries file needs path archived sonamed soname asneeded) (Load.link_rows bytes names symbols sections inputs lists marks) (told_exit result header) }
+    ensures { LoadMeets header.old (library_in entries file needs path archived sonamed soname asneeded) (Load.link_rows bytes names symbols sections inputs lists marks) (told_exit result header) }
 {
     ffi_load::load_shared_object(
         header, bytes, names, symbols, sections, inputs, lists, marks, entries, file, needs, path,
@@ -243,7 +244,7 @@ pub extern "C" fn hidvorn_archive_start(
     index: &[u8],
     rows: &mut [u64],
 ) -> u64
-    ensures { Archive.StartMeets (before header) (before walk) key (before index) (before rows) (Archive.walk_exit result header walk rows) }
+    ensures { Archive.StartMeets header.old walk.old key index.now rows.old (Archive.walk_exit result header walk rows) }
 {
     ffi_archive::archive_start(header, walk, key, index, rows)
 }
@@ -258,7 +259,7 @@ pub extern "C" fn hidvorn_archive_next(
     names: &[u64],
     symbols: &[u64],
 ) -> u64
-    ensures { Archive.NextMeets (before header) (before walk) (before index) (before rows) (before bytes) (before names) (before symbols) (Archive.walk_exit result header walk rows) }
+    ensures { Archive.NextMeets header.old walk.old index.now rows.old bytes.now names.now symbols.now (Archive.walk_exit result header walk rows) }
 {
     ffi_archive::archive_next(header, walk, index, rows, bytes, names, symbols)
 }
@@ -275,7 +276,7 @@ pub extern "C" fn hidvorn_matches(
     contents: &[u64],
     file: &[u8],
 ) -> u64
-    ensures { Archive.MatchesMeets (before header) (before walk) (before index) (before rows) entry (before headers) (before entries) (before contents) (before file) (told_exit result header) }
+    ensures { Archive.MatchesMeets header.old walk.now index.now rows.now entry headers.now entries.now contents.now file.now (told_exit result header) }
 {
     ffi_archive::matches(
         header, walk, index, rows, entry, headers, entries, contents, file,
@@ -295,7 +296,7 @@ pub extern "C" fn hidvorn_gc_run(
     entry: usize,
     work: &mut [u64],
 ) -> u64
-    ensures { RunMeets (before header) (lists_in bytes names lists marks) (before symbols) (before sections) (entry_of entered entry) (before work) (run_exit result header symbols sections work) }
+    ensures { RunMeets header.old (lists_in bytes names lists marks) symbols.old sections.old (entry_of entered entry) work.old (run_exit result header symbols sections work) }
 {
     ffi_collect::gc_run(
         header, bytes, names, symbols, sections, lists, marks, entered, entry, work,
@@ -315,7 +316,7 @@ pub extern "C" fn hidvorn_plain_run(
     entry: usize,
     work: &mut [u64],
 ) -> u64
-    ensures { PlainMeets (before header) (lists_in bytes names lists marks) (before symbols) (before sections) (entry_of entered entry) (before work) (run_exit result header symbols sections work) }
+    ensures { PlainMeets header.old (lists_in bytes names lists marks) symbols.old sections.old (entry_of entered entry) work.old (run_exit result header symbols sections work) }
 {
     ffi_collect::plain_run(
         header, bytes, names, symbols, sections, lists, marks, entered, entry, work,

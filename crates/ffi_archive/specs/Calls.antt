@@ -12,7 +12,7 @@ use Rattle.object_requirement.specs.declared.Admission.TheVariants as Admits
 use Rattle.object_requirement.specs.Matches.{matches_of}
 use Rattle.ffi_cells.specs.declared.header.Reply.{Reply}
 use Rattle.ffi_cells.specs.Header.{is_short, link_in, result_of, refusal_of, refused_of, Told, told, answer_of}
-use Rattle.cells.specs.Slice.{Slice, after}
+use Rattle.cells.specs.Slice.{SliceMut}
 use Rattle.ffi_archive.specs.Cells.{walk_in, walk_out}
 
 -- ---- answers
@@ -43,8 +43,8 @@ abbrev pub walk_left : Told → List ℕ → List ℕ → WalkLeft
 walk_left t c rows = record { told = t; walk = c; rows = rows }
 
 -- of lent slices after the call
-abbrev pub walk_after : ℕ → Slice → Slice → Slice → WalkLeft
-walk_after r h c rows = walk_left (told r (after h)) (after c) (after rows)
+abbrev pub walk_after : ℕ → SliceMut → SliceMut → SliceMut → WalkLeft
+walk_after r h c rows = walk_left (told r h.exit.now) c.exit.now rows.exit.now
 
 -- seven cells for a walk
 unfoldable pub no_walk : List ℕ → Bool

@@ -2,7 +2,7 @@
 -- written, against the call's definition.
 -- Assumes nothing.
 use Rattle.std.specs.Prelude.{ℕ, ◌≡◌, List}
-use Rattle.cells.specs.Slice.{Slice, after}
+use Rattle.cells.specs.Slice.{SliceMut}
 use Rattle.ffi_cells.specs.Header.{told}
 use Rattle.ffi_cells.specs.Contract.{ToldExit}
 use Rattle.ffi_archive.specs.Calls.{walk_left, start_call, next_call, matches_call}
@@ -15,8 +15,8 @@ pub record WalkExit : Type 0 where
   pub walk : List ℕ
   pub rows : List ℕ
 
-abbrev pub walk_exit : ℕ → Slice → Slice → Slice → WalkExit
-walk_exit n header walk rows = record { number = n; header = after header; walk = after walk; rows = after rows }
+abbrev pub walk_exit : ℕ → SliceMut → SliceMut → SliceMut → WalkExit
+walk_exit n header walk rows = record { number = n; header = header.exit.now; walk = walk.exit.now; rows = rows.exit.now }
 
 abbrev pub StartMeets : List ℕ → List ℕ → ℕ → List ℕ → List ℕ → WalkExit → Type 0
 StartMeets h walk key index rows e = walk_left (told e.number e.header) e.walk e.rows ≡ start_call h walk key index rows

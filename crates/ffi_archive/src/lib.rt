@@ -1,7 +1,8 @@
 // The walk over an archive's members, and admission, for another language: the answer lies in a header (ffi_cells), the walk in seven cells. A
 // header of fewer than 24 cells gives 1, and nothing is read or written; a walk of fewer than seven gives 1 at place 0 and is left.
+#![tactic(auto)]
+
 ghost use Rattle.std.specs.Prelude.{◌≡◌};
-ghost use Rattle.cells.specs.Slice.{before, after};
 ghost use Rattle.ffi_cells.specs.Contract.{told_exit};
 ghost use Rattle.ffi_archive.specs.Cells.{walk_in, index_out, counts_out, walk_out};
 ghost use Rattle.ffi_archive.specs.Calls.{begun_reply, offered_reply, admitted_reply, start_fit, next_fit, walk_after};
@@ -14,7 +15,7 @@ use object_requirement::Admission;
 // ---- a walk
 
 pub fn walk_in(walk: &[u64]) -> Walk
-    ensures { result ≡ walk_in (before walk) }
+    ensures { result ≡ walk_in walk.now }
 {
     Walk {
         key: cells::get(walk, 0) as usize,
@@ -28,7 +29,7 @@ pub fn walk_in(walk: &[u64]) -> Walk
 }
 
 fn put_index(walk: &mut [u64], w: Walk)
-    ensures { after walk ≡ index_out (before walk) w }
+    ensures { walk.new ≡ index_out walk.old w }
 {
     cells::put(walk, 0, w.key as u64);
     cells::put(walk, 1, w.entries as u64);
@@ -36,7 +37,7 @@ fn put_index(walk: &mut [u64], w: Walk)
 }
 
 fn put_counts(walk: &mut [u64], w: Walk)
-    ensures { after walk ≡ counts_out (before walk) w }
+    ensures { walk.new ≡ counts_out walk.old w }
 {
     cells::put(walk, 3, w.passes as u64);
     cells::put(walk, 4, w.queued as u64);
@@ -44,7 +45,7 @@ fn put_counts(walk: &mut [u64], w: Walk)
 }
 
 pub fn put_walk(walk: &mut [u64], w: Walk)
-    ensures { after walk ≡ walk_out (before walk) w }
+    ensures { walk.new ≡ walk_out walk.old w }
 {
     put_index(walk, w);
     put_counts(walk, w);
@@ -95,7 +96,7 @@ fn start_fit(
     index: &[u8],
     rows: &mut [u64],
 ) -> u64
-    ensures { walk_after result header walk rows ≡ start_fit (before header) (before walk) key (before index) (before rows) }
+    ensures { walk_after result header walk rows ≡ start_fit header.old walk.old key index.now rows.old }
 {
     let s = archive_walk::start(key, index, rows);
     let w = s.walk;
@@ -112,7 +113,7 @@ pub fn archive_start(
     index: &[u8],
     rows: &mut [u64],
 ) -> u64
-    ensures { StartMeets (before header) (before walk) key (before index) (before rows) (walk_exit result header walk rows) }
+    ensures { StartMeets header.old walk.old key index.now rows.old (walk_exit result header walk rows) }
 {
     if header.len() < ffi_cells::HEADER_CELLS {
         return 1;
@@ -133,7 +134,7 @@ fn next_fit(
     symbols: &[u64],
 ) -> u64
     ensures { walk_after result header walk rows
-        ≡ next_fit (before header) (before walk) (before index) (before rows) (before bytes) (before names) (before symbols) }
+        ≡ next_fit header.old walk.old index.now rows.old bytes.now names.now symbols.now }
 {
     let l = ffi_cells::link_in(header);
     let w = walk_in(walk);
@@ -154,7 +155,7 @@ pub fn archive_next(
     names: &[u64],
     symbols: &[u64],
 ) -> u64
-    ensures { NextMeets (before header) (before walk) (before index) (before rows) (before bytes) (before names) (before symbols) (walk_exit result header walk rows) }
+    ensures { NextMeets header.old walk.old index.now rows.old bytes.now names.now symbols.now (walk_exit result header walk rows) }
 {
     if header.len() < ffi_cells::HEADER_CELLS {
         return 1;
@@ -177,7 +178,7 @@ pub fn matches(
     contents: &[u64],
     file: &[u8],
 ) -> u64
-    ensures { MatchesMeets (before header) (before walk) (before index) (before rows) entry (before headers) (before entries) (before contents) (before file) (told_exit result header) }
+    ensures { MatchesMeets header.old walk.now index.now rows.now entry headers.now entries.now contents.now file.now (told_exit result header) }
 {
     if header.len() < ffi_cells::HEADER_CELLS {
         return 1;

@@ -1,7 +1,6 @@
 // A link and an answer in the cells of a header, for the calls from another language. Cells 0 to 8 hold the link (names, bytes, symbols, sections,
 // inputs, lists, chains, slots, broken), 15 its key and 16 its profile, 9 the number of the refusal, 10 its place, 11 to 14 the values of the answer.
 ghost use Rattle.std.specs.Prelude.{◌≡◌};
-ghost use Rattle.cells.specs.Slice.{after, before};
 ghost use Rattle.ffi_cells.specs.Header.{is_set, flag_of, link_with, link_in, result_of, refusal_of, refused_of, reply_in, counts_in, profile_in, told, tell_of, answer_of};
 
 use link::{Link, Refusal};
@@ -12,7 +11,7 @@ pub const HEADER_CELLS: usize = 24;
 const PROFILE: usize = 16;
 
 // Number 0 is a result, with its values; a refusal has none, but a list of adds, whose first value is the position.
-#[derive(Drop)]
+#[derive(Clone, Copy)]
 pub struct Reply {
     pub number: u64,
     pub place: u64,
@@ -44,7 +43,7 @@ pub fn flag(b: bool) -> u64
 }
 
 fn link_with(header: &[u64], key: usize, gabi: bool, broken: bool) -> Link
-    ensures { result ≡ link_with (before header) key gabi broken }
+    ensures { result ≡ link_with header.now key gabi broken }
 {
     Link {
         names: cells::get(header, 0) as usize,
@@ -62,7 +61,7 @@ fn link_with(header: &[u64], key: usize, gabi: bool, broken: bool) -> Link
 }
 
 pub fn link_in(header: &[u64]) -> Link
-    ensures { result ≡ link_in (before header) }
+    ensures { result ≡ link_in header.now }
 {
     let key = cells::get(header, 15) as usize;
     let gabi = is_set(cells::get(header, PROFILE));
@@ -72,7 +71,7 @@ pub fn link_in(header: &[u64]) -> Link
 
 // Cells 8 and 15, and the answer.
 fn put_reply(header: &mut [u64], broken: u64, key: u64, r: Reply)
-    ensures { after header ≡ reply_in (before header) broken key r }
+    ensures { header.new ≡ reply_in header.old broken key r }
 {
     cells::row_store(
         header, 1, broken, r.number, r.place, r.first, r.second, r.third, r.fourth, key,
@@ -81,7 +80,7 @@ fn put_reply(header: &mut [u64], broken: u64, key: u64, r: Reply)
 
 // The answer of a call that doesn't change a link: its cells stay.
 pub fn answer(header: &mut [u64], r: Reply) -> u64
-    ensures { told result (after header) ≡ answer_of (before header) r }
+    ensures { told result header.new ≡ answer_of header.old r }
 {
     let broken = cells::get(header, 8);
     let key = cells::get(header, 15);
@@ -90,7 +89,7 @@ pub fn answer(header: &mut [u64], r: Reply) -> u64
 }
 
 fn put_counts(header: &mut [u64], l: Link)
-    ensures { after header ≡ counts_in (before header) l }
+    ensures { header.new ≡ counts_in header.old l }
 {
     cells::row_store(
         header,
@@ -107,14 +106,14 @@ fn put_counts(header: &mut [u64], l: Link)
 }
 
 fn put_profile(header: &mut [u64], l: Link)
-    ensures { after header ≡ profile_in (before header) l }
+    ensures { header.new ≡ profile_in header.old l }
 {
     cells::put(header, PROFILE, flag(l.gabi));
 }
 
 // The link that a call hands back, and its answer.
 pub fn tell(header: &mut [u64], l: Link, r: Reply) -> u64
-    ensures { told result (after header) ≡ tell_of (before header) l r }
+    ensures { told result header.new ≡ tell_of header.old l r }
 {
     put_counts(header, l);
     put_profile(header, l);

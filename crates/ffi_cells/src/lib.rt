@@ -1,6 +1,7 @@
 // A symbol that was found, and one that is to be added, in lent cells, for the calls from another language.
+#![tactic(auto)]
+
 ghost use Rattle.std.specs.Prelude.{◌≡◌};
-ghost use Rattle.cells.specs.Slice.{after, before};
 ghost use Rattle.ffi_cells.specs.Cells.{type_code, global_code, visibility_code, symbol_row, row_out, symbol_out, is_item, name_in, words_in, elf_in, item_in};
 
 mod header;
@@ -51,7 +52,7 @@ fn visibility_code(v: SymbolVisibility) -> u64
 
 // A present row of these fields, behind the id.
 fn put_row(out: &mut [u64], id: SymbolId, row: Row)
-    ensures { after out ≡ row_out (before out) id row }
+    ensures { out.new ≡ row_out out.old id row }
 {
     let name = row.name;
     let v = row.value;
@@ -88,7 +89,7 @@ fn row_of(s: Symbol) -> Row
 }
 
 pub fn put_symbol(out: &mut [u64], s: Symbol)
-    ensures { after out ≡ symbol_out (before out) s }
+    ensures { out.new ≡ symbol_out out.old s }
 {
     let id = s.id;
     put_row(out, id, row_of(s));
@@ -98,7 +99,7 @@ pub fn put_symbol(out: &mut [u64], s: Symbol)
 
 // Eight cells: the variant, then its fields. An unknown variant, or an unknown kind of value, is no symbol.
 pub fn is_item(item: &[u64]) -> bool
-    ensures { result ≡ is_item (before item) }
+    ensures { result ≡ is_item item.now }
 {
     if item.len() < 8 {
         return false;
@@ -117,7 +118,7 @@ pub fn is_item(item: &[u64]) -> bool
 }
 
 fn elf_in(item: &[u64]) -> ElfSymbol
-    ensures { result ≡ elf_in (before item) }
+    ensures { result ≡ elf_in item.now }
 {
     ElfSymbol {
         binding: cells::get(item, 1),
@@ -129,7 +130,7 @@ fn elf_in(item: &[u64]) -> ElfSymbol
 }
 
 fn words_in(item: &[u64]) -> Words
-    ensures { result ≡ words_in (before item) }
+    ensures { result ≡ words_in item.now }
 {
     Words {
         kind: cells::get(item, 2),
@@ -139,13 +140,13 @@ fn words_in(item: &[u64]) -> Words
 }
 
 fn name_in(item: &[u64], i: usize) -> Interned
-    ensures { result ≡ name_in (before item) i }
+    ensures { result ≡ name_in item.now i }
 {
     Interned(cells::get(item, i) as usize)
 }
 
 pub fn item_in(item: &[u64]) -> UpcomingSymbol
-    ensures { result ≡ item_in (before item) }
+    ensures { result ≡ item_in item.now }
 {
     let variant = cells::get(item, 0);
     match variant {

@@ -2,7 +2,7 @@
 -- written, against the call's definition.
 -- Assumes nothing.
 use Rattle.std.specs.Prelude.{ℕ, ◌≡◌, List}
-use Rattle.cells.specs.Slice.{Slice, after}
+use Rattle.cells.specs.Slice.{SliceMut}
 use Rattle.gc_sections.specs.declared.EntryPoint.{EntryPoint}
 use Rattle.gc_sections.specs.Run.{Lists}
 use Rattle.ffi_cells.specs.Header.{told}
@@ -15,9 +15,9 @@ pub record RunExit : Type 0 where
   pub sections : List ℕ
   pub work : List ℕ
 
-abbrev pub run_exit : ℕ → Slice → Slice → Slice → Slice → RunExit
+abbrev pub run_exit : ℕ → SliceMut → SliceMut → SliceMut → SliceMut → RunExit
 run_exit n header symbols sections work =
-    record { number = n; header = after header; symbols = after symbols; sections = after sections; work = after work }
+    record { number = n; header = header.exit.now; symbols = symbols.exit.now; sections = sections.exit.now; work = work.exit.now }
 
 abbrev pub RunMeets : List ℕ → Lists → List ℕ → List ℕ → EntryPoint → List ℕ → RunExit → Type 0
 RunMeets h x symbols sections entry work e =

@@ -1,7 +1,8 @@
 // Both collections, for another language: the link and the answer lie in a header (ffi_cells). A header of fewer than 24 cells gives 1, and nothing is
 // read or written.
+#![tactic(auto)]
+
 ghost use Rattle.std.specs.Prelude.{◌≡◌};
-ghost use Rattle.cells.specs.Slice.{before};
 ghost use Rattle.gc_sections.specs.Run.{said_of, lists_in};
 ghost use Rattle.ffi_collect.specs.Calls.{collected_reply, entry_of};
 ghost use Rattle.ffi_collect.specs.Contract.{run_exit, RunMeets, PlainMeets};
@@ -45,7 +46,7 @@ pub fn gc_run(
     entry: usize,
     work: &mut [u64],
 ) -> u64
-    ensures { RunMeets (before header) (lists_in bytes names lists marks) (before symbols) (before sections) (entry_of entered entry) (before work) (run_exit result header symbols sections work) }
+    ensures { RunMeets header.old (lists_in bytes names lists marks) symbols.old sections.old (entry_of entered entry) work.old (run_exit result header symbols sections work) }
 {
     if header.len() < ffi_cells::HEADER_CELLS {
         return 1;
@@ -73,7 +74,7 @@ pub fn plain_run(
     entry: usize,
     work: &mut [u64],
 ) -> u64
-    ensures { PlainMeets (before header) (lists_in bytes names lists marks) (before symbols) (before sections) (entry_of entered entry) (before work) (run_exit result header symbols sections work) }
+    ensures { PlainMeets header.old (lists_in bytes names lists marks) symbols.old sections.old (entry_of entered entry) work.old (run_exit result header symbols sections work) }
 {
     if header.len() < ffi_cells::HEADER_CELLS {
         return 1;

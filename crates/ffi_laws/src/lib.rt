@@ -1,1 +1,2 @@
 // Laws of the exported calls: no functions.
+#![tactic(auto)]

@@ -2,7 +2,7 @@
 -- against the call's definition.
 -- Assumes nothing.
 use Rattle.std.specs.Prelude.{ℕ, ◌≡◌, List}
-use Rattle.cells.specs.Slice.{Slice, after}
+use Rattle.cells.specs.Slice.{SliceMut}
 use Rattle.ffi_cells.specs.Header.{told}
 use Rattle.ffi_list.specs.Calls.{list_left, list_call}
 
@@ -14,15 +14,15 @@ pub record ListExit : Type 0 where
   pub sections : List ℕ
   pub ids : List ℕ
 
-abbrev pub list_exit : ℕ → Slice → Slice → Slice → Slice → Slice → ListExit
+abbrev pub list_exit : ℕ → SliceMut → SliceMut → SliceMut → SliceMut → SliceMut → ListExit
 list_exit n header names symbols sections ids =
     record {
       number = n;
-      header = after header;
-      names = after names;
-      symbols = after symbols;
-      sections = after sections;
-      ids = after ids;
+      header = header.exit.now;
+      names = names.exit.now;
+      symbols = symbols.exit.now;
+      sections = sections.exit.now;
+      ids = ids.exit.now;
     }
 
 abbrev pub ListMeets : List ℕ → List ℕ → List ℕ → List ℕ → List ℕ → List ℕ → List ℕ → ListExit → Type 0

@@ -1,7 +1,8 @@
 // A list of adds, for another language: the link and the answer lie in a header (ffi_cells), the list's rows and the cells for ids in cells of their
 // own (add_list). A header of fewer than 24 cells gives 1, and nothing is read or written.
+#![tactic(auto)]
+
 ghost use Rattle.std.specs.Prelude.{◌≡◌};
-ghost use Rattle.cells.specs.Slice.{before};
 ghost use Rattle.ffi_list.specs.Calls.{reply_of};
 ghost use Rattle.ffi_list.specs.Contract.{list_exit, ListMeets};
 
@@ -32,7 +33,7 @@ pub fn add_list(
     adds: &[u64],
     ids: &mut [u64],
 ) -> u64
-    ensures { ListMeets (before header) (before names) (before symbols) (before sections) (before conversion) (before adds) (before ids) (list_exit result header names symbols sections ids) }
+    ensures { ListMeets header.old names.old symbols.old sections.old conversion.now adds.now ids.old (list_exit result header names symbols sections ids) }
 {
     if header.len() < ffi_cells::HEADER_CELLS {
         return 1;

@@ -1,7 +1,8 @@
 // The load of a shared object, for another language: the link and the answer lie in a header (ffi_cells). A header of fewer than 24 cells gives 1,
 // and nothing is read or written.
+#![tactic(auto)]
+
 ghost use Rattle.std.specs.Prelude.{◌≡◌};
-ghost use Rattle.cells.specs.Slice.{before};
 ghost use Rattle.shared_objects.specs.Load.{said_of, library_in};
 ghost use Rattle.ffi_cells.specs.Header.{saying};
 ghost use Rattle.ffi_cells.specs.Contract.{told_exit};
@@ -39,7 +40,7 @@ pub fn load_shared_object<'a>(
     soname: usize,
     asneeded: bool,
 ) -> u64
-    ensures { LoadMeets (before header) (library_in entries file needs path archived sonamed soname asneeded) (link_rows bytes names symbols sections inputs lists marks) (told_exit result header) }
+    ensures { LoadMeets header.old (library_in entries file needs path archived sonamed soname asneeded) (link_rows bytes names symbols sections inputs lists marks) (told_exit result header) }
 {
     if header.len() < ffi_cells::HEADER_CELLS {
         return 1;

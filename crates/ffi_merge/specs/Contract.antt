@@ -3,7 +3,7 @@
 -- Assumes nothing.
 use Rattle.std.specs.Prelude.{ℕ, ◌≡◌, List}
 use denote.Triple.Both.{Both}
-use Rattle.cells.specs.Slice.{Slice, before, after}
+use Rattle.cells.specs.Slice.{Slice, SliceMut}
 use Rattle.section_groups.specs.Group as Group
 use Rattle.merge_stages.specs.Stages as Stages
 use Rattle.ffi_cells.specs.Header.{told}
@@ -19,13 +19,13 @@ pub record GroupExit : Type 0 where
   pub names : List ℕ
   pub work : List ℕ
 
-abbrev pub group_exit : ℕ → Slice → Slice → Slice → Slice → GroupExit
+abbrev pub group_exit : ℕ → SliceMut → SliceMut → SliceMut → SliceMut → GroupExit
 group_exit n header bytes names work =
-    record { number = n; header = after header; bytes = after bytes; names = after names; work = after work }
+    record { number = n; header = header.exit.now; bytes = bytes.exit.now; names = names.exit.now; work = work.exit.now }
 
 -- the object as it is lent, its symbol table being of section t
 abbrev pub group_object : Slice → Slice → Slice → Slice → ℕ → Group.Object
-group_object headers entries contents file t = Group.object_of (before headers) (before entries) (before contents) (before file) t
+group_object headers entries contents file t = Group.object_of headers.entry.now entries.entry.now contents.entry.now file.entry.now t
 
 abbrev pub GroupMeets : List ℕ → Group.Object → List ℕ → List ℕ → List ℕ → ℕ → GroupExit → Type 0
 GroupMeets h o bytes names work n e =
@@ -34,16 +34,16 @@ GroupMeets h o bytes names work n e =
 -- ---- `merge_elf`
 
 -- the link's rows and the work cells, before the call and after it
-abbrev pub link_rows : Slice → Slice → Slice → Slice → Slice → Slice → Slice → Slice → Both Rows Rows
+abbrev pub link_rows : SliceMut → SliceMut → SliceMut → SliceMut → SliceMut → SliceMut → SliceMut → SliceMut → Both Rows Rows
 link_rows b n s x i l w d =
     record {
-      entry = rows_of (before b) (before n) (before s) (before x) (before i) (before l) (before w) (before d);
-      exit = rows_of (after b) (after n) (after s) (after x) (after i) (after l) (after w) (after d);
+      entry = rows_of b.entry.now n.entry.now s.entry.now x.entry.now i.entry.now l.entry.now w.entry.now d.entry.now;
+      exit = rows_of b.exit.now n.exit.now s.exit.now x.exit.now i.exit.now l.exit.now w.exit.now d.exit.now;
     }
 
 -- the object as it is lent
 abbrev pub merge_object : Slice → Slice → Slice → Slice → ℕ → Stages.Object
-merge_object headers entries contents file strings = Stages.object_of (before headers) (before entries) (before contents) (before file) strings
+merge_object headers entries contents file strings = Stages.object_of headers.entry.now entries.entry.now contents.entry.now file.entry.now strings
 
 abbrev pub MergeMeets : List ℕ → Stages.Object → Both Rows Rows → ToldExit → Type 0
 MergeMeets h o c e = merge_left (told e.number e.header) c.exit ≡ merge_call h o c.entry

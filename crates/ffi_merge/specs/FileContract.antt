@@ -2,7 +2,7 @@
 -- Assumes nothing.
 use Rattle.std.specs.Prelude.{ℕ, ◌≡◌, List}
 use denote.Triple.Both.{Both}
-use Rattle.cells.specs.Slice.{Slice, before, after}
+use Rattle.cells.specs.Slice.{SliceMut}
 use Rattle.ffi_cells.specs.Header.{told}
 use Rattle.ffi_cells.specs.Contract.{ToldExit}
 use Rattle.ffi_merge.specs.Calls.{rows_of}
@@ -15,8 +15,8 @@ pub record ReadExit : Type 0 where
   pub answer : List ℕ
   pub rows : List ℕ
 
-abbrev pub read_exit : ℕ → Slice → Slice → ReadExit
-read_exit n answer rows = record { number = n; answer = after answer; rows = after rows }
+abbrev pub read_exit : ℕ → SliceMut → SliceMut → ReadExit
+read_exit n answer rows = record { number = n; answer = answer.exit.now; rows = rows.exit.now }
 
 abbrev pub ReadMeets : List ℕ → List ℕ → List ℕ → ReadExit → Type 0
 ReadMeets answer file rows e = read_left e.number e.answer e.rows ≡ read_call answer file rows
@@ -24,11 +24,11 @@ ReadMeets answer file rows e = read_left e.number e.answer e.rows ≡ read_call 
 -- ---- `merge_file`
 
 -- the link's rows, the work cells and the cells for the file's rows, before the call and after it
-abbrev pub lent_rows : Slice → Slice → Slice → Slice → Slice → Slice → Slice → Slice → Slice → Both Lent Lent
+abbrev pub lent_rows : SliceMut → SliceMut → SliceMut → SliceMut → SliceMut → SliceMut → SliceMut → SliceMut → SliceMut → Both Lent Lent
 lent_rows b n s x i l w d r =
     record {
-      entry = lent_of (rows_of (before b) (before n) (before s) (before x) (before i) (before l) (before w) (before d)) (before r);
-      exit = lent_of (rows_of (after b) (after n) (after s) (after x) (after i) (after l) (after w) (after d)) (after r);
+      entry = lent_of (rows_of b.entry.now n.entry.now s.entry.now x.entry.now i.entry.now l.entry.now w.entry.now d.entry.now) r.entry.now;
+      exit = lent_of (rows_of b.exit.now n.exit.now s.exit.now x.exit.now i.exit.now l.exit.now w.exit.now d.exit.now) r.exit.now;
     }
 
 abbrev pub FileMeets : List ℕ → List ℕ → Both Lent Lent → ToldExit → Type 0

@@ -1,13 +1,12 @@
 // The merge of an object file, and its rows alone, for another language. A merge has the link and the answer in a header (ffi_cells); a header of
 // fewer than 24 cells gives 1, and nothing is read or written. A read has no link: its answer is a row of 8 cells, of which fewer give 1.
 ghost use Rattle.std.specs.Prelude.{◌≡◌};
-ghost use Rattle.cells.specs.Slice.{before};
 ghost use Rattle.ffi_cells.specs.Contract.{told_exit};
 ghost use Rattle.ffi_merge.specs.FileContract.{read_exit, ReadMeets, lent_rows, FileMeets};
 
 // The answer's cells: the place; how many sections, symbols and cells of contents were written; the section of the sections' names; 0.
 pub fn read_file(answer: &mut [u64], rows: &mut [u64], file: &[u8]) -> u64
-    ensures { ReadMeets (before answer) (before file) (before rows) (read_exit result answer rows) }
+    ensures { ReadMeets answer.old file.now rows.old (read_exit result answer rows) }
 {
     if answer.len() < 8 {
         return 1;
@@ -32,7 +31,7 @@ pub fn merge_file(
     rows: &mut [u64],
     file: &[u8],
 ) -> u64
-    ensures { FileMeets (before header) (before file) (lent_rows bytes names symbols sections inputs lists work ids rows) (told_exit result header) }
+    ensures { FileMeets header.old file.now (lent_rows bytes names symbols sections inputs lists work ids rows) (told_exit result header) }
 {
     if header.len() < ffi_cells::HEADER_CELLS {
         return 1;

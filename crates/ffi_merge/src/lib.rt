@@ -1,7 +1,8 @@
 // The merge of an object, and a group added by itself, for another language: the link and the answer lie in a header (ffi_cells). A header of fewer
 // than 24 cells gives 1, and nothing is read or written. There are no values.
+#![tactic(auto)]
+
 ghost use Rattle.std.specs.Prelude.{◌≡◌};
-ghost use Rattle.cells.specs.Slice.{before};
 ghost use Rattle.section_groups.specs.AddGroup as AddGroup;
 ghost use Rattle.merge_elf.specs.Merge as Merge;
 ghost use Rattle.ffi_cells.specs.Header.{refused_of};
@@ -35,7 +36,7 @@ pub fn add_group(
     t: usize,
     n: usize,
 ) -> u64
-    ensures { GroupMeets (before header) (group_object headers entries contents image t) (before bytes) (before names) (before work) n (group_exit result header bytes names work) }
+    ensures { GroupMeets header.old (group_object headers entries contents image t) bytes.old names.old work.old n (group_exit result header bytes names work) }
 {
     if header.len() < ffi_cells::HEADER_CELLS {
         return 1;
@@ -74,7 +75,7 @@ pub fn merge_elf(
     image: &[u8],
     shstrndx: usize,
 ) -> u64
-    ensures { MergeMeets (before header) (merge_object headers entries contents image shstrndx) (link_rows bytes names symbols sections inputs lists work ids) (told_exit result header) }
+    ensures { MergeMeets header.old (merge_object headers entries contents image shstrndx) (link_rows bytes names symbols sections inputs lists work ids) (told_exit result header) }
 {
     if header.len() < ffi_cells::HEADER_CELLS {
         return 1;

@@ -2,7 +2,7 @@
 -- written, against the call's definition.
 -- Assumes nothing.
 use Rattle.std.specs.Prelude.{ℕ, ◌≡◌, List}
-use Rattle.cells.specs.Slice.{Slice, after}
+use Rattle.cells.specs.Slice.{SliceMut}
 use Rattle.ffi_cells.specs.Header.{told}
 use Rattle.ffi_cells.specs.Contract.{ToldExit}
 use Rattle.ffi_names.specs.Calls.{intern_left, intern_call, resolve_call, find_call}
@@ -13,8 +13,8 @@ pub record InternExit : Type 0 where
   pub bytes : List ℕ
   pub names : List ℕ
 
-abbrev pub intern_exit : ℕ → Slice → Slice → Slice → InternExit
-intern_exit n header bytes names = record { number = n; header = after header; bytes = after bytes; names = after names }
+abbrev pub intern_exit : ℕ → SliceMut → SliceMut → SliceMut → InternExit
+intern_exit n header bytes names = record { number = n; header = header.exit.now; bytes = bytes.exit.now; names = names.exit.now }
 
 abbrev pub InternMeets : List ℕ → List ℕ → List ℕ → List ℕ → InternExit → Type 0
 InternMeets h bytes names x e = intern_left (told e.number e.header) e.bytes e.names ≡ intern_call h bytes names x

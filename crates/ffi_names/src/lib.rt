@@ -1,9 +1,10 @@
 // Names, for another language: the link and the answer lie in a header (ffi_cells). A header of fewer than 24 cells gives 1, and nothing is
 // read or written.
+#![tactic(auto)]
+
 ghost use Rattle.std.specs.Prelude.{◌≡◌, get_or, ◌*◌, ◌+◌};
-ghost use Rattle.cells.specs.Slice.{before};
 ghost use Rattle.link.specs.Bounds.{lesser};
-ghost use Rattle.interner.specs.Names.{store_before};
+ghost use Rattle.interner.specs.Names.{store_of};
 ghost use Rattle.interner.specs.Calls.{said, lent_of};
 ghost use Rattle.ffi_cells.specs.Header.{saying};
 ghost use Rattle.ffi_cells.specs.Contract.{told_exit};
@@ -25,7 +26,7 @@ fn interned(a: Answer) -> Reply
 
 // The value is the name's id.
 pub fn intern(header: &mut [u64], bytes: &mut [u8], names: &mut [u64], name: &[u8]) -> u64
-    ensures { InternMeets (before header) (before bytes) (before names) (before name) (intern_exit result header bytes names) }
+    ensures { InternMeets header.old bytes.old names.old name.now (intern_exit result header bytes names) }
 {
     if header.len() < ffi_cells::HEADER_CELLS {
         return 1;
@@ -39,7 +40,7 @@ pub fn intern(header: &mut [u64], bytes: &mut [u8], names: &mut [u64], name: &[u
 
 // Where a name starts in so many bytes, whatever its row holds.
 fn first_of(names: &[u64], id: usize, bytes: usize) -> u64
-    ensures { result ≡ first_of (before names) id bytes }
+    ensures { result ≡ first_of names.now id bytes }
 {
     let start = cells::row_get(names, id, 0) as usize;
     if start < bytes {
@@ -49,7 +50,7 @@ fn first_of(names: &[u64], id: usize, bytes: usize) -> u64
 }
 
 fn part_reply(names: &[u64], id: usize, bytes: usize, len: usize, number: u64, place: u64) -> Reply
-    ensures { result ≡ part_reply (before names) id bytes len number place }
+    ensures { result ≡ part_reply names.now id bytes len number place }
 {
     if number == 0 {
         return ffi_cells::result(first_of(names, id, bytes), len as u64, 0, 0);
@@ -59,7 +60,7 @@ fn part_reply(names: &[u64], id: usize, bytes: usize, len: usize, number: u64, p
 
 // The values are where the name starts in the bytes, and its length.
 pub fn resolve(header: &mut [u64], bytes: &[u8], names: &[u64], id: usize) -> u64
-    ensures { ResolveMeets (before header) (before bytes) (before names) id (told_exit result header) }
+    ensures { ResolveMeets header.old bytes.now names.now id (told_exit result header) }
 {
     if header.len() < ffi_cells::HEADER_CELLS {
         return 1;
@@ -96,7 +97,7 @@ fn found_reply(id: usize, count: usize) -> Reply
 
 // A lookup: a broken link is accepted.
 fn find_reply(l: Link, bytes: &[u8], names: &[u64], name: &[u8]) -> Reply
-    ensures { result ≡ find_reply (store_before bytes names l) (before name) }
+    ensures { result ≡ find_reply (store_of bytes.now names.now l) name.now }
 {
     let head = link::judge(l, lent_names(l, bytes.len(), names.len()));
     if head.number != 0 {
@@ -108,7 +109,7 @@ fn find_reply(l: Link, bytes: &[u8], names: &[u64], name: &[u8]) -> Reply
 
 // The values are 1 and the name's id where it was issued, else 0 and 0. No name is issued.
 pub fn find(header: &mut [u64], bytes: &[u8], names: &[u64], name: &[u8]) -> u64
-    ensures { FindMeets (before header) (before bytes) (before names) (before name) (told_exit result header) }
+    ensures { FindMeets header.old bytes.now names.now name.now (told_exit result header) }
 {
     if header.len() < ffi_cells::HEADER_CELLS {
         return 1;

@@ -9,7 +9,7 @@ use Rattle.symbols.specs.Add.{add_of}
 use Rattle.symbols.specs.Remove as Remove
 use Rattle.ffi_cells.specs.Header.{is_short, link_in, refusal_of, saying, Told, told, tell_of, answer_of}
 use Rattle.ffi_cells.specs.Cells.{is_item, item_in}
-use Rattle.cells.specs.Slice.{Slice, after}
+use Rattle.cells.specs.Slice.{SliceMut}
 
 -- ---- new
 
@@ -24,8 +24,8 @@ abbrev pub new_left : Told → List ℕ → List ℕ → List ℕ → List ℕ �
 new_left t b n s x = record { told = t; bytes = b; names = n; symbols = s; sections = x }
 
 -- of lent slices after the call
-abbrev pub new_after : ℕ → Slice → Slice → Slice → Slice → Slice → NewLeft
-new_after r h b n s x = new_left (told r (after h)) (after b) (after n) (after s) (after x)
+abbrev pub new_after : ℕ → SliceMut → SliceMut → SliceMut → SliceMut → SliceMut → NewLeft
+new_after r h b n s x = new_left (told r h.exit.now) b.exit.now n.exit.now s.exit.now x.exit.now
 
 abbrev pub new_told : List ℕ → New.NewLeft → NewLeft
 new_told h w =
@@ -57,8 +57,8 @@ abbrev pub add_left : Told → List ℕ → List ℕ → List ℕ → AddLeft
 add_left t n s x = record { told = t; names = n; symbols = s; sections = x }
 
 -- of lent slices after the call
-abbrev pub add_after : ℕ → Slice → Slice → Slice → Slice → AddLeft
-add_after r h n s x = add_left (told r (after h)) (after n) (after s) (after x)
+abbrev pub add_after : ℕ → SliceMut → SliceMut → SliceMut → SliceMut → AddLeft
+add_after r h n s x = add_left (told r h.exit.now) n.exit.now s.exit.now x.exit.now
 
 abbrev pub add_told : List ℕ → Table.Left → AddLeft
 add_told h w = add_left (tell_of h w.table.link (saying w.said)) w.table.names w.table.symbols w.table.sections

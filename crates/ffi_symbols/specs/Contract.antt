@@ -2,7 +2,7 @@
 -- written, against the call's definition.
 -- Assumes nothing.
 use Rattle.std.specs.Prelude.{ℕ, ◌≡◌, List}
-use Rattle.cells.specs.Slice.{Slice, after}
+use Rattle.cells.specs.Slice.{SliceMut}
 use Rattle.ffi_cells.specs.Header.{told}
 use Rattle.ffi_symbols.specs.Calls.{new_left, new_call, add_left, add_call, remove_left, remove_call}
 
@@ -14,15 +14,15 @@ pub record NewExit : Type 0 where
   pub symbols : List ℕ
   pub sections : List ℕ
 
-abbrev pub new_exit : ℕ → Slice → Slice → Slice → Slice → Slice → NewExit
+abbrev pub new_exit : ℕ → SliceMut → SliceMut → SliceMut → SliceMut → SliceMut → NewExit
 new_exit n header bytes names symbols sections =
     record {
       number = n;
-      header = after header;
-      bytes = after bytes;
-      names = after names;
-      symbols = after symbols;
-      sections = after sections;
+      header = header.exit.now;
+      bytes = bytes.exit.now;
+      names = names.exit.now;
+      symbols = symbols.exit.now;
+      sections = sections.exit.now;
     }
 
 abbrev pub NewMeets : List ℕ → ℕ → ℕ → List ℕ → List ℕ → List ℕ → List ℕ → NewExit → Type 0
@@ -36,9 +36,9 @@ pub record AddExit : Type 0 where
   pub symbols : List ℕ
   pub sections : List ℕ
 
-abbrev pub add_exit : ℕ → Slice → Slice → Slice → Slice → AddExit
+abbrev pub add_exit : ℕ → SliceMut → SliceMut → SliceMut → SliceMut → AddExit
 add_exit n header names symbols sections =
-    record { number = n; header = after header; names = after names; symbols = after symbols; sections = after sections }
+    record { number = n; header = header.exit.now; names = names.exit.now; symbols = symbols.exit.now; sections = sections.exit.now }
 
 abbrev pub AddMeets : List ℕ → List ℕ → List ℕ → List ℕ → List ℕ → List ℕ → AddExit → Type 0
 AddMeets h names symbols sections conversion item e =
@@ -50,8 +50,8 @@ pub record RemoveExit : Type 0 where
   pub symbols : List ℕ
   pub sections : List ℕ
 
-abbrev pub remove_exit : ℕ → Slice → Slice → Slice → RemoveExit
-remove_exit n header symbols sections = record { number = n; header = after header; symbols = after symbols; sections = after sections }
+abbrev pub remove_exit : ℕ → SliceMut → SliceMut → SliceMut → RemoveExit
+remove_exit n header symbols sections = record { number = n; header = header.exit.now; symbols = symbols.exit.now; sections = sections.exit.now }
 
 abbrev pub RemoveMeets : List ℕ → List ℕ → List ℕ → ℕ → RemoveExit → Type 0
 RemoveMeets h symbols sections id e = remove_left (told e.number e.header) e.symbols e.sections ≡ remove_call h symbols sections id

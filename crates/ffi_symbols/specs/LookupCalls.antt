@@ -9,7 +9,7 @@ use Rattle.symbols.specs.Lookup.{get_of, get_global_of, section_symbol_of}
 use Rattle.ffi_cells.specs.declared.header.Reply.{Reply}
 use Rattle.ffi_cells.specs.Header.{is_short, link_in, result_of, refusal_of, refused_of, Told, told, answer_of}
 use Rattle.ffi_cells.specs.Cells.{symbol_out}
-use Rattle.cells.specs.Slice.{Slice, after}
+use Rattle.cells.specs.Slice.{SliceMut}
 
 pub record FoundLeft : Type 0 where
   pub told : Told
@@ -19,8 +19,8 @@ abbrev pub found_left : Told → List ℕ → FoundLeft
 found_left t out = record { told = t; out = out }
 
 -- of lent slices after the call
-abbrev pub found_after : ℕ → Slice → Slice → FoundLeft
-found_after r h out = found_left (told r (after h)) (after out)
+abbrev pub found_after : ℕ → SliceMut → SliceMut → FoundLeft
+found_after r h out = found_left (told r h.exit.now) out.exit.now
 
 -- a symbol that was found goes out
 abbrev pub found_of : List ℕ → List ℕ → Found → FoundLeft

@@ -2,7 +2,7 @@
 -- written, against the call's definition.
 -- Assumes nothing.
 use Rattle.std.specs.Prelude.{ℕ, ◌≡◌, List}
-use Rattle.cells.specs.Slice.{Slice, after}
+use Rattle.cells.specs.Slice.{SliceMut}
 use Rattle.ffi_cells.specs.Header.{told}
 use Rattle.ffi_cells.specs.Contract.{ToldExit}
 use Rattle.ffi_symbols.specs.LookupCalls.{found_left, get_call, get_global_call, section_symbol_call}
@@ -12,8 +12,8 @@ pub record FoundExit : Type 0 where
   pub header : List ℕ
   pub out : List ℕ
 
-abbrev pub found_exit : ℕ → Slice → Slice → FoundExit
-found_exit n header out = record { number = n; header = after header; out = after out }
+abbrev pub found_exit : ℕ → SliceMut → SliceMut → FoundExit
+found_exit n header out = record { number = n; header = header.exit.now; out = out.exit.now }
 
 abbrev pub GetMeets : List ℕ → List ℕ → ℕ → List ℕ → FoundExit → Type 0
 GetMeets h symbols id out e = found_left (told e.number e.header) e.out ≡ get_call h symbols id out

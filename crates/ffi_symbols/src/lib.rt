@@ -1,8 +1,9 @@
 // A new table, symbols added and removed, for another language: the link and the answer lie in a header (ffi_cells), a symbol that is to be added
 // in cells of its own (ffi_cells). A header of fewer than 24 cells gives 1, and nothing is read or written; other cells that are too few give 1 at
 // place 0 and are left.
+#![tactic(auto)]
+
 ghost use Rattle.std.specs.Prelude.{◌≡◌};
-ghost use Rattle.cells.specs.Slice.{before};
 ghost use Rattle.symbols.specs.Calls.{said};
 ghost use Rattle.symbols.specs.New as New;
 ghost use Rattle.ffi_cells.specs.Header.{saying};
@@ -41,7 +42,7 @@ fn new_in(
     sections: &mut [u64],
 ) -> u64
     ensures { new_after result header bytes names symbols sections
-        ≡ new_told (before header) (New.new_of key gabi (before bytes) (before names) (before symbols) (before sections)) }
+        ≡ new_told header.old (New.new_of key gabi bytes.old names.old symbols.old sections.old) }
 {
     let o = Symbols::new(key, gabi, bytes, names, symbols, sections);
     let table = o.table;
@@ -61,7 +62,7 @@ pub fn new(
     symbols: &mut [u64],
     sections: &mut [u64],
 ) -> u64
-    ensures { NewMeets (before header) key profile (before bytes) (before names) (before symbols) (before sections) (new_exit result header bytes names symbols sections) }
+    ensures { NewMeets header.old key profile bytes.old names.old symbols.old sections.old (new_exit result header bytes names symbols sections) }
 {
     if header.len() < ffi_cells::HEADER_CELLS {
         return 1;
@@ -84,7 +85,7 @@ fn add_known(
     u: UpcomingSymbol,
 ) -> u64
     ensures { add_after result header names symbols sections
-        ≡ add_known (before header) (before names) (before symbols) (before sections) (before conversion) u }
+        ≡ add_known header.old names.old symbols.old sections.old conversion.now u }
 {
     let l = ffi_cells::link_in(header);
     let o = symbols::add(Symbols { link: l }, names, symbols, sections, conversion, u);
@@ -103,7 +104,7 @@ pub fn add(
     conversion: &[u64],
     item: &[u64],
 ) -> u64
-    ensures { AddMeets (before header) (before names) (before symbols) (before sections) (before conversion) (before item) (add_exit result header names symbols sections) }
+    ensures { AddMeets header.old names.old symbols.old sections.old conversion.now item.now (add_exit result header names symbols sections) }
 {
     if header.len() < ffi_cells::HEADER_CELLS {
         return 1;
@@ -117,7 +118,7 @@ pub fn add(
 
 // The value is the id.
 pub fn remove(header: &mut [u64], symbols: &mut [u64], sections: &mut [u64], id: usize) -> u64
-    ensures { RemoveMeets (before header) (before symbols) (before sections) id (remove_exit result header symbols sections) }
+    ensures { RemoveMeets header.old symbols.old sections.old id (remove_exit result header symbols sections) }
 {
     if header.len() < ffi_cells::HEADER_CELLS {
         return 1;

@@ -2,7 +2,6 @@
 // (ffi_cells). A header of fewer than 24 cells gives 1, and nothing is read or written; fewer than 9 cells for a symbol give 1 at place 0 and are
 // left.
 ghost use Rattle.std.specs.Prelude.{◌≡◌};
-ghost use Rattle.cells.specs.Slice.{before};
 ghost use Rattle.ffi_cells.specs.Contract.{told_exit};
 ghost use Rattle.ffi_symbols.specs.LookupCalls.{found_of, section_symbol_reply, found_after};
 ghost use Rattle.ffi_symbols.specs.LookupContract.{found_exit, GetMeets, GetGlobalMeets, SectionSymbolMeets};
@@ -13,7 +12,7 @@ use symbols::{Found, SectionSymbol, Symbols};
 
 // A symbol that was found goes out; there are no values.
 fn found(header: &mut [u64], out: &mut [u64], a: Found) -> u64
-    ensures { found_after result header out ≡ found_of (before header) (before out) a }
+    ensures { found_after result header out ≡ found_of header.old out.old a }
 {
     match a {
         Found::Row { symbol } => {
@@ -25,7 +24,7 @@ fn found(header: &mut [u64], out: &mut [u64], a: Found) -> u64
 }
 
 pub fn get(header: &mut [u64], symbols: &[u64], id: usize, out: &mut [u64]) -> u64
-    ensures { GetMeets (before header) (before symbols) id (before out) (found_exit result header out) }
+    ensures { GetMeets header.old symbols.now id out.old (found_exit result header out) }
 {
     if header.len() < ffi_cells::HEADER_CELLS {
         return 1;
@@ -45,7 +44,7 @@ pub fn get_global(
     name: usize,
     out: &mut [u64],
 ) -> u64
-    ensures { GetGlobalMeets (before header) (before names) (before symbols) name (before out) (found_exit result header out) }
+    ensures { GetGlobalMeets header.old names.now symbols.now name out.old (found_exit result header out) }
 {
     if header.len() < ffi_cells::HEADER_CELLS {
         return 1;
@@ -69,7 +68,7 @@ fn section_symbol(a: SectionSymbol) -> Reply
 
 // The values are 1 where the section has a symbol, and its id.
 pub fn section_symbol_id(header: &mut [u64], sections: &[u64], section: usize) -> u64
-    ensures { SectionSymbolMeets (before header) (before sections) section (told_exit result header) }
+    ensures { SectionSymbolMeets header.old sections.now section (told_exit result header) }
 {
     if header.len() < ffi_cells::HEADER_CELLS {
         return 1;

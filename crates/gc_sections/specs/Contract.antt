@@ -1,7 +1,7 @@
 -- The contract of `run`: what a caller sees of it, its result and every cell that it lent to be written, against its definition.
 -- Assumes nothing.
 use Rattle.std.specs.Prelude.{ℕ, ◌≡◌, List}
-use Rattle.cells.specs.Slice.{Slice, after}
+use Rattle.cells.specs.Slice.{SliceMut}
 use Rattle.link.specs.declared.Link.{Link}
 use Rattle.gc_sections.specs.declared.EntryPoint.{EntryPoint}
 use Rattle.gc_sections.specs.declared.Outcome.{Outcome}
@@ -13,8 +13,8 @@ pub record Exit : Type 0 where
   pub work : List ℕ
   pub result : Outcome
 
-abbrev pub run_exit : Slice → Slice → Slice → Outcome → Exit
-run_exit symbols sections work r = record { symbols = after symbols; sections = after sections; work = after work; result = r }
+abbrev pub run_exit : SliceMut → SliceMut → SliceMut → Outcome → Exit
+run_exit symbols sections work r = record { symbols = symbols.exit.now; sections = sections.exit.now; work = work.exit.now; result = r }
 
 abbrev pub RunMeets : Link → Lists → List ℕ → List ℕ → EntryPoint → List ℕ → Exit → Type 0
 RunMeets l x symbols sections entry work e =

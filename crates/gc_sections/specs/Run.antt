@@ -8,7 +8,7 @@ use Rattle.link.specs.Bounds.{not_lent, name_rows, section_slots}
 use Rattle.link.specs.Counts.{lent_rows}
 use Rattle.link.specs.Judge.{refused, none, change_of}
 use Rattle.symbols.specs.Remove.{rows_of}
-use Rattle.cells.specs.Slice.{Slice, after, before}
+use Rattle.cells.specs.Slice.{Slice, SliceMut}
 use Rattle.gc_sections.specs.declared.Unbuilt.{Unbuilt}
 use Rattle.gc_sections.specs.declared.Unbuilt.TheVariants.{None, Lowest}
 use Rattle.gc_sections.specs.declared.EntryPoint.{EntryPoint}
@@ -62,8 +62,8 @@ abbrev pub outcome : List ℕ → List ℕ → List ℕ → Outcome → Left
 outcome symbols sections work r = left symbols sections work r.link r.answer
 
 -- of lent slices after the call
-abbrev pub outcome_after : Slice → Slice → Slice → Outcome → Left
-outcome_after symbols sections work r = outcome (after symbols) (after sections) (after work) r
+abbrev pub outcome_after : SliceMut → SliceMut → SliceMut → Outcome → Left
+outcome_after symbols sections work r = outcome symbols.exit.now sections.exit.now work.exit.now r
 
 -- what is only read: the names and their bytes, the lists, the marks
 pub record Lists : Type 0 where
@@ -77,7 +77,7 @@ lists_of bytes names lists marks = record { bytes = bytes; names = names; lists 
 
 -- as it is lent
 abbrev pub lists_in : Slice → Slice → Slice → Slice → Lists
-lists_in bytes names lists marks = lists_of (before bytes) (before names) (before lists) (before marks)
+lists_in bytes names lists marks = lists_of bytes.entry.now names.entry.now lists.entry.now marks.entry.now
 
 -- ---- the head
 

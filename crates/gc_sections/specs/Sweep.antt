@@ -4,7 +4,7 @@ use Rattle.std.specs.Prelude.{ℕ, ◌+◌, Bool, true, false, cond, List, eqb, 
 use Rattle.link.specs.declared.Link.{Link}
 use Rattle.symbols.specs.Remove.{Rows, remove_row_of}
 use Rattle.sections.specs.Rows.{dropped_of, is_built}
-use Rattle.cells.specs.Slice.{Slice, before, after}
+use Rattle.cells.specs.Slice.{SliceMut}
 use Rattle.gc_sections.specs.declared.Lead.{Lead}
 use Rattle.gc_sections.specs.declared.Lead.TheVariants.{Nowhere, Section}
 use Rattle.gc_sections.specs.Each.{each}
@@ -20,11 +20,11 @@ abbrev pub swept_of : List ℕ → List ℕ → ℕ → Swept
 swept_of sections work count = record { sections = sections; work = work; count = count }
 
 -- of lent slices before the call, and after it
-abbrev pub swept_before : Slice → Slice → ℕ → Swept
-swept_before sections work count = swept_of (before sections) (before work) count
+abbrev pub swept_before : SliceMut → SliceMut → ℕ → Swept
+swept_before sections work count = swept_of sections.entry.now work.entry.now count
 
-abbrev pub swept_after : Slice → Slice → ℕ → Swept
-swept_after sections work count = swept_of (after sections) (after work) count
+abbrev pub swept_after : SliceMut → SliceMut → ℕ → Swept
+swept_after sections work count = swept_of sections.exit.now work.exit.now count
 
 -- what a section's work cell holds where this call dropped it; 0 not reached, 1 reached
 abbrev pub dropped_mark : ℕ

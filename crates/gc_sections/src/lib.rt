@@ -1,6 +1,7 @@
 // Section collection: what no relocation reaches from the roots is dropped, and its symbols are removed.
+#![tactic(auto)]
+
 ghost use Rattle.std.specs.Prelude.{◌≡◌, ◌+◌, ◌<◌, ◌≤◌};
-ghost use Rattle.cells.specs.Slice.{before, after};
 ghost use Rattle.symbols.specs.Remove.{rows_after, rows_before};
 ghost use Rattle.gc_sections.specs.Each.{each};
 ghost use Rattle.gc_sections.specs.Roots.{value_lead, lead_of, readable, rooted, is_root, name_is};
@@ -12,41 +13,41 @@ ghost use Rattle.gc_sections.specs.Contract.{run_exit, RunMeets};
 use link::{Interned, Lent, Link, Refusal, SectionId, SymbolId};
 
 // The symbol at which the program starts.
-#[derive(Drop)]
+#[derive(Clone, Copy)]
 pub enum EntryPoint {
     None,
     Symbol { id: SymbolId },
 }
 
 // How many sections were dropped, and how many symbols removed with them.
-#[derive(Drop)]
+#[derive(Clone, Copy)]
 pub enum Answer {
     Dropped { sections: usize, symbols: usize },
     Refused { refusal: Refusal },
 }
 
-#[derive(Drop)]
+#[derive(Clone, Copy)]
 pub struct Outcome {
     pub link: Link,
     pub answer: Answer,
 }
 
 // The section that a symbol's value lies in.
-#[derive(Drop)]
+#[derive(Clone, Copy)]
 pub enum Lead {
     Nowhere,
     Section { id: SectionId },
 }
 
 // The lowest section that is reached but not built.
-#[derive(Drop)]
+#[derive(Clone, Copy)]
 pub enum Unbuilt {
     None,
     Lowest { id: SectionId },
 }
 
 // How many sections the queue holds: each that was reached, once.
-#[derive(Drop)]
+#[derive(Clone, Copy)]
 pub struct Visitor {
     pub queued: usize,
     pub unbuilt: Unbuilt,
@@ -72,7 +73,7 @@ fn value_lead(kind: u64, a: u64) -> Lead
 }
 
 pub fn lead_of(symbols: &[u64], count: usize, id: SymbolId) -> Lead
-    ensures { result ≡ lead_of (before symbols) count id }
+    ensures { result ≡ lead_of symbols.now count id }
 {
     let i = id.0;
     if count <= i {
@@ -90,7 +91,7 @@ pub fn lead_of(symbols: &[u64], count: usize, id: SymbolId) -> Lead
 // ---- which sections are roots
 
 fn readable(sections: &[u64], i: usize) -> bool
-    ensures { result ≡ readable (before sections) i }
+    ensures { result ≡ readable sections.now i }
 {
     if cells::row_get(sections, i, sections::READ) == 0 {
         return false;
@@ -106,14 +107,14 @@ fn readable(sections: &[u64], i: usize) -> bool
 }
 
 fn name_is(bytes: &[u8], names: &[u64], sections: &[u64], i: usize, name: &[u8]) -> bool
-    ensures { result ≡ name_is (before bytes) (before names) (before sections) i (before name) }
+    ensures { result ≡ name_is bytes.now names.now sections.now i name.now }
 {
     let id = Interned(cells::row_get(sections, i, sections::NAME) as usize);
     byte_slices::same_bytes(interner::name_of(bytes, names, id), name)
 }
 
 fn rooted(bytes: &[u8], names: &[u64], sections: &[u64], i: usize) -> bool
-    ensures { result ≡ rooted (before bytes) (before names) (before sections) i }
+    ensures { result ≡ rooted bytes.now names.now sections.now i }
 {
     if readable(sections, i) {
         if cells::row_get(sections, i, sections::RETAIN) == 0 {
@@ -124,7 +125,7 @@ fn rooted(bytes: &[u8], names: &[u64], sections: &[u64], i: usize) -> bool
 }
 
 pub fn is_root(bytes: &[u8], names: &[u64], sections: &[u64], n: usize, i: usize) -> bool
-    ensures { result ≡ is_root (before bytes) (before names) (before sections) n i }
+    ensures { result ≡ is_root bytes.now names.now sections.now n i }
 {
     if sections::is_built(sections, n, SectionId(i)) {
         return rooted(bytes, names, sections, i);
@@ -137,7 +138,7 @@ pub fn is_root(bytes: &[u8], names: &[u64], sections: &[u64], n: usize, i: usize
 // A section that was not reached before enters the queue.
 fn save(work: &mut [u64], n: usize, v: Visitor, id: SectionId) -> Visitor
     requires { n ≤ 65535 }
-    ensures { walk_of (after work) result ≡ save_of n id (walk_of (before work) v) }
+    ensures { walk_of work.new result ≡ save_of n id (walk_of work.old v) }
 {
     let section = id.0;
     let queued = v.queued;
@@ -172,7 +173,7 @@ pub fn lower(u: Unbuilt, id: SectionId) -> Unbuilt
 
 fn reach(sections: &[u64], work: &mut [u64], n: usize, v: Visitor, id: SectionId) -> Visitor
     requires { n ≤ 65535 }
-    ensures { walk_of (after work) result ≡ reach_of (before sections) n id (walk_of (before work) v) }
+    ensures { walk_of work.new result ≡ reach_of sections.now n id (walk_of work.old v) }
 {
     if sections::is_built(sections, n, id) {
         return save(work, n, v, id);
@@ -194,7 +195,7 @@ fn add(
     id: SymbolId,
 ) -> Visitor
     requires { l.sections ≤ 65535 }
-    ensures { walk_of (after work) result ≡ add_of l (before symbols) (before sections) id (walk_of (before work) v) }
+    ensures { walk_of work.new result ≡ add_of l symbols.now sections.now id (walk_of work.old v) }
 {
     let lead = lead_of(symbols, l.symbols, id);
     match lead {
@@ -215,7 +216,7 @@ fn root_symbol(
     i: usize,
 ) -> Visitor
     requires { l.sections ≤ 65535 }
-    ensures { walk_of (after work) result ≡ root_symbol l (before symbols) (before sections) (before marks) i (walk_of (before work) v) }
+    ensures { walk_of work.new result ≡ root_symbol l symbols.now sections.now marks.now i (walk_of work.old v) }
 {
     if i < marks.len() {
         if marks[i] != 0 {
@@ -234,7 +235,7 @@ fn root_symbols(
     v: Visitor,
 ) -> Visitor
     requires { l.sections ≤ 65535 }
-    ensures { walk_of (after work) result ≡ each (root_symbol l (before symbols) (before sections) (before marks)) l.symbols 0 (walk_of (before work) v) }
+    ensures { walk_of work.new result ≡ each (root_symbol l symbols.now sections.now marks.now) l.symbols 0 (walk_of work.old v) }
 {
     let mut u = v;
     let mut i = 0;
@@ -255,7 +256,7 @@ fn root_section(
     i: usize,
 ) -> Visitor
     requires { n ≤ 65535 }
-    ensures { walk_of (after work) result ≡ root_section n (before bytes) (before names) (before sections) i (walk_of (before work) v) }
+    ensures { walk_of work.new result ≡ root_section n bytes.now names.now sections.now i (walk_of work.old v) }
 {
     if is_root(bytes, names, sections, n, i) {
         return save(work, n, v, SectionId(i));
@@ -272,7 +273,7 @@ fn root_sections(
     v: Visitor,
 ) -> Visitor
     requires { n ≤ 65535 }
-    ensures { walk_of (after work) result ≡ each (root_section n (before bytes) (before names) (before sections)) n 0 (walk_of (before work) v) }
+    ensures { walk_of work.new result ≡ each (root_section n bytes.now names.now sections.now) n 0 (walk_of work.old v) }
 {
     let mut u = v;
     let mut i = 0;
@@ -292,7 +293,7 @@ fn add_entry(
     entry: EntryPoint,
 ) -> Visitor
     requires { l.sections ≤ 65535 }
-    ensures { walk_of (after work) result ≡ entry_of l (before symbols) (before sections) entry (walk_of (before work) v) }
+    ensures { walk_of work.new result ≡ entry_of l symbols.now sections.now entry (walk_of work.old v) }
 {
     match entry {
         EntryPoint::None => v,
@@ -312,8 +313,8 @@ fn roots(
     v: Visitor,
 ) -> Visitor
     requires { l.sections ≤ 65535 }
-    ensures { walk_of (after work) result
-        ≡ roots_of l (before bytes) (before names) (before symbols) (before sections) (before marks) entry (walk_of (before work) v) }
+    ensures { walk_of work.new result
+        ≡ roots_of l bytes.now names.now symbols.now sections.now marks.now entry (walk_of work.old v) }
 {
     let marked = root_symbols(l, symbols, sections, marks, work, v);
     let kept = root_sections(l.sections, bytes, names, sections, work, marked);
@@ -345,7 +346,7 @@ fn relocation(
     j: usize,
 ) -> Visitor
     requires { l.sections ≤ 65535 }
-    ensures { walk_of (after work) result ≡ relocation l (before symbols) (before sections) (before lists) j (walk_of (before work) v) }
+    ensures { walk_of work.new result ≡ relocation l symbols.now sections.now lists.now j (walk_of work.old v) }
 {
     let id = cells::get(lists, j) as usize;
     add(l, symbols, sections, work, v, SymbolId(id))
@@ -362,7 +363,7 @@ fn relocations(
     count: usize,
 ) -> Visitor
     requires { l.sections ≤ 65535 }
-    ensures { walk_of (after work) result ≡ relocations l (before symbols) (before sections) (before lists) first count (walk_of (before work) v) }
+    ensures { walk_of work.new result ≡ relocations l symbols.now sections.now lists.now first count (walk_of work.old v) }
 {
     let end = end_of(l.lists, first, count);
     let mut u = v;
@@ -386,7 +387,7 @@ fn visit(
 ) -> Visitor
     requires sections_bound { l.sections ≤ 65535 }
     requires h_le_sections { h ≤ l.sections }
-    ensures { walk_of (after work) result ≡ visit l (before symbols) (before sections) (before lists) h (walk_of (before work) v) }
+    ensures { walk_of work.new result ≡ visit l symbols.now sections.now lists.now h (walk_of work.old v) }
 {
     if h < v.queued {
         let x = cells::get(work, l.sections + h) as usize;
@@ -406,7 +407,7 @@ fn process(
     v: Visitor,
 ) -> Visitor
     requires { l.sections ≤ 65535 }
-    ensures { walk_of (after work) result ≡ process_of l (before symbols) (before sections) (before lists) (walk_of (before work) v) }
+    ensures { walk_of work.new result ≡ process_of l symbols.now sections.now lists.now (walk_of work.old v) }
 {
     let mut u = v;
     let mut h = 0;
@@ -420,14 +421,14 @@ fn process(
 // ---- the whole walk
 
 fn clear_cell(work: &mut [u64], i: usize)
-    ensures { after work ≡ clear_cell i (before work) }
+    ensures { work.new ≡ clear_cell i work.old }
 {
     cells::put(work, i, 0);
 }
 
 // No section was reached yet.
 pub fn clear(work: &mut [u64], n: usize)
-    ensures { after work ≡ each clear_cell n 0 (before work) }
+    ensures { work.new ≡ each clear_cell n 0 work.old }
 {
     let mut i = 0;
     while i < n {
@@ -437,7 +438,7 @@ pub fn clear(work: &mut [u64], n: usize)
 }
 
 fn start(work: &mut [u64], n: usize) -> Visitor
-    ensures { walk_of (after work) result ≡ start_of n (before work) }
+    ensures { walk_of work.new result ≡ start_of n work.old }
 {
     clear(work, n);
     Visitor {
@@ -458,8 +459,8 @@ fn walk(
     work: &mut [u64],
 ) -> Visitor
     requires { l.sections ≤ 65535 }
-    ensures { walk_of (after work) result
-        ≡ walked l (before bytes) (before names) (before symbols) (before sections) (before lists) (before marks) entry (before work) }
+    ensures { walk_of work.new result
+        ≡ walked l bytes.now names.now symbols.now sections.now lists.now marks.now entry work.old }
 {
     let none = start(work, l.sections);
     let rooted = roots(l, bytes, names, symbols, sections, marks, entry, work, none);
@@ -488,7 +489,7 @@ fn drop_unreached(sections: &mut [u64], work: &mut [u64], n: usize, i: usize, co
 }
 
 fn sweep_sections(sections: &mut [u64], work: &mut [u64], n: usize) -> usize
-    ensures { swept_after sections work result ≡ sweep_sections n (before sections) (before work) }
+    ensures { swept_after sections work result ≡ sweep_sections n sections.old work.old }
 {
     let mut count = 0;
     let mut i = 0;
@@ -500,7 +501,7 @@ fn sweep_sections(sections: &mut [u64], work: &mut [u64], n: usize) -> usize
 }
 
 fn dropped_now(work: &[u64], n: usize, x: usize) -> bool
-    ensures { result ≡ dropped_now (before work) n x }
+    ensures { result ≡ dropped_now work.now n x }
 {
     if x < n {
         if cells::get(work, x) == DROPPED_MARK {
@@ -519,7 +520,7 @@ fn purge_symbol(
     count: usize,
 ) -> usize
     requires { count < l.symbols }
-    ensures result_value { purged_of (rows_after symbols sections) result ≡ purge_symbol l (before work) i (purged_of (rows_before symbols sections) count) }
+    ensures result_value { purged_of (rows_after symbols sections) result ≡ purge_symbol l work.now i (purged_of (rows_before symbols sections) count) }
     ensures few { result ≤ count + 1 }
 {
     let lead = lead_of(symbols, l.symbols, SymbolId(i));
@@ -536,7 +537,7 @@ fn purge_symbol(
 }
 
 fn purge_symbols(l: Link, symbols: &mut [u64], sections: &mut [u64], work: &[u64]) -> usize
-    ensures { purged_of (rows_after symbols sections) result ≡ purge_symbols l (before work) (rows_before symbols sections) }
+    ensures { purged_of (rows_after symbols sections) result ≡ purge_symbols l work.now (rows_before symbols sections) }
 {
     let mut count = 0;
     let mut i = 0;
@@ -548,7 +549,7 @@ fn purge_symbols(l: Link, symbols: &mut [u64], sections: &mut [u64], work: &[u64
 }
 
 fn sweep(l: Link, symbols: &mut [u64], sections: &mut [u64], work: &mut [u64]) -> Outcome
-    ensures { outcome_after symbols sections work result ≡ sweep_of l (before symbols) (before sections) (before work) }
+    ensures { outcome_after symbols sections work result ≡ sweep_of l symbols.old sections.old work.old }
 {
     let dropped = sweep_sections(sections, work, l.sections);
     let removed = purge_symbols(l, symbols, sections, work);
@@ -617,7 +618,7 @@ pub fn finish(
     work: &mut [u64],
     unbuilt: Unbuilt,
 ) -> Outcome
-    ensures { outcome_after symbols sections work result ≡ finish_of l (before symbols) (before sections) (before work) unbuilt }
+    ensures { outcome_after symbols sections work result ≡ finish_of l symbols.old sections.old work.old unbuilt }
 {
     match unbuilt {
         Unbuilt::None => sweep(l, symbols, sections, work),
@@ -646,7 +647,7 @@ pub fn run(
     entry: EntryPoint,
     work: &mut [u64],
 ) -> Outcome
-    ensures { RunMeets l (lists_in bytes names lists marks) (before symbols) (before sections) entry (before work) (run_exit symbols sections work result) }
+    ensures { RunMeets l (lists_in bytes names lists marks) symbols.old sections.old entry work.old (run_exit symbols sections work result) }
 {
     let lent = lent_of(
         bytes.len(),

@@ -2,7 +2,7 @@
 -- definition.
 -- Assumes nothing.
 use Rattle.std.specs.Prelude.{ℕ, ◌≡◌, List}
-use Rattle.cells.specs.Slice.{Slice, after}
+use Rattle.cells.specs.Slice.{SliceMut}
 use Rattle.link.specs.declared.Interned.{Interned}
 use Rattle.interner.specs.declared.Outcome.{Outcome}
 use Rattle.interner.specs.Names.{Store}
@@ -15,8 +15,8 @@ pub record Exit : Type 0 where
   pub names : List ℕ
   pub result : Outcome
 
-abbrev pub names_exit : Slice → Slice → Outcome → Exit
-names_exit bytes names r = record { bytes = after bytes; names = after names; result = r }
+abbrev pub names_exit : SliceMut → SliceMut → Outcome → Exit
+names_exit bytes names r = record { bytes = bytes.exit.now; names = names.exit.now; result = r }
 
 abbrev pub InternMeets : Store → List ℕ → Exit → Type 0
 InternMeets s x e = outcome e.bytes e.names e.result ≡ intern_of s x

@@ -1,7 +1,6 @@
 // The calls on names: a new table, intern, resolve.
 ghost use Rattle.std.specs.Prelude.{◌≡◌, ◌<◌};
-ghost use Rattle.cells.specs.Slice.{before, after};
-ghost use Rattle.interner.specs.Names.{store_before};
+ghost use Rattle.interner.specs.Names.{store_before, store_of};
 ghost use Rattle.interner.specs.Calls.{lent_of, refused_of, issued_of, clear_heads, outcome_after};
 ghost use Rattle.interner.specs.Contract.{names_exit, InternMeets, NewNamesMeets, resolve_exit, ResolveMeets};
 
@@ -37,7 +36,7 @@ fn refused(l: Link, number: u64, place: u64) -> Outcome
 
 // The id of a known name, or of a new one where there is room; the name is hashed once.
 fn issue(l: Link, bytes: &mut [u8], names: &mut [u64], x: &[u8]) -> Outcome
-    ensures { outcome_after bytes names result ≡ issued_of (store_before bytes names l) (before x) }
+    ensures { outcome_after bytes names result ≡ issued_of (store_before bytes names l) x.now }
 {
     let head = crate::head_cell(l, names.len(), x);
     let id = crate::find_from(bytes, names, l.names, head, x);
@@ -59,7 +58,7 @@ fn issue(l: Link, bytes: &mut [u8], names: &mut [u64], x: &[u8]) -> Outcome
 
 // Equal bytes get the same id. 22; 1; then, for a name not issued yet, 2.
 pub fn intern(l: Link, bytes: &mut [u8], names: &mut [u64], x: &[u8]) -> Outcome
-    ensures { InternMeets (store_before bytes names l) (before x) (names_exit bytes names result) }
+    ensures { InternMeets (store_before bytes names l) x.now (names_exit bytes names result) }
 {
     let head = link::judge_change(l, lent_names(l, bytes.len(), names.len()));
     if head.number != 0 {
@@ -70,7 +69,7 @@ pub fn intern(l: Link, bytes: &mut [u8], names: &mut [u64], x: &[u8]) -> Outcome
 
 // No chain has a name.
 fn clear_heads(names: &mut [u64])
-    ensures { after names ≡ clear_heads (before names) }
+    ensures { names.new ≡ clear_heads names.old }
 {
     let rows = link::name_rows(names.len());
     cells::clear_from(names, rows * crate::ROW_WIDTH);
@@ -79,7 +78,7 @@ fn clear_heads(names: &mut [u64])
 // A link without rows but the empty name, whose id is 0. Whatever the cells held before doesn't matter. Any number is a key of the hash; answers
 // don't depend on it, and who doesn't know it can't choose names that share a chain.
 pub fn new(key: usize, bytes: &mut [u8], names: &mut [u64]) -> Outcome
-    ensures { NewNamesMeets key (before bytes) (before names) (names_exit bytes names result) }
+    ensures { NewNamesMeets key bytes.old names.old (names_exit bytes names result) }
 {
     let rows = link::name_rows(names.len());
     if rows == 0 {
@@ -102,7 +101,7 @@ pub fn resolve<'a>(
     number: &mut u64,
     place: &mut u64,
 ) -> &'a [u8]
-    ensures resolve_meets { ResolveMeets (store_before bytes names l) id (resolve_exit result.now (after number) (after place)) }
+    ensures resolve_meets { ResolveMeets (store_of bytes.now names.now l) id (resolve_exit result.now number.new place.new) }
     ensures place { result.ref_ptr.0 ≡ bytes.entry.ref_ptr.0 }
 {
     let head = link::judge(l, lent_names(l, bytes.len(), names.len()));

@@ -1,13 +1,12 @@
 // A name issued: whether there is room for it, and its row and bytes.
 ghost use Rattle.std.specs.Prelude.{◌≡◌, ◌<◌};
-ghost use Rattle.interner.specs.Names.{room_of, fits_of, linked, keep_at, keep_of, store_after, store_before};
-ghost use Rattle.cells.specs.Slice.{after, before};
+ghost use Rattle.interner.specs.Names.{room_of, fits_of, linked, keep_at, keep_of, store_after, store_before, store_of};
 
 use link::{Interned, Link};
 
 // Is there a free row of those that a new table was lent, and are there as many free bytes?
 fn room(l: Link, bytes: &[u8], names: &[u64], len: usize) -> bool
-    ensures { result ≡ room_of (store_before bytes names l) len }
+    ensures { result ≡ room_of (store_of bytes.now names.now l) len }
 {
     if link::name_rows(names.len()) < l.chains {
         return false;
@@ -27,7 +26,7 @@ fn room(l: Link, bytes: &[u8], names: &[u64], len: usize) -> bool
 
 // A known name fits; a new one if there is room.
 pub fn fits(l: Link, bytes: &[u8], names: &[u64], id: Interned, len: usize) -> bool
-    ensures { result ≡ fits_of (store_before bytes names l) id len }
+    ensures { result ≡ fits_of (store_of bytes.now names.now l) id len }
 {
     if id.0 < l.names {
         return true;
@@ -38,7 +37,7 @@ pub fn fits(l: Link, bytes: &[u8], names: &[u64], id: Interned, len: usize) -> b
 // A row for the new name, at the head of its chain.
 fn link_row(names: &mut [u64], count: usize, start: usize, len: usize, head: usize)
     requires { count < 18446744073709551615 }
-    ensures { after names ≡ linked (before names) count start len head }
+    ensures { names.new ≡ linked names.old count start len head }
 {
     let next = cells::get(names, head);
     cells::row_store(names, count, start as u64, len as u64, next, 0, 0, 0, 0, 0);
@@ -54,7 +53,7 @@ pub fn keep_at(
     head: usize,
     x: &[u8],
 ) -> Link
-    ensures { store_after bytes names result ≡ keep_at (store_before bytes names l) id head (before x) }
+    ensures { store_after bytes names result ≡ keep_at (store_before bytes names l) id head x.now }
 {
     if id.0 < l.names {
         return l;
@@ -72,7 +71,7 @@ pub fn keep_at(
 
 // The same where no head is told. Not by `keep_at`: a link handed on twice costs more than the hash.
 pub fn keep(l: Link, bytes: &mut [u8], names: &mut [u64], id: Interned, x: &[u8]) -> Link
-    ensures { store_after bytes names result ≡ keep_of (store_before bytes names l) id (before x) }
+    ensures { store_after bytes names result ≡ keep_of (store_before bytes names l) id x.now }
 {
     if id.0 < l.names {
         return l;

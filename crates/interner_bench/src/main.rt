@@ -1,9 +1,11 @@
 // How the search for a name grows with the count of names: the names compared when every name is searched for once, and the most that one search
 // compares. First of counted names; then of names that somebody chose who knew the key 0 of the hash, so that about half of them share a chain:
 // under that key, and under others.
+#![tactic(auto)]
+
 use link::Link;
 
-#[derive(Drop)]
+#[derive(Clone, Copy)]
 struct Tally {
     compared: u64,
     longest: u64,

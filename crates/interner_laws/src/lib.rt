@@ -1,1 +1,2 @@
 // Theorems on names, in specs/: no functions.
+#![tactic(auto)]

@@ -1,7 +1,8 @@
 // A hash of names that depends on a key: who doesn't know the key can't choose names that share a chain.
+#![tactic(auto)]
+
 ghost use Rattle.std.specs.Prelude.{◌≡◌, ◌+◌, ◌<◌, length};
 ghost use Rattle.byte_slices.specs.Bytes.{word_at};
-ghost use Rattle.cells.specs.Slice.{before};
 ghost use Rattle.keyed_hash.specs.Keyed.{folded, mixed, point_of, hash_of};
 ghost use Rattle.keyed_hash.specs.Ways.{last_mixed};
 
@@ -65,7 +66,7 @@ fn wide(x: u8) -> usize
 // A word whose bytes are all there, read at once.
 fn whole_word(x: &[u8], i: usize) -> usize
     requires { i + 3 < length x.now }
-    ensures value { result ≡ word_at (before x) i }
+    ensures value { result ≡ word_at x.now i }
     ensures small { result < 0x100000000 }
 {
     wide(x[i]) + wide(x[i + 1]) * 0x100 + wide(x[i + 2]) * 0x1_0000 + wide(x[i + 3]) * 0x100_0000
@@ -75,7 +76,7 @@ fn whole_word(x: &[u8], i: usize) -> usize
 fn last_mixed(r: usize, h: usize, x: &[u8], i: usize) -> usize
     requires r_bound { r < 0x10000000 }
     requires h_bound { h < 0x400000000 }
-    ensures { result ≡ last_mixed r h (before x) i }
+    ensures { result ≡ last_mixed r h x.now i }
 {
     if i < x.len() {
         return mixed(r, h, byte_slices::word_at(x, i));
@@ -85,7 +86,7 @@ fn last_mixed(r: usize, h: usize, x: &[u8], i: usize) -> usize
 
 // Any number is a key; its lowest 28 bits count.
 pub fn hash(key: usize, x: &[u8]) -> usize
-    ensures value { result ≡ hash_of key (before x) }
+    ensures value { result ≡ hash_of key x.now }
     ensures small { result < 0x100000000 }
 {
     let r = point(key, BASE_POINT);

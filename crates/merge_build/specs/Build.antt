@@ -13,7 +13,7 @@ use Rattle.sections.specs.declared.Section.{Section}
 use Rattle.sections.specs.Rows.{built_of}
 use Rattle.elf_object.specs.Judge.{range_ok}
 use Rattle.elf_object.specs.Rows.{rows_in, name_offset_at, retain_at, read_at, is_loaded, name_in, conversion_at, id_base, mark_at, removed_mark}
-use Rattle.cells.specs.Slice.{Slice, before, after}
+use Rattle.cells.specs.Slice.{Slice, SliceMut}
 use Rattle.merge_build.specs.declared.Plan.{Plan}
 use Rattle.merge_build.specs.Relocations.{table_for, limit_of, relocations_of, symbols_ok, append_from}
 
@@ -34,7 +34,7 @@ object_of h c f w i s t n = record { headers = h; contents = c; image = f; work 
 
 -- as it is lent
 abbrev pub object_in : Slice → Slice → Slice → Slice → Slice → ℕ → ℕ → ℕ → Object
-object_in h c f w i s t n = object_of (before h) (before c) (before f) (before w) (before i) s t n
+object_in h c f w i s t n = object_of h.entry.now c.entry.now f.entry.now w.entry.now i.entry.now s t n
 
 -- the lent cells that the stage writes, with its stage; with a link alone; and those that building a row writes
 pub record State : Type 0 where
@@ -60,28 +60,28 @@ abbrev pub state_of : List ℕ → List ℕ → List ℕ → List ℕ → Stage 
 state_of b n s x st = record { bytes = b; names = n; sections = s; lists = x; stage = st }
 
 -- of lent slices before the call, and after it
-abbrev pub state_before : Slice → Slice → Slice → Slice → Stage → State
-state_before b n s x st = state_of (before b) (before n) (before s) (before x) st
+abbrev pub state_before : SliceMut → SliceMut → SliceMut → SliceMut → Stage → State
+state_before b n s x st = state_of b.entry.now n.entry.now s.entry.now x.entry.now st
 
-abbrev pub state_after : Slice → Slice → Slice → Slice → Stage → State
-state_after b n s x st = state_of (after b) (after n) (after s) (after x) st
+abbrev pub state_after : SliceMut → SliceMut → SliceMut → SliceMut → Stage → State
+state_after b n s x st = state_of b.exit.now n.exit.now s.exit.now x.exit.now st
 
 abbrev pub link_state : List ℕ → List ℕ → List ℕ → List ℕ → Link → LinkState
 link_state b n s x l = record { bytes = b; names = n; sections = s; lists = x; link = l }
 
 -- of lent slices before the call
-abbrev pub link_before : Slice → Slice → Slice → Slice → Link → LinkState
-link_before b n s x l = link_state (before b) (before n) (before s) (before x) l
+abbrev pub link_before : SliceMut → SliceMut → SliceMut → SliceMut → Link → LinkState
+link_before b n s x l = link_state b.entry.now n.entry.now s.entry.now x.entry.now l
 
 abbrev pub row_state : List ℕ → List ℕ → Link → RowState
 row_state s x l = record { sections = s; lists = x; link = l }
 
 -- of lent slices before the call, and after it
-abbrev pub row_before : Slice → Slice → Link → RowState
-row_before s x l = row_state (before s) (before x) l
+abbrev pub row_before : SliceMut → SliceMut → Link → RowState
+row_before s x l = row_state s.entry.now x.entry.now l
 
-abbrev pub row_after : Slice → Slice → Link → RowState
-row_after s x l = row_state (after s) (after x) l
+abbrev pub row_after : SliceMut → SliceMut → Link → RowState
+row_after s x l = row_state s.exit.now x.exit.now l
 
 -- room for as many more in a list
 abbrev pub lists_fit : ℕ → ℕ → ℕ → Bool
@@ -136,7 +136,7 @@ commit_of headers work ids s relocations x n kind p =
 
 -- of what is lent
 abbrev pub commit_in : Slice → Slice → Slice → LinkState → Slice → Slice → ℕ → ℕ → Plan → State
-commit_in headers work ids s relocations x n kind p = commit_of (before headers) (before work) (before ids) s (before relocations) (before x) n kind p
+commit_in headers work ids s relocations x n kind p = commit_of headers.entry.now work.entry.now ids.entry.now s relocations.entry.now x.entry.now n kind p
 
 -- with the relocations of its table
 unfoldable pub tabled_of : List ℕ → List ℕ → List ℕ → List ℕ → LinkState → List ℕ → ℕ → ℕ → ℕ → ℕ → ℕ → State
@@ -149,7 +149,7 @@ section_named headers contents work ids s x t symbols n kind = tabled_of headers
 
 -- of what is lent
 abbrev pub named_in : Slice → Slice → Slice → Slice → LinkState → Slice → ℕ → ℕ → ℕ → ℕ → State
-named_in headers contents work ids s x t symbols n kind = section_named (before headers) (before contents) (before work) (before ids) s (before x) t symbols n kind
+named_in headers contents work ids s x t symbols n kind = section_named headers.entry.now contents.entry.now work.entry.now ids.entry.now s x.entry.now t symbols n kind
 
 -- of that kind, not excluded, and not removed with a repeated group
 unfoldable pub built_from : List ℕ → List ℕ → ℕ → ℕ → Bool

@@ -9,7 +9,7 @@ use Rattle.link.specs.Judge as Link
 use Rattle.link.specs.Counts.{more_inputs}
 use Rattle.elf_object.specs.Kinds.{program, uninitialized}
 use Rattle.merge_build.specs.Build as Build
-use Rattle.cells.specs.Slice.{Slice, before, after}
+use Rattle.cells.specs.Slice.{SliceMut}
 
 -- ---- the object's row, with the inputs
 
@@ -43,11 +43,11 @@ abbrev pub build_links : List ℕ → List ℕ → List ℕ → List ℕ → Lis
 build_links b n s i l st = record { bytes = b; names = n; sections = s; inputs = i; lists = l; stage = st }
 
 -- of lent slices before the call, and after it
-abbrev pub links_before : Slice → Slice → Slice → Slice → Slice → Stage → BuildLinks
-links_before b n s i l st = build_links (before b) (before n) (before s) (before i) (before l) st
+abbrev pub links_before : SliceMut → SliceMut → SliceMut → SliceMut → SliceMut → Stage → BuildLinks
+links_before b n s i l st = build_links b.entry.now n.entry.now s.entry.now i.entry.now l.entry.now st
 
-abbrev pub links_after : Slice → Slice → Slice → Slice → Slice → Stage → BuildLinks
-links_after b n s i l st = build_links (after b) (after n) (after s) (after i) (after l) st
+abbrev pub links_after : SliceMut → SliceMut → SliceMut → SliceMut → SliceMut → Stage → BuildLinks
+links_after b n s i l st = build_links b.exit.now n.exit.now s.exit.now i.exit.now l.exit.now st
 
 abbrev pub building : BuildLinks → Build.State
 building s = Build.state_of s.bytes s.names s.sections s.lists s.stage

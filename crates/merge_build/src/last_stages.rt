@@ -1,6 +1,5 @@
 // The end of a merge: what is built, and then the object's own row.
 ghost use Rattle.std.specs.Prelude.{◌≡◌};
-ghost use Rattle.cells.specs.Slice.{after, before};
 ghost use Rattle.merge_build.specs.Build.{object_in};
 ghost use Rattle.merge_build.specs.Finish.{input_links, input_row_of, program_stage, built_of, links_after, links_before};
 
@@ -11,7 +10,7 @@ const OBJECT: u64 = 1;
 
 // The object's own row is taken last.
 fn input_row(l: Link, inputs: &mut [u64]) -> Stage
-    ensures { input_links (after inputs) result ≡ input_row_of (before inputs) l }
+    ensures { input_links inputs.new result ≡ input_row_of inputs.old l }
 {
     let n = l.inputs;
     if n < link::input_rows(inputs.len()) {

@@ -1,6 +1,7 @@
 // The last stages of a merge: uninitialized sections are built, then program sections with their relocations' symbols.
+#![tactic(auto)]
+
 ghost use Rattle.std.specs.Prelude.{◌≡◌, ◌+◌, ◌≤◌, set, length};
-ghost use Rattle.cells.specs.Slice.{after, before};
 ghost use Rattle.merge_build.specs.Relocations.{table_for, limit_of, relocations_of, symbol_ok, symbols_ok, id_in, append_from};
 ghost use Rattle.merge_build.specs.Build.{lists_fit, plan_of, section_id_of, section_row, build_row_of, built_from, section_of, build_of, commit_in, link_before, named_in, object_in, row_after, row_before, state_after, state_before};
 
@@ -11,7 +12,7 @@ use link::{Interned, Link, SectionId, Stage};
 use sections::Section;
 
 // What is to be done with a section whose name is found: number 0 or its refusal, and the id that the name has or gets.
-#[derive(Drop)]
+#[derive(Clone, Copy)]
 pub struct Plan {
     pub number: u64,
     pub id: Interned,
@@ -21,7 +22,7 @@ pub struct Plan {
 
 // The last table that applies to section n of that kind, its number and 1; none for an uninitialized one.
 fn table_for(work: &[u64], n: usize, kind: u64) -> u64
-    ensures { result ≡ table_for (before work) n kind }
+    ensures { result ≡ table_for work.now n kind }
 {
     if kind == elf_object::PROGRAM {
         return cells::row_get(work, n, elf_object::WORK_RELOCATIONS);
@@ -31,7 +32,7 @@ fn table_for(work: &[u64], n: usize, kind: u64) -> u64
 
 // The symbols that a relocation of that table can name: those of the loaded symbol table, of section t, if it links to it.
 fn limit_of(headers: &[u64], table: u64, t: usize, symbols: usize) -> usize
-    ensures { result ≡ limit_of (before headers) table t symbols }
+    ensures { result ≡ limit_of headers.now table t symbols }
 {
     if cells::row_get(
         headers,
@@ -46,7 +47,7 @@ fn limit_of(headers: &[u64], table: u64, t: usize, symbols: usize) -> usize
 
 // Its symbols, among the object's contents; none for no table.
 fn table_symbols<'a>(headers: &[u64], contents: &'a [u64], table: u64) -> &'a [u64]
-    ensures { result.now ≡ relocations_of (before headers) (before contents) table }
+    ensures { result.now ≡ relocations_of headers.now contents.now table }
 {
     if table == 0 {
         return &contents[..0];
@@ -58,7 +59,7 @@ fn table_symbols<'a>(headers: &[u64], contents: &'a [u64], table: u64) -> &'a [u
 }
 
 fn symbol_ok(ids: &[u64], limit: usize, k: u64) -> bool
-    ensures { result ≡ symbol_ok (before ids) limit k }
+    ensures { result ≡ symbol_ok ids.now limit k }
 {
     if limit as u64 <= k {
         return false;
@@ -71,7 +72,7 @@ fn symbol_ok(ids: &[u64], limit: usize, k: u64) -> bool
 
 // Does each of the symbols have an id?
 fn symbols_ok(ids: &[u64], limit: usize, relocations: &[u64]) -> bool
-    ensures { result ≡ symbols_ok (before ids) limit (before relocations) }
+    ensures { result ≡ symbols_ok ids.now limit relocations.now }
 {
     let mut j = 0;
     while j < relocations.len() {
@@ -85,7 +86,7 @@ fn symbols_ok(ids: &[u64], limit: usize, relocations: &[u64]) -> bool
 }
 
 fn id_of(ids: &[u64], k: u64) -> u64
-    ensures { result ≡ id_in (before ids) k }
+    ensures { result ≡ id_in ids.now k }
 {
     let cell = cells::get(ids, k as usize);
     if cell == 0 {
@@ -95,7 +96,7 @@ fn id_of(ids: &[u64], k: u64) -> u64
 }
 
 fn put_id(lists: &mut [u64], at: usize, ids: &[u64], k: u64)
-    ensures { after lists ≡ set (before lists) at (id_in (before ids) k) }
+    ensures { lists.new ≡ set lists.old at (id_in ids.now k) }
 {
     cells::put(lists, at, id_of(ids, k));
 }
@@ -103,7 +104,7 @@ fn put_id(lists: &mut [u64], at: usize, ids: &[u64], k: u64)
 // Their ids, written into the lists from a place on.
 fn append_ids(lists: &mut [u64], at: usize, ids: &[u64], relocations: &[u64])
     requires { at + length relocations.now ≤ length lists.old }
-    ensures { after lists ≡ append_from (before ids) (before lists) at (before relocations) }
+    ensures { lists.new ≡ append_from ids.now lists.old at relocations.now }
 {
     let mut j = 0;
     while j < relocations.len() {
@@ -125,7 +126,7 @@ fn plan_section(
     relocations: &[u64],
     x: &[u8],
 ) -> Plan
-    ensures { result ≡ plan_of l (before bytes) (before names) lists (before ids) limit (before relocations) (before x) }
+    ensures { result ≡ plan_of l bytes.now names.now lists ids.now limit relocations.now x.now }
 {
     let id = interner::find(l, bytes, names, x);
     if interner::fits(l, bytes, names, id, x.len()) {
@@ -171,7 +172,7 @@ fn section_row(
     first: usize,
     count: usize,
 ) -> Section
-    ensures { result ≡ section_row (before headers) n kind id first count }
+    ensures { result ≡ section_row headers.now n kind id first count }
 {
     let flags = cells::row_get(headers, n, elf_object::HEADER_FLAGS);
     Section {
@@ -198,7 +199,7 @@ fn build_row(
     kind: u64,
 ) -> Link
     ensures { row_after sections lists result
-        ≡ build_row_of (before headers) (before work) (before ids) (row_before sections lists l) (before relocations) id n kind }
+        ≡ build_row_of headers.now work.now ids.now (row_before sections lists l) relocations.now id n kind }
 {
     let first = l.lists;
     let count = relocations.len();
@@ -341,7 +342,7 @@ fn build_section(
 }
 
 fn is_built_from(headers: &[u64], work: &[u64], n: usize, kind: u64) -> bool
-    ensures { result ≡ built_from (before headers) (before work) n kind }
+    ensures { result ≡ built_from headers.now work.now n kind }
 {
     if elf_object::is_loaded(headers, n, kind) {
         if cells::row_get(work, n, elf_object::WORK_MARK) == elf_object::REMOVED_MARK {

@@ -1,19 +1,20 @@
 // The merge of an object into a link: its head, its stages, and what it answers.
+#![tactic(auto)]
+
 ghost use Rattle.std.specs.Prelude.{◌≡◌};
 ghost use Rattle.merge_stages.specs.Stages.{cells_in, link_before, object_in};
-ghost use Rattle.cells.specs.Slice.{before};
 ghost use Rattle.merge_elf.specs.Merge.{check_of, ended_as, finished_of, outcome_after};
 ghost use Rattle.merge_elf.specs.Contract.{MergeMeets};
 
 use link::{Lent, Link, Refusal, Stage};
 
-#[derive(Drop)]
+#[derive(Clone, Copy)]
 pub enum Answer {
     Merged,
     Refused { refusal: Refusal },
 }
 
-#[derive(Drop)]
+#[derive(Clone, Copy)]
 pub struct Outcome {
     pub link: Link,
     pub answer: Answer,
@@ -30,7 +31,7 @@ fn check(
     work: usize,
     ids: usize,
 ) -> Refusal
-    ensures { result ≡ check_of l lent (before headers) (before entries) contents file work ids }
+    ensures { result ≡ check_of l lent headers.now entries.now contents file work ids }
 {
     let counts = link::judge_change(l, lent);
     if counts.number != 0 {

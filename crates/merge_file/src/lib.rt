@@ -1,9 +1,10 @@
 // The merge of an object file into a link: 22, its rows read into lent cells (26, 27, 2 at 0), then the merge of those rows.
+#![tactic(auto)]
+
 ghost use Rattle.std.specs.Prelude.{◌≡◌, ◌+◌, ◌*◌, ◌≤◌, length};
 ghost use Rattle.elf_object.specs.Rows.{row_width};
 ghost use Rattle.merge_stages.specs.Stages.{cells_in, link_before};
 ghost use Rattle.merge_elf.specs.Merge.{outcome_after};
-ghost use Rattle.cells.specs.Slice.{after, before};
 ghost use Rattle.merge_file.specs.MergeFile.{refused_as, merge_read_of};
 ghost use Rattle.merge_file.specs.Contract.{MergeFileMeets};
 
@@ -42,7 +43,7 @@ fn merge_read(
 ) -> Outcome
     requires { r.sections * row_width + r.entries * row_width + r.contents ≤ length rows.now }
     ensures { let c = cells_in bytes names symbols sections inputs lists work ids in
-        outcome_after c result ≡ merge_read_of (before image) (before rows) r (link_before c l) }
+        outcome_after c result ≡ merge_read_of image.now rows.now r (link_before c l) }
 {
     if r.number != 0 {
         return refused(l, r.number, r.place);
@@ -86,7 +87,7 @@ pub fn merge_file(
     rows: &mut [u64],
     image: &[u8],
 ) -> Outcome
-    ensures { MergeFileMeets (before image) (before rows) (after rows) (cells_in bytes names symbols sections inputs lists work ids) l result }
+    ensures { MergeFileMeets image.now rows.old rows.new (cells_in bytes names symbols sections inputs lists work ids) l result }
 {
     if l.broken {
         return refused(l, 22, 0);

@@ -7,7 +7,7 @@ use Rattle.symbol.specs.Codes.{successor}
 use Rattle.sections.specs.Rows as Sections
 use Rattle.elf_object.specs.Kinds.{program, uninitialized, symbol_table, dynamic_symbols, frame_header, dynamic, unknown}
 use Rattle.elf_object.specs.Rows.{rows_in, kind_at, is_excluded, work_cells, nothing, not_loaded}
-use Rattle.cells.specs.Slice.{Slice, before, after}
+use Rattle.cells.specs.Slice.{SliceMut}
 use Rattle.merge_sections.specs.declared.Reserved.{Reserved}
 
 -- the lent cells that the stage writes, and what it hands on
@@ -20,11 +20,11 @@ abbrev pub state_of : List ℕ → List ℕ → Reserved → State
 state_of sections work r = record { sections = sections; work = work; reserved = r }
 
 -- of lent slices before the call, and after it
-abbrev pub state_before : Slice → Slice → Reserved → State
-state_before sections work r = state_of (before sections) (before work) r
+abbrev pub state_before : SliceMut → SliceMut → Reserved → State
+state_before sections work r = state_of sections.entry.now work.entry.now r
 
-abbrev pub state_after : Slice → Slice → Reserved → State
-state_after sections work r = state_of (after sections) (after work) r
+abbrev pub state_after : SliceMut → SliceMut → Reserved → State
+state_after sections work r = state_of sections.exit.now work.exit.now r
 
 abbrev pub reserved_of : Link → ℕ → ℕ → ℕ → Reserved
 reserved_of l table number place = record { link = l; table = table; number = number; place = place }

@@ -1,7 +1,8 @@
 // The first stage of a merge: a row is reserved for each program and uninitialized section, and what later stages ask of a section number
 // is noted in its work row: its conversion, its mark, the last relocation table that applies to it.
+#![tactic(auto)]
+
 ghost use Rattle.std.specs.Prelude.{◌≡◌};
-ghost use Rattle.cells.specs.Slice.{after, before};
 ghost use Rattle.merge_sections.specs.Reserve.{kind_class, class_of, reserve_number, conversion_of, table_after, note_of, take_row_of, reserve_one_of, reserve_all_of, state_after, state_before};
 ghost use Rattle.merge_sections.specs.Notes.{is_table, note_table_of, note_tables_of, clear_one_of, clear_all_of};
 ghost use Rattle.sections.specs.Rows.{sections_of};
@@ -9,7 +10,7 @@ ghost use Rattle.sections.specs.Rows.{sections_of};
 use link::Link;
 
 // The link, and the number of the loaded symbol table's section and 1 (0 for none); number 0 as long as nothing is refused.
-#[derive(Drop)]
+#[derive(Clone, Copy)]
 pub struct Reserved {
     pub link: Link,
     pub table: u64,
@@ -45,7 +46,7 @@ fn kind_class(kind: u64) -> u64
 
 // The class of its kind, if it isn't excluded.
 fn class_of(headers: &[u64], n: usize) -> u64
-    ensures { result ≡ class_of (before headers) n }
+    ensures { result ≡ class_of headers.now n }
 {
     if elf_object::is_excluded(headers, n) {
         return EXCLUDED;
@@ -54,7 +55,7 @@ fn class_of(headers: &[u64], n: usize) -> u64
 }
 
 fn refusal_of(l: Link, sections: &[u64], class: u64, table: u64) -> u64
-    ensures { result ≡ reserve_number l (before sections) class table }
+    ensures { result ≡ reserve_number l sections.now class table }
 {
     if class == REFUSED {
         return 3;
@@ -96,13 +97,13 @@ fn table_after(table: u64, class: u64, n: usize) -> u64
 }
 
 fn note(work: &mut [u64], n: usize, conversion: u64)
-    ensures { after work ≡ note_of (before work) n conversion }
+    ensures { work.new ≡ note_of work.old n conversion }
 {
     cells::row_store(work, n, conversion, 0, 0, 0, 0, 0, 0, 0);
 }
 
 fn take_row(l: Link, sections: &mut [u64], class: u64) -> Link
-    ensures { sections_of (after sections) result ≡ take_row_of (sections_of (before sections) l) class }
+    ensures { sections_of sections.new result ≡ take_row_of (sections_of sections.old l) class }
 {
     if class == ROW {
         return sections::reserve(l, sections);
@@ -118,7 +119,7 @@ fn reserve_one(
     headers: &[u64],
     n: usize,
 ) -> Reserved
-    ensures { state_after sections work result ≡ reserve_one_of (before headers) (state_before sections work s) n }
+    ensures { state_after sections work result ≡ reserve_one_of headers.now (state_before sections work s) n }
 {
     let l = s.link;
     let class = class_of(headers, n);
@@ -143,7 +144,7 @@ fn reserve_one(
 
 // All sections, ascending, up to the first refusal.
 pub fn reserve_all(s: Reserved, sections: &mut [u64], work: &mut [u64], headers: &[u64]) -> Reserved
-    ensures { state_after sections work result ≡ reserve_all_of (before headers) (state_before sections work s) }
+    ensures { state_after sections work result ≡ reserve_all_of headers.now (state_before sections work s) }
 {
     let rows = headers.len() / elf_object::ROW_WIDTH;
     let mut u = s;
@@ -161,7 +162,7 @@ pub fn reserve_all(s: Reserved, sections: &mut [u64], work: &mut [u64], headers:
 
 // A relocation table, and loaded?
 fn is_table(headers: &[u64], t: usize) -> bool
-    ensures { result ≡ is_table (before headers) t }
+    ensures { result ≡ is_table headers.now t }
 {
     if elf_object::is_loaded(headers, t, elf_object::REL) {
         return true;
@@ -171,7 +172,7 @@ fn is_table(headers: &[u64], t: usize) -> bool
 
 // It is noted at the section that it applies to.
 fn note_table(work: &mut [u64], headers: &[u64], t: usize)
-    ensures { after work ≡ note_table_of (before headers) (before work) t }
+    ensures { work.new ≡ note_table_of headers.now work.old t }
 {
     let info = cells::row_get(headers, t, elf_object::HEADER_INFO) as usize;
     if headers.len() / elf_object::ROW_WIDTH <= info {
@@ -189,7 +190,7 @@ fn note_table(work: &mut [u64], headers: &[u64], t: usize)
 
 // Ascending, so that the last table for a section is the one that stays.
 pub fn note_tables(work: &mut [u64], headers: &[u64])
-    ensures { after work ≡ note_tables_of (before headers) (before work) }
+    ensures { work.new ≡ note_tables_of headers.now work.old }
 {
     let rows = headers.len() / elf_object::ROW_WIDTH;
     let mut t = 0;
@@ -201,7 +202,7 @@ pub fn note_tables(work: &mut [u64], headers: &[u64])
 
 // A symbol may name a section that isn't there: nothing is known of that one.
 fn clear_one(work: &mut [u64], rows: usize, entries: &[u64], i: usize)
-    ensures { after work ≡ clear_one_of rows (before entries) (before work) i }
+    ensures { work.new ≡ clear_one_of rows entries.now work.old i }
 {
     let s = cells::row_get(entries, i, elf_object::ENTRY_SECTION) as usize;
     if rows <= s {
@@ -210,7 +211,7 @@ fn clear_one(work: &mut [u64], rows: usize, entries: &[u64], i: usize)
 }
 
 pub fn clear_absent(work: &mut [u64], rows: usize, entries: &[u64])
-    ensures { after work ≡ clear_all_of rows (before entries) (before work) }
+    ensures { work.new ≡ clear_all_of rows entries.now work.old }
 {
     let all = entries.len() / elf_object::ROW_WIDTH;
     let mut i = 0;

@@ -14,7 +14,7 @@ use Rattle.merge_build.specs.Build as Build
 use Rattle.merge_build.specs.Finish.{BuildLinks, build_links, built_of}
 use Rattle.link.specs.declared.Link.{Link}
 use Rattle.merge_sections.specs.declared.Reserved.{Reserved}
-use Rattle.cells.specs.Slice.{Slice, before, after}
+use Rattle.cells.specs.Slice.{Slice, SliceMut}
 
 -- every lent cell that a merge may write, and the stage
 pub record All : Type 0 where
@@ -47,11 +47,19 @@ abbrev pub cells_of : List ℕ → List ℕ → List ℕ → List ℕ → List �
 cells_of b n s x i l w d = record { bytes = b; names = n; symbols = s; sections = x; inputs = i; lists = l; work = w; ids = d }
 
 -- before the call and after it
-abbrev pub cells_in : Slice → Slice → Slice → Slice → Slice → Slice → Slice → Slice → Both Cells Cells
+abbrev pub cells_in : SliceMut → SliceMut → SliceMut → SliceMut → SliceMut → SliceMut → SliceMut → SliceMut → Both Cells Cells
 cells_in b n s x i l w d =
     record {
-      entry = cells_of (before b) (before n) (before s) (before x) (before i) (before l) (before w) (before d);
-      exit = cells_of (after b) (after n) (after s) (after x) (after i) (after l) (after w) (after d);
+      entry = cells_of b.entry.now n.entry.now s.entry.now x.entry.now i.entry.now l.entry.now w.entry.now d.entry.now;
+      exit = cells_of b.exit.now n.exit.now s.exit.now x.exit.now i.exit.now l.exit.now w.exit.now d.exit.now;
+    }
+
+-- where the work cells are only read
+abbrev pub cells_reading : SliceMut → SliceMut → SliceMut → SliceMut → SliceMut → SliceMut → Slice → SliceMut → Both Cells Cells
+cells_reading b n s x i l w d =
+    record {
+      entry = cells_of b.entry.now n.entry.now s.entry.now x.entry.now i.entry.now l.entry.now w.entry.now d.entry.now;
+      exit = cells_of b.exit.now n.exit.now s.exit.now x.exit.now i.exit.now l.exit.now w.exit.now d.exit.now;
     }
 
 -- with the cells before the call, and after it
@@ -80,7 +88,7 @@ object_of h e c f s = record { headers = h; entries = e; contents = c; image = f
 
 -- as it is lent
 abbrev pub object_in : Slice → Slice → Slice → Slice → ℕ → Object
-object_in h e c f s = object_of (before h) (before e) (before c) (before f) s
+object_in h e c f s = object_of h.entry.now e.entry.now c.entry.now f.entry.now s
 
 -- ---- the symbols, and then what is built
 
@@ -119,7 +127,7 @@ table_of h e c f s t = record { headers = h; entries = e; contents = c; image = 
 
 -- as it is lent
 abbrev pub tabled_in : Slice → Slice → Slice → Slice → ℕ → ℕ → Tabled
-tabled_in h e c f s t = table_of (before h) (before e) (before c) (before f) s t
+tabled_in h e c f s t = table_of h.entry.now e.entry.now c.entry.now f.entry.now s t
 
 abbrev pub symbol_object : Tabled → List ℕ → Symbols.Object
 symbol_object o work = Symbols.object_of o.headers o.entries o.image work (link_at o.headers o.table)

@@ -1,6 +1,8 @@
 // The stages of a merge, in document 01's order, up to the first refusal. Each function is a stage and what comes after it.
+#![tactic(auto)]
+
 ghost use Rattle.std.specs.Prelude.{◌≡◌};
-ghost use Rattle.merge_stages.specs.Stages.{filter_stage, merge_groups_of, stages_of, cells_in, link_before, merge_table_in, object_in, reserved_in, stage_after, stage_before, symbols_after, tabled_in};
+ghost use Rattle.merge_stages.specs.Stages.{filter_stage, merge_groups_of, stages_of, cells_in, cells_reading, link_before, merge_table_in, object_in, reserved_in, stage_after, stage_before, symbols_after, tabled_in};
 
 use link::{Link, Stage};
 use merge_sections::Reserved;
@@ -24,7 +26,7 @@ fn merge_table(
     shstrndx: usize,
     t: usize,
 ) -> Stage
-    ensures { let c = cells_in bytes names symbols sections inputs lists work ids in
+    ensures { let c = cells_reading bytes names symbols sections inputs lists work ids in
         symbols_after c result ≡ merge_table_in (tabled_in headers entries contents image shstrndx t) c l }
 {
     let first = SymbolStage {
@@ -77,7 +79,7 @@ fn from_filter(
     shstrndx: usize,
     t: usize,
 ) -> Stage
-    ensures { let c = cells_in bytes names symbols sections inputs lists work ids in
+    ensures { let c = cells_reading bytes names symbols sections inputs lists work ids in
         stage_after c result ≡ filter_stage (tabled_in headers entries contents image shstrndx t) (stage_before c s) }
 {
     if s.number != 0 {

@@ -15,7 +15,7 @@ use Rattle.symbol_resolution.specs.Decide.{decide_of}
 use Rattle.gabi.specs.SymbolTable.{stt_notype, stt_file, shn_undef, shn_loreserve}
 use Rattle.elf_object.specs.Rows.{binding_at, type_at, visibility_at, section_at, value_at, conversion_at, mark_at, group_mark}
 use Rattle.section_groups.specs.Filter.{section_after}
-use Rattle.cells.specs.Slice.{Slice, before}
+use Rattle.cells.specs.Slice.{Slice}
 use Rattle.merge_symbols.specs.declared.plan.Planned.{Planned}
 
 -- a symbol of a removed section is undefined by now
@@ -58,7 +58,7 @@ view_of b n s x l = record { bytes = b; names = n; symbols = s; sections = x; li
 
 -- as it is lent
 abbrev pub view_in : Slice → Slice → Slice → Slice → Link → View
-view_in b n s x l = view_of (before b) (before n) (before s) (before x) l
+view_in b n s x l = view_of b.entry.now n.entry.now s.entry.now x.entry.now l
 
 pub record Input : Type 0 where
   pub entries : List ℕ
@@ -69,7 +69,7 @@ input_of e w = record { entries = e; work = w }
 
 -- as it is lent
 abbrev pub input_in : Slice → Slice → Input
-input_in e w = input_of (before e) (before w)
+input_in e w = input_of e.entry.now w.entry.now
 
 -- "A name is interned (2) once found, before later checks"
 unfoldable pub judged_of : View → List ℕ → ℕ → ℕ → ElfSymbol → Row → Decision

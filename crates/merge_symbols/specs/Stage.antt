@@ -12,7 +12,7 @@ use Rattle.symbol_resolution.specs.Apply.{Table, table_of, apply_of}
 use Rattle.elf_object.specs.Rows.{rows_in, name_in, entry_name_at}
 use Rattle.merge_symbols.specs.declared.plan.Planned.{Planned}
 use Rattle.merge_symbols.specs.Plan.{View, view_of, Input, input_of, planned_of, file_after, place_of}
-use Rattle.cells.specs.Slice.{Slice, before, after}
+use Rattle.cells.specs.Slice.{Slice, SliceMut}
 use Rattle.merge_symbols.specs.declared.SymbolStage.{SymbolStage}
 
 -- the lent cells that the stage writes, and what it hands on
@@ -28,11 +28,11 @@ abbrev pub state_of : List ℕ → List ℕ → List ℕ → List ℕ → List �
 state_of b n s x w st = record { bytes = b; names = n; symbols = s; sections = x; ids = w; stage = st }
 
 -- of lent slices before the call, and after it
-abbrev pub state_before : Slice → Slice → Slice → Slice → Slice → SymbolStage → State
-state_before b n s x w st = state_of (before b) (before n) (before s) (before x) (before w) st
+abbrev pub state_before : SliceMut → SliceMut → SliceMut → SliceMut → SliceMut → SymbolStage → State
+state_before b n s x w st = state_of b.entry.now n.entry.now s.entry.now x.entry.now w.entry.now st
 
-abbrev pub state_after : Slice → Slice → Slice → Slice → Slice → SymbolStage → State
-state_after b n s x w st = state_of (after b) (after n) (after s) (after x) (after w) st
+abbrev pub state_after : SliceMut → SliceMut → SliceMut → SliceMut → SliceMut → SymbolStage → State
+state_after b n s x w st = state_of b.exit.now n.exit.now s.exit.now x.exit.now w.exit.now st
 
 -- what it reads of the object: headers, the loaded table's entries, bytes, work rows, the section of the symbols' names
 pub record Object : Type 0 where
@@ -47,7 +47,7 @@ object_of h e f w s = record { headers = h; entries = e; image = f; work = w; sy
 
 -- as it is lent
 abbrev pub object_in : Slice → Slice → Slice → Slice → ℕ → Object
-object_in h e f w s = object_of (before h) (before e) (before f) (before w) s
+object_in h e f w s = object_of h.entry.now e.entry.now f.entry.now w.entry.now s
 
 abbrev pub stage_of : Link → ℕ → ℕ → ℕ → SymbolStage
 stage_of l file number place = record { link = l; file = file; number = number; place = place }
@@ -83,8 +83,8 @@ abbrev pub accepted_of : List ℕ → List ℕ → List ℕ → List ℕ → Sym
 accepted_of n s x d st = record { names = n; symbols = s; sections = x; ids = d; stage = st }
 
 -- of lent slices after the call
-abbrev pub accepted_after : Slice → Slice → Slice → Slice → SymbolStage → Accepted
-accepted_after n s x d st = accepted_of (after n) (after s) (after x) (after d) st
+abbrev pub accepted_after : SliceMut → SliceMut → SliceMut → SliceMut → SymbolStage → Accepted
+accepted_after n s x d st = accepted_of n.exit.now s.exit.now x.exit.now d.exit.now st
 
 abbrev pub accepting : Table → List ℕ → ℕ → Accepted
 accepting t ids file = accepted_of t.names t.symbols t.sections ids (stage_of t.link file 0 0)

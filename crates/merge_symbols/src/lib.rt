@@ -1,8 +1,9 @@
 // The symbol stage of a merge: each symbol's name, the decision, and then what it writes.
+#![tactic(auto)]
+
 ghost use Rattle.std.specs.Prelude.{◌≡◌};
 ghost use Rattle.symbol_resolution.specs.Apply.{table_before};
 ghost use Rattle.merge_symbols.specs.Plan.{input_in};
-ghost use Rattle.cells.specs.Slice.{before};
 ghost use Rattle.merge_symbols.specs.Stage.{stage_of, cell_of, accept_row, commit_of, symbol_named, symbol_of, symbols_of, accepted_after, object_in, state_after, state_before};
 
 mod plan;
@@ -13,7 +14,7 @@ pub use plan::place_of;
 use symbol_resolution::Decision;
 
 // The link, and the file name's id and 1, between two symbols; number 0 as long as nothing is refused.
-#[derive(Drop)]
+#[derive(Clone, Copy)]
 pub struct SymbolStage {
     pub link: Link,
     pub file: u64,
@@ -57,7 +58,7 @@ fn accept(
     i: usize,
     file: u64,
 ) -> SymbolStage
-    ensures { accepted_after names symbols sections ids result ≡ accept_row (table_before names symbols sections l) (before ids) p i file }
+    ensures { accepted_after names symbols sections ids result ≡ accept_row (table_before names symbols sections l) ids.old p i file }
 {
     let row = p.row;
     let d = p.decision;
@@ -78,7 +79,7 @@ fn commit(
     p: Planned,
     i: usize,
 ) -> SymbolStage
-    ensures { state_after bytes names symbols sections ids result ≡ commit_of (state_before bytes names symbols sections ids s) (before x) p i }
+    ensures { state_after bytes names symbols sections ids result ≡ commit_of (state_before bytes names symbols sections ids s) x.now p i }
 {
     let l = s.link;
     let id = p.id;
@@ -108,7 +109,7 @@ fn merge_named(
     i: usize,
 ) -> SymbolStage
     ensures { state_after bytes names symbols sections ids result
-        ≡ symbol_named (input_in entries work) (state_before bytes names symbols sections ids s) (before x) i }
+        ≡ symbol_named (input_in entries work) (state_before bytes names symbols sections ids s) x.now i }
 {
     let l = s.link;
     let p = crate::plan::plan_symbol(

@@ -1,6 +1,5 @@
 // What the symbol stage of a merge decides on one symbol of an object: read only.
 ghost use Rattle.std.specs.Prelude.{◌≡◌};
-ghost use Rattle.cells.specs.Slice.{before};
 ghost use Rattle.merge_symbols.specs.Plan.{filtered_at, is_first, defines_of, rule_of, judged_of, planned_of, place_of, file_after, input_in, view_in};
 
 use link::{Interned, Link, SymbolId};
@@ -9,7 +8,7 @@ use symbol_resolution::Decision;
 use upcoming_symbol::ElfSymbol;
 
 // What is to be done with a symbol, under a name that has or would get this id.
-#[derive(Drop)]
+#[derive(Clone, Copy)]
 pub struct Planned {
     pub id: Interned,
     pub kind: u64,
@@ -19,7 +18,7 @@ pub struct Planned {
 
 // The symbol after the groups' filter: undefined where its section is removed.
 fn filtered_at(entries: &[u64], work: &[u64], i: usize) -> ElfSymbol
-    ensures { result ≡ filtered_at (before entries) (before work) i }
+    ensures { result ≡ filtered_at entries.now work.now i }
 {
     let e = elf_object::elf_at(entries, i);
     ElfSymbol {
@@ -49,7 +48,7 @@ fn is_first(i: usize, empty: bool, e: ElfSymbol) -> bool
 
 // Does the section define a group?
 fn defines(work: &[u64], section: u64) -> bool
-    ensures { result ≡ defines_of (before work) section }
+    ensures { result ≡ defines_of work.now section }
 {
     if section == upcoming_symbol::SHN_UNDEF {
         return false;
@@ -75,7 +74,7 @@ fn rule(
     e: ElfSymbol,
     row: Row,
 ) -> Decision
-    ensures { result ≡ rule_of l (before names) (before symbols) (before sections) (before work) i empty e row }
+    ensures { result ≡ rule_of l names.now symbols.now sections.now work.now i empty e row }
 {
     if is_first(i, empty, e) {
         return Decision::Keep { id: SymbolId(0) };
@@ -104,7 +103,7 @@ fn judged(
     e: ElfSymbol,
     row: Row,
 ) -> Decision
-    ensures { result ≡ judged_of (view_in bytes names symbols sections l) (before work) i len e row }
+    ensures { result ≡ judged_of (view_in bytes names symbols sections l) work.now i len e row }
 {
     let name = row.name;
     if interner::fits(l, bytes, names, name, len) {
@@ -126,7 +125,7 @@ pub fn plan_symbol(
     i: usize,
     file: u64,
 ) -> Planned
-    ensures { result ≡ planned_of (view_in bytes names symbols sections l) (input_in entries work) (before x) i file }
+    ensures { result ≡ planned_of (view_in bytes names symbols sections l) (input_in entries work) x.now i file }
 {
     let id = interner::find(l, bytes, names, x);
     let e = filtered_at(entries, work, i);

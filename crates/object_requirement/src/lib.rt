@@ -1,8 +1,9 @@
 // Admission of an archive's member: does some symbol bear a name that was required of it? The Rust's `ObjectRequirement::matches`: a symbol of
 // binding 1; in the gABI's profile a definition, weak or global. Every symbol table of the object is looked at, excluded or not, and so is its
 // string section; of the link nothing is but its profile.
+#![tactic(auto)]
+
 ghost use Rattle.std.specs.Prelude.{◌≡◌, ◌+◌, ◌<◌};
-ghost use Rattle.cells.specs.Slice.{before, after};
 ghost use Rattle.strings.specs.Lookup.{looked};
 ghost use Rattle.elf_object.specs.Rows.{strings_at, binding_at, section_at};
 ghost use Rattle.archive_walk.specs.Names.{required_of};
@@ -12,7 +13,7 @@ ghost use Rattle.object_requirement.specs.Contract.{MatchesMeets};
 use archive_walk::Walk;
 use link::{Link, Refusal};
 
-#[derive(Drop)]
+#[derive(Clone, Copy)]
 pub enum Admission {
     Yes,
     No,
@@ -23,7 +24,7 @@ pub enum Admission {
 
 // Is there a section of that number and kind, excluded or not?
 fn is_section(headers: &[u64], n: usize, kind: u64) -> bool
-    ensures { result ≡ is_section (before headers) n kind }
+    ensures { result ≡ is_section headers.now n kind }
 {
     if headers.len() / elf_object::ROW_WIDTH <= n {
         return false;
@@ -35,7 +36,7 @@ fn is_section(headers: &[u64], n: usize, kind: u64) -> bool
 }
 
 fn strings_at<'a>(headers: &[u64], file: &'a [u8], n: usize) -> &'a [u8]
-    ensures { result.now ≡ strings_at (before headers) (before file) n }
+    ensures { result.now ≡ strings_at headers.now file.now n }
 {
     let first = cells::row_get(headers, n, elf_object::HEADER_FIRST);
     let count = cells::row_get(headers, n, elf_object::HEADER_COUNT);
@@ -50,7 +51,7 @@ fn name_anywhere<'a>(
     offset: usize,
     found: &mut bool,
 ) -> &'a [u8]
-    ensures { looked result.now (after found) ≡ name_anywhere (before headers) (before file) n offset }
+    ensures { looked result.now found.new ≡ name_anywhere headers.now file.now n offset }
 {
     if is_section(headers, n, elf_object::STRING_TABLE) {
         let table = strings_at(headers, file, n);
@@ -80,7 +81,7 @@ fn defines_name(binding: u64, section: u64) -> bool
 
 // May symbol i of a table admit its member?
 fn may_admit(gabi: bool, symbols: &[u64], i: usize) -> bool
-    ensures { result ≡ admits gabi (binding_at (before symbols) i) (section_at (before symbols) i) }
+    ensures { result ≡ admits gabi (binding_at symbols.now i) (section_at symbols.now i) }
 {
     let binding = cells::row_get(symbols, i, elf_object::ENTRY_BINDING);
     if gabi {
@@ -103,7 +104,7 @@ fn bears_required(
     cells: &[u64],
     entry: usize,
 ) -> bool
-    ensures { result ≡ bears_required gabi (before headers) (before image) names (before symbols) (required_of (before index) (before cells) w entry) i }
+    ensures { result ≡ bears_required gabi headers.now image.now names symbols.now (required_of index.now cells.now w entry) i }
 {
     if may_admit(gabi, symbols, i) {
         let mut found = false;
@@ -127,7 +128,7 @@ fn in_table(
     cells: &[u64],
     entry: usize,
 ) -> bool
-    ensures { result ≡ in_table gabi (before headers) (before image) names (before symbols) (required_of (before index) (before cells) w entry) }
+    ensures { result ≡ in_table gabi headers.now image.now names symbols.now (required_of index.now cells.now w entry) }
 {
     let rows = symbols.len() / elf_object::ROW_WIDTH;
     let mut i = 0;
@@ -144,7 +145,7 @@ fn in_table(
 
 // A symbol table, dynamic or not.
 fn is_table(headers: &[u64], n: usize) -> bool
-    ensures { result ≡ is_table (before headers) n }
+    ensures { result ≡ is_table headers.now n }
 {
     if is_section(headers, n, elf_object::SYMBOL_TABLE) {
         return true;
@@ -164,7 +165,7 @@ fn in_section(
     entry: usize,
 ) -> bool
     requires { n < 0xffffffffffffffff }
-    ensures { result ≡ in_section gabi (before headers) (before entries) (before image) (required_of (before index) (before cells) w entry) n }
+    ensures { result ≡ in_section gabi headers.now entries.now image.now (required_of index.now cells.now w entry) n }
 {
     if is_table(headers, n) {
         let names = cells::row_get(headers, n, elf_object::HEADER_LINK) as usize;
@@ -184,7 +185,7 @@ fn has_global_symbol(
     cells: &[u64],
     entry: usize,
 ) -> bool
-    ensures { result ≡ has_global_symbol gabi (before headers) (before entries) (before image) (required_of (before index) (before cells) w entry) }
+    ensures { result ≡ has_global_symbol gabi headers.now entries.now image.now (required_of index.now cells.now w entry) }
 {
     let rows = headers.len() / elf_object::ROW_WIDTH;
     let mut n = 0;
@@ -199,7 +200,7 @@ fn has_global_symbol(
 
 // Are the walk's index and its rows lent, and has it that entry? After "done" too: the names required of a member stay in the rows.
 fn is_offered(w: Walk, index: &[u8], cells: &[u64], entry: usize) -> bool
-    ensures { result ≡ offered_in (before index) (before cells) w entry }
+    ensures { result ≡ offered_in index.now cells.now w entry }
 {
     if index.len() < w.length {
         return false;
@@ -226,7 +227,7 @@ pub fn matches(
     cells: &[u64],
     entry: usize,
 ) -> Admission
-    ensures { MatchesMeets l (before headers) (before entries) (before contents) (before image) (before index) (before cells) w entry result }
+    ensures { MatchesMeets l headers.now entries.now contents.now image.now index.now cells.now w entry result }
 {
     let judged = elf_object::judge(headers, entries, contents.len(), image.len());
     if judged.number != 0 {

@@ -1,6 +1,7 @@
 // The walk lent by reference and moved on in place: the Rust's `PendingArchive::next(&mut self)`. Thin functions over `archive_walk::next`, proved by
 // hand.
-ghost use Rattle.cells.specs.Slice.{before, after};
+#![tactic(auto)]
+
 ghost use Rattle.archive_walk.specs.Contract.{next_exit, NextMeets};
 ghost use Rattle.archive_walk.specs.Look.{table_in};
 
@@ -17,7 +18,7 @@ pub fn next(
     names: &[u64],
     symbols: &[u64],
 ) -> Offer
-    ensures { NextMeets (before index) (before cells) (before walk) (table_in l bytes names symbols) (next_exit cells (record { walk = after walk; offer = result })) }
+    ensures { NextMeets index.now cells.old walk.old (table_in l bytes names symbols) (next_exit cells (record { walk = walk.new; offer = result })) }
 {
     let w = *walk;
     let m = archive_walk::next(w, index, cells, l, bytes, names, symbols);
@@ -35,7 +36,7 @@ pub fn next_by_value(
     names: &[u64],
     symbols: &[u64],
 ) -> Moved
-    ensures { NextMeets (before index) (before cells) w (table_in l bytes names symbols) (next_exit cells result) }
+    ensures { NextMeets index.now cells.old w (table_in l bytes names symbols) (next_exit cells result) }
 {
     let mut x = w;
     let offer = next(&mut x, index, cells, l, bytes, names, symbols);

@@ -1,6 +1,7 @@
 // A second collector, to compare with: it visits sections by recursion. Its end, 21 or the sweep, is the first's (gc_sections).
+#![tactic(auto)]
+
 ghost use Rattle.std.specs.Prelude.{◌≡◌, ◌≤◌, ◌<◌, ◌+◌, length};
-ghost use Rattle.cells.specs.Slice.{before, after};
 ghost use Rattle.gc_sections.specs.Each.{each};
 ghost use Rattle.gc_sections.specs.Run.{judge_of, lists_in};
 ghost use Rattle.gc_sections.specs.Contract.{run_exit};
@@ -26,7 +27,7 @@ fn visit(
     lead: Lead,
 ) -> Unbuilt
     requires { l.sections ≤ length work.old }
-    ensures { visited_of (after work) result ≡ visited l (before symbols) (before sections) (before lists) lead (visited_of (before work) unbuilt) }
+    ensures { visited_of work.new result ≡ visited l symbols.now sections.now lists.now lead (visited_of work.old unbuilt) }
 {
     match lead {
         Lead::Nowhere => unbuilt,
@@ -57,7 +58,7 @@ fn visit(
 // ---- roots
 
 fn marked_lead(symbols: &[u64], count: usize, marks: &[u8], i: usize) -> Lead
-    ensures { result ≡ marked_lead (before symbols) count (before marks) i }
+    ensures { result ≡ marked_lead symbols.now count marks.now i }
 {
     if i < marks.len() {
         if marks[i] != 0 {
@@ -68,7 +69,7 @@ fn marked_lead(symbols: &[u64], count: usize, marks: &[u8], i: usize) -> Lead
 }
 
 fn root_lead(bytes: &[u8], names: &[u64], sections: &[u64], n: usize, i: usize) -> Lead
-    ensures { result ≡ root_lead (before bytes) (before names) (before sections) n i }
+    ensures { result ≡ root_lead bytes.now names.now sections.now n i }
 {
     if gc_sections::is_root(bytes, names, sections, n, i) {
         return Lead::Section { id: SectionId(i) };
@@ -77,7 +78,7 @@ fn root_lead(bytes: &[u8], names: &[u64], sections: &[u64], n: usize, i: usize) 
 }
 
 fn entry_lead(symbols: &[u64], count: usize, entry: EntryPoint) -> Lead
-    ensures { result ≡ entry_lead (before symbols) count entry }
+    ensures { result ≡ entry_lead symbols.now count entry }
 {
     match entry {
         EntryPoint::None => Lead::Nowhere,
@@ -95,8 +96,8 @@ fn root_symbols(
     unbuilt: Unbuilt,
 ) -> Unbuilt
     requires { l.sections ≤ length work.old }
-    ensures { visited_of (after work) result
-        ≡ each (root_symbol l (before symbols) (before sections) (before lists) (before marks)) l.symbols 0 (visited_of (before work) unbuilt) }
+    ensures { visited_of work.new result
+        ≡ each (root_symbol l symbols.now sections.now lists.now marks.now) l.symbols 0 (visited_of work.old unbuilt) }
 {
     let mut lowest = unbuilt;
     let mut i = 0;
@@ -119,8 +120,8 @@ fn root_sections(
     unbuilt: Unbuilt,
 ) -> Unbuilt
     requires { l.sections ≤ length work.old }
-    ensures { visited_of (after work) result
-        ≡ each (root_section l (before bytes) (before names) (before symbols) (before sections) (before lists)) l.sections 0 (visited_of (before work) unbuilt) }
+    ensures { visited_of work.new result
+        ≡ each (root_section l bytes.now names.now symbols.now sections.now lists.now) l.sections 0 (visited_of work.old unbuilt) }
 {
     let mut lowest = unbuilt;
     let mut i = 0;
@@ -144,8 +145,8 @@ fn reach(
     work: &mut [u64],
 ) -> Unbuilt
     requires { l.sections ≤ length work.old }
-    ensures { visited_of (after work) result
-        ≡ reached_of l (before bytes) (before names) (before symbols) (before sections) (before lists) (before marks) entry (before work) }
+    ensures { visited_of work.new result
+        ≡ reached_of l bytes.now names.now symbols.now sections.now lists.now marks.now entry work.old }
 {
     gc_sections::clear(work, l.sections);
     let marked = root_symbols(l, symbols, sections, lists, marks, work, Unbuilt::None);
@@ -157,7 +158,7 @@ fn reach(
 // ---- the call
 
 fn count_built(sections: &[u64], n: usize) -> usize
-    ensures { result ≡ count_built (before sections) n }
+    ensures { result ≡ count_built sections.now n }
 {
     let mut count = 0;
     let mut i = 0;
@@ -170,7 +171,7 @@ fn count_built(sections: &[u64], n: usize) -> usize
 
 fn count_one(sections: &[u64], n: usize, i: usize, count: usize) -> usize
     requires { count < n }
-    ensures value { result ≡ count_one (before sections) n i count }
+    ensures value { result ≡ count_one sections.now n i count }
     ensures few { result ≤ count + 1 }
 {
     if sections::is_built(sections, n, SectionId(i)) {
@@ -181,7 +182,7 @@ fn count_one(sections: &[u64], n: usize, i: usize, count: usize) -> usize
 
 // Of the first collector's refusals 22 and 1 come before 30, 2 after it.
 fn judge(l: Link, lent: Lent, sections: &[u64], marks: usize, work: usize) -> Refusal
-    ensures { result ≡ judge_plain (judge_of l lent marks work) (count_built (before sections) l.sections) }
+    ensures { result ≡ judge_plain (judge_of l lent marks work) (count_built sections.now l.sections) }
 {
     let head = gc_sections::judge(l, lent, marks, work);
     if head.number == 22 {
@@ -212,7 +213,7 @@ pub fn run(
     entry: EntryPoint,
     work: &mut [u64],
 ) -> Outcome
-    ensures { PlainMeets l (lists_in bytes names lists marks) (before symbols) (before sections) entry (before work) (run_exit symbols sections work result) }
+    ensures { PlainMeets l (lists_in bytes names lists marks) symbols.old sections.old entry work.old (run_exit symbols sections work result) }
 {
     let lent = gc_sections::lent_of(
         bytes.len(),

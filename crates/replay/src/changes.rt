@@ -6,7 +6,7 @@ use symbol::{SttFile, SymbolValue};
 use symbols::Symbols;
 use upcoming_symbol::{ElfSymbol, UpcomingSymbol};
 
-#[derive(Drop)]
+#[derive(Clone, Copy)]
 struct Named {
     link: Link,
     name: Interned,

@@ -4,7 +4,7 @@ use link::{Interned, Link, SymbolId};
 use replay_words::Lend;
 
 // The link afterwards, and the length of the answer's text.
-#[derive(Drop)]
+#[derive(Clone, Copy)]
 pub(crate) struct Collected {
     pub(crate) link: Link,
     pub(crate) to: usize,

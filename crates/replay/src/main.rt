@@ -1,5 +1,7 @@
 // Replays lists of the oracle: every answer is compared with the Rust's, and every row where a list has a dump. Cases of our own, with answers
 // that were worked out by hand, may also lend less of each store and ask for a link's counts.
+#![tactic(auto)]
+
 mod changes;
 mod collection;
 mod dump;
@@ -16,7 +18,7 @@ use symbols::Symbols;
 use text::{Lines, Taken};
 
 // Shared: is what was announced last a shared object?
-#[derive(Drop)]
+#[derive(Clone, Copy)]
 struct State {
     table: Symbols,
     object: Object,
@@ -28,21 +30,21 @@ struct State {
 }
 
 // A state after an operation, and the length of its answers' text.
-#[derive(Drop)]
+#[derive(Clone, Copy)]
 struct Ran {
     state: State,
     to: usize,
 }
 
 // Operations that were passed over. Link: the rest of the link is. Last: the last operation was, and its answers are.
-#[derive(Drop)]
+#[derive(Clone, Copy)]
 struct Passing {
     count: u64,
     link: bool,
     last: bool,
 }
 
-#[derive(Drop)]
+#[derive(Clone, Copy)]
 struct Replay {
     state: State,
     tally: Tally,
@@ -50,7 +52,7 @@ struct Replay {
 }
 
 // A replay, what of the input was read, and the line that was read last; going unless there was none.
-#[derive(Drop)]
+#[derive(Clone, Copy)]
 struct Reading {
     replay: Replay,
     lines: Lines,

@@ -1,8 +1,9 @@
 // An archive as a list tells it: its System V index in lent bytes, put together from entries or told whole; and what a walk over it answers.
+#![tactic(auto)]
+
 ghost use Rattle.std.specs.Prelude.{◌≡◌};
 ghost use Rattle.text.specs.Text.{text_of};
 ghost use Rattle.replay_text.specs.Answers.{put_all};
-ghost use Rattle.cells.specs.Slice.{after, before};
 ghost use Rattle.replay_archive.specs.Offer.{entry_name, tied_to, before_best, nearer_of, nearest_of, next_required, required_count, names_from, required_text, member_text, offer_text};
 ghost use Rattle.replay_archive.specs.OfferWays.{spaced_name};
 ghost use Rattle.replay_archive.specs.Index.{told_as, put_byte, put_word, offset_place, announce_of, named, entry_of, index_of};
@@ -11,7 +12,7 @@ use archive_walk::Offer;
 
 // The length of the index so far, 0 for an archive without one; entries told so far; the entry by which a member was offered last, its
 // number and 1.
-#[derive(Drop)]
+#[derive(Clone, Copy)]
 pub struct Archive {
     pub length: usize,
     pub entries: usize,
@@ -21,7 +22,7 @@ pub struct Archive {
 // ---- the index
 
 fn put_byte(file: &mut [u8], i: usize, v: u64)
-    ensures { after file ≡ put_byte (before file) i v }
+    ensures { file.new ≡ put_byte file.old i v }
 {
     if i < file.len() {
         file[i] = (v % 256) as u8;
@@ -30,7 +31,7 @@ fn put_byte(file: &mut [u8], i: usize, v: u64)
 
 // 32 bits, big-endian.
 fn put_word(file: &mut [u8], i: usize, v: u64)
-    ensures { after file ≡ put_word (before file) i v }
+    ensures { file.new ≡ put_word file.old i v }
 {
     put_byte(file, i, v / 16777216);
     put_byte(file, std::num::wrapping_add_usize(i, 1), v / 65536);
@@ -50,7 +51,7 @@ fn offset_place(k: usize) -> usize
 
 // `archive HASINDEX COUNT`
 pub fn announce(file: &mut [u8], at: usize, line: &[u8]) -> Archive
-    ensures { told_as (after file) result ≡ announce_of (before file) at (before line) }
+    ensures { told_as file.new result ≡ announce_of file.old at line.now }
 {
     if replay_words::is(line, 1, b"1") {
         let count = replay_words::number(line, 2);
@@ -70,7 +71,7 @@ pub fn announce(file: &mut [u8], at: usize, line: &[u8]) -> Archive
 
 // A name and its zero byte behind what is told.
 fn put_entry_name(file: &mut [u8], start: usize, a: Archive, name: &[u8]) -> Archive
-    ensures { told_as (after file) result ≡ named (before file) start a (before name) }
+    ensures { told_as file.new result ≡ named file.old start a name.now }
 {
     byte_slices::copy_in(file, start, name);
     put_byte(file, std::num::wrapping_add_usize(start, name.len()), 0);
@@ -84,7 +85,7 @@ fn put_entry_name(file: &mut [u8], start: usize, a: Archive, name: &[u8]) -> Arc
 
 // `entry OFFSET NAME`
 pub fn entry(file: &mut [u8], at: usize, a: Archive, line: &[u8]) -> Archive
-    ensures { told_as (after file) result ≡ entry_of (before file) at a (before line) }
+    ensures { told_as file.new result ≡ entry_of file.old at a line.now }
 {
     if a.length == 0 {
         return a;
@@ -97,7 +98,7 @@ pub fn entry(file: &mut [u8], at: usize, a: Archive, line: &[u8]) -> Archive
 
 // `index BYTES`
 pub fn told(file: &mut [u8], at: usize, a: Archive, line: &[u8]) -> Archive
-    ensures { told_as (after file) result ≡ index_of (before file) at a (before line) }
+    ensures { told_as file.new result ≡ index_of file.old at a line.now }
 {
     Archive {
         length: replay_words::put_bytes(file, at, text::field(line, 1)),
@@ -110,7 +111,7 @@ pub fn told(file: &mut [u8], at: usize, a: Archive, line: &[u8]) -> Archive
 
 // Entries are given by their number and 1; 0 is none.
 fn name_of<'a>(index: &'a [u8], rows: &[u64], entry: usize) -> &'a [u8]
-    ensures { result.now ≡ entry_name (before index) (before rows) entry }
+    ensures { result.now ≡ entry_name index.now rows.now entry }
 {
     if entry == 0 {
         return byte_slices::part_of(index, 0, 0);
@@ -120,7 +121,7 @@ fn name_of<'a>(index: &'a [u8], rows: &[u64], entry: usize) -> &'a [u8]
 
 // Is entry k's name required of the member whose first entry is r?
 fn is_tied(rows: &[u64], r: u64, k: usize) -> bool
-    ensures { result ≡ tied_to (before rows) r k }
+    ensures { result ≡ tied_to rows.now r k }
 {
     if cells::row_get(rows, k, 0) == 1 {
         return cells::row_get(rows, k, 1) == r;
@@ -129,7 +130,7 @@ fn is_tied(rows: &[u64], r: u64, k: usize) -> bool
 }
 
 fn before_best(index: &[u8], rows: &[u64], best: usize, entry: usize) -> bool
-    ensures { result ≡ before_best (before index) (before rows) best entry }
+    ensures { result ≡ before_best index.now rows.now best entry }
 {
     if best == 0 {
         return true;
@@ -139,7 +140,7 @@ fn before_best(index: &[u8], rows: &[u64], best: usize, entry: usize) -> bool
 
 // Does the name stand behind the last one, and before the best so far?
 fn nearer(index: &[u8], rows: &[u64], last: usize, best: usize, entry: usize) -> bool
-    ensures { result ≡ nearer_of (before index) (before rows) last best entry }
+    ensures { result ≡ nearer_of index.now rows.now last best entry }
 {
     if last == 0 {
         return before_best(index, rows, best, entry);
@@ -151,7 +152,7 @@ fn nearer(index: &[u8], rows: &[u64], last: usize, best: usize, entry: usize) ->
 }
 
 fn nearest(index: &[u8], rows: &[u64], r: u64, last: usize, best: usize, k: usize) -> usize
-    ensures { result ≡ nearest_of (before index) (before rows) r last best k }
+    ensures { result ≡ nearest_of index.now rows.now r last best k }
 {
     if is_tied(rows, r, k) {
         let entry = symbol::next(k);
@@ -164,7 +165,7 @@ fn nearest(index: &[u8], rows: &[u64], r: u64, last: usize, best: usize, k: usiz
 
 // The required name that comes behind the last one, by bytes; 0 for none.
 fn next_required(index: &[u8], rows: &[u64], entries: usize, r: u64, last: usize) -> usize
-    ensures { result ≡ next_required (before index) (before rows) entries r last }
+    ensures { result ≡ next_required index.now rows.now entries r last }
 {
     let mut best = 0;
     let mut k = 0;
@@ -176,7 +177,7 @@ fn next_required(index: &[u8], rows: &[u64], entries: usize, r: u64, last: usize
 }
 
 fn required(index: &[u8], rows: &[u64], entries: usize, r: u64) -> usize
-    ensures { result ≡ required_count (before index) (before rows) entries r }
+    ensures { result ≡ required_count index.now rows.now entries r }
 {
     let mut n = 0;
     let mut last = next_required(index, rows, entries, r, 0);
@@ -193,7 +194,7 @@ fn required(index: &[u8], rows: &[u64], entries: usize, r: u64) -> usize
 }
 
 fn put_name(out: &mut [u8], n: usize, x: &[u8]) -> usize
-    ensures { text_of (after out) result ≡ put_all (text_of (before out) n) (spaced_name (before x)) }
+    ensures { text_of out.new result ≡ put_all (text_of out.old n) (spaced_name x.now) }
 {
     let k = text::put(out, n, b" ");
     if x.len() == 0 {
@@ -212,7 +213,7 @@ fn put_names(
     r: u64,
     count: usize,
 ) -> usize
-    ensures { text_of (after out) result ≡ put_all (text_of (before out) from) (names_from (before index) (before rows) entries r count 0) }
+    ensures { text_of out.new result ≡ put_all (text_of out.old from) (names_from index.now rows.now entries r count 0) }
 {
     let mut n = from;
     let mut last = 0;
@@ -233,7 +234,7 @@ fn put_required(
     entries: usize,
     r: u64,
 ) -> usize
-    ensures { text_of (after out) result ≡ put_all (text_of (before out) from) (required_text (before index) (before rows) entries r) }
+    ensures { text_of out.new result ≡ put_all (text_of out.old from) (required_text index.now rows.now entries r) }
 {
     let count = required(index, rows, entries, r);
     let n = replay_text::put_numbered(out, from, b" ", count as u64);
@@ -251,7 +252,7 @@ fn put_member(
     entry: usize,
     passes: usize,
 ) -> usize
-    ensures { text_of (after out) result ≡ put_all (text_of (before out) 0) (member_text (before index) (before rows) entries offset entry passes) }
+    ensures { text_of out.new result ≡ put_all (text_of out.old 0) (member_text index.now rows.now entries offset entry passes) }
 {
     let n = replay_text::put_numbered(out, 0, b"member ", offset);
     let k = replay_text::put_numbered(out, n, b" ", passes as u64);
@@ -260,7 +261,7 @@ fn put_member(
 }
 
 pub fn put_offer(out: &mut [u8], index: &[u8], rows: &[u64], entries: usize, offer: Offer) -> usize
-    ensures { text_of (after out) result ≡ put_all (text_of (before out) 0) (offer_text (before index) (before rows) entries offer) }
+    ensures { text_of out.new result ≡ put_all (text_of out.old 0) (offer_text index.now rows.now entries offer) }
 {
     match offer {
         Offer::Member {

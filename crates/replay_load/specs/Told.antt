@@ -7,7 +7,7 @@ use Rattle.text.specs.Fields.{field_of}
 use Rattle.text.specs.Text.{Text, put_of}
 use Rattle.replay_words.specs.Words.{word_is, number_at, name_at}
 use Rattle.replay_words.specs.Spelled.{Spelled, put_bytes}
-use Rattle.cells.specs.Slice.{Slice, after}
+use Rattle.cells.specs.Slice.{SliceMut}
 use Rattle.replay_load.specs.declared.Library.{Library}
 
 -- an archived library without soname
@@ -58,8 +58,8 @@ abbrev pub told_of : List ℕ → List ℕ → Library → Told
 told_of c b l = record { cells = c; bytes = b; library = l }
 
 -- of lent slices after the call
-abbrev pub told_after : Slice → Slice → Library → Told
-told_after c b l = told_of (after c) (after b) l
+abbrev pub told_after : SliceMut → SliceMut → Library → Told
+told_after c b l = told_of c.exit.now b.exit.now l
 
 abbrev pub more_of : Library → ℕ → ℕ → ℕ → Library
 more_of l entries needs bytes =

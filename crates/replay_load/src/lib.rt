@@ -1,10 +1,11 @@
 // A shared object as a list tells it, in lent cells and bytes, and its load with what it is lent of each store. Its bytes are the library name,
 // the soname with a zero byte, the string table, the dependencies' names, each with a zero byte; what is lent to the load as its string table
 // begins with the soname.
+#![tactic(auto)]
+
 ghost use Rattle.std.specs.Prelude.{◌≡◌, ◌-◌};
 ghost use Rattle.text.specs.Text.{text_of};
 ghost use Rattle.shared_objects.specs.Load.{cells_in, link_before};
-ghost use Rattle.cells.specs.Slice.{after, before};
 ghost use Rattle.replay_load.specs.Told.{nothing_told, put_ended, soname_in, bytes_of, cells_of, more_of, announce_of, strings_of, symbol_of, need_of, told_after};
 ghost use Rattle.replay_load.specs.Load.{changed_as, entry_cells, load_all, load_lists, load_lent, done_after};
 
@@ -14,7 +15,7 @@ use replay_words::Lend;
 use symbols::Symbols;
 
 // Path: bytes of the library name. Soname: of the soname and its zero byte. Entries, needs, bytes: told so far.
-#[derive(Drop)]
+#[derive(Clone, Copy)]
 pub struct Library {
     pub asneeded: bool,
     pub archived: bool,
@@ -60,14 +61,14 @@ fn span(from: usize, to: usize) -> usize
 
 // Bytes put behind the n bytes that are told, with a zero byte behind them; answers where they end.
 fn put_ended(bytes: &mut [u8], n: usize, x: &[u8]) -> usize
-    ensures { text_of (after bytes) result ≡ put_ended (before bytes) n (before x) }
+    ensures { text_of bytes.new result ≡ put_ended bytes.old n x.now }
 {
     let end = text::put(bytes, n, x);
     text::put(bytes, end, b"\0")
 }
 
 fn put_soname(bytes: &mut [u8], n: usize, line: &[u8]) -> usize
-    ensures { text_of (after bytes) result ≡ soname_in (before bytes) n (before line) }
+    ensures { text_of bytes.new result ≡ soname_in bytes.old n line.now }
 {
     if replay_words::is(line, 2, b"1") {
         return put_ended(bytes, n, replay_words::name_at(line, 3));
@@ -77,7 +78,7 @@ fn put_soname(bytes: &mut [u8], n: usize, line: &[u8]) -> usize
 
 // `library ASNEEDED OPTNAME OPTNAME SYMBOLS NEEDS`: the soname, the library name. A name that isn't there is written as the empty one.
 pub fn announce(bytes: &mut [u8], line: &[u8]) -> Library
-    ensures { bytes_of (after bytes) result ≡ announce_of (before bytes) (before line) }
+    ensures { bytes_of bytes.new result ≡ announce_of bytes.old line.now }
 {
     let path = text::put(bytes, 0, replay_words::name_at(line, 5));
     let end = put_soname(bytes, path, line);
@@ -111,7 +112,7 @@ fn more(l: Library, entries: usize, needs: usize, bytes: usize) -> Library
 
 // `strings BYTES`
 pub fn strings(bytes: &mut [u8], l: Library, line: &[u8]) -> Library
-    ensures { bytes_of (after bytes) result ≡ strings_of (before bytes) l (before line) }
+    ensures { bytes_of bytes.new result ≡ strings_of bytes.old l line.now }
 {
     let n = replay_words::put_bytes(bytes, l.bytes, text::field(line, 1));
     let end = std::num::wrapping_add_usize(l.bytes, n);
@@ -120,7 +121,7 @@ pub fn strings(bytes: &mut [u8], l: Library, line: &[u8]) -> Library
 
 // `symbol NAMEOFFSET BINDING TYPE VISIBILITY SECTION VALUE`
 pub fn symbol(cells: &mut [u64], l: Library, line: &[u8]) -> Library
-    ensures { cells_of (after cells) result ≡ symbol_of (before cells) l (before line) }
+    ensures { cells_of cells.new result ≡ symbol_of cells.old l line.now }
 {
     let offset = replay_words::number(line, 1);
     cells::row_store(
@@ -140,7 +141,7 @@ pub fn symbol(cells: &mut [u64], l: Library, line: &[u8]) -> Library
 
 // `needs NAME`
 pub fn need(cells: &mut [u64], bytes: &mut [u8], l: Library, line: &[u8]) -> Library
-    ensures { told_after cells bytes result ≡ need_of (before cells) (before bytes) l (before line) }
+    ensures { told_after cells bytes result ≡ need_of cells.old bytes.old l line.now }
 {
     let offset = span(l.path, l.bytes);
     cells::row_put(cells, ROWS, l.needs, offset as u64);
@@ -196,7 +197,7 @@ fn load_library(
     file: &[u8],
 ) -> Changed
     ensures { let c = cells_in bytes names symbols sections inputs lists marks in
-        done_after c result ≡ load_all library (before rows) (before file) (link_before c l) }
+        done_after c result ≡ load_all library rows.now file.now (link_before c l) }
 {
     let path = byte_slices::part_of(file, 0, library.path);
     let strings = byte_slices::part_of(file, library.path, span(library.path, library.bytes));
@@ -238,7 +239,7 @@ fn load_lent(
     file: &[u8],
 ) -> Changed
     ensures { let c = cells_in bytes names symbols sections inputs lists marks in
-        done_after c result ≡ load_lists lend library (before rows) (before file) (link_before c l) }
+        done_after c result ≡ load_lists lend library rows.now file.now (link_before c l) }
 {
     let i = replay_words::rows(lend.inputs, inputs.len());
     let n = replay_words::cells(lend.lists, lists.len());
@@ -274,7 +275,7 @@ pub fn load(
     file: &[u8],
 ) -> Changed
     ensures { let c = cells_in bytes names symbols sections inputs lists marks in
-        done_after c result ≡ load_lent lend library (before rows) (before file) (link_before c l) }
+        done_after c result ≡ load_lent lend library rows.now file.now (link_before c l) }
 {
     let b = replay_words::cells(lend.bytes, bytes.len());
     let n = replay_words::wide_rows(lend.names, names.len());

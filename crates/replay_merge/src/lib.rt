@@ -1,7 +1,8 @@
 // The merge of an object that a list tells, with what it is lent of each store.
+#![tactic(auto)]
+
 ghost use Rattle.std.specs.Prelude.{◌≡◌};
 ghost use Rattle.merge_stages.specs.Stages.{cells_in, link_before};
-ghost use Rattle.cells.specs.Slice.{before};
 ghost use Rattle.replay_merge.specs.Merge.{changed_as, merge_all, merge_lists, merge_lent, done_after};
 
 use link::Link;
@@ -43,7 +44,7 @@ fn merge_object(
     file: &[u8],
 ) -> Changed
     ensures { let c = cells_in bytes names symbols sections inputs lists work ids in
-        done_after c result ≡ merge_all object (before rows) (before file) (link_before c l) }
+        done_after c result ≡ merge_all object rows.now file.now (link_before c l) }
 {
     let headers = replay_object::headers(rows, object);
     let entries = replay_object::entries(rows, object);
@@ -84,7 +85,7 @@ fn merge_lent(
     file: &[u8],
 ) -> Changed
     ensures { let c = cells_in bytes names symbols sections inputs lists work ids in
-        done_after c result ≡ merge_lists lend object (before rows) (before file) (link_before c l) }
+        done_after c result ≡ merge_lists lend object rows.now file.now (link_before c l) }
 {
     let i = replay_words::rows(lend.inputs, inputs.len());
     let n = replay_words::cells(lend.lists, lists.len());
@@ -122,7 +123,7 @@ pub fn merge(
     file: &[u8],
 ) -> Changed
     ensures { let c = cells_in bytes names symbols sections inputs lists work ids in
-        done_after c result ≡ merge_lent lend object (before rows) (before file) (link_before c l) }
+        done_after c result ≡ merge_lent lend object rows.now file.now (link_before c l) }
 {
     let b = replay_words::cells(lend.bytes, bytes.len());
     let n = replay_words::wide_rows(lend.names, names.len());

@@ -8,7 +8,7 @@ use Rattle.symbol.specs.Codes.{successor}
 use Rattle.text.specs.Fields.{field_of}
 use Rattle.replay_words.specs.Words.{word_is, number_at}
 use Rattle.replay_words.specs.Spelled.{Spelled, put_bytes}
-use Rattle.cells.specs.Slice.{Slice, after}
+use Rattle.cells.specs.Slice.{SliceMut}
 use Rattle.replay_object.specs.declared.Object.{Object}
 
 abbrev pub wrapped : ℕ → ℕ
@@ -110,8 +110,8 @@ abbrev pub told_as : List ℕ → List ℕ → Object → Told
 told_as c f o = record { cells = c; file = f; object = o }
 
 -- of lent slices after the call
-abbrev pub told_after : Slice → Slice → Object → Told
-told_after c f o = told_as (after c) (after f) o
+abbrev pub told_after : SliceMut → SliceMut → Object → Told
+told_after c f o = told_as c.exit.now f.exit.now o
 
 -- s: its bytes in the file
 unfoldable pub section_after : List ℕ → Object → List ℕ → Spelled → Told

@@ -1,12 +1,13 @@
 // An object as a list tells it, row by row, in lent cells: headers, entries of symbol tables and contents, each from a fixed place on, and
 // behind them the conversion that direct adds are lent; the bytes of string tables in lent bytes.
+#![tactic(auto)]
+
 ghost use Rattle.std.specs.Prelude.{◌≡◌, ◌≤◌};
-ghost use Rattle.cells.specs.Slice.{after, before};
 ghost use Rattle.replay_object.specs.Told.{announced_as, announce_of, part_cells, headers_in, entries_in, contents_in, conversion_in, flag_of, flags_of, listed_of, put_list_of, first_of, count_of, header_of, cells_as, symbol_of, section_of, more_of, told_after};
 ghost use Rattle.replay_object.specs.Conversion.{cell_of, convert_of};
 
 // Rows and the section-name string section that were announced; rows, contents and bytes that were told so far.
-#[derive(Drop)]
+#[derive(Clone, Copy)]
 pub struct Object {
     pub sections: usize,
     pub symbols: usize,
@@ -53,7 +54,7 @@ fn announced(sections: usize, symbols: usize, strings: usize) -> Object
 
 // `object SECTIONS SYMBOLS NAMES`
 pub fn announce(line: &[u8]) -> Object
-    ensures { result ≡ announce_of (before line) }
+    ensures { result ≡ announce_of line.now }
 {
     announced(
         replay_words::number(line, 1) as usize,
@@ -75,25 +76,25 @@ fn cells_of(rows: usize) -> usize
 }
 
 pub fn headers(cells: &[u64], o: Object) -> &[u64]
-    ensures { result.now ≡ headers_in (before cells) o }
+    ensures { result.now ≡ headers_in cells.now o }
 {
     cells::part_of(cells, 0, cells_of(o.sections))
 }
 
 pub fn entries(cells: &[u64], o: Object) -> &[u64]
-    ensures { result.now ≡ entries_in (before cells) o }
+    ensures { result.now ≡ entries_in cells.now o }
 {
     cells::part_of(cells, ENTRIES, cells_of(o.symbols))
 }
 
 pub fn contents(cells: &[u64], o: Object) -> &[u64]
-    ensures { result.now ≡ contents_in (before cells) o }
+    ensures { result.now ≡ contents_in cells.now o }
 {
     cells::part_of(cells, CONTENTS, o.contents)
 }
 
 pub fn conversion(cells: &[u64]) -> &[u64]
-    ensures { result.now ≡ conversion_in (before cells) }
+    ensures { result.now ≡ conversion_in cells.now }
 {
     cells::part_of(cells, CONVERSION, CONVERTED)
 }
@@ -101,7 +102,7 @@ pub fn conversion(cells: &[u64]) -> &[u64]
 // ---- rows
 
 fn flag(line: &[u8], k: usize, value: u64) -> u64
-    ensures value { result ≡ flag_of (before line) k value }
+    ensures value { result ≡ flag_of line.now k value }
     ensures small { result ≤ value }
 {
     if replay_words::is(line, k, b"1") {
@@ -112,13 +113,13 @@ fn flag(line: &[u8], k: usize, value: u64) -> u64
 
 // Exclude, retain, read, COMDAT.
 fn flags(line: &[u8]) -> u64
-    ensures { result ≡ flags_of (before line) }
+    ensures { result ≡ flags_of line.now }
 {
     flag(line, 3, 1) + flag(line, 4, 2) + flag(line, 5, 4) + flag(line, 8, 8)
 }
 
 fn put_listed(cells: &mut [u64], at: usize, line: &[u8], j: usize)
-    ensures { after cells ≡ listed_of (before cells) at (before line) j }
+    ensures { cells.new ≡ listed_of cells.old at line.now j }
 {
     let word = replay_words::number(line, std::num::wrapping_add_usize(11, j));
     cells::put(cells, std::num::wrapping_add_usize(at, j), word);
@@ -126,7 +127,7 @@ fn put_listed(cells: &mut [u64], at: usize, line: &[u8], j: usize)
 
 // The words of a section's LIST, at the contents' end; nothing where there is no room.
 fn put_list(cells: &mut [u64], at: usize, line: &[u8], count: usize)
-    ensures { after cells ≡ put_list_of (before cells) at (before line) count }
+    ensures { cells.new ≡ put_list_of cells.old at line.now count }
 {
     if PART < count {
         return;
@@ -140,7 +141,7 @@ fn put_list(cells: &mut [u64], at: usize, line: &[u8], count: usize)
 
 // Where a section's contents begin and how many they are: symbols by the LIST's words, bytes in the file, else among the contents.
 fn first(o: Object, line: &[u8], kind: u64) -> u64
-    ensures { result ≡ first_of o (before line) kind }
+    ensures { result ≡ first_of o line.now kind }
 {
     match kind {
         3 => replay_words::number(line, 11),
@@ -151,7 +152,7 @@ fn first(o: Object, line: &[u8], kind: u64) -> u64
 }
 
 fn count(line: &[u8], kind: u64, bytes: usize) -> u64
-    ensures { result ≡ count_of (before line) kind bytes }
+    ensures { result ≡ count_of line.now kind bytes }
 {
     match kind {
         3 => replay_words::number(line, 12),
@@ -162,7 +163,7 @@ fn count(line: &[u8], kind: u64, bytes: usize) -> u64
 }
 
 fn put_header(cells: &mut [u64], o: Object, line: &[u8], bytes: usize)
-    ensures { after cells ≡ header_of (before cells) o (before line) bytes }
+    ensures { cells.new ≡ header_of cells.old o line.now bytes }
 {
     let kind = replay_words::number(line, 1);
     cells::row_store(
@@ -196,7 +197,7 @@ fn more(o: Object, headers: usize, entries: usize, contents: usize, bytes: usize
 
 // `section KIND NAMEOFFSET EXCLUDE RETAIN READ LINK INFO COMDAT BYTES LIST`
 pub fn section(cells: &mut [u64], file: &mut [u8], o: Object, line: &[u8]) -> Object
-    ensures { told_after cells file result ≡ section_of (before cells) (before file) o (before line) }
+    ensures { told_after cells file result ≡ section_of cells.old file.old o line.now }
 {
     let bytes = replay_words::put_bytes(file, o.bytes, text::field(line, 9));
     let listed = replay_words::number(line, 10) as usize;
@@ -214,7 +215,7 @@ pub fn section(cells: &mut [u64], file: &mut [u8], o: Object, line: &[u8]) -> Ob
 
 // `symbol NAMEOFFSET BINDING TYPE VISIBILITY SECTION VALUE`
 pub fn symbol(cells: &mut [u64], o: Object, line: &[u8]) -> Object
-    ensures { cells_as (after cells) result ≡ symbol_of (before cells) o (before line) }
+    ensures { cells_as cells.new result ≡ symbol_of cells.old o line.now }
 {
     cells::row_store(
         cells,
@@ -235,7 +236,7 @@ pub fn symbol(cells: &mut [u64], o: Object, line: &[u8]) -> Object
 
 // A cell: 0 nothing, 1 not loaded, else the id and 2.
 fn cell_of(word: &[u8]) -> u64
-    ensures { result ≡ cell_of (before word) }
+    ensures { result ≡ cell_of word.now }
 {
     if word.len() == 0 {
         return 0;
@@ -251,7 +252,7 @@ fn cell_of(word: &[u8]) -> u64
 
 // `conversion WORD ...`
 pub fn convert(cells: &mut [u64], line: &[u8])
-    ensures { after cells ≡ convert_of (before cells) (before line) }
+    ensures { cells.new ≡ convert_of cells.old line.now }
 {
     let mut i = 0;
     while i < CONVERTED {

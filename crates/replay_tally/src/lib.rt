@@ -1,12 +1,13 @@
 // For programs that replay the oracle's lists: how the answers compare with what a list expects, and the counts of it.
+#![tactic(auto)]
+
 ghost use Rattle.std.specs.Prelude.{◌≡◌};
 ghost use Rattle.symbol.specs.Codes.{successor};
-ghost use Rattle.cells.specs.Slice.{before};
 ghost use Rattle.replay_tally.specs.Answer.{line_length, first_line, meets};
 ghost use Rattle.replay_tally.specs.Tally.{started, on_line, on_link, answered_by, differing, pending_of, past_of, compared_of, compare_of, settle_of};
 
 // Counts, the line that was read last, and the answers of the last operation that weren't compared yet: text from `from` to `to`.
-#[derive(Drop)]
+#[derive(Clone, Copy)]
 pub struct Tally {
     pub line: u64,
     pub links: u64,
@@ -20,7 +21,7 @@ pub struct Tally {
 // ---- comparing
 
 fn line_length(text: &[u8]) -> usize
-    ensures { result ≡ line_length (before text) }
+    ensures { result ≡ line_length text.now }
 {
     let mut i = 0;
     while i < text.len() {
@@ -34,7 +35,7 @@ fn line_length(text: &[u8]) -> usize
 
 // The text before the first line end, or all of it.
 pub fn first_line(text: &[u8]) -> &[u8]
-    ensures result_value { result.now ≡ first_line (before text) }
+    ensures result_value { result.now ≡ first_line text.now }
     ensures place { result.ref_ptr.0 ≡ text.entry.ref_ptr.0 }
 {
     byte_slices::part_of(text, 0, line_length(text))
@@ -42,7 +43,7 @@ pub fn first_line(text: &[u8]) -> &[u8]
 
 // Is the answer what is expected? Where that ends in `?`, what stands there isn't compared.
 pub fn same_answer(expected: &[u8], got: &[u8]) -> bool
-    ensures { result ≡ meets (before expected) (before got) }
+    ensures { result ≡ meets expected.now got.now }
 {
     let n = expected.len();
     if n == 0 {
@@ -151,7 +152,7 @@ pub fn differs(t: Tally, expected: &[u8], got: &[u8]) -> Tally
 }
 
 fn pending<'a>(text: &'a [u8], from: usize, to: usize) -> &'a [u8]
-    ensures { result.now ≡ pending_of (before text) from to }
+    ensures { result.now ≡ pending_of text.now from to }
 {
     if to < from {
         return byte_slices::part_of(text, 0, 0);
@@ -187,7 +188,7 @@ fn compared(t: Tally, len: usize) -> Tally
 
 // An expected answer against the next one of the text.
 pub fn compare(t: Tally, text: &[u8], expected: &[u8]) -> Tally
-    ensures { result ≡ compare_of t (before text) (before expected) }
+    ensures { result ≡ compare_of t text.now expected.now }
 {
     let got = first_line(pending(text, t.from, t.to));
     let next = compared(t, got.len());

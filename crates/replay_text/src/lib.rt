@@ -1,7 +1,8 @@
 // For programs that replay the oracle's lists: answers as the lists write them.
+#![tactic(auto)]
+
 ghost use Rattle.std.specs.Prelude.{◌≡◌};
 ghost use Rattle.text.specs.Text.{text_of};
-ghost use Rattle.cells.specs.Slice.{after, before};
 ghost use Rattle.replay_text.specs.Answers.{put_all, numbered, refusal_text, name_text, signed_text, value_text, flagged, visibility_text, type_text, kind_text, file_text, head_text, symbol_text};
 
 mod replies;
@@ -11,21 +12,21 @@ pub use replies::{Changed, Reply, look, put_reply};
 use symbol::{SttFile, Symbol, SymbolType, SymbolValue, SymbolVisibility};
 
 pub fn put_numbered(buf: &mut [u8], n: usize, word: &[u8], v: u64) -> usize
-    ensures { text_of (after buf) result ≡ put_all (text_of (before buf) n) (numbered (before word) v) }
+    ensures { text_of buf.new result ≡ put_all (text_of buf.old n) (numbered word.now v) }
 {
     let k = text::put(buf, n, word);
     text::put_decimal(buf, k, v)
 }
 
 pub fn put_refusal(buf: &mut [u8], n: usize, r: Refusal) -> usize
-    ensures { text_of (after buf) result ≡ put_all (text_of (before buf) n) (refusal_text r) }
+    ensures { text_of buf.new result ≡ put_all (text_of buf.old n) (refusal_text r) }
 {
     let k = put_numbered(buf, n, b"refused ", r.number);
     put_numbered(buf, k, b" ", r.place)
 }
 
 pub fn put_name(buf: &mut [u8], n: usize, bytes: &[u8], names: &[u64], id: Interned) -> usize
-    ensures { text_of (after buf) result ≡ put_all (text_of (before buf) n) (name_text (before bytes) (before names) id.0) }
+    ensures { text_of buf.new result ≡ put_all (text_of buf.old n) (name_text bytes.now names.now id.0) }
 {
     let name = interner::name_of(bytes, names, id);
     if name.len() == 0 {
@@ -36,7 +37,7 @@ pub fn put_name(buf: &mut [u8], n: usize, bytes: &[u8], names: &[u64], id: Inter
 
 // An offset, by its word.
 fn put_offset(buf: &mut [u8], n: usize, word: u64) -> usize
-    ensures { text_of (after buf) result ≡ put_all (text_of (before buf) n) (signed_text word) }
+    ensures { text_of buf.new result ≡ put_all (text_of buf.old n) (signed_text word) }
 {
     if word < 0x8000_0000_0000_0000 {
         return put_numbered(buf, n, b" + ", word);
@@ -45,7 +46,7 @@ fn put_offset(buf: &mut [u8], n: usize, word: u64) -> usize
 }
 
 fn put_value(buf: &mut [u8], n: usize, v: SymbolValue) -> usize
-    ensures { text_of (after buf) result ≡ put_all (text_of (before buf) n) (value_text v) }
+    ensures { text_of buf.new result ≡ put_all (text_of buf.old n) (value_text v) }
 {
     match v {
         SymbolValue::Null => text::put(buf, n, b" null"),
@@ -71,7 +72,7 @@ fn put_value(buf: &mut [u8], n: usize, v: SymbolValue) -> usize
 }
 
 fn put_flagged(buf: &mut [u8], n: usize, word: &[u8], flag: bool) -> usize
-    ensures { text_of (after buf) result ≡ put_all (text_of (before buf) n) (flagged (before word) flag) }
+    ensures { text_of buf.new result ≡ put_all (text_of buf.old n) (flagged word.now flag) }
 {
     let k = text::put(buf, n, word);
     if flag {
@@ -82,7 +83,7 @@ fn put_flagged(buf: &mut [u8], n: usize, word: &[u8], flag: bool) -> usize
 
 // Class and hidden.
 fn put_visibility(buf: &mut [u8], n: usize, v: SymbolVisibility) -> usize
-    ensures { text_of (after buf) result ≡ put_all (text_of (before buf) n) (visibility_text v) }
+    ensures { text_of buf.new result ≡ put_all (text_of buf.old n) (visibility_text v) }
 {
     match v {
         SymbolVisibility::Local => text::put(buf, n, b" local 0"),
@@ -96,7 +97,7 @@ fn put_visibility(buf: &mut [u8], n: usize, v: SymbolVisibility) -> usize
 }
 
 fn put_type(buf: &mut [u8], n: usize, t: SymbolType) -> usize
-    ensures { text_of (after buf) result ≡ put_all (text_of (before buf) n) (type_text t) }
+    ensures { text_of buf.new result ≡ put_all (text_of buf.old n) (type_text t) }
 {
     match t {
         SymbolType::NoType => text::put(buf, n, b" 0"),
@@ -107,7 +108,7 @@ fn put_type(buf: &mut [u8], n: usize, t: SymbolType) -> usize
 }
 
 fn put_file(buf: &mut [u8], n: usize, bytes: &[u8], names: &[u64], f: SttFile) -> usize
-    ensures { text_of (after buf) result ≡ put_all (text_of (before buf) n) (file_text (before bytes) (before names) f) }
+    ensures { text_of buf.new result ≡ put_all (text_of buf.old n) (file_text bytes.now names.now f) }
 {
     match f {
         SttFile::None => text::put(buf, n, b" 0 -"),
@@ -119,7 +120,7 @@ fn put_file(buf: &mut [u8], n: usize, bytes: &[u8], names: &[u64], f: SttFile) -
 }
 
 fn put_kind(buf: &mut [u8], n: usize, s: Symbol) -> usize
-    ensures { text_of (after buf) result ≡ put_all (text_of (before buf) n) (kind_text s) }
+    ensures { text_of buf.new result ≡ put_all (text_of buf.old n) (kind_text s) }
 {
     let visibility = s.visibility;
     let k = put_visibility(buf, n, visibility);
@@ -129,7 +130,7 @@ fn put_kind(buf: &mut [u8], n: usize, s: Symbol) -> usize
 
 // `symbol ID NAME`
 fn put_head(buf: &mut [u8], n: usize, bytes: &[u8], names: &[u64], s: Symbol) -> usize
-    ensures { text_of (after buf) result ≡ put_all (text_of (before buf) n) (head_text (before bytes) (before names) s) }
+    ensures { text_of buf.new result ≡ put_all (text_of buf.old n) (head_text bytes.now names.now s) }
 {
     let id = s.id;
     let k = put_numbered(buf, n, b"symbol ", id.0 as u64);
@@ -139,7 +140,7 @@ fn put_head(buf: &mut [u8], n: usize, bytes: &[u8], names: &[u64], s: Symbol) ->
 
 // `symbol ID NAME CLASS HIDDEN TYPE OPTNAME VALUE`
 pub fn put_symbol(buf: &mut [u8], n: usize, bytes: &[u8], names: &[u64], s: Symbol) -> usize
-    ensures { text_of (after buf) result ≡ put_all (text_of (before buf) n) (symbol_text (before bytes) (before names) s) }
+    ensures { text_of buf.new result ≡ put_all (text_of buf.old n) (symbol_text bytes.now names.now s) }
 {
     let named = put_head(buf, n, bytes, names, s);
     let kinded = put_kind(buf, named, s);

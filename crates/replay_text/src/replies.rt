@@ -2,14 +2,13 @@
 ghost use Rattle.std.specs.Prelude.{◌≡◌};
 ghost use Rattle.text.specs.Text.{text_of};
 ghost use Rattle.replay_text.specs.Answers.{put_all};
-ghost use Rattle.cells.specs.Slice.{after, before};
 ghost use Rattle.replay_text.specs.RepliesAnswers.{reply_text, found_text, section_symbol_text, broken_text, pair_text, end_text, front_text, back_text, counts_text, look_text};
 
 use link::{Link, Refusal, SectionId, SymbolId};
 use symbols::{Found, SectionSymbol, Symbols};
 
 // What a changing call answers; Silent for an operation without answer.
-#[derive(Drop)]
+#[derive(Clone, Copy)]
 pub enum Reply {
     Silent,
     Id { id: SymbolId },
@@ -20,14 +19,14 @@ pub enum Reply {
     Refused { refusal: Refusal },
 }
 
-#[derive(Drop)]
+#[derive(Clone, Copy)]
 pub struct Changed {
     pub table: Symbols,
     pub reply: Reply,
 }
 
 pub fn put_reply(out: &mut [u8], r: Reply) -> usize
-    ensures { text_of (after out) result ≡ put_all (text_of (before out) 0) (reply_text r) }
+    ensures { text_of out.new result ≡ put_all (text_of out.old 0) (reply_text r) }
 {
     match r {
         Reply::Silent => 0,
@@ -43,7 +42,7 @@ pub fn put_reply(out: &mut [u8], r: Reply) -> usize
 // ---- lookups
 
 fn put_found(out: &mut [u8], bytes: &[u8], names: &[u64], f: Found) -> usize
-    ensures { text_of (after out) result ≡ put_all (text_of (before out) 0) (found_text (before bytes) (before names) f) }
+    ensures { text_of out.new result ≡ put_all (text_of out.old 0) (found_text bytes.now names.now f) }
 {
     match f {
         Found::Row { symbol } => crate::put_symbol(out, 0, bytes, names, symbol),
@@ -52,7 +51,7 @@ fn put_found(out: &mut [u8], bytes: &[u8], names: &[u64], f: Found) -> usize
 }
 
 fn put_section_symbol(out: &mut [u8], s: SectionSymbol) -> usize
-    ensures { text_of (after out) result ≡ put_all (text_of (before out) 0) (section_symbol_text s) }
+    ensures { text_of out.new result ≡ put_all (text_of out.old 0) (section_symbol_text s) }
 {
     match s {
         SectionSymbol::None => text::put(out, 0, b"none"),
@@ -61,7 +60,7 @@ fn put_section_symbol(out: &mut [u8], s: SectionSymbol) -> usize
 }
 
 fn put_broken(out: &mut [u8], n: usize, broken: bool) -> usize
-    ensures { text_of (after out) result ≡ put_all (text_of (before out) n) (broken_text broken) }
+    ensures { text_of out.new result ≡ put_all (text_of out.old n) (broken_text broken) }
 {
     if broken {
         return text::put(out, n, b" 1");
@@ -70,14 +69,14 @@ fn put_broken(out: &mut [u8], n: usize, broken: bool) -> usize
 }
 
 fn put_pair(out: &mut [u8], n: usize, a: usize, b: usize) -> usize
-    ensures { text_of (after out) result ≡ put_all (text_of (before out) n) (pair_text a b) }
+    ensures { text_of out.new result ≡ put_all (text_of out.old n) (pair_text a b) }
 {
     let m = crate::put_numbered(out, n, b" ", a as u64);
     crate::put_numbered(out, m, b" ", b as u64)
 }
 
 fn put_end(out: &mut [u8], n: usize, lists: usize, broken: bool) -> usize
-    ensures { text_of (after out) result ≡ put_all (text_of (before out) n) (end_text lists broken) }
+    ensures { text_of out.new result ≡ put_all (text_of out.old n) (end_text lists broken) }
 {
     let m = crate::put_numbered(out, n, b" ", lists as u64);
     put_broken(out, m, broken)
@@ -85,7 +84,7 @@ fn put_end(out: &mut [u8], n: usize, lists: usize, broken: bool) -> usize
 
 // `counts NAMES BYTES SYMBOLS`
 fn put_front(out: &mut [u8], l: Link) -> usize
-    ensures { text_of (after out) result ≡ put_all (text_of (before out) 0) (front_text l) }
+    ensures { text_of out.new result ≡ put_all (text_of out.old 0) (front_text l) }
 {
     let names = crate::put_numbered(out, 0, b"counts ", l.names as u64);
     put_pair(out, names, l.bytes, l.symbols)
@@ -93,14 +92,14 @@ fn put_front(out: &mut [u8], l: Link) -> usize
 
 // ` SECTIONS INPUTS LISTS BROKEN`
 fn put_back(out: &mut [u8], n: usize, l: Link) -> usize
-    ensures { text_of (after out) result ≡ put_all (text_of (before out) n) (back_text l) }
+    ensures { text_of out.new result ≡ put_all (text_of out.old n) (back_text l) }
 {
     let inputs = put_pair(out, n, l.sections, l.inputs);
     put_end(out, inputs, l.lists, l.broken)
 }
 
 fn put_counts(out: &mut [u8], l: Link) -> usize
-    ensures { text_of (after out) result ≡ put_all (text_of (before out) 0) (counts_text l) }
+    ensures { text_of out.new result ≡ put_all (text_of out.old 0) (counts_text l) }
 {
     let n = put_front(out, l);
     put_back(out, n, l)
@@ -116,8 +115,8 @@ pub fn look(
     sections: &[u64],
     line: &[u8],
 ) -> usize
-    ensures { text_of (after out) result
-        ≡ put_all (text_of (before out) 0) (look_text table.link (before bytes) (before names) (before symbols) (before sections) (before line)) }
+    ensures { text_of out.new result
+        ≡ put_all (text_of out.old 0) (look_text table.link bytes.now names.now symbols.now sections.now line.now) }
 {
     if replay_words::is(line, 0, b"counts") {
         return put_counts(out, table.link);

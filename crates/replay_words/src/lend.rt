@@ -1,13 +1,12 @@
 // How much of each store calls are lent: rows, bytes or cells. `lend SYMBOLS SECTIONS INPUTS NAMES BYTES LISTS WORK IDS` tells it; a word that is
 // no number lends all.
 ghost use Rattle.std.specs.Prelude.{◌≡◌, ◌≤◌};
-ghost use Rattle.cells.specs.Slice.{before};
 ghost use Rattle.replay_words.specs.Part.{told_of, all_lent, cells_of, rows_of, wide_rows_of};
 
 // More than any store has.
 const ALL: usize = 0xffff_ffff_ffff_ffff;
 
-#[derive(Drop)]
+#[derive(Clone, Copy)]
 pub struct Lend {
     pub symbols: usize,
     pub sections: usize,
@@ -20,7 +19,7 @@ pub struct Lend {
 }
 
 pub fn told(line: &[u8]) -> Lend
-    ensures { result ≡ told_of (before line) }
+    ensures { result ≡ told_of line.now }
 {
     Lend {
         symbols: crate::number(line, 1) as usize,

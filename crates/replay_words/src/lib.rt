@@ -1,6 +1,7 @@
 // Words of an operation of a list, and what they tell: numbers, names, bytes.
+#![tactic(auto)]
+
 ghost use Rattle.std.specs.Prelude.{◌≡◌, ◌<◌, slice_set};
-ghost use Rattle.cells.specs.Slice.{after, before};
 ghost use Rattle.replay_words.specs.Words.{word_is, number_in, number_at, name_at};
 ghost use Rattle.replay_words.specs.Order.{before_of};
 ghost use Rattle.replay_words.specs.Spelled.{letter_of, digit_of, spelled_of, spelled, put_bytes};
@@ -13,14 +14,14 @@ use text::Number;
 // ---- words
 
 pub fn is(line: &[u8], k: usize, word: &[u8]) -> bool
-    ensures { result ≡ word_is (before line) k (before word) }
+    ensures { result ≡ word_is line.now k word.now }
 {
     byte_slices::same_bytes(text::field(line, k), word)
 }
 
 // A word that is no number is one that no list holds.
 pub fn number_in(x: &[u8]) -> u64
-    ensures { result ≡ number_in (before x) }
+    ensures { result ≡ number_in x.now }
 {
     let m = text::decimal(x);
     match m {
@@ -30,14 +31,14 @@ pub fn number_in(x: &[u8]) -> u64
 }
 
 pub fn number(line: &[u8], k: usize) -> u64
-    ensures { result ≡ number_at (before line) k }
+    ensures { result ≡ number_at line.now k }
 {
     number_in(text::field(line, k))
 }
 
 // `-` is the empty name.
 pub fn name_at(line: &[u8], k: usize) -> &[u8]
-    ensures { result.now ≡ name_at (before line) k }
+    ensures { result.now ≡ name_at line.now k }
 {
     let name = text::field(line, k);
     if byte_slices::same_bytes(name, b"-") {
@@ -77,7 +78,7 @@ fn digit(b: u8) -> u8
 
 // The byte that two digits of a word spell.
 fn spelled(word: &[u8], k: usize) -> u8
-    ensures { result ≡ spelled_of (before word) k }
+    ensures { result ≡ spelled_of word.now k }
 {
     if k < word.len() / 2 {
         let high = digit(word[2 * k]);
@@ -88,7 +89,7 @@ fn spelled(word: &[u8], k: usize) -> u8
 }
 
 fn put_byte(to: &mut [u8], i: usize, b: u8)
-    ensures { after to ≡ slice_set (before to) i b }
+    ensures { to.new ≡ slice_set to.old i b }
 {
     if i < to.len() {
         to[i] = b;
@@ -97,7 +98,7 @@ fn put_byte(to: &mut [u8], i: usize, b: u8)
 
 // The bytes that a word spells, put from a place on; answers how many they are. A lone `-` spells none.
 pub fn put_bytes(to: &mut [u8], at: usize, word: &[u8]) -> usize
-    ensures { spelled (after to) result ≡ put_bytes (before to) at (before word) }
+    ensures { spelled to.new result ≡ put_bytes to.old at word.now }
 {
     let count = word.len() / 2;
     let mut k = 0;
@@ -112,7 +113,7 @@ pub fn put_bytes(to: &mut [u8], at: usize, word: &[u8]) -> usize
 
 // Does a stand before b, by bytes?
 pub fn before(a: &[u8], b: &[u8]) -> bool
-    ensures { result ≡ before_of (before a) (before b) }
+    ensures { result ≡ before_of a.now b.now }
 {
     let mut i = 0;
     while i < a.len() {

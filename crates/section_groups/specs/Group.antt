@@ -8,7 +8,7 @@ use Rattle.strings.specs.Lookup.{Looked}
 use Rattle.interner.specs.Names.{Store, store_of, find_of, fits_of, keep_of}
 use Rattle.elf_object.specs.Kinds.{group}
 use Rattle.elf_object.specs.Rows.{rows_in, comdat_at, link_at, info_at, first_at, count_at, is_loaded, name_in, entry_name_at, mark_at, with_mark, group_mark, removed_mark}
-use Rattle.cells.specs.Slice.{Slice, before, after}
+use Rattle.cells.specs.Slice.{Slice, SliceMut}
 use Rattle.section_groups.specs.declared.Plan.{Plan}
 
 -- what is read of the object: its headers, the loaded symbol table's entries, lists, bytes, and that table's section
@@ -24,7 +24,7 @@ object_of h e c f t = record { headers = h; entries = e; contents = c; image = f
 
 -- as it is lent
 abbrev pub object_in : Slice → Slice → Slice → Slice → ℕ → Object
-object_in h e c f t = object_of (before h) (before e) (before c) (before f) t
+object_in h e c f t = object_of h.entry.now e.entry.now c.entry.now f.entry.now t
 
 -- the lent cells that a group writes, with the link; and with a stage
 pub record State : Type 0 where
@@ -43,21 +43,21 @@ abbrev pub state_of : List ℕ → List ℕ → List ℕ → Link → State
 state_of b n w l = record { bytes = b; names = n; work = w; link = l }
 
 -- of lent slices before the call, and after it
-abbrev pub state_before : Slice → Slice → Slice → Link → State
-state_before b n w l = state_of (before b) (before n) (before w) l
+abbrev pub state_before : SliceMut → SliceMut → SliceMut → Link → State
+state_before b n w l = state_of b.entry.now n.entry.now w.entry.now l
 
-abbrev pub state_after : Slice → Slice → Slice → Link → State
-state_after b n w l = state_of (after b) (after n) (after w) l
+abbrev pub state_after : SliceMut → SliceMut → SliceMut → Link → State
+state_after b n w l = state_of b.exit.now n.exit.now w.exit.now l
 
 abbrev pub step_of : List ℕ → List ℕ → List ℕ → Stage → Step
 step_of b n w s = record { bytes = b; names = n; work = w; stage = s }
 
 -- of lent slices before the call, and after it
-abbrev pub step_before : Slice → Slice → Slice → Stage → Step
-step_before b n w s = step_of (before b) (before n) (before w) s
+abbrev pub step_before : SliceMut → SliceMut → SliceMut → Stage → Step
+step_before b n w s = step_of b.entry.now n.entry.now w.entry.now s
 
-abbrev pub step_after : Slice → Slice → Slice → Stage → Step
-step_after b n w s = step_of (after b) (after n) (after w) s
+abbrev pub step_after : SliceMut → SliceMut → SliceMut → Stage → Step
+step_after b n w s = step_of b.exit.now n.exit.now w.exit.now s
 
 abbrev pub stop : State → ℕ → ℕ → Step
 stop s number place = step_of s.bytes s.names s.work (stopped_of s.link number place)

@@ -1,20 +1,19 @@
 // A COMDAT group added by itself, outside a merge. Marks of the object's earlier groups lie in the work rows; a new object begins with
 // cleared ones.
 ghost use Rattle.std.specs.Prelude.{◌≡◌};
-ghost use Rattle.cells.specs.Slice.{before};
 ghost use Rattle.section_groups.specs.Group.{object_in, state_before};
 ghost use Rattle.section_groups.specs.AddGroup.{check_of, answer_of, table_in};
 ghost use Rattle.section_groups.specs.AloneContract.{group_exit, GroupMeets};
 
 use link::{Lent, Link, Refusal, Stage};
 
-#[derive(Drop)]
+#[derive(Clone, Copy)]
 pub enum Answer {
     Added,
     Refused { refusal: Refusal },
 }
 
-#[derive(Drop)]
+#[derive(Clone, Copy)]
 pub struct Outcome {
     pub link: Link,
     pub answer: Answer,
@@ -31,7 +30,7 @@ fn check(
     work: usize,
     n: usize,
 ) -> Refusal
-    ensures { result ≡ check_of l lent (before headers) (before entries) contents file work n }
+    ensures { result ≡ check_of l lent headers.now entries.now contents file work n }
 {
     let counts = link::judge_change(l, lent);
     if counts.number != 0 {
@@ -82,7 +81,7 @@ fn answered(s: Stage) -> Outcome
 
 // The entries of section t, none unless it is a symbol table and not excluded.
 fn symbols_of<'a>(headers: &[u64], entries: &'a [u64], t: usize) -> &'a [u64]
-    ensures { result.now ≡ table_in (before headers) (before entries) t }
+    ensures { result.now ≡ table_in headers.now entries.now t }
 {
     if elf_object::is_loaded(headers, t, elf_object::SYMBOL_TABLE) {
         return entries;

@@ -1,8 +1,9 @@
 // COMDAT groups of an object: which sections define a group, which are removed with a repeated one, and what that makes of symbols.
 // Marks lie in the work rows of merge_sections, loaded signatures in the names' rows. The object's symbols are the loaded table's entries.
+#![tactic(auto)]
+
 ghost use Rattle.std.specs.Prelude.{◌≡◌};
 ghost use Rattle.strings.specs.Lookup.{looked};
-ghost use Rattle.cells.specs.Slice.{after, before};
 ghost use Rattle.section_groups.specs.Group.{shape_of, signature_of, repeated_of, mark_refusal, plan_of, mark_group_of, mark_removed_of, admit_of, group_named, group_of, object_in, state_after, state_before, step_after};
 
 mod alone;
@@ -17,7 +18,7 @@ use link::{Interned, Link, Stage};
 // The field of a name's row that has 1 where a group of that signature is loaded.
 const NAME_SIGNATURE: usize = 4;
 // What a group with a signature does: number 0 or its refusal, the id that the signature has or gets, and whether it was met before.
-#[derive(Drop)]
+#[derive(Clone, Copy)]
 pub struct Plan {
     pub number: u64,
     pub signature: Interned,
@@ -26,7 +27,7 @@ pub struct Plan {
 
 // Not COMDAT 4, not one section 5, the signature's symbol not in the loaded table, of section t, 6.
 fn shape(headers: &[u64], entries: &[u64], t: usize, n: usize) -> u64
-    ensures { result ≡ shape_of (before headers) (before entries) t n }
+    ensures { result ≡ shape_of headers.now entries.now t n }
 {
     if cells::row_get(headers, n, elf_object::HEADER_FLAGS) / elf_object::COMDAT_FLAG % 2 == 0 {
         return 4;
@@ -54,7 +55,7 @@ fn signature<'a>(
     n: usize,
     found: &mut bool,
 ) -> &'a [u8]
-    ensures { looked result.now (after found) ≡ signature_of (before headers) (before entries) (before file) t n }
+    ensures { looked result.now found.new ≡ signature_of headers.now entries.now file.now t n }
 {
     let symbol = cells::row_get(headers, n, elf_object::HEADER_INFO) as usize;
     let strings = cells::row_get(headers, t, elf_object::HEADER_LINK) as usize;
@@ -64,7 +65,7 @@ fn signature<'a>(
 
 // Was the signature met before, in this or an earlier object?
 fn is_repeated(names: &[u64], count: usize, id: usize) -> bool
-    ensures { result ≡ repeated_of (before names) count id }
+    ensures { result ≡ repeated_of names.now count id }
 {
     if count <= id {
         return false;
@@ -89,7 +90,7 @@ fn mark_refusal(repeated: bool, marks: usize, listed: u64) -> u64
 
 // Room for the name (2), and for the mark (2).
 fn plan_group(l: Link, bytes: &[u8], names: &[u64], marks: usize, x: &[u8], listed: u64) -> Plan
-    ensures { result ≡ plan_of l (before bytes) (before names) marks (before x) listed }
+    ensures { result ≡ plan_of l bytes.now names.now marks x.now listed }
 {
     let id = interner::find(l, bytes, names, x);
     let repeated = is_repeated(names, l.names, id.0);
@@ -109,7 +110,7 @@ fn plan_group(l: Link, bytes: &[u8], names: &[u64], marks: usize, x: &[u8], list
 
 // The section defines a group; one that is removed stays so.
 fn mark_group(work: &mut [u64], n: usize)
-    ensures { after work ≡ mark_group_of (before work) n }
+    ensures { work.new ≡ mark_group_of work.old n }
 {
     if cells::row_get(work, n, elf_object::WORK_MARK) != elf_object::REMOVED_MARK {
         cells::row_put(work, n, elf_object::WORK_MARK, elf_object::GROUP_MARK);
@@ -117,7 +118,7 @@ fn mark_group(work: &mut [u64], n: usize)
 }
 
 fn mark_removed(work: &mut [u64], repeated: bool, listed: usize)
-    ensures { after work ≡ mark_removed_of (before work) repeated listed }
+    ensures { work.new ≡ mark_removed_of work.old repeated listed }
 {
     if repeated {
         cells::row_put(
@@ -140,7 +141,7 @@ fn commit_group(
     n: usize,
     listed: usize,
 ) -> Link
-    ensures { state_after bytes names work result ≡ admit_of (state_before bytes names work l) (before x) p n listed }
+    ensures { state_after bytes names work result ≡ admit_of (state_before bytes names work l) x.now p n listed }
 {
     let id = p.signature;
     let kept = interner::keep(l, bytes, names, id, x);
@@ -159,7 +160,7 @@ fn named_group(
     n: usize,
     listed: u64,
 ) -> Stage
-    ensures { step_after bytes names work result ≡ group_named (state_before bytes names work l) (before x) n listed }
+    ensures { step_after bytes names work result ≡ group_named (state_before bytes names work l) x.now n listed }
 {
     let p = plan_group(
         l,

@@ -1,7 +1,8 @@
 // Section rows: reserved, built, dropped. A row is 8 lent cells: state, name, kind, retain, read, and where its relocations' symbols lie in
 // the lists: the first and how many. One is unused.
+#![tactic(auto)]
+
 ghost use Rattle.std.specs.Prelude.{◌≡◌};
-ghost use Rattle.cells.specs.Slice.{after, before};
 ghost use Rattle.sections.specs.Rows.{room_of, reserve_of, built_of, dropped_of, is_built, sections_of};
 
 use link::{Interned, Link, SectionId};
@@ -34,7 +35,7 @@ pub const PROGRAM: u64 = 1;
 pub const UNINITIALIZED: u64 = 2;
 
 // What a built section's row holds. Retain and read: 0 no, else yes.
-#[derive(Drop)]
+#[derive(Clone, Copy)]
 pub struct Section {
     pub name: Interned,
     pub kind: u64,
@@ -46,7 +47,7 @@ pub struct Section {
 
 // Is there a free row?
 pub fn room(l: Link, sections: &[u64]) -> bool
-    ensures { result ≡ room_of l (before sections) }
+    ensures { result ≡ room_of l sections.now }
 {
     let slots = link::lesser_of(l.slots, link::section_slots(sections.len()));
     if l.sections < link::section_rows(slots) {
@@ -57,7 +58,7 @@ pub fn room(l: Link, sections: &[u64]) -> bool
 
 // One row more, reserved: its id is the count before. Nothing where there is no room.
 pub fn reserve(l: Link, sections: &mut [u64]) -> Link
-    ensures { sections_of (after sections) result ≡ reserve_of (sections_of (before sections) l) }
+    ensures { sections_of sections.new result ≡ reserve_of (sections_of sections.old l) }
 {
     if room(l, sections) {
         let id = l.sections;
@@ -68,7 +69,7 @@ pub fn reserve(l: Link, sections: &mut [u64]) -> Link
 }
 
 pub fn build(sections: &mut [u64], id: SectionId, s: Section)
-    ensures { after sections ≡ built_of (before sections) id s }
+    ensures { sections.new ≡ built_of sections.old id s }
 {
     let name = s.name;
     cells::row_store(
@@ -87,14 +88,14 @@ pub fn build(sections: &mut [u64], id: SectionId, s: Section)
 
 // The state alone changes.
 pub fn drop_section(sections: &mut [u64], id: SectionId)
-    ensures { after sections ≡ dropped_of (before sections) id }
+    ensures { sections.new ≡ dropped_of sections.old id }
 {
     cells::row_put(sections, id.0, STATE, DROPPED);
 }
 
 // Built and not dropped, in a table of that many rows.
 pub fn is_built(sections: &[u64], count: usize, id: SectionId) -> bool
-    ensures { result ≡ is_built (before sections) count id.0 }
+    ensures { result ≡ is_built sections.now count id.0 }
 {
     if count <= id.0 {
         return false;

@@ -13,7 +13,7 @@ use Rattle.symbol_resolution.specs.Holder.{holder_of}
 use Rattle.symbol_resolution.specs.Decide.{decide_of, refusal_of}
 use Rattle.symbol_resolution.specs.Apply.{Table, table_of, apply_of}
 use Rattle.merge_symbols.specs.Plan.{View, view_of, place_of}
-use Rattle.cells.specs.Slice.{Slice, before, after}
+use Rattle.cells.specs.Slice.{SliceMut}
 use Rattle.shared_objects.specs.declared.symbols.Definition.{Definition}
 
 -- "A name is interned (2) once found, before later checks"
@@ -47,11 +47,11 @@ abbrev pub added_of : List ℕ → List ℕ → List ℕ → List ℕ → Stage 
 added_of b n s x st = record { bytes = b; names = n; symbols = s; sections = x; stage = st }
 
 -- of lent slices before the call, and after it
-abbrev pub added_before : Slice → Slice → Slice → Slice → Stage → Added
-added_before b n s x st = added_of (before b) (before n) (before s) (before x) st
+abbrev pub added_before : SliceMut → SliceMut → SliceMut → SliceMut → Stage → Added
+added_before b n s x st = added_of b.entry.now n.entry.now s.entry.now x.entry.now st
 
-abbrev pub added_after : Slice → Slice → Slice → Slice → Stage → Added
-added_after b n s x st = added_of (after b) (after n) (after s) (after x) st
+abbrev pub added_after : SliceMut → SliceMut → SliceMut → SliceMut → Stage → Added
+added_after b n s x st = added_of b.exit.now n.exit.now s.exit.now x.exit.now st
 
 -- those that its row writes
 pub record Rowed : Type 0 where
@@ -64,8 +64,8 @@ abbrev pub rowed_as : List ℕ → List ℕ → List ℕ → Stage → Rowed
 rowed_as n s x st = record { names = n; symbols = s; sections = x; stage = st }
 
 -- of lent slices after the call
-abbrev pub rowed_after : Slice → Slice → Slice → Stage → Rowed
-rowed_after n s x st = rowed_as (after n) (after s) (after x) st
+abbrev pub rowed_after : SliceMut → SliceMut → SliceMut → Stage → Rowed
+rowed_after n s x st = rowed_as n.exit.now s.exit.now x.exit.now st
 
 abbrev pub tabled : Table → Rowed
 tabled t = rowed_as t.names t.symbols t.sections (going_of t.link)

@@ -11,7 +11,7 @@ use Rattle.link.specs.Judge.{refused, going_of, broken_of}
 use Rattle.link.specs.Counts.{lent_of}
 use Rattle.shared_objects.specs.Head.{check_of}
 use Rattle.shared_objects.specs.Need.{Judged, judged_as, need_of, library_name}
-use Rattle.cells.specs.Slice.{Slice, before, after}
+use Rattle.cells.specs.Slice.{Slice, SliceMut}
 use Rattle.shared_objects.specs.declared.Answer.{Answer}
 use Rattle.shared_objects.specs.declared.Answer.TheVariants.{Loaded, NotNeeded, Refused}
 use Rattle.shared_objects.specs.declared.Outcome.{Outcome}
@@ -45,11 +45,11 @@ abbrev pub cells_of : List ℕ → List ℕ → List ℕ → List ℕ → List �
 cells_of b n s x i l m = record { bytes = b; names = n; symbols = s; sections = x; inputs = i; lists = l; marks = m }
 
 -- before the call and after it
-abbrev pub cells_in : Slice → Slice → Slice → Slice → Slice → Slice → Slice → Both Cells Cells
+abbrev pub cells_in : SliceMut → SliceMut → SliceMut → SliceMut → SliceMut → SliceMut → SliceMut → Both Cells Cells
 cells_in b n s x i l m =
     record {
-      entry = cells_of (before b) (before n) (before s) (before x) (before i) (before l) (before m);
-      exit = cells_of (after b) (after n) (after s) (after x) (after i) (after l) (after m);
+      entry = cells_of b.entry.now n.entry.now s.entry.now x.entry.now i.entry.now l.entry.now m.entry.now;
+      exit = cells_of b.exit.now n.exit.now s.exit.now x.exit.now i.exit.now l.exit.now m.exit.now;
     }
 
 -- with the cells before the call
@@ -73,7 +73,7 @@ input_as e f n p a h s d =
 
 -- as it is lent
 abbrev pub library_in : Slice → Slice → Slice → Slice → Bool → Bool → ℕ → Bool → Input
-library_in e f n p a h s d = input_as (before e) (before f) (before n) (before p) a h s d
+library_in e f n p a h s d = input_as e.entry.now f.entry.now n.entry.now p.entry.now a h s d
 
 -- what the answer says, in document 01's terms: loaded has the value 1, "not needed" 0
 abbrev pub said_of : Answer → Said
@@ -105,9 +105,9 @@ want_of asneeded l bytes names symbols inputs lists marks entries image x =
     cond asneeded (need_of l bytes names symbols inputs lists marks entries image x) (judged_as marks true)
 
 -- of what is lent
-abbrev pub want_in : Bool → Link → Slice → Slice → Slice → Slice → Slice → Slice → Slice → Slice → Slice → Judged
+abbrev pub want_in : Bool → Link → Slice → Slice → Slice → Slice → Slice → SliceMut → Slice → Slice → Slice → Judged
 want_in asneeded l bytes names symbols inputs lists marks entries image x =
-    want_of asneeded l (before bytes) (before names) (before symbols) (before inputs) (before lists) (before marks) (before entries) (before image) (before x)
+    want_of asneeded l bytes.entry.now names.entry.now symbols.entry.now inputs.entry.now lists.entry.now marks.entry.now entries.entry.now image.entry.now x.entry.now
 
 -- ---- what is left
 
@@ -141,7 +141,7 @@ library_named entries image needs asneeded a x =
 
 -- of what is lent
 abbrev pub named_in : Slice → Slice → Slice → Bool → All → Slice → Left
-named_in entries image needs asneeded a x = library_named (before entries) (before image) (before needs) asneeded a (before x)
+named_in entries image needs asneeded a x = library_named entries.entry.now image.entry.now needs.entry.now asneeded a x.entry.now
 
 -- ---- the call
 

@@ -9,7 +9,7 @@ use Rattle.link.specs.Judge.{going_of, stopped_of}
 use Rattle.link.specs.Counts.{with_lists}
 use Rattle.interner.specs.Names.{Store, store_of, find_of, fits_of, keep_of}
 use Rattle.symbol.specs.Codes.{successor}
-use Rattle.cells.specs.Slice.{Slice, before, after}
+use Rattle.cells.specs.Slice.{SliceMut}
 
 -- the lent cells that recording a name writes, and the stage
 pub record Recorded : Type 0 where
@@ -22,11 +22,11 @@ abbrev pub recorded_of : List ℕ → List ℕ → List ℕ → Stage → Record
 recorded_of b n l st = record { bytes = b; names = n; lists = l; stage = st }
 
 -- of lent slices before the call, and after it
-abbrev pub recorded_before : Slice → Slice → Slice → Stage → Recorded
-recorded_before b n l st = recorded_of (before b) (before n) (before l) st
+abbrev pub recorded_before : SliceMut → SliceMut → SliceMut → Stage → Recorded
+recorded_before b n l st = recorded_of b.entry.now n.entry.now l.entry.now st
 
-abbrev pub recorded_after : Slice → Slice → Slice → Stage → Recorded
-recorded_after b n l st = recorded_of (after b) (after n) (after l) st
+abbrev pub recorded_after : SliceMut → SliceMut → SliceMut → Stage → Recorded
+recorded_after b n l st = recorded_of b.exit.now n.exit.now l.exit.now st
 
 -- a known name, or room for it; and a free cell
 unfoldable pub record_fits : Link → List ℕ → List ℕ → ℕ → Interned → ℕ → Bool

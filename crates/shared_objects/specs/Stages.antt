@@ -13,7 +13,7 @@ use Rattle.interner.specs.Names.{Store, store_of, find_of, fits_of, keep_of}
 use Rattle.shared_objects.specs.Need.{library_kind}
 use Rattle.shared_objects.specs.Record.{Recorded, recorded_of, dependencies_of}
 use Rattle.shared_objects.specs.SymbolsLoad.{State, state_of, symbols_of}
-use Rattle.cells.specs.Slice.{Slice, before, after}
+use Rattle.cells.specs.Slice.{Slice, SliceMut}
 
 -- ---- the library's row, with the inputs
 
@@ -47,11 +47,11 @@ abbrev pub list_links : List ℕ → List ℕ → List ℕ → List ℕ → Stag
 list_links b n i l st = record { bytes = b; names = n; inputs = i; lists = l; stage = st }
 
 -- of lent slices before the call, and after it
-abbrev pub lists_before : Slice → Slice → Slice → Slice → Stage → ListLinks
-lists_before b n i l st = list_links (before b) (before n) (before i) (before l) st
+abbrev pub lists_before : SliceMut → SliceMut → SliceMut → SliceMut → Stage → ListLinks
+lists_before b n i l st = list_links b.entry.now n.entry.now i.entry.now l.entry.now st
 
-abbrev pub lists_after : Slice → Slice → Slice → Slice → Stage → ListLinks
-lists_after b n i l st = list_links (after b) (after n) (after i) (after l) st
+abbrev pub lists_after : SliceMut → SliceMut → SliceMut → SliceMut → Stage → ListLinks
+lists_after b n i l st = list_links b.exit.now n.exit.now i.exit.now l.exit.now st
 
 abbrev pub with_input : Recorded → InputLinks → ListLinks
 with_input r i = list_links r.bytes r.names i.inputs r.lists i.stage
@@ -81,14 +81,14 @@ abbrev pub links_of : List ℕ → List ℕ → List ℕ → List ℕ → List �
 links_of b n s x i l st = record { bytes = b; names = n; symbols = s; sections = x; inputs = i; lists = l; stage = st }
 
 -- of lent slices before the call, and after it
-abbrev pub going_before : Slice → Slice → Slice → Slice → Slice → Slice → Link → Links
-going_before b n s x i l k = links_of (before b) (before n) (before s) (before x) (before i) (before l) (going_of k)
+abbrev pub going_before : SliceMut → SliceMut → SliceMut → SliceMut → SliceMut → SliceMut → Link → Links
+going_before b n s x i l k = links_of b.entry.now n.entry.now s.entry.now x.entry.now i.entry.now l.entry.now (going_of k)
 
-abbrev pub links_before : Slice → Slice → Slice → Slice → Slice → Slice → Stage → Links
-links_before b n s x i l st = links_of (before b) (before n) (before s) (before x) (before i) (before l) st
+abbrev pub links_before : SliceMut → SliceMut → SliceMut → SliceMut → SliceMut → SliceMut → Stage → Links
+links_before b n s x i l st = links_of b.entry.now n.entry.now s.entry.now x.entry.now i.entry.now l.entry.now st
 
-abbrev pub links_after : Slice → Slice → Slice → Slice → Slice → Slice → Stage → Links
-links_after b n s x i l st = links_of (after b) (after n) (after s) (after x) (after i) (after l) st
+abbrev pub links_after : SliceMut → SliceMut → SliceMut → SliceMut → SliceMut → SliceMut → Stage → Links
+links_after b n s x i l st = links_of b.exit.now n.exit.now s.exit.now x.exit.now i.exit.now l.exit.now st
 
 abbrev pub with_lists : State → ListLinks → Links
 with_lists s r = links_of r.bytes r.names s.symbols s.sections r.inputs r.lists r.stage
@@ -107,7 +107,7 @@ contents_of entries image needs s id =
 
 -- of what is lent
 abbrev pub contents_in : Slice → Slice → Slice → Links → Interned → Links
-contents_in entries image needs s id = contents_of (before entries) (before image) (before needs) s id
+contents_in entries image needs s id = contents_of entries.entry.now image.entry.now needs.entry.now s id
 
 -- ---- the name, and then all
 
@@ -132,4 +132,4 @@ library_of entries image needs s x =
 
 -- of what is lent
 abbrev pub loaded_in : Slice → Slice → Slice → Links → Slice → Links
-loaded_in entries image needs s x = library_of (before entries) (before image) (before needs) s (before x)
+loaded_in entries image needs s x = library_of entries.entry.now image.entry.now needs.entry.now s x.entry.now

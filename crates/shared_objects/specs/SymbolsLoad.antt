@@ -8,7 +8,7 @@ use Rattle.link.specs.declared.Stage.{Stage}
 use Rattle.link.specs.Judge.{going_of, stopped_of}
 use Rattle.elf_object.specs.Rows.{rows_in, field, elf_at}
 use Rattle.shared_objects.specs.Record.{Recorded, recorded_of, record_of}
-use Rattle.cells.specs.Slice.{Slice, before, after}
+use Rattle.cells.specs.Slice.{SliceMut}
 use Rattle.shared_objects.specs.Define.{Added, added_of, define_of}
 
 -- the lent cells that the symbols write, and the stage
@@ -24,11 +24,11 @@ abbrev pub state_of : List ℕ → List ℕ → List ℕ → List ℕ → List �
 state_of b n s x l st = record { bytes = b; names = n; symbols = s; sections = x; lists = l; stage = st }
 
 -- of lent slices before the call, and after it
-abbrev pub state_before : Slice → Slice → Slice → Slice → Slice → Stage → State
-state_before b n s x l st = state_of (before b) (before n) (before s) (before x) (before l) st
+abbrev pub state_before : SliceMut → SliceMut → SliceMut → SliceMut → SliceMut → Stage → State
+state_before b n s x l st = state_of b.entry.now n.entry.now s.entry.now x.entry.now l.entry.now st
 
-abbrev pub state_after : Slice → Slice → Slice → Slice → Slice → Stage → State
-state_after b n s x l st = state_of (after b) (after n) (after s) (after x) (after l) st
+abbrev pub state_after : SliceMut → SliceMut → SliceMut → SliceMut → SliceMut → Stage → State
+state_after b n s x l st = state_of b.exit.now n.exit.now s.exit.now x.exit.now l.exit.now st
 
 abbrev pub with_added : State → Added → State
 with_added s a = state_of a.bytes a.names a.symbols a.sections s.lists a.stage

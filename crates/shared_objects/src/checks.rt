@@ -3,7 +3,6 @@
 ghost use Rattle.std.specs.Prelude.{◌≡◌};
 ghost use Rattle.gabi.specs.StringTable.{has_name};
 ghost use Rattle.link.specs.Judge.{refused};
-ghost use Rattle.cells.specs.Slice.{before};
 ghost use Rattle.shared_objects.specs.Head.{dependencies_ok, bad_need, soname_missing, rows_of, unnamed_of, marks_short, check_of};
 
 use link::{Lent, Link, Refusal};
@@ -18,7 +17,7 @@ fn refuse(number: u64, place: usize) -> Refusal
 }
 
 fn has_name(image: &[u8], offset: usize) -> bool
-    ensures { result ≡ has_name (before image) offset }
+    ensures { result ≡ has_name image.now offset }
 {
     let mut found = false;
     strings::get(image, offset, &mut found);
@@ -26,14 +25,14 @@ fn has_name(image: &[u8], offset: usize) -> bool
 }
 
 fn need_ok(image: &[u8], needs: &[u64], j: usize) -> bool
-    ensures { result ≡ dependencies_ok (before image) (before needs) j }
+    ensures { result ≡ dependencies_ok image.now needs.now j }
 {
     has_name(image, cells::get(needs, j) as usize)
 }
 
 // The first dependency whose offset gives no name; as many as there are where each does.
 fn bad_need(image: &[u8], needs: &[u64]) -> usize
-    ensures { result ≡ bad_need (before image) (before needs) }
+    ensures { result ≡ bad_need image.now needs.now }
 {
     let rows = needs.len();
     let mut j = 0;
@@ -48,7 +47,7 @@ fn bad_need(image: &[u8], needs: &[u64]) -> usize
 }
 
 fn soname_missing(image: &[u8], sonamed: bool, soname: usize) -> bool
-    ensures { result ≡ soname_missing (before image) sonamed soname }
+    ensures { result ≡ soname_missing image.now sonamed soname }
 {
     if sonamed {
         if has_name(image, soname) {
@@ -61,7 +60,7 @@ fn soname_missing(image: &[u8], sonamed: bool, soname: usize) -> bool
 
 // Refusal 1 of the library's lists: symbols, then the rest.
 fn judge_rows(entries: &[u64], image: &[u8], needs: &[u64], sonamed: bool, soname: usize) -> Refusal
-    ensures { result ≡ rows_of (before entries) (before image) (before needs) sonamed soname }
+    ensures { result ≡ rows_of entries.now image.now needs.now sonamed soname }
 {
     let i = elf_object::bad_entry(entries);
     if i < entries.len() / elf_object::ROW_WIDTH {
@@ -112,7 +111,7 @@ pub fn check(
     asneeded: bool,
     marks: usize,
 ) -> Refusal
-    ensures { result ≡ check_of l lent (before entries) (before image) (before needs) archived sonamed soname asneeded marks }
+    ensures { result ≡ check_of l lent entries.now image.now needs.now archived sonamed soname asneeded marks }
 {
     let counts = link::judge_change(l, lent);
     if counts.number != 0 {

@@ -1,11 +1,12 @@
 // The load of a shared object into a link: 22, 1, 25; under as-needed whether it is needed; then its name, symbols, dependencies and its row.
 // A library is given by the entries of its symbol table (rows of 8 cells, as an object's), its string table `file`, the offsets `needs` of its
 // dependencies' names, its soname's offset, if it has one, and the library name `path`, unless it lies in an archive.
+#![tactic(auto)]
+
 ghost use Rattle.std.specs.Prelude.{◌≡◌, ◌-◌};
 ghost use Rattle.link.specs.Judge.{going_of};
 ghost use Rattle.link.specs.Counts.{lent_of};
 ghost use Rattle.shared_objects.specs.Need.{judged_as};
-ghost use Rattle.cells.specs.Slice.{after, before};
 ghost use Rattle.shared_objects.specs.Stages.{input_links, library_row_of, lists_of, contents_in, going_before, links_after, links_before, lists_after, lists_before, loaded_in};
 ghost use Rattle.shared_objects.specs.Load.{ended_as, cells_in, library_in, link_before, named_in, outcome_after, want_in};
 ghost use Rattle.shared_objects.specs.Contract.{LoadMeets};
@@ -17,14 +18,14 @@ mod symbols;
 
 use link::{Interned, Lent, Link, Refusal, Stage};
 
-#[derive(Drop)]
+#[derive(Clone, Copy)]
 pub enum Answer {
     Loaded,
     NotNeeded,
     Refused { refusal: Refusal },
 }
 
-#[derive(Drop)]
+#[derive(Clone, Copy)]
 pub struct Outcome {
     pub link: Link,
     pub answer: Answer,
@@ -44,7 +45,7 @@ fn span(from: usize, to: usize) -> usize
 // The library's own row, taken last: its name, and where its dependencies and its undefined names lie in the lists. These start at `first`, those
 // at `middle`.
 fn input_row(l: Link, inputs: &mut [u64], id: Interned, first: usize, middle: usize) -> Stage
-    ensures { input_links (after inputs) result ≡ library_row_of (before inputs) l id first middle }
+    ensures { input_links inputs.new result ≡ library_row_of inputs.old l id first middle }
 {
     let n = l.inputs;
     if n < link::input_rows(inputs.len()) {
@@ -80,7 +81,7 @@ fn load_lists(
     first: usize,
 ) -> Stage
     ensures { lists_after bytes names inputs lists result
-        ≡ lists_of (before image) (before needs) (lists_before bytes names inputs lists (going_of l)) id first }
+        ≡ lists_of image.now needs.now (lists_before bytes names inputs lists (going_of l)) id first }
 {
     let middle = l.lists;
     let s = crate::lists::record_dependencies(link::going(l), bytes, names, lists, image, needs);
@@ -173,7 +174,7 @@ fn is_wanted(
     image: &[u8],
     x: &[u8],
 ) -> bool
-    ensures { judged_as (after marks) result ≡ want_in asneeded l bytes names symbols inputs lists marks entries image x }
+    ensures { judged_as marks.new result ≡ want_in asneeded l bytes names symbols inputs lists marks entries image x }
 {
     if asneeded {
         return crate::need::is_needed(

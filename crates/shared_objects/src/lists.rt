@@ -1,14 +1,13 @@
 // Names among the lists: those that a shared object lacks, and those of its dependencies. Each is judged in full before its first cell is written.
 ghost use Rattle.std.specs.Prelude.{◌≡◌};
 ghost use Rattle.link.specs.Judge.{going_of};
-ghost use Rattle.cells.specs.Slice.{before};
 ghost use Rattle.shared_objects.specs.Record.{record_fits, keep_name, record_of, dependency_of, dependencies_of, recorded_after, recorded_before};
 
 use link::{Interned, Link, Stage};
 
 // Is there room for the name, unless it is known, and for its cell?
 fn record_fits(l: Link, bytes: &[u8], names: &[u64], lists: usize, id: Interned, len: usize) -> bool
-    ensures { result ≡ record_fits l (before bytes) (before names) lists id len }
+    ensures { result ≡ record_fits l bytes.now names.now lists id len }
 {
     if interner::fits(l, bytes, names, id, len) {
         if l.lists < lists {
@@ -28,7 +27,7 @@ fn keep_name(
     id: Interned,
     x: &[u8],
 ) -> Stage
-    ensures { recorded_after bytes names lists result ≡ keep_name (recorded_before bytes names lists (going_of l)) (before x) id }
+    ensures { recorded_after bytes names lists result ≡ keep_name (recorded_before bytes names lists (going_of l)) x.now id }
 {
     let at = l.lists;
     let kept = interner::keep(l, bytes, names, id, x);
@@ -45,7 +44,7 @@ pub fn record_name(
     x: &[u8],
     place: usize,
 ) -> Stage
-    ensures { recorded_after bytes names lists result ≡ record_of (recorded_before bytes names lists (going_of l)) (before x) place }
+    ensures { recorded_after bytes names lists result ≡ record_of (recorded_before bytes names lists (going_of l)) x.now place }
 {
     let id = interner::find(l, bytes, names, x);
     if record_fits(l, bytes, names, lists.len(), id, x.len()) {
@@ -63,7 +62,7 @@ fn record_dependency(
     needs: &[u64],
     j: usize,
 ) -> Stage
-    ensures { recorded_after bytes names lists result ≡ dependency_of (before image) (before needs) (recorded_before bytes names lists s) j }
+    ensures { recorded_after bytes names lists result ≡ dependency_of image.now needs.now (recorded_before bytes names lists s) j }
 {
     let l = s.link;
     let offset = cells::get(needs, j) as usize;
@@ -81,7 +80,7 @@ pub fn record_dependencies(
     image: &[u8],
     needs: &[u64],
 ) -> Stage
-    ensures { recorded_after bytes names lists result ≡ dependencies_of (before image) (before needs) (recorded_before bytes names lists s) }
+    ensures { recorded_after bytes names lists result ≡ dependencies_of image.now needs.now (recorded_before bytes names lists s) }
 {
     let rows = needs.len();
     let mut u = s;

@@ -1,7 +1,6 @@
 // Whether a shared object is needed. The link is only read; lent cells, one for each name, take a mark for every name that an earlier library
 // without this one among its dependencies has recorded, so that each symbol is judged by one lookup.
 ghost use Rattle.std.specs.Prelude.{◌≡◌};
-ghost use Rattle.cells.specs.Slice.{after, before};
 ghost use Rattle.shared_objects.specs.Need.{library_name, depends_on, mark_names, mark_library, mark_all, provides, clear_mark, clear_all, lacked_by, wanted_in, symbol_wanted, some_wanted, judged_as, need_in, view_in};
 ghost use Rattle.shared_objects.specs.Lists.{has_id};
 
@@ -23,7 +22,7 @@ const UNDEFINED_COUNT: usize = 5;
 
 // The soname, else the library name.
 pub fn library_name<'a>(file: &'a [u8], path: &'a [u8], sonamed: bool, soname: usize) -> &'a [u8]
-    ensures { result.now ≡ library_name (before file) (before path) sonamed soname }
+    ensures { result.now ≡ library_name file.now path.now sonamed soname }
 {
     if sonamed {
         let mut found = false;
@@ -35,7 +34,7 @@ pub fn library_name<'a>(file: &'a [u8], path: &'a [u8], sonamed: bool, soname: u
 // ---- the names that earlier libraries lack
 
 fn has_id(part: &[u64], id: usize) -> bool
-    ensures { result ≡ has_id (before part) id }
+    ensures { result ≡ has_id part.now id }
 {
     let mut j = 0;
     while j < part.len() {
@@ -49,7 +48,7 @@ fn has_id(part: &[u64], id: usize) -> bool
 
 // Do the dependencies hold the name, of which count are issued? None holds a name that isn't.
 fn depends(dependencies: &[u64], id: usize, count: usize) -> bool
-    ensures { result ≡ depends_on (before dependencies) id count }
+    ensures { result ≡ depends_on dependencies.now id count }
 {
     if count <= id {
         return false;
@@ -58,7 +57,7 @@ fn depends(dependencies: &[u64], id: usize, count: usize) -> bool
 }
 
 fn mark_names(marks: &mut [u64], part: &[u64])
-    ensures { after marks ≡ mark_names (before marks) (before part) }
+    ensures { marks.new ≡ mark_names marks.old part.now }
 {
     let mut j = 0;
     while j < part.len() {
@@ -69,7 +68,7 @@ fn mark_names(marks: &mut [u64], part: &[u64])
 
 // Input k, if it is a library that doesn't depend on the one named id: the names that it records as undefined.
 fn mark_library(marks: &mut [u64], inputs: &[u64], lists: &[u64], id: usize, count: usize, k: usize)
-    ensures { after marks ≡ mark_library (before inputs) (before lists) id count k (before marks) }
+    ensures { marks.new ≡ mark_library inputs.now lists.now id count k marks.old }
 {
     if cells::row_get(inputs, k, INPUT_KIND) != LIBRARY {
         return;
@@ -93,7 +92,7 @@ fn mark_libraries(
     count: usize,
     rows: usize,
 )
-    ensures { after marks ≡ mark_all (before inputs) (before lists) id count rows (before marks) }
+    ensures { marks.new ≡ mark_all inputs.now lists.now id count rows marks.old }
 {
     let mut k = 0;
     while k < rows {
@@ -106,7 +105,7 @@ fn mark_libraries(
 
 // Is symbol i defined, global or weak?
 fn is_provided(entries: &[u64], i: usize) -> bool
-    ensures { result ≡ provides (before entries) i }
+    ensures { result ≡ provides entries.now i }
 {
     if cells::row_get(entries, i, elf_object::ENTRY_SECTION) == upcoming_symbol::SHN_UNDEF {
         return false;
@@ -122,7 +121,7 @@ fn is_provided(entries: &[u64], i: usize) -> bool
 }
 
 fn is_lacked(symbols: &[u64], holder: Holder) -> bool
-    ensures { result ≡ lacked_by (before symbols) holder }
+    ensures { result ≡ lacked_by symbols.now holder }
 {
     match holder {
         Holder::Unissued => false,
@@ -134,7 +133,7 @@ fn is_lacked(symbols: &[u64], holder: Holder) -> bool
 
 // Does the table lack the name, or is it marked? Not where it isn't issued.
 fn is_wanted(l: Link, names: &[u64], symbols: &[u64], marks: &[u64], id: Interned) -> bool
-    ensures { result ≡ wanted_in l (before names) (before symbols) (before marks) id.0 }
+    ensures { result ≡ wanted_in l names.now symbols.now marks.now id.0 }
 {
     if l.names <= id.0 {
         return false;
@@ -157,7 +156,7 @@ fn symbol_wanted(
     image: &[u8],
     i: usize,
 ) -> bool
-    ensures { result ≡ symbol_wanted (view_in bytes names symbols marks l) (before entries) (before image) i }
+    ensures { result ≡ symbol_wanted (view_in bytes names symbols marks l) entries.now image.now i }
 {
     if is_provided(entries, i) {
         let offset = cells::row_get(entries, i, elf_object::ENTRY_NAME) as usize;
@@ -181,7 +180,7 @@ fn some_wanted(
     entries: &[u64],
     image: &[u8],
 ) -> bool
-    ensures { result ≡ some_wanted (view_in bytes names symbols marks l) (before entries) (before image) }
+    ensures { result ≡ some_wanted (view_in bytes names symbols marks l) entries.now image.now }
 {
     let rows = entries.len() / elf_object::ROW_WIDTH;
     let mut i = 0;
@@ -203,7 +202,7 @@ fn clear_mark(
     image: &[u8],
     i: usize,
 )
-    ensures { after marks ≡ clear_mark (before bytes) (before names) l (before entries) (before image) i (before marks) }
+    ensures { marks.new ≡ clear_mark bytes.now names.now l entries.now image.now i marks.old }
 {
     if is_provided(entries, i) {
         let offset = cells::row_get(entries, i, elf_object::ENTRY_NAME) as usize;
@@ -227,7 +226,7 @@ fn clear_marks(
     entries: &[u64],
     image: &[u8],
 )
-    ensures { after marks ≡ clear_all (before bytes) (before names) l (before entries) (before image) (before marks) }
+    ensures { marks.new ≡ clear_all bytes.now names.now l entries.now image.now marks.old }
 {
     let rows = entries.len() / elf_object::ROW_WIDTH;
     let mut i = 0;
@@ -251,7 +250,7 @@ pub fn is_needed(
     image: &[u8],
     x: &[u8],
 ) -> bool
-    ensures { judged_as (after marks) result ≡ need_in l bytes names symbols inputs lists marks entries image x }
+    ensures { judged_as marks.new result ≡ need_in l bytes names symbols inputs lists marks entries image x }
 {
     let id = interner::find(l, bytes, names, x);
     clear_marks(l, marks, bytes, names, entries, image);

@@ -4,7 +4,6 @@ ghost use Rattle.std.specs.Prelude.{◌≡◌};
 ghost use Rattle.link.specs.Judge.{going_of};
 ghost use Rattle.symbol_resolution.specs.Apply.{table_before};
 ghost use Rattle.merge_symbols.specs.Plan.{view_in};
-ghost use Rattle.cells.specs.Slice.{before};
 ghost use Rattle.shared_objects.specs.Define.{judged_of, plan_of, accept_of, commit_of, define_of, added_after, added_before, rowed_after};
 ghost use Rattle.shared_objects.specs.SymbolsLoad.{library_symbol_named, symbol_of, symbols_of, state_after, state_before};
 
@@ -13,7 +12,7 @@ use symbol::Row;
 use symbol_resolution::Decision;
 
 // What is to be done with a symbol that the library defines, under a name that has or would get this id.
-#[derive(Drop)]
+#[derive(Clone, Copy)]
 pub struct Definition {
     pub id: Interned,
     pub row: Row,
@@ -53,7 +52,7 @@ fn plan_definition(
     binding: u64,
     visibility: u64,
 ) -> Definition
-    ensures { result ≡ plan_of (view_in bytes names symbols sections l) (before x) binding visibility }
+    ensures { result ≡ plan_of (view_in bytes names symbols sections l) x.now binding visibility }
 {
     let id = interner::find(l, bytes, names, x);
     let row = upcoming_symbol::external_row(l.gabi, id, binding, visibility);
@@ -91,7 +90,7 @@ fn commit(
     p: Definition,
     i: usize,
 ) -> Stage
-    ensures { added_after bytes names symbols sections result ≡ commit_of (added_before bytes names symbols sections (going_of l)) (before x) p i }
+    ensures { added_after bytes names symbols sections result ≡ commit_of (added_before bytes names symbols sections (going_of l)) x.now p i }
 {
     let id = p.id;
     let row = p.row;
@@ -119,7 +118,7 @@ fn define(
     i: usize,
 ) -> Stage
     ensures { added_after bytes names symbols sections result
-        ≡ define_of (added_before bytes names symbols sections (going_of l)) (before x) binding visibility i }
+        ≡ define_of (added_before bytes names symbols sections (going_of l)) x.now binding visibility i }
 {
     let p = plan_definition(l, bytes, names, symbols, sections, x, binding, visibility);
     commit(l, bytes, names, symbols, sections, x, p, i)
@@ -140,7 +139,7 @@ fn load_named(
     i: usize,
 ) -> Stage
     ensures { state_after bytes names symbols sections lists result
-        ≡ library_symbol_named (before entries) (state_before bytes names symbols sections lists (going_of l)) (before x) i }
+        ≡ library_symbol_named entries.now (state_before bytes names symbols sections lists (going_of l)) x.now i }
 {
     let binding = cells::row_get(entries, i, elf_object::ENTRY_BINDING);
     if cells::row_get(entries, i, elf_object::ENTRY_SECTION) != upcoming_symbol::SHN_UNDEF {
@@ -168,7 +167,7 @@ fn load_symbol(
     i: usize,
 ) -> Stage
     ensures { state_after bytes names symbols sections lists result
-        ≡ symbol_of (before entries) (before image) (state_before bytes names symbols sections lists s) i }
+        ≡ symbol_of entries.now image.now (state_before bytes names symbols sections lists s) i }
 {
     let l = s.link;
     let offset = cells::row_get(entries, i, elf_object::ENTRY_NAME) as usize;
@@ -192,7 +191,7 @@ pub fn load_symbols(
     image: &[u8],
 ) -> Stage
     ensures { state_after bytes names symbols sections lists result
-        ≡ symbols_of (before entries) (before image) (state_before bytes names symbols sections lists s) }
+        ≡ symbols_of entries.now image.now (state_before bytes names symbols sections lists s) }
 {
     let rows = entries.len() / elf_object::ROW_WIDTH;
     let mut u = s;

@@ -1,4 +1,6 @@
 // Names looked up at the edges of string tables: a line for each, the table's length, the offset, found or missing, the name.
+#![tactic(auto)]
+
 use libc::STDOUT_FILENO;
 
 fn space() {

@@ -2,7 +2,6 @@
 ghost use Rattle.std.specs.Prelude.{◌≡◌};
 ghost use Rattle.symbol.specs.Codes.{type_at, file_at, visibility_at, value_at};
 ghost use Rattle.symbol.specs.Row.{symbol_at};
-ghost use Rattle.cells.specs.Slice.{before};
 
 use crate::{SttFile, Symbol, SymbolType, SymbolValue, SymbolVisibility, Words};
 use link::{Interned, SectionId, SymbolId};
@@ -79,7 +78,7 @@ pub fn value_at(w: Words) -> SymbolValue
 
 // The symbol in a row, whatever the cells hold.
 pub fn symbol_at(symbols: &[u64], id: SymbolId) -> Symbol
-    ensures { result ≡ symbol_at (before symbols) id }
+    ensures { result ≡ symbol_at symbols.now id }
 {
     let i = id.0;
     let value = crate::words_at(

@@ -9,7 +9,7 @@ use Rattle.symbol.specs.Codes.{successor}
 use Rattle.symbol.specs.Row.{visibility_code_at, row_at, set_row}
 use Rattle.symbol.specs.Hidden.{pass_hidden}
 use Rattle.symbol.specs.Layout.{local, section_kind, symbol_cell}
-use Rattle.cells.specs.Slice.{Slice, before, after}
+use Rattle.cells.specs.Slice.{SliceMut}
 use Rattle.symbol_resolution.specs.declared.rows.Decision.{Decision}
 use Rattle.symbol_resolution.specs.declared.rows.Decision.TheVariants.{Refuse, Nothing, Keep, Append, Replace, Amend}
 use Rattle.symbol_resolution.specs.Decide.{section_cell}
@@ -25,11 +25,11 @@ abbrev pub table_of : List ℕ → List ℕ → List ℕ → Link → Table
 table_of n s x l = record { names = n; symbols = s; sections = x; link = l }
 
 -- of lent slices before the call, and after it
-abbrev pub table_before : Slice → Slice → Slice → Link → Table
-table_before n s x l = table_of (before n) (before s) (before x) l
+abbrev pub table_before : SliceMut → SliceMut → SliceMut → Link → Table
+table_before n s x l = table_of n.entry.now s.entry.now x.entry.now l
 
-abbrev pub table_after : Slice → Slice → Slice → Link → Table
-table_after n s x l = table_of (after n) (after s) (after x) l
+abbrev pub table_after : SliceMut → SliceMut → SliceMut → Link → Table
+table_after n s x l = table_of n.exit.now s.exit.now x.exit.now l
 
 unfoldable pub note_name : List ℕ → Row → ℕ → List ℕ
 note_name names r id = cond (eqb r.visibility local) names (set names (r.name.0 * 8 + symbol_cell) id)

@@ -1,7 +1,8 @@
 // What an add decides on a row under its name's holder; nothing is written.
+#![tactic(auto)]
+
 ghost use Rattle.std.specs.Prelude.{◌≡◌};
 ghost use Rattle.symbol_resolution.specs.Decide.{weak_of, reference_rank, rank_of, type_refusal, room_of, new_of, replace_of, kept_of, known_of, global_of, local_of, decide_of};
-ghost use Rattle.cells.specs.Slice.{before};
 
 mod rows;
 mod write;
@@ -70,7 +71,7 @@ fn type_refusal(kind: u64) -> u64
 
 // A free row, and for a local section symbol the cell of its section.
 fn room(l: Link, symbols: &[u64], sections: &[u64], row: Row) -> bool
-    ensures { result ≡ room_of l (before symbols) (before sections) row }
+    ensures { result ≡ room_of l symbols.now sections.now row }
 {
     if link::symbol_rows(symbols.len()) <= l.symbols {
         return false;
@@ -90,7 +91,7 @@ fn room(l: Link, symbols: &[u64], sections: &[u64], row: Row) -> bool
 
 // A local or a new name: value, type, a free row.
 fn decide_new(l: Link, symbols: &[u64], sections: &[u64], row: Row) -> Decision
-    ensures { result ≡ new_of l (before symbols) (before sections) row }
+    ensures { result ≡ new_of l symbols.now sections.now row }
 {
     let v = row.value;
     if symbol::NO_KIND <= v.kind {
@@ -131,7 +132,7 @@ fn decide_kept(gabi: bool, old: u64, new: u64, id: SymbolId) -> Decision
 
 // A known name: value, then by rank.
 fn decide_known(gabi: bool, symbols: &[u64], row: Row, id: SymbolId) -> Decision
-    ensures { result ≡ known_of gabi (before symbols) row id }
+    ensures { result ≡ known_of gabi symbols.now row id }
 {
     let v = row.value;
     if symbol::NO_KIND <= v.kind {
@@ -154,7 +155,7 @@ fn decide_known(gabi: bool, symbols: &[u64], row: Row, id: SymbolId) -> Decision
 }
 
 fn decide_named(l: Link, symbols: &[u64], sections: &[u64], row: Row, holder: Holder) -> Decision
-    ensures { result ≡ global_of l (before symbols) (before sections) row holder }
+    ensures { result ≡ global_of l symbols.now sections.now row holder }
 {
     match holder {
         Holder::Unissued => Decision::Refuse { number: 21 },
@@ -165,7 +166,7 @@ fn decide_named(l: Link, symbols: &[u64], sections: &[u64], row: Row, holder: Ho
 }
 
 fn decide_local(l: Link, symbols: &[u64], sections: &[u64], row: Row, holder: Holder) -> Decision
-    ensures { result ≡ local_of l (before symbols) (before sections) row holder }
+    ensures { result ≡ local_of l symbols.now sections.now row holder }
 {
     match holder {
         Holder::Unissued => Decision::Refuse { number: 21 },
@@ -177,7 +178,7 @@ fn decide_local(l: Link, symbols: &[u64], sections: &[u64], row: Row, holder: Ho
 
 // On a row under a name of which it is told who holds it.
 pub fn decide(l: Link, symbols: &[u64], sections: &[u64], row: Row, holder: Holder) -> Decision
-    ensures { result ≡ decide_of l (before symbols) (before sections) row holder }
+    ensures { result ≡ decide_of l symbols.now sections.now row holder }
 {
     if symbol::NO_SCOPE <= row.visibility {
         return Decision::Refuse {

@@ -1,6 +1,5 @@
 // Who holds a name, what can be decided on an add, and the cells with the symbols of sections.
 ghost use Rattle.std.specs.Prelude.{◌≡◌};
-ghost use Rattle.cells.specs.Slice.{after, before};
 ghost use Rattle.symbol_resolution.specs.Holder.{holder_of};
 ghost use Rattle.symbol_resolution.specs.RowsUndefined.{strong_undefined};
 ghost use Rattle.symbol_resolution.specs.Decide.{section_cell, refusal_of, id_of};
@@ -8,7 +7,7 @@ ghost use Rattle.symbol_resolution.specs.Apply.{set_section_symbol};
 
 use link::{Interned, Link, SectionId, SymbolId};
 
-#[derive(Drop)]
+#[derive(Clone, Copy)]
 pub enum Holder {
     Unissued,
     Nobody,
@@ -17,7 +16,7 @@ pub enum Holder {
 }
 
 // Nothing: the symbol gets no id, and nothing is written. Keep writes nothing; Amend passes hidden to the row that stays.
-#[derive(Drop)]
+#[derive(Clone, Copy)]
 pub enum Decision {
     Refuse { number: u64 },
     Nothing,
@@ -31,7 +30,7 @@ pub enum Decision {
 
 // Who holds the name: nobody a name that is to be issued. A row past the count isn't the link's, whatever the name's row says.
 pub fn holder_of(l: Link, names: &[u64], symbols: &[u64], name: Interned) -> Holder
-    ensures { result ≡ holder_of l (before names) (before symbols) name }
+    ensures { result ≡ holder_of l names.now symbols.now name }
 {
     if l.names <= name.0 {
         return Holder::Nobody;
@@ -51,7 +50,7 @@ pub fn holder_of(l: Link, names: &[u64], symbols: &[u64], name: Interned) -> Hol
 
 // Is the row undefined, global and not weak?
 pub fn is_strong_undefined(symbols: &[u64], id: SymbolId) -> bool
-    ensures { result ≡ strong_undefined (before symbols) id }
+    ensures { result ≡ strong_undefined symbols.now id }
 {
     if cells::row_get(symbols, id.0, symbol::CELL_KIND) != symbol::KIND_UNDEFINED {
         return false;
@@ -113,21 +112,21 @@ pub fn section_cell(l: Link, len: usize, s: SectionId) -> usize
 
 // The cell's content, 0 for none; nothing is written where the section has no cell.
 fn put_section_symbol(l: Link, sections: &mut [u64], s: SectionId, symbol: u64)
-    ensures { after sections ≡ set_section_symbol l (before sections) s.0 symbol }
+    ensures { sections.new ≡ set_section_symbol l sections.old s.0 symbol }
 {
     let cell = section_cell(l, sections.len(), s);
     cells::put(sections, cell, symbol);
 }
 
 pub fn set_section_symbol(l: Link, sections: &mut [u64], s: SectionId, id: SymbolId)
-    ensures { after sections ≡ set_section_symbol l (before sections) s.0 id.0 }
+    ensures { sections.new ≡ set_section_symbol l sections.old s.0 id.0 }
 {
     put_section_symbol(l, sections, s, id.0 as u64);
 }
 
 // The section is left without a symbol.
 pub fn clear_section_symbol(l: Link, sections: &mut [u64], s: SectionId)
-    ensures { after sections ≡ set_section_symbol l (before sections) s.0 0 }
+    ensures { sections.new ≡ set_section_symbol l sections.old s.0 0 }
 {
     put_section_symbol(l, sections, s, 0);
 }

@@ -1,14 +1,13 @@
 // What a decision on an add writes.
 ghost use Rattle.std.specs.Prelude.{◌≡◌};
 ghost use Rattle.symbol_resolution.specs.Apply.{note_name, note_section, append_of, replaced_in, amended_in, apply_of, table_after, table_before};
-ghost use Rattle.cells.specs.Slice.{after, before};
 
 use crate::rows::Decision;
 use link::{Link, SectionId, SymbolId};
 use symbol::Row;
 
 fn note_name(names: &mut [u64], row: Row, id: usize)
-    ensures { after names ≡ note_name (before names) row id }
+    ensures { names.new ≡ note_name names.old row id }
 {
     if row.visibility != symbol::LOCAL {
         let name = row.name;
@@ -18,7 +17,7 @@ fn note_name(names: &mut [u64], row: Row, id: usize)
 
 // A local section symbol becomes its section's symbol.
 fn note_section(l: Link, sections: &mut [u64], row: Row, id: usize)
-    ensures { after sections ≡ note_section l (before sections) row id }
+    ensures { sections.new ≡ note_section l sections.old row id }
 {
     let v = row.value;
     if row.visibility == symbol::LOCAL {
@@ -40,7 +39,7 @@ fn append(l: Link, names: &mut [u64], symbols: &mut [u64], sections: &mut [u64],
 
 // The add takes the row.
 fn replace(gabi: bool, symbols: &mut [u64], row: Row, id: SymbolId)
-    ensures { after symbols ≡ replaced_in gabi (before symbols) row id }
+    ensures { symbols.new ≡ replaced_in gabi symbols.old row id }
 {
     let old = cells::row_get(symbols, id.0, symbol::CELL_SCOPE);
     symbol::set_row(symbols, id, symbol::pass_hidden(gabi, old, row));
@@ -48,7 +47,7 @@ fn replace(gabi: bool, symbols: &mut [u64], row: Row, id: SymbolId)
 
 // The row stays, and takes hidden from the add.
 fn amend(gabi: bool, symbols: &mut [u64], row: Row, id: SymbolId)
-    ensures { after symbols ≡ amended_in gabi (before symbols) row id }
+    ensures { symbols.new ≡ amended_in gabi symbols.old row id }
 {
     let old = symbol::row_in(symbols, id);
     symbol::set_row(symbols, id, symbol::pass_hidden(gabi, row.visibility, old));

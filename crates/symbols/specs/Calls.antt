@@ -8,7 +8,7 @@ use Rattle.link.specs.Bounds.{not_lent}
 use Rattle.link.specs.Said.{Said, accepted, refusing}
 use Rattle.link.specs.Counts.{lent_rows}
 use Rattle.symbol_resolution.specs.Apply.{Table, table_of}
-use Rattle.cells.specs.Slice.{Slice, after}
+use Rattle.cells.specs.Slice.{SliceMut}
 use Rattle.symbols.specs.declared.Answer.{Answer}
 use Rattle.symbols.specs.declared.Answer.TheVariants.{Symbol, Refused}
 use Rattle.symbols.specs.declared.Outcome.{Outcome}
@@ -30,8 +30,8 @@ abbrev pub outcome : List ℕ → List ℕ → List ℕ → Outcome → Left
 outcome names symbols sections r = left (table_of names symbols sections r.table.link) (said r.answer)
 
 -- of lent slices after the call
-abbrev pub outcome_after : Slice → Slice → Slice → Outcome → Left
-outcome_after names symbols sections r = outcome (after names) (after symbols) (after sections) r
+abbrev pub outcome_after : SliceMut → SliceMut → SliceMut → Outcome → Left
+outcome_after names symbols sections r = outcome names.exit.now symbols.exit.now sections.exit.now r
 
 abbrev pub refused_of : Link → ℕ → ℕ → Outcome
 refused_of l number place = record { table = record { link = l }; answer = Refused (refused number place) }

@@ -2,7 +2,7 @@
 -- call's definition.
 -- Assumes nothing.
 use Rattle.std.specs.Prelude.{ℕ, ◌≡◌, Bool, List}
-use Rattle.cells.specs.Slice.{Slice, after}
+use Rattle.cells.specs.Slice.{SliceMut}
 use Rattle.link.specs.declared.Link.{Link}
 use Rattle.link.specs.declared.Interned.{Interned}
 use Rattle.link.specs.declared.SymbolId.{SymbolId}
@@ -27,9 +27,9 @@ pub record NewExit : Type 0 where
   pub sections : List ℕ
   pub result : Outcome
 
-abbrev pub new_exit : Slice → Slice → Slice → Slice → Outcome → NewExit
+abbrev pub new_exit : SliceMut → SliceMut → SliceMut → SliceMut → Outcome → NewExit
 new_exit bytes names symbols sections r =
-    record { bytes = after bytes; names = after names; symbols = after symbols; sections = after sections; result = r }
+    record { bytes = bytes.exit.now; names = names.exit.now; symbols = symbols.exit.now; sections = sections.exit.now; result = r }
 
 abbrev pub NewMeets : ℕ → Bool → List ℕ → List ℕ → List ℕ → List ℕ → NewExit → Type 0
 NewMeets key gabi bytes names symbols sections e =
@@ -43,8 +43,8 @@ pub record AddExit : Type 0 where
   pub sections : List ℕ
   pub result : Outcome
 
-abbrev pub add_exit : Slice → Slice → Slice → Outcome → AddExit
-add_exit names symbols sections r = record { names = after names; symbols = after symbols; sections = after sections; result = r }
+abbrev pub add_exit : SliceMut → SliceMut → SliceMut → Outcome → AddExit
+add_exit names symbols sections r = record { names = names.exit.now; symbols = symbols.exit.now; sections = sections.exit.now; result = r }
 
 abbrev pub AddMeets : Table → List ℕ → UpcomingSymbol → AddExit → Type 0
 AddMeets t conversion u e = outcome e.names e.symbols e.sections e.result ≡ add_of t conversion u
@@ -56,8 +56,8 @@ pub record RemoveExit : Type 0 where
   pub sections : List ℕ
   pub result : Outcome
 
-abbrev pub remove_exit : Slice → Slice → Outcome → RemoveExit
-remove_exit symbols sections r = record { symbols = after symbols; sections = after sections; result = r }
+abbrev pub remove_exit : SliceMut → SliceMut → Outcome → RemoveExit
+remove_exit symbols sections r = record { symbols = symbols.exit.now; sections = sections.exit.now; result = r }
 
 abbrev pub RemoveMeets : Link → Rows → SymbolId → RemoveExit → Type 0
 RemoveMeets l x id e = remove_outcome e.symbols e.sections e.result ≡ remove_of l x id

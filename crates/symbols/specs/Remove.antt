@@ -7,7 +7,7 @@ use Rattle.link.specs.Judge.{refused, change_of}
 use Rattle.symbol.specs.Row.{field, state_at, kind_at}
 use Rattle.symbol.specs.Layout.{state_cell, removed_state, section_kind, first_cell}
 use Rattle.symbol_resolution.specs.Apply.{set_section_symbol}
-use Rattle.cells.specs.Slice.{Slice, before, after}
+use Rattle.cells.specs.Slice.{SliceMut}
 use Rattle.symbols.specs.declared.Outcome.{Outcome}
 use Rattle.link.specs.Said.{Said, accepted, refusing}
 use Rattle.link.specs.Bounds.{section_slots}
@@ -22,11 +22,11 @@ abbrev pub rows_of : List ℕ → List ℕ → Rows
 rows_of symbols sections = record { symbols = symbols; sections = sections }
 
 -- of lent slices before the call, and after it
-abbrev pub rows_before : Slice → Slice → Rows
-rows_before symbols sections = rows_of (before symbols) (before sections)
+abbrev pub rows_before : SliceMut → SliceMut → Rows
+rows_before symbols sections = rows_of symbols.entry.now sections.entry.now
 
-abbrev pub rows_after : Slice → Slice → Rows
-rows_after symbols sections = rows_of (after symbols) (after sections)
+abbrev pub rows_after : SliceMut → SliceMut → Rows
+rows_after symbols sections = rows_of symbols.exit.now sections.exit.now
 
 pub record RemoveLeft : Type 0 where
   pub rows : Rows

@@ -1,9 +1,8 @@
 // The direct add to a symbol table: the first checks, the row, what is decided and what is written.
 ghost use Rattle.std.specs.Prelude.{◌≡◌};
-ghost use Rattle.cells.specs.Slice.{before};
 ghost use Rattle.link.specs.Bounds.{name_rows, section_slots};
 ghost use Rattle.upcoming_symbol.specs.Upcoming.{name_of, row_of};
-ghost use Rattle.symbol_resolution.specs.Apply.{table_before};
+ghost use Rattle.symbol_resolution.specs.Apply.{table_before, table_of};
 ghost use Rattle.symbols.specs.Calls.{lent_of, outcome_after};
 ghost use Rattle.symbols.specs.Add.{judge_add_of, file_of, file_issued, issued_of, unissued_file, place_of, direct_holder_of, decided_of, committed_of, empty_at, add_row_of};
 ghost use Rattle.symbols.specs.Contract.{add_exit, AddMeets};
@@ -116,7 +115,7 @@ fn file_of(u: UpcomingSymbol) -> SttFile
 
 // The row that the symbol would become: a name is empty where its length is 0.
 fn upcoming_row(gabi: bool, names: &[u64], conversion: &[u64], upcoming: UpcomingSymbol) -> Row
-    ensures { result ≡ row_of gabi (before conversion) upcoming (empty_at (before names) (name_of upcoming)) }
+    ensures { result ≡ row_of gabi conversion.now upcoming (empty_at names.now (name_of upcoming)) }
 {
     let name = upcoming_symbol::name_of(upcoming);
     let empty = cells::row_get(names, name.0, symbol::NAME_LENGTH) == 0;
@@ -124,7 +123,7 @@ fn upcoming_row(gabi: bool, names: &[u64], conversion: &[u64], upcoming: Upcomin
 }
 
 fn direct_holder(l: Link, names: &[u64], symbols: &[u64], name: Interned, file: SttFile) -> Holder
-    ensures { result ≡ direct_holder_of l (before names) (before symbols) name file }
+    ensures { result ≡ direct_holder_of l names.now symbols.now name file }
 {
     if issued(l, name, file) {
         return symbol_resolution::holder_of(l, names, symbols, name);
@@ -141,7 +140,7 @@ fn decide(
     row: Row,
     file: SttFile,
 ) -> Decision
-    ensures { result ≡ decided_of (table_before names symbols sections l) row file }
+    ensures { result ≡ decided_of (table_of names.now symbols.now sections.now l) row file }
 {
     let name = row.name;
     let holder = direct_holder(l, names, symbols, name, file);
@@ -199,7 +198,7 @@ pub fn add(
     conversion: &[u64],
     upcoming: UpcomingSymbol,
 ) -> Outcome
-    ensures { AddMeets (table_before names symbols sections table.link) (before conversion) upcoming (add_exit names symbols sections result) }
+    ensures { AddMeets (table_before names symbols sections table.link) conversion.now upcoming (add_exit names symbols sections result) }
 {
     let l = table.link;
     let head = judge_add(l, names.len(), symbols.len(), sections.len(), upcoming);

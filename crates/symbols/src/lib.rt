@@ -1,6 +1,7 @@
 // The symbol table of a link, and a new one. The rows are lent; the counts come and go by value.
+#![tactic(auto)]
+
 ghost use Rattle.std.specs.Prelude.{◌≡◌, List, ℕ};
-ghost use Rattle.cells.specs.Slice.{before, after};
 ghost use Rattle.interner.specs.Names.{store_of};
 ghost use Rattle.symbols.specs.Calls.{refused_of, lent_of};
 ghost use Rattle.symbols.specs.New.{new_outcome, null_of, null_row, one_symbol, clear_symbols};
@@ -16,30 +17,30 @@ pub use lookups::{get, get_global, section_symbol_id};
 pub use removal::{remove, remove_row};
 use symbol::{Row, Symbol, Words};
 
-#[derive(Drop)]
+#[derive(Clone, Copy)]
 pub struct Symbols {
     pub link: Link,
 }
 
-#[derive(Drop)]
+#[derive(Clone, Copy)]
 pub enum Answer {
     Symbol { id: SymbolId },
     Refused { refusal: Refusal },
 }
 
-#[derive(Drop)]
+#[derive(Clone, Copy)]
 pub struct Outcome {
     pub table: Symbols,
     pub answer: Answer,
 }
 
-#[derive(Drop)]
+#[derive(Clone, Copy)]
 pub enum Found {
     Row { symbol: Symbol },
     Refused { refusal: Refusal },
 }
 
-#[derive(Drop)]
+#[derive(Clone, Copy)]
 pub enum SectionSymbol {
     None,
     Symbol { id: SymbolId },
@@ -93,7 +94,7 @@ fn null_row() -> Row
 
 // No section has a symbol.
 fn clear_section_symbols(sections: &mut [u64])
-    ensures { after sections ≡ clear_symbols (before sections) }
+    ensures { sections.new ≡ clear_symbols sections.old }
 {
     let rows = link::section_slots(sections.len());
     cells::clear_from(sections, rows * 8);
@@ -112,7 +113,7 @@ fn one_symbol(gabi: bool, l: Link, slots: usize) -> Link
 
 // The null symbol over the names' counts l, where the empty name was issued; whatever the names' bytes and rows are.
 fn null_table(gabi: bool, l: Link, symbols: &mut [u64], sections: &mut [u64]) -> Outcome
-    ensures { (bytes names : List ℕ) → new_outcome bytes names (after symbols) (after sections) result ≡ null_of gabi (before symbols) (before sections) (store_of bytes names l) }
+    ensures { (bytes names : List ℕ) → new_outcome bytes names symbols.new sections.new result ≡ null_of gabi symbols.old sections.old (store_of bytes names l) }
 {
     if l.names == 0 {
         return refused(l, 2, 0);
@@ -144,7 +145,7 @@ impl Symbols {
         symbols: &mut [u64],
         sections: &mut [u64],
     ) -> Outcome
-        ensures { NewMeets key gabi (before bytes) (before names) (before symbols) (before sections) (new_exit bytes names symbols sections result) }
+        ensures { NewMeets key gabi bytes.old names.old symbols.old sections.old (new_exit bytes names symbols sections result) }
     {
         if link::symbol_rows(symbols.len()) == 0 {
             return refused(link::no_names(0, 0), 2, 0);

@@ -1,6 +1,5 @@
 // Lookups in a symbol table: by id, by global name, by section.
 ghost use Rattle.std.specs.Prelude.{◌≡◌};
-ghost use Rattle.cells.specs.Slice.{before};
 ghost use Rattle.symbols.specs.Lookup.{not_found, found_at, held_of};
 ghost use Rattle.symbols.specs.Contract.{GetMeets, GetGlobalMeets, SectionSymbolMeets};
 
@@ -20,7 +19,7 @@ fn not_found(number: u64, place: usize) -> Found
 }
 
 fn found_at(symbols: &[u64], id: SymbolId) -> Found
-    ensures { result ≡ found_at (before symbols) id }
+    ensures { result ≡ found_at symbols.now id }
 {
     if cells::row_get(symbols, id.0, symbol::CELL_STATE) == symbol::REMOVED {
         return not_found(21, id.0);
@@ -31,7 +30,7 @@ fn found_at(symbols: &[u64], id: SymbolId) -> Found
 }
 
 fn held_at(symbols: &[u64], name: Interned, holder: Holder) -> Found
-    ensures { result ≡ held_of (before symbols) name holder }
+    ensures { result ≡ held_of symbols.now name holder }
 {
     match holder {
         Holder::Unissued => not_found(23, 0),
@@ -44,7 +43,7 @@ fn held_at(symbols: &[u64], name: Interned, holder: Holder) -> Found
 }
 
 pub fn get(table: Symbols, symbols: &[u64], id: SymbolId) -> Found
-    ensures { GetMeets table.link (before symbols) id result }
+    ensures { GetMeets table.link symbols.now id result }
 {
     let l = table.link;
     let head = link::judge(l, crate::lent_rows(l.chains, symbols.len(), l.slots));
@@ -58,7 +57,7 @@ pub fn get(table: Symbols, symbols: &[u64], id: SymbolId) -> Found
 }
 
 pub fn get_global(table: Symbols, names: &[u64], symbols: &[u64], name: Interned) -> Found
-    ensures { GetGlobalMeets table.link (before names) (before symbols) name result }
+    ensures { GetGlobalMeets table.link names.now symbols.now name result }
 {
     let l = table.link;
     let head = link::judge(
@@ -74,7 +73,7 @@ pub fn get_global(table: Symbols, names: &[u64], symbols: &[u64], name: Interned
 
 // Any section may be asked, whether it is built or not. A row past the count isn't the link's, whatever the section's cell says.
 pub fn section_symbol_id(table: Symbols, sections: &[u64], section: SectionId) -> SectionSymbol
-    ensures { SectionSymbolMeets table.link (before sections) section result }
+    ensures { SectionSymbolMeets table.link sections.now section result }
 {
     let l = table.link;
     let id = cells::get(

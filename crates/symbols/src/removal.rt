@@ -1,6 +1,5 @@
 // Removal of a symbol from a symbol table; what else its row holds stays.
 ghost use Rattle.std.specs.Prelude.{◌≡◌};
-ghost use Rattle.cells.specs.Slice.{before, after};
 ghost use Rattle.symbols.specs.Remove.{drop_section, remove_row_of, rows_after, rows_before};
 ghost use Rattle.symbols.specs.Contract.{remove_exit, RemoveMeets};
 
@@ -9,7 +8,7 @@ use link::{Link, SectionId, SymbolId};
 
 // A removed section symbol leaves its section without one.
 fn drop_section(l: Link, sections: &mut [u64], kind: u64, section: u64)
-    ensures { after sections ≡ drop_section l (before sections) kind section }
+    ensures { sections.new ≡ drop_section l sections.old kind section }
 {
     if kind == symbol::KIND_SECTION {
         symbol_resolution::clear_section_symbol(l, sections, SectionId(section as usize));

@@ -1,11 +1,10 @@
 // Fields of a line: the bytes between runs of spaces and tabs; and the number that a field spells.
 ghost use Rattle.std.specs.Prelude.{◌≡◌};
-ghost use Rattle.cells.specs.Slice.{before};
 ghost use Rattle.text.specs.Fields.{class_of, run_end, next_field, start_of, field_of, without_cr};
 ghost use Rattle.text.specs.Decimal.{digit_of, more_of, decimal_from, decimal_of};
 ghost use Rattle.text.specs.declared.fields.Number.TheVariants.{Value};
 
-#[derive(Drop)]
+#[derive(Clone, Copy)]
 pub enum Number {
     None,
     Value { value: u64 },
@@ -28,7 +27,7 @@ fn class_of(b: u8) -> u64
 
 // Where the bytes of that class that begin at the place end.
 fn run_end(line: &[u8], at: usize, class: u64) -> usize
-    ensures { result ≡ run_end (before line) at class }
+    ensures { result ≡ run_end line.now at class }
 {
     let mut i = at;
     while i < line.len() {
@@ -41,14 +40,14 @@ fn run_end(line: &[u8], at: usize, class: u64) -> usize
 }
 
 fn next_field(line: &[u8], at: usize) -> usize
-    ensures { result ≡ next_field (before line) at }
+    ensures { result ≡ next_field line.now at }
 {
     run_end(line, run_end(line, at, 0), 1)
 }
 
 // Where field k begins; the end where there is none.
 fn start_of(line: &[u8], k: usize) -> usize
-    ensures { result ≡ start_of (before line) (run_end (before line) 0 1) k }
+    ensures { result ≡ start_of line.now (run_end line.now 0 1) k }
 {
     let mut at = run_end(line, 0, 1);
     let mut left = k;
@@ -61,7 +60,7 @@ fn start_of(line: &[u8], k: usize) -> usize
 
 // Field k, from 0 on, as that very part of the line; past the last field, nothing.
 pub fn field(line: &[u8], k: usize) -> &[u8]
-    ensures result_value { result.now ≡ field_of (before line) k }
+    ensures result_value { result.now ≡ field_of line.now k }
     ensures place { result.ref_ptr.0 ≡ line.entry.ref_ptr.0 }
 {
     let start = start_of(line, k);
@@ -71,7 +70,7 @@ pub fn field(line: &[u8], k: usize) -> &[u8]
 
 // The line without a carriage return at its end.
 pub fn without_cr(line: &[u8]) -> &[u8]
-    ensures result_value { result.now ≡ without_cr (before line) }
+    ensures result_value { result.now ≡ without_cr line.now }
     ensures place { result.ref_ptr.0 ≡ line.entry.ref_ptr.0 }
 {
     let n = line.len();
@@ -114,7 +113,7 @@ fn more_of(m: Number, b: u8) -> Number
 }
 
 fn decimal_from(x: &[u8]) -> Number
-    ensures { result ≡ decimal_from (Value 0) (before x) }
+    ensures { result ≡ decimal_from (Value 0) x.now }
 {
     let mut m = Number::Value { value: 0 };
     let mut i = 0;
@@ -127,7 +126,7 @@ fn decimal_from(x: &[u8]) -> Number
 
 // The number that decimal digits spell; none where there is another byte, no digit, or no room in 64 bits.
 pub fn decimal(x: &[u8]) -> Number
-    ensures { result ≡ decimal_of (before x) }
+    ensures { result ≡ decimal_of x.now }
 {
     if x.len() == 0 {
         return Number::None;

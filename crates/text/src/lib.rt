@@ -1,4 +1,6 @@
 // Text for the programs: fields and decimal numbers of a line, lines of any input, text put into a buffer.
+#![tactic(auto)]
+
 mod fields;
 mod lines;
 mod out;

@@ -1,7 +1,6 @@
 // Lines of standard input, and text that is put together piece by piece.
 ghost use Rattle.std.specs.Prelude.{◌≡◌, ◌-◌, ◌≤◌, get_or, set, length, drop};
 ghost use Rattle.std.proofs.Math.Seq.{paste};
-ghost use Rattle.cells.specs.Slice.{after, before};
 ghost use Rattle.text.specs.Unread.{lines_at, unread};
 ghost use Rattle.text.specs.Line.{end_in, span_of, rest_of, unended_of, left_of, settle_of, is_more};
 ghost use Rattle.text.specs.Next.{front_as, front_of, ReadOn, ReadLine, NextLine, longer_of, past_of, Skipped};
@@ -9,7 +8,7 @@ ghost use Rattle.text.specs.Next.{front_as, front_of, ReadOn, ReadLine, NextLine
 // ---- lines
 
 // Of the buffer, the bytes from start to end are read and not handed out yet; those before seen hold no line end.
-#[derive(Drop)]
+#[derive(Clone, Copy)]
 pub struct Lines {
     pub start: usize,
     pub seen: usize,
@@ -19,7 +18,7 @@ pub struct Lines {
 }
 
 // Long: a line that doesn't fit the buffer, which holds its first bytes. More: has to be read first.
-#[derive(Drop)]
+#[derive(Clone, Copy)]
 pub enum Taken {
     Line { from: usize, len: usize },
     Long,
@@ -27,7 +26,7 @@ pub enum Taken {
     More,
 }
 
-#[derive(Drop)]
+#[derive(Clone, Copy)]
 pub struct Step {
     pub lines: Lines,
     pub taken: Taken,
@@ -53,7 +52,7 @@ pub fn new() -> Lines
 }
 
 fn byte_at(buf: &[u8], i: usize) -> u8
-    ensures { result ≡ get_or (before buf) i 0 }
+    ensures { result ≡ get_or buf.now i 0 }
 {
     if i < buf.len() {
         return buf[i];
@@ -62,7 +61,7 @@ fn byte_at(buf: &[u8], i: usize) -> u8
 }
 
 fn put_byte(buf: &mut [u8], i: usize, b: u8)
-    ensures { after buf ≡ set (before buf) i b }
+    ensures { buf.new ≡ set buf.old i b }
 {
     if i < buf.len() {
         buf[i] = b;
@@ -71,7 +70,7 @@ fn put_byte(buf: &mut [u8], i: usize, b: u8)
 
 // The first line end from the place on and before `to`; where there is none, `to`, or the place itself if it lies behind that.
 fn line_end(buf: &[u8], from: usize, to: usize) -> usize
-    ensures { result ≡ end_in (before buf) from to }
+    ensures { result ≡ end_in buf.now from to }
 {
     let mut i = from;
     while i < to {
@@ -134,7 +133,7 @@ fn left_of(l: Lines) -> usize
 
 // The next line of what is in the buffer.
 fn settle(buf: &[u8], l: Lines) -> Step
-    ensures { result ≡ settle_of (before buf) l }
+    ensures { result ≡ settle_of buf.now l }
 {
     let end = l.end;
     let at = line_end(buf, l.seen, end);
@@ -167,7 +166,7 @@ fn goes_on(s: Step) -> bool
 // Bytes from start to end, moved to the front.
 fn move_down(buf: &mut [u8], start: usize, end: usize)
     requires { (start ≤ end) × (end ≤ length buf.old) }
-    ensures { after buf ≡ paste (before buf) 0 (drop start (before buf)) (end - start) }
+    ensures { buf.new ≡ paste buf.old 0 (drop start buf.old) (end - start) }
 {
     let mut from = start;
     let mut to = 0;
@@ -180,7 +179,7 @@ fn move_down(buf: &mut [u8], start: usize, end: usize)
 }
 
 fn to_front(buf: &mut [u8], l: Lines) -> Lines
-    ensures { front_as (after buf) result ≡ front_of (before buf) l }
+    ensures { front_as buf.new result ≡ front_of buf.old l }
 {
     let start = l.start;
     let end = l.end;
@@ -212,7 +211,7 @@ fn longer(end: usize, more: usize, len: usize) -> usize
 
 // One read behind the bytes that are there.
 fn read_more(buf: &mut [u8], l: Lines) -> Lines
-    ensures { ReadOn (before buf) l (after buf) result }
+    ensures { ReadOn buf.old l buf.new result }
 {
     let end = l.end;
     if buf.len() <= end {
@@ -228,7 +227,7 @@ fn read_more(buf: &mut [u8], l: Lines) -> Lines
 
 // Reads until there is a line. What is there lies at the front, and holds no line end.
 fn read_line(buf: &mut [u8], l: Lines) -> Step
-    ensures { ReadLine (before buf) l.end (after buf) result }
+    ensures { ReadLine buf.old l.end buf.new result }
 {
     let mut step = settle(buf, lines_at(0, l.end, l.end, l.over, l.failed));
     while goes_on(step) {
@@ -240,7 +239,7 @@ fn read_line(buf: &mut [u8], l: Lines) -> Step
 
 // The next line, without its line end; it lies in the buffer.
 pub fn next_line(buf: &mut [u8], l: Lines) -> Step
-    ensures { NextLine (before buf) l (after buf) result }
+    ensures { NextLine buf.old l buf.new result }
 {
     let step = settle(buf, l);
     if goes_on(step) {
@@ -258,7 +257,7 @@ fn emptied(l: Lines) -> Lines
 
 // What is left behind the first line end of what was read.
 fn past_line(buf: &[u8], l: Lines) -> Lines
-    ensures { result ≡ past_of (before buf) l.end l.over l.failed }
+    ensures { result ≡ past_of buf.now l.end l.over l.failed }
 {
     let at = line_end(buf, 0, l.end);
     if at < l.end {
@@ -269,7 +268,7 @@ fn past_line(buf: &[u8], l: Lines) -> Lines
 
 // What follows a Long: the rest of that line is passed over. Nothing says that the input ends, so turns are counted down.
 pub fn skip_line(buf: &mut [u8], l: Lines) -> Lines
-    ensures { Skipped (after buf) result }
+    ensures { Skipped buf.new result }
 {
     let mut lines = emptied(l);
     let mut turns: u64 = 0xffff_ffff_ffff_ffff;

@@ -2,7 +2,6 @@
 ghost use Rattle.std.specs.Prelude.{◌≡◌};
 ghost use Rattle.upcoming_symbol.specs.Judge.{shown_of, hidden_of, judge_of};
 ghost use Rattle.upcoming_symbol.specs.Upcoming.{name_of, in_section, converted_of, value_of, row_are, elf_row_of, library_code, external_row_of, row_of};
-ghost use Rattle.cells.specs.Slice.{before};
 
 use crate::{Conversion, ElfSymbol, UpcomingSymbol};
 use link::Interned;
@@ -159,7 +158,7 @@ pub fn name_of(u: UpcomingSymbol) -> Interned
 }
 
 pub fn row_of(gabi: bool, conversion: &[u64], u: UpcomingSymbol, empty: bool) -> Row
-    ensures { result ≡ row_of gabi (before conversion) u empty }
+    ensures { result ≡ row_of gabi conversion.now u empty }
 {
     match u {
         UpcomingSymbol::Null => row_at(

@@ -1,0 +1,6 @@
+use Rattle.std.proofs.Common.{rules}
+use Rattle.add_list.specs.Proof.Ways.{turn-done}
+use Rattle.add_list.proofs.turn.Goals as goal
+
+pub returns : goal.returns
+returns c = search turn-done

@@ -1,0 +1,6 @@
+use Rattle.std.proofs.Common.{rules}
+use Rattle.archive_walk.specs.Proof.PassesWays.{entry-is}
+use Rattle.archive_walk.proofs.passes.entry_holder.Goals as goal
+
+pub returns : goal.returns
+returns c = search entry-is

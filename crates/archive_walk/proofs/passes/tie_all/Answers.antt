@@ -1,0 +1,23 @@
+use Rattle.std.proofs.Common.{rules}
+use native.Mathlib.Nat.{sub-zero}
+use Prim.Native.Nat.{◌+◌, ◌-◌, ◌≤◌}
+use mathlib.Core.Path.{◌≡◌}
+use lib.ListN.{length}
+use Rattle.archive_walk.specs.Look.{table_of}
+use Rattle.archive_walk.specs.Walk.{queue_of, tie_all}
+use Rattle.archive_walk.specs.Proof.Ways.{all-on, all_end, count-on}
+use Rattle.archive_walk.specs.Notes.{Noted}
+use Rattle.archive_walk.specs.Proof.PassesWays.{noted-on}
+use Rattle.archive_walk.proofs.passes.tie_all.Goals as goal
+
+pub loop-k-init : goal.loop-k-init
+loop-k-init c = search (rules, sub-zero)
+
+pub loop-k-preserved : goal.loop-k-preserved
+loop-k-preserved c = let tied = c.before in
+    let turn = tied.before.before in
+    let loop = turn.before.before.loop in
+    (count-on _ _ _ _ _ _ _ _ _ _ _ tied.tie-noted.ensures loop.invariant.0, search rules, all-on _ _ _ _ _ _ _ _ _ turn.if1.true tied.tie-noted.ensures loop.invariant.2, noted-on _ _ _ _ _ _ _ _ _ _ _ _ tied.tie-noted.ensures loop.invariant.3)
+
+pub returns : goal.returns
+returns c = search all_end

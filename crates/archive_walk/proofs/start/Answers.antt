@@ -1,0 +1,6 @@
+use Rattle.std.proofs.Common.{rules}
+use Rattle.archive_walk.specs.Proof.Ways.{start_is}
+use Rattle.archive_walk.proofs.start.Goals as goal
+
+pub returns : goal.returns
+returns c = search start_is

@@ -1,0 +1,14 @@
+use Rattle.std.proofs.Common.{rules}
+use Prim.Native.Nat.{ℕ, suc, ◌+◌, ◌-◌, ◌<◌, ◌≤◌}
+use Rattle.std.proofs.Common.{arith}
+use mathlib.Core.Path.{◌≡◌, sym, ◌∙◌, refl}
+use native.Mathlib.Numerals.{add-one}
+use lib.ListN.{length}
+use lib.Seq.{paste, paste-zero, paste-suc, length-paste}
+use Rattle.byte_slices.proofs.copy_all.Given as goal
+
+abbrev pub invariant-loop-i : goal.invariant-loop-i
+invariant-loop-i l = (l.i ≤ length l.x) × (l.dst ≡ paste l.initial.dst l.at l.x l.i) × (length l.dst ≡ length l.initial.dst)
+
+abbrev pub decreases-loop-i : goal.decreases-loop-i
+decreases-loop-i l = length l.x - l.i

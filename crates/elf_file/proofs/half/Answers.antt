@@ -1,0 +1,6 @@
+use Rattle.std.proofs.Common.{rules}
+use Rattle.elf_file.specs.Proof.Ways.{half-read}
+use Rattle.elf_file.proofs.half.Goals as goal
+
+pub returns : goal.returns
+returns c = search half-read

@@ -1,0 +1,23 @@
+use Rattle.std.proofs.Common.{rules}
+use Prim.Native.Nat.{◌+◌, ◌-◌}
+use mathlib.Core.Path.{◌≡◌}
+use lib.ListN.{length}
+use Rattle.elf_file.specs.Rows.{content_count}
+use Rattle.elf_file.specs.Read.{all_elements_into}
+use Rattle.elf_file.specs.Proof.ReadingWays.{contents-left-start, contents-left-on, contents-fit, contents-past, all-elements-start, all-elements-on, all-elements-end}
+use Rattle.elf_file.proofs.reading.all_elements.Goals as goal
+
+pub loop-i-init : goal.loop-i-init
+loop-i-init c = search (rules, all-elements-start, contents-left-start)
+
+pub elements-requires : goal.elements-requires
+elements-requires c = search contents-fit
+
+pub overflow_add-at : goal.overflow_add-at
+overflow_add-at c = search contents-past
+
+pub loop-i-preserved : goal.loop-i-preserved
+loop-i-preserved c = (search all-elements-on, search rules, search contents-left-on)
+
+pub returns : goal.returns
+returns c = search all-elements-end

@@ -1,0 +1,15 @@
+use Rattle.std.proofs.Common.{rules}
+use Prim.Native.Nat.{◌+◌, ◌-◌}
+use mathlib.Core.Path.{◌≡◌}
+use lib.ListN.{length}
+use Rattle.elf_file.specs.Rows.{content_count}
+use Rattle.elf_file.specs.Read.{all_elements_into}
+use Rattle.elf_file.specs.Proof.ReadingWays.{contents-left-start, contents-left-on, contents-fit, contents-past, all-elements-start, all-elements-on, all-elements-end}
+use Rattle.elf_file.proofs.reading.all_elements.Given as goal
+
+abbrev pub invariant-loop-i : goal.invariant-loop-i
+invariant-loop-i l = (all_elements_into l.file l.table l.initial.rows l.start 0 l.n ≡ all_elements_into l.file l.table l.rows l.at l.i (l.n - l.i)) × (length l.rows ≡ length l.initial.rows)
+    × (l.at + content_count l.table l.i (l.n - l.i) ≡ l.start + content_count l.table 0 l.n)
+
+abbrev pub decreases-loop-i : goal.decreases-loop-i
+decreases-loop-i l = l.n - l.i

@@ -1,0 +1,16 @@
+use Rattle.std.proofs.Common.{rules}
+use Prim.Native.Nat.{◌-◌}
+use mathlib.Core.Path.{◌≡◌}
+use lib.ListN.{length}
+use Rattle.elf_file.specs.Read.{elements_into}
+use Rattle.elf_file.specs.Proof.ReadingWays.{elements-start, elements-on, elements-end}
+use Rattle.elf_file.proofs.reading.elements.Goals as goal
+
+pub loop-j-init : goal.loop-j-init
+loop-j-init c = search (rules, elements-start)
+
+pub loop-j-preserved : goal.loop-j-preserved
+loop-j-preserved c = (search elements-on, search rules)
+
+pub returns : goal.returns
+returns c = search elements-end

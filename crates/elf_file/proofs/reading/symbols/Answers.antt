@@ -1,0 +1,16 @@
+use Rattle.std.proofs.Common.{rules}
+use Prim.Native.Nat.{◌-◌}
+use mathlib.Core.Path.{◌≡◌}
+use lib.ListN.{length}
+use Rattle.elf_file.specs.Read.{symbols_into}
+use Rattle.elf_file.specs.Proof.ReadingWays.{symbols-start, symbols-on, symbols-end}
+use Rattle.elf_file.proofs.reading.symbols.Goals as goal
+
+pub loop-j-init : goal.loop-j-init
+loop-j-init c = search (rules, symbols-start)
+
+pub loop-j-preserved : goal.loop-j-preserved
+loop-j-preserved c = search (rules, symbols-on)
+
+pub returns : goal.returns
+returns c = search symbols-end

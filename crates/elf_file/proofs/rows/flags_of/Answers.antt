@@ -1,0 +1,6 @@
+use Rattle.std.proofs.Common.{rules}
+use Rattle.elf_file.specs.Proof.RowsWays.{flags-read}
+use Rattle.elf_file.proofs.rows.flags_of.Goals as goal
+
+pub returns : goal.returns
+returns c = search flags-read

@@ -1,0 +1,10 @@
+use Rattle.std.proofs.Common.{rules}
+use Prim.Native.Nat.{◌-◌}
+use Rattle.elf_file.specs.Proof.RowsWays.{Kept, kept-start, kept_on, room-short, room-entries, room-contents, room_fits}
+use Rattle.elf_file.proofs.rows.room_for.Given as goal
+
+abbrev pub invariant-loop-i : goal.invariant-loop-i
+invariant-loop-i l = Kept l.cells l.table l.n l.i l.left l.entries l.contents
+
+abbrev pub decreases-loop-i : goal.decreases-loop-i
+decreases-loop-i l = l.n - l.i

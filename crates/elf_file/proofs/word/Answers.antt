@@ -1,0 +1,6 @@
+use Rattle.std.proofs.Common.{rules}
+use Rattle.elf_file.specs.Proof.Ways.{word_read, word_small}
+use Rattle.elf_file.proofs.word.Goals as goal
+
+pub returns : goal.returns
+returns c = (search word_read, search word_small)

@@ -1,0 +1,16 @@
+use Rattle.std.proofs.Common.{rules}
+use Rattle.ffi_cells.specs.Proof.Ways.{global-known}
+use Rattle.ffi_cells.specs.Cells.{global_code}
+use Rattle.ffi_cells.proofs.global_code.Goals as goal
+
+pub returns-then-hidden : goal.returns-then-hidden
+returns-then-hidden c = search global-known
+
+pub returns-then-weak : goal.returns-then-weak
+returns-then-weak c = search global-known
+
+pub returns-then-hidden-2 : goal.returns-then-hidden-2
+returns-then-hidden-2 c = search global-known
+
+pub returns : goal.returns
+returns c = search global-known

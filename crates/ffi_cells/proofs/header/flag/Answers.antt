@@ -1,0 +1,9 @@
+use Rattle.std.proofs.Common.{rules}
+use Rattle.ffi_cells.specs.Header.{flag_of}
+use Rattle.ffi_cells.proofs.header.flag.Goals as goal
+
+pub returns-then-b : goal.returns-then-b
+returns-then-b c = rw c.if-b.true
+
+pub returns : goal.returns
+returns c = rw c.if-b.false

@@ -1,0 +1,6 @@
+use Rattle.std.proofs.Common.{rules}
+use Rattle.ffi_cells.specs.Proof.HeaderWays.{tell-told}
+use Rattle.ffi_cells.proofs.header.tell.Goals as goal
+
+pub returns : goal.returns
+returns c = search tell-told

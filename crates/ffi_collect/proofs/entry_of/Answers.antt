@@ -1,0 +1,10 @@
+use Rattle.std.proofs.Common.{rules}
+use Rattle.ffi_collect.specs.Proof.Ways.{entry_known}
+use Rattle.ffi_collect.specs.Calls.{entry_of}
+use Rattle.ffi_collect.proofs.entry_of.Goals as goal
+
+pub returns-then-entered : goal.returns-then-entered
+returns-then-entered c = search entry_known
+
+pub returns : goal.returns
+returns c = search entry_known

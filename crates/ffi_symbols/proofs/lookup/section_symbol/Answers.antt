@@ -1,0 +1,9 @@
+use Rattle.std.proofs.Common.{rules}
+use Rattle.ffi_symbols.specs.Proof.LookupWays.{section-known}
+use Rattle.ffi_symbols.proofs.lookup.section_symbol.Goals as goal
+
+pub returns-in-None : goal.returns-in-None
+returns-in-None c = search section-known
+
+pub returns-in-Symbol : goal.returns-in-Symbol
+returns-in-Symbol c = search section-known

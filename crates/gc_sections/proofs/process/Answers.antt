@@ -1,0 +1,18 @@
+use Rattle.std.proofs.Common.{rules}
+use Prim.Native.Nat.{◌-◌}
+use mathlib.Core.Path.{◌≡◌}
+use lib.ListN.{length}
+use Rattle.gc_sections.specs.Each.{each}
+use Rattle.gc_sections.specs.Reach.{walk_of, visit, process_of}
+use Rattle.gc_sections.specs.Proof.EachWays.{each_on, each-end}
+use Rattle.gc_sections.specs.Proof.ReachWays.{process-start}
+use Rattle.gc_sections.proofs.process.Goals as goal
+
+pub loop-h-init : goal.loop-h-init
+loop-h-init c = search (rules, process-start)
+
+pub loop-h-preserved : goal.loop-h-preserved
+loop-h-preserved c = let called = c.before in let turn = called.before.before in (each_on _ _ _ _ _ _ turn.if1.true called.visit.ensures turn.before.before.loop.invariant.0, search rules)
+
+pub returns : goal.returns
+returns c = search each-end

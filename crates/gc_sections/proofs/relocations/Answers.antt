@@ -1,0 +1,18 @@
+use Rattle.std.proofs.Common.{rules}
+use Prim.Native.Nat.{◌-◌}
+use mathlib.Core.Path.{◌≡◌}
+use lib.ListN.{length}
+use Rattle.gc_sections.specs.Each.{each}
+use Rattle.gc_sections.specs.Reach.{walk_of, relocation, relocations}
+use Rattle.gc_sections.specs.Proof.EachWays.{each_on, each-end}
+use Rattle.gc_sections.specs.Proof.ReachWays.{relocations-start}
+use Rattle.gc_sections.proofs.relocations.Goals as goal
+
+pub loop-j-init : goal.loop-j-init
+loop-j-init c = search (rules, relocations-start)
+
+pub loop-j-preserved : goal.loop-j-preserved
+loop-j-preserved c = let called = c.before in let turn = called.before.before in (each_on _ _ _ _ _ _ turn.loop-test.true called.relocation.ensures turn.before.loop.invariant.0, search rules)
+
+pub returns : goal.returns
+returns c = search each-end

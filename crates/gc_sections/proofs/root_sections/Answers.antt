@@ -1,0 +1,17 @@
+use Rattle.std.proofs.Common.{rules}
+use Prim.Native.Nat.{◌-◌}
+use mathlib.Core.Path.{◌≡◌}
+use lib.ListN.{length}
+use Rattle.gc_sections.specs.Each.{each}
+use Rattle.gc_sections.specs.Reach.{walk_of, root_section}
+use Rattle.gc_sections.specs.Proof.EachWays.{each_start, each_on, each-end}
+use Rattle.gc_sections.proofs.root_sections.Goals as goal
+
+pub loop-i-init : goal.loop-i-init
+loop-i-init c = search (rules, each_start)
+
+pub loop-i-preserved : goal.loop-i-preserved
+loop-i-preserved c = let called = c.before in let turn = called.before.before in (each_on _ _ _ _ _ _ turn.loop-test.true called.root-section.ensures turn.before.loop.invariant.0, search rules)
+
+pub returns : goal.returns
+returns c = search each-end

@@ -1,0 +1,6 @@
+use Rattle.std.proofs.Common.{rules}
+use Rattle.gc_sections.specs.Proof.ReachWays.{start-cleared}
+use Rattle.gc_sections.proofs.start.Goals as goal
+
+pub returns : goal.returns
+returns c = search start-cleared

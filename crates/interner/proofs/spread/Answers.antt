@@ -1,0 +1,9 @@
+use Rattle.std.proofs.Common.{rules}
+use Rattle.interner.specs.Proof.Ways.{spread-fits, spread-is, spread-most}
+use Rattle.interner.proofs.spread.Goals as goal
+
+pub overflow_mul-result : goal.overflow_mul-result
+overflow_mul-result c = search spread-fits
+
+pub returns : goal.returns
+returns c = (search spread-is, search spread-most)

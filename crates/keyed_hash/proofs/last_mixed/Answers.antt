@@ -1,0 +1,12 @@
+use Rattle.std.proofs.Common.{rules}
+use Rattle.keyed_hash.specs.Proof.Ways.{word_small, last_word, last_none}
+use Rattle.keyed_hash.proofs.last_mixed.Goals as goal
+
+pub mixed-requires : goal.mixed-requires
+mixed-requires c = (search rules, (search rules, search word_small))
+
+pub returns-then-i-x : goal.returns-then-i-x
+returns-then-i-x c = search last_word
+
+pub returns : goal.returns
+returns c = search last_none

@@ -1,0 +1,9 @@
+use Rattle.std.proofs.Common.{rules}
+use Rattle.keyed_hash.specs.Proof.Ways.{product-fits, mixed-is, mixed-small}
+use Rattle.keyed_hash.proofs.mixed.Goals as goal
+
+pub overflow_mul-h : goal.overflow_mul-h
+overflow_mul-h c = search product-fits
+
+pub returns : goal.returns
+returns c = (search mixed-is, search mixed-small)

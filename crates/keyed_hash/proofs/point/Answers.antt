@@ -1,0 +1,10 @@
+use Rattle.std.proofs.Common.{rules}
+use Rattle.keyed_hash.specs.Ways.{point-base, point-own}
+use Rattle.keyed_hash.specs.Proof.Ways.{point-small}
+use Rattle.keyed_hash.proofs.point.Goals as goal
+
+pub returns-then-r-eq0 : goal.returns-then-r-eq0
+returns-then-r-eq0 c = (search point-base, search rules)
+
+pub returns : goal.returns
+returns c = (search point-own, search point-small)

@@ -1,0 +1,6 @@
+use Rattle.std.proofs.Common.{rules}
+use Rattle.merge_build.specs.Proof.RelocationWays.{id-put}
+use Rattle.merge_build.proofs.put_id.Goals as goal
+
+pub returns : goal.returns
+returns c = search id-put

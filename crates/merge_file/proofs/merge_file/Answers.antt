@@ -1,0 +1,16 @@
+use Rattle.std.proofs.Common.{rules}
+use mathlib.Core.Path.{refl}
+use Rattle.merge_file.specs.Proof.Ways.{read-room, file-broken, file-read}
+use Rattle.merge_file.proofs.merge_file.Goals as goal
+
+pub returns-then-l : goal.returns-then-l
+returns-then-l c = search file-broken
+
+pub merge_read-requires : goal.merge_read-requires
+merge_read-requires c = search read-room
+
+pub returns : goal.returns
+returns c = let merged = c.before in
+    let reading = merged.before.before.before.before.before.before.before.before.before.before.before.before in
+    let test = reading.before.before in
+    search (file-read, test.if1.false, reading.read.ensures, merged.merge-read.ensures)

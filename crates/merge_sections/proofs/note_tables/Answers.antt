@@ -1,0 +1,17 @@
+use Rattle.std.proofs.Common.{rules}
+use Prim.Native.Nat.{◌-◌}
+use mathlib.Core.Path.{◌≡◌, refl}
+use lib.ListN.{length}
+use Rattle.merge_sections.specs.Notes.{each_from, note_table_of, note_tables_of}
+use Rattle.merge_sections.specs.Proof.Ways.{each_start, each-end, each_on}
+use Rattle.merge_sections.proofs.note_tables.Goals as goal
+
+pub loop-t-init : goal.loop-t-init
+unfolding note_tables_of
+loop-t-init c = (each_start _ _ _, refl)
+
+pub loop-t-preserved : goal.loop-t-preserved
+loop-t-preserved c = (search each_on, search rules)
+
+pub returns : goal.returns
+returns c = search each-end

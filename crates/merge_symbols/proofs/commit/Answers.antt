@@ -1,0 +1,12 @@
+use Rattle.std.proofs.Common.{rules}
+use Rattle.merge_symbols.specs.Proof.Ways.{commit-full, commit-refused, commit-done}
+use Rattle.merge_symbols.proofs.commit.Goals as goal
+
+pub returns-then-number-eq2 : goal.returns-then-number-eq2
+returns-then-number-eq2 c = search commit-full
+
+pub returns-then-number-ne0 : goal.returns-then-number-ne0
+returns-then-number-ne0 c = search commit-refused
+
+pub returns : goal.returns
+returns c = search commit-done

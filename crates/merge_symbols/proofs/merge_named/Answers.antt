@@ -1,0 +1,6 @@
+use Rattle.std.proofs.Common.{rules}
+use Rattle.merge_symbols.specs.Proof.Ways.{named-done}
+use Rattle.merge_symbols.proofs.merge_named.Goals as goal
+
+pub returns : goal.returns
+returns c = search named-done

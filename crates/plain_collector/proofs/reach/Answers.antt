@@ -1,0 +1,6 @@
+use Rattle.std.proofs.Common.{rules}
+use Rattle.plain_collector.specs.Proof.Ways.{reach-all}
+use Rattle.plain_collector.proofs.reach.Goals as goal
+
+pub returns : goal.returns
+returns c = search reach-all

@@ -1,0 +1,18 @@
+use Rattle.std.proofs.Common.{rules}
+use Prim.Native.Nat.{◌-◌, ◌≤◌}
+use mathlib.Core.Path.{◌≡◌}
+use lib.ListN.{length}
+use Rattle.gc_sections.specs.Each.{each}
+use Rattle.gc_sections.specs.Proof.EachWays.{each_start, each_on, each-end}
+use Rattle.plain_collector.specs.Visit.{visited_of, root_symbol}
+use Rattle.plain_collector.specs.Proof.Ways.{symbol-turn}
+use Rattle.plain_collector.proofs.root_symbols.Goals as goal
+
+pub loop-i-init : goal.loop-i-init
+loop-i-init c = search (rules, each_start)
+
+pub loop-i-preserved : goal.loop-i-preserved
+loop-i-preserved c = let called = c.before in let turn = called.before.before.before in (each_on _ _ _ _ _ _ turn.if1.true (symbol-turn _ _ _ _ _ _ _ _ _ called.before.before.marked-lead.ensures called.visit.ensures) turn.before.before.loop.invariant.0, search rules)
+
+pub returns : goal.returns
+returns c = search each-end

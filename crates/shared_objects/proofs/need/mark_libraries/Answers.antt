@@ -1,0 +1,15 @@
+use Rattle.std.proofs.Common.{rules}
+use Prim.Native.Nat.{◌-◌}
+use mathlib.Core.Path.{◌≡◌, refl}
+use lib.ListN.{length}
+use Rattle.shared_objects.specs.Proof.NeedWays.{Marked, marked_start, marked-on, marked-end}
+use Rattle.shared_objects.proofs.need.mark_libraries.Goals as goal
+
+pub loop-k-init : goal.loop-k-init
+loop-k-init c = (marked_start _ _ _ _ _ _, refl)
+
+pub loop-k-preserved : goal.loop-k-preserved
+loop-k-preserved c = (search marked-on, search rules)
+
+pub returns : goal.returns
+returns c = search marked-end

@@ -1,0 +1,12 @@
+use Rattle.std.proofs.Common.{rules}
+use Prim.Native.Nat.{◌-◌}
+use mathlib.Core.Path.{◌≡◌, refl}
+use lib.ListN.{length}
+use Rattle.shared_objects.specs.Proof.NeedWays.{Marked, marked_start, marked-on, marked-end}
+use Rattle.shared_objects.proofs.need.mark_libraries.Given as goal
+
+abbrev pub invariant-loop-k : goal.invariant-loop-k
+invariant-loop-k l = Marked l.k l.inputs l.lists l.id l.count l.rows l.initial.marks l.marks × (length l.marks ≡ length l.initial.marks)
+
+abbrev pub decreases-loop-k : goal.decreases-loop-k
+decreases-loop-k l = l.rows - l.k

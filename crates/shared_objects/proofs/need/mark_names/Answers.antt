@@ -1,0 +1,15 @@
+use Rattle.std.proofs.Common.{rules}
+use Prim.Native.Nat.{◌-◌}
+use mathlib.Core.Path.{◌≡◌, refl}
+use lib.ListN.{length}
+use Rattle.shared_objects.specs.Proof.NeedWays.{Named, named_none, named_more, named-all}
+use Rattle.shared_objects.proofs.need.mark_names.Goals as goal
+
+pub loop-j-init : goal.loop-j-init
+loop-j-init c = (named_none _ _, refl)
+
+pub loop-j-preserved : goal.loop-j-preserved
+loop-j-preserved c = (search named_more, search rules)
+
+pub returns : goal.returns
+returns c = search named-all

@@ -1,0 +1,20 @@
+use Rattle.std.proofs.Common.{rules}
+use Prim.Native.Nat.{◌-◌}
+use mathlib.Core.Path.{◌≡◌}
+use Rattle.cells.specs.Search.{any_from}
+use Rattle.cells.specs.Proof.Search.{any-on, any-stop, any-end}
+use Rattle.shared_objects.specs.Need.{view_of, symbol_wanted, some_wanted}
+use Rattle.shared_objects.specs.Proof.NeedWays.{some-start}
+use Rattle.shared_objects.proofs.need.some_wanted.Goals as goal
+
+pub loop-i-init : goal.loop-i-init
+loop-i-init c = search some-start
+
+pub returns-then-symbol_wanted : goal.returns-then-symbol_wanted
+returns-then-symbol_wanted c = search any-stop
+
+pub loop-i-preserved : goal.loop-i-preserved
+loop-i-preserved c = search any-on
+
+pub returns : goal.returns
+returns c = search any-end

@@ -1,0 +1,12 @@
+use Rattle.std.proofs.Common.{rules}
+use Rattle.shared_objects.specs.Proof.NeedWays.{symbol-named, symbol-nameless, symbol-unprovided}
+use Rattle.shared_objects.proofs.need.symbol_wanted.Goals as goal
+
+pub returns-then-found : goal.returns-then-found
+returns-then-found c = search symbol-named
+
+pub returns-then-is_provided : goal.returns-then-is_provided
+returns-then-is_provided c = search symbol-nameless
+
+pub returns : goal.returns
+returns c = search symbol-unprovided

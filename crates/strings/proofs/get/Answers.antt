@@ -1,0 +1,13 @@
+use Rattle.std.proofs.Common.{rules}
+use mathlib.Core.Path.{sym, refl, ◌∙◌}
+use Rattle.gabi.specs.StringTable.{has_ended}
+use Rattle.strings.specs.Proof.Ways.{empty-looked, empty-front, as-ended}
+use Rattle.strings.proofs.get.Goals as goal
+
+pub returns-then-table-eq0 : goal.returns-then-table-eq0
+returns-then-table-eq0 c = let h = c.if-table-eq0.true in
+    (empty-looked _ _ h, λ f. (refl, empty-front _ _ _ h f))
+
+pub returns : goal.returns
+returns c = let n = c.if-table-eq0.false in
+    (as-ended _ _ _ n c.ended.ensures.0, λ f. c.ended.ensures.1 (sym (has_ended _ _ n) ∙ f))

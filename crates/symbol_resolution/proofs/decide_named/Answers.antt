@@ -1,0 +1,15 @@
+use Rattle.std.proofs.Common.{rules}
+use Rattle.symbol_resolution.specs.Proof.DecideWays.{named-held}
+use Rattle.symbol_resolution.proofs.decide_named.Goals as goal
+
+pub returns-in-Unissued : goal.returns-in-Unissued
+returns-in-Unissued c = search named-held
+
+pub returns-in-Removed : goal.returns-in-Removed
+returns-in-Removed c = search named-held
+
+pub returns-in-Nobody : goal.returns-in-Nobody
+returns-in-Nobody c = search named-held
+
+pub returns-in-Known : goal.returns-in-Known
+returns-in-Known c = search named-held

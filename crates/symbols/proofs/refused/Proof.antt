@@ -1,6 +1,0 @@
-use borrow.Author.Rules.{rules}
-use Rattle.symbols.proofs.refused.Statement.{statement}
-use Rattle.symbols.proofs.refused.Tie as tie
-
-pub refused-spec : {M : Type 1} → statement M
-refused-spec = tie.close (tie.spec (λ c. search rules))

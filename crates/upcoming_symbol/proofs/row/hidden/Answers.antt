@@ -1,0 +1,16 @@
+use Rattle.std.proofs.Common.{rules}
+use Rattle.upcoming_symbol.specs.Judge.{hidden_of}
+use Rattle.upcoming_symbol.specs.Proof.Ways.{hidden-known, hidden-other}
+use Rattle.upcoming_symbol.proofs.row.hidden.Goals as goal
+
+pub returns-then-binding-eq-STB_LOCAL : goal.returns-then-binding-eq-STB_LOCAL
+returns-then-binding-eq-STB_LOCAL c = search hidden-known
+
+pub returns-then-binding-eq-STB_GLOBAL : goal.returns-then-binding-eq-STB_GLOBAL
+returns-then-binding-eq-STB_GLOBAL c = search hidden-known
+
+pub returns-then-binding-eq-STB_WEAK : goal.returns-then-binding-eq-STB_WEAK
+returns-then-binding-eq-STB_WEAK c = search hidden-known
+
+pub returns : goal.returns
+returns c = search hidden-other
