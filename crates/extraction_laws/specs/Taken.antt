@@ -222,6 +222,7 @@ module _ (wanted : List ℕ → Bool) where
 
   names-all : (member : List Named) (e : Named) → In e member → wanted e.name ≡ true → among e.name (wanted_names wanted member) ≡ true
   unfolding among
+  names-all [] e i h = elim i [ ]
   names-all (d ∷ member) e (here q) h = rw (q, h, same_refl e.name)
   names-all (d ∷ member) e (there i) h =
       by-test (wanted d.name) (λ t. by-test (same_name d.name e.name) (λ q. rw (t, q)) (λ q. rw (t, q) (names-all member e i h)))

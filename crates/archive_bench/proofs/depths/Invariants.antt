@@ -1,3 +1,4 @@
+use Rattle.std.proofs.Common.{rules}
 use Rattle.std.proofs.Common.{◌-◌, rules}
 use Rattle.archive_bench.proofs.depths.Given as goal
 

@@ -3,4 +3,4 @@ use Rattle.byte_slices.specs.Proof.Ways.{byte_past}
 use Rattle.byte_slices.proofs.byte_at.Goals as goal
 
 pub returns : goal.returns
-returns c = (search byte_past, search rules)
+returns c = record { value = search byte_past; small = search rules }

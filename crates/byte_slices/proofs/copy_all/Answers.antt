@@ -11,7 +11,7 @@ pub loop-i-init : goal.loop-i-init
 loop-i-init c = (search rules, paste-zero c.args.dst.now c.args.at c.args.x.now, refl)
 
 pub loop-i-preserved : goal.loop-i-preserved
-loop-i-preserved c = let s = c.before in let a = s.before.args in let l : a.at + s.loop.i < length a.dst.now = omega arith in (search rules, rw (s.loop.invariant.1, add-one) (paste-suc a.dst.now a.at a.x.now s.loop.i 0 l c.loop-i-test.true), search rules)
+loop-i-preserved c = let a = c.args in let l : a.at + c.loop-i.i < length a.dst.now = omega arith in (search rules, rw (c.loop-i.invariant.1, add-one) (paste-suc a.dst.now a.at a.x.now c.loop-i.i 0 l c.loop-i-test.true), search rules)
 
 pub returns : goal.returns
 returns c = let e : c.loop-i.i ≡ length c.args.x.now = omega arith in rw (← e) c.loop-i.invariant.1

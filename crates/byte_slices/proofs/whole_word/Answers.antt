@@ -3,4 +3,4 @@ use Rattle.byte_slices.specs.Proof.Ways.{word-whole, whole-bytes}
 use Rattle.byte_slices.proofs.whole_word.Goals as goal
 
 pub returns : goal.returns
-returns c = (search word-whole, search whole-bytes)
+returns c = record { value = search word-whole; bytes = search whole-bytes }

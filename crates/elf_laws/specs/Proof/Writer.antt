@@ -53,15 +53,15 @@ unfolding headers_of
 length-headers_of at [] = refl
 length-headers_of at (x ∷ xs) = ap suc (length-headers_of (at + length x.bytes) xs)
 
-header_of : (at : ℕ) (xs : List Section) (d : Sized 64) (x : Section) (i : ℕ) → i < length xs
+header-of : (at : ℕ) (xs : List Section) (d : Sized 64) (x : Section) (i : ℕ) → i < length xs
     → get_or (headers_of at xs) i d ≡ sized (placed (get_or xs i x) (at + length (bodies (take i xs))))
 unfolding headers_of bodies
-header_of at [] d x i h = absurd (not-suc-le-zero h)
-header_of at (y ∷ xs) d x zero h = ap (λ (p : ℕ). sized (placed y p)) (sym (add-zero at))
-header_of at (y ∷ xs) d x (suc i) h =
+header-of at [] d x i h = absurd (not-suc-le-zero h)
+header-of at (y ∷ xs) d x zero h = ap (λ (p : ℕ). sized (placed y p)) (sym (add-zero at))
+header-of at (y ∷ xs) d x (suc i) h =
     let n = length (bodies (take i xs)) in
     let e : at + length y.bytes + n ≡ at + length (y.bytes ++ bodies (take i xs)) = omega (arith, length-append y.bytes (bodies (take i xs))) in
-    header_of (at + length y.bytes) xs d x i (le_of_suc-le-suc h) ∙ ap (λ (p : ℕ). sized (placed (get_or xs i x) p)) e
+    header-of (at + length y.bytes) xs d x i (le_of_suc-le-suc h) ∙ ap (λ (p : ℕ). sized (placed (get_or xs i x) p)) e
 
 pub table-long : (xs : List Section) → length (joined (headers_of (start xs) xs)) ≡ length xs * 64
 table-long xs = length-joined (headers_of (start xs) xs) ∙ ap (λ (k : ℕ). k * 64) (length-headers_of (start xs) xs)
@@ -84,7 +84,7 @@ module _ (s : ℕ) (xs : List Section) (z : length xs ≡ 0 → ⊥) (m : length
       let inside : i < length (headers_of (start xs) xs) = omega (arith, length-headers_of (start xs) xs) in
       ap (λ (t : List ℕ). header_of (part t (i * 64) 64)) table-back
       ∙ ap header_of (entry-back (headers_of (start xs) xs) (sized p) i inside)
-      ∙ ap (λ (e : Sized 64). header_of e.bytes) (header_of (start xs) xs (sized p) x i h)
+      ∙ ap (λ (e : Sized 64). header_of e.bytes) (header-of (start xs) xs (sized p) x i h)
       ∙ header-back p f
 
 -- ---- bytes

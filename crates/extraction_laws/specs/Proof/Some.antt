@@ -49,6 +49,7 @@ both_ways false false f g = refl
 
 pub some_in : (p : Named → Bool) (m : List Named) (e : Named) → In e m → p e ≡ true → some p m ≡ true
 unfolding some
+some_in p [] e i h = elim i [ ]
 some_in p (d ∷ m) e (here q) h = rw (ap p q ∙ h)
 some_in p (d ∷ m) e (there i) h = go (p d) (some_in p m e i h)
   where

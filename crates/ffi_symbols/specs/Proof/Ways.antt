@@ -19,9 +19,9 @@ pub said-known : (a : Answer) (t : Reply) (k : Answer) → a ≡ k → t ≡ say
 said-known a t k e q = simp (q, e)
 
 module _ (h b n s x : List ℕ) (key : ℕ) (t : NewLeft) where
-  pub new_told : (gabi : Bool) (w : New.NewLeft) (r : Reply) (y : Told) → w ≡ New.new_of key gabi b n s x → r ≡ saying w.said → y ≡ tell_of h w.table.link r
+  pub new-told : (gabi : Bool) (w : New.NewLeft) (r : Reply) (y : Told) → w ≡ New.new_of key gabi b n s x → r ≡ saying w.said → y ≡ tell_of h w.table.link r
       → t ≡ new_left y w.bytes w.table.names w.table.symbols w.table.sections → t ≡ new_told h (New.new_of key gabi b n s x)
-  new_told gabi w r y f g j q = simp (q, j, g, ← f)
+  new-told gabi w r y f g j q = simp (q, j, g, ← f)
 
   module _ (profile : ℕ) where
     pub new-short : length h < 24 → t ≡ new_left (told 1 h) b n s x → t ≡ new_call h key profile b n s x

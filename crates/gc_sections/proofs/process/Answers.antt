@@ -12,7 +12,7 @@ pub loop-h-init : goal.loop-h-init
 loop-h-init c = search (rules, process-start)
 
 pub loop-h-preserved : goal.loop-h-preserved
-loop-h-preserved c = let called = c.before in let turn = called.before.before in (each_on _ _ _ _ _ _ turn.if1.true called.visit.ensures turn.before.before.loop.invariant.0, search rules)
+loop-h-preserved c = (each_on _ _ _ _ _ _ c.loop-h-test.true c.visit-u.ensures c.loop-h.invariant.0, search rules)
 
 pub returns : goal.returns
 returns c = search each-end

@@ -12,7 +12,7 @@ pub loop-j-init : goal.loop-j-init
 loop-j-init c = search (rules, relocations-start)
 
 pub loop-j-preserved : goal.loop-j-preserved
-loop-j-preserved c = let called = c.before in let turn = called.before.before in (each_on _ _ _ _ _ _ turn.loop-test.true called.relocation.ensures turn.before.loop.invariant.0, search rules)
+loop-j-preserved c = (each_on _ _ _ _ _ _ c.loop-j-test.true c.relocation-u.ensures c.loop-j.invariant.0, search rules)
 
 pub returns : goal.returns
 returns c = search each-end

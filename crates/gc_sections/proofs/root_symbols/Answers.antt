@@ -11,7 +11,7 @@ pub loop-i-init : goal.loop-i-init
 loop-i-init c = search (rules, each_start)
 
 pub loop-i-preserved : goal.loop-i-preserved
-loop-i-preserved c = let called = c.before in let turn = called.before.before in (each_on _ _ _ _ _ _ turn.if1.true called.root-symbol.ensures turn.before.before.loop.invariant.0, search rules)
+loop-i-preserved c = (each_on _ _ _ _ _ _ c.loop-i-test.true c.root_symbol-u.ensures c.loop-i.invariant.0, search rules)
 
 pub returns : goal.returns
 returns c = search each-end

@@ -6,4 +6,4 @@ pub overflow_mul-result : goal.overflow_mul-result
 overflow_mul-result c = search spread-fits
 
 pub returns : goal.returns
-returns c = (search spread-is, search spread-most)
+returns c = record { value = search spread-is; below = search spread-most }

@@ -1,3 +1,4 @@
+use Rattle.std.proofs.Common.{rules}
 use Rattle.std.proofs.Common.{◌-◌, length, rules}
 use Rattle.interner_bench.proofs.chains.Given as goal
 

@@ -1,3 +1,4 @@
+use Rattle.std.proofs.Common.{rules}
 use Rattle.std.proofs.Common.{ℕ, sym, rules}
 use lib.ListN.{length-replicate}
 use Rattle.interner_bench.proofs.main.Goals as goal

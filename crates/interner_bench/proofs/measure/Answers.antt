@@ -1,3 +1,4 @@
+use Rattle.std.proofs.Common.{rules}
 use Rattle.std.proofs.Common.{sym, length-take-le, rules}
 use Rattle.interner_bench.proofs.measure.Goals as goal
 

@@ -12,4 +12,4 @@ pub loop-i-preserved : goal.loop-i-preserved
 loop-i-preserved c = (search rules, search rules, search rest-whole)
 
 pub returns : goal.returns
-returns c = (search hash-end, search half-small)
+returns c = record { value = search hash-end; small = search half-small }

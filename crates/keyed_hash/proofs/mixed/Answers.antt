@@ -6,4 +6,4 @@ pub overflow_mul-h : goal.overflow_mul-h
 overflow_mul-h c = search product-fits
 
 pub returns : goal.returns
-returns c = (search mixed-is, search mixed-small)
+returns c = record { value = search mixed-is; small = search mixed-small }

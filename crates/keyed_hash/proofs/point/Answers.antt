@@ -4,7 +4,7 @@ use Rattle.keyed_hash.specs.Proof.Ways.{point-small}
 use Rattle.keyed_hash.proofs.point.Goals as goal
 
 pub returns-then-r-eq0 : goal.returns-then-r-eq0
-returns-then-r-eq0 c = (search point-base, search rules)
+returns-then-r-eq0 c = record { value = search point-base; small = search rules }
 
 pub returns : goal.returns
-returns c = (search point-own, search point-small)
+returns c = record { value = search point-own; small = search point-small }

@@ -4,4 +4,4 @@ use Rattle.keyed_hash.specs.Proof.Ways.{four-small}
 use Rattle.keyed_hash.proofs.whole_word.Goals as goal
 
 pub returns : goal.returns
-returns c = (search word-whole, search four-small)
+returns c = record { value = search word-whole; small = search four-small }

@@ -10,7 +10,4 @@ pub merge_read-requires : goal.merge_read-requires
 merge_read-requires c = search read-room
 
 pub returns : goal.returns
-returns c = let merged = c.before in
-    let reading = merged.before.before.before.before.before.before.before.before.before.before.before.before in
-    let test = reading.before.before in
-    search (file-read, test.if1.false, reading.read.ensures, merged.merge-read.ensures)
+returns c = search (file-read, c.if-l.false, c.read-r.ensures, c.merge_read.ensures)

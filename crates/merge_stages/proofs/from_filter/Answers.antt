@@ -1,3 +1,4 @@
+use Rattle.std.proofs.Common.{rules}
 use mathlib.Core.Path.{refl}
 use Rattle.merge_stages.specs.Proof.Ways.{filter-refused, filter-local, filter-passed}
 use Rattle.merge_stages.proofs.from_filter.Goals as goal

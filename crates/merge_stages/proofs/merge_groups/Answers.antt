@@ -1,3 +1,4 @@
+use Rattle.std.proofs.Common.{rules}
 use mathlib.Core.Path.{◌∙◌}
 use Rattle.merge_stages.specs.Proof.Ways.{groups-done}
 use Rattle.merge_stages.proofs.merge_groups.Goals as goal

@@ -1,3 +1,4 @@
+use Rattle.std.proofs.Common.{rules}
 use mathlib.Core.Path.{refl, ◌∙◌}
 use Rattle.merge_stages.specs.Proof.Ways.{table-stopped, table-built}
 use Rattle.merge_stages.proofs.merge_table.Goals as goal

@@ -6,8 +6,8 @@ use Rattle.strings.proofs.get.Goals as goal
 
 pub returns-then-table-eq0 : goal.returns-then-table-eq0
 returns-then-table-eq0 c = let h = c.if-table-eq0.true in
-    (empty-looked _ _ h, λ f. (refl, empty-front _ _ _ h f))
+    record { string_meets = empty-looked _ _ h; place = λ f. (refl, empty-front _ _ _ h f) }
 
 pub returns : goal.returns
 returns c = let n = c.if-table-eq0.false in
-    (as-ended _ _ _ n c.ended.ensures.0, λ f. c.ended.ensures.1 (sym (has_ended _ _ n) ∙ f))
+    record { string_meets = as-ended _ _ _ n c.ended.ensures.ended_meets; place = λ f. c.ended.ensures.place (sym (has_ended _ _ n) ∙ f) }

@@ -9,8 +9,8 @@ returns-then-judged-ne0 c = search pass-judged
 pub returns-then-x-w : goal.returns-then-x-w
 returns-then-x-w c = search pass-removed
 
-pub make_pass-requires : goal.make_pass-requires
-make_pass-requires c = (search rules, (search rules, search noted-enough))
+pub make_pass-requires-clause-noted : goal.make_pass-requires-clause-noted
+make_pass-requires-clause-noted c = search noted-enough
 
 pub returns : goal.returns
 returns c = search pass-made

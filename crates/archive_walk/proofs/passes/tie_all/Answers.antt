@@ -14,10 +14,8 @@ pub loop-k-init : goal.loop-k-init
 loop-k-init c = search (rules, sub-zero)
 
 pub loop-k-preserved : goal.loop-k-preserved
-loop-k-preserved c = let tied = c.before in
-    let turn = tied.before.before in
-    let loop = turn.before.before.loop in
-    (count-on _ _ _ _ _ _ _ _ _ _ _ tied.tie-noted.ensures loop.invariant.0, search rules, all-on _ _ _ _ _ _ _ _ _ turn.if1.true tied.tie-noted.ensures loop.invariant.2, noted-on _ _ _ _ _ _ _ _ _ _ _ _ tied.tie-noted.ensures loop.invariant.3)
+loop-k-preserved c = let loop = c.loop-k in
+    (count-on _ _ _ _ _ _ _ _ _ _ _ c.tie_noted-n.ensures loop.invariant.0, search rules, all-on _ _ _ _ _ _ _ _ _ c.loop-k-test.true c.tie_noted-n.ensures loop.invariant.2, noted-on _ _ _ _ _ _ _ _ _ _ _ _ c.tie_noted-n.ensures loop.invariant.3)
 
 pub returns : goal.returns
 returns c = search all_end
