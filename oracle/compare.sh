@@ -1,6 +1,6 @@
 #!/bin/sh
 # Random links of every kind on the Rust and on this port, in one process: every row, answer and
-# refusal. Stops at the first difference with its link made short. Needs target/staticlib/libffi.a.
+# refusal. Stops at the first difference with its link made short. Needs crates/ffi/out/libffi.a.
 # The kept links come first. With `gabi` the links are of the gABI profile, and what stands for the
 # Rust is the plain reading (driver/src/model).
 # usage: compare.sh [SEED [LINKS]], compare.sh gabi [SEED [LINKS]], or compare.sh list < LIST

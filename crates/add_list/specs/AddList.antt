@@ -8,7 +8,6 @@ use Rattle.symbol.specs.Codes.{file_at}
 use Rattle.upcoming_symbol.specs.declared.UpcomingSymbol.{UpcomingSymbol}
 use Rattle.upcoming_symbol.specs.declared.UpcomingSymbol.TheVariants.{Elf}
 use Rattle.symbol_resolution.specs.Apply.{Table}
-use Rattle.symbols.specs.Calls.{Left}
 use Rattle.symbols.specs.Add.{add_of}
 use Rattle.elf_object.specs.Rows.{rows_in, field, elf_at}
 

@@ -4,6 +4,7 @@
 #![tactic(auto)]
 
 use link::Interned;
+use std::rt::CpuClock;
 use symbol::SttFile;
 use symbols::Symbols;
 use upcoming_symbol::{ElfSymbol, UpcomingSymbol};
@@ -137,12 +138,19 @@ fn print(fd: i32, adds: usize, what: &[u8], n: u64) {
     io::write_all(fd, b"\n");
 }
 
-// Processor time, in microseconds.
-fn clock() -> u64 {
-    symbol::word_of(libc::clock())
+// The processor time that the process has used, in microseconds; all ones where it can't be read, as C's clock has -1.
+fn clock(rt: &impl CpuClock) -> u64 {
+    match rt.process_cpu_time() {
+        Err(_) => 0xffff_ffff_ffff_ffff,
+        Ok(used) => {
+            let seconds = used.as_secs().wrapping_mul(1_000_000);
+            seconds.wrapping_add(u64::from(used.subsec_micros()))
+        }
+    }
 }
 
 fn run(
+    rt: &impl CpuClock,
     bytes: &mut [u8],
     names: &mut [u64],
     symbols: &mut [u64],
@@ -150,9 +158,9 @@ fn run(
     count: usize,
     times: usize,
 ) {
-    let start = clock();
+    let start = clock(rt);
     let rows = fill_often(bytes, names, symbols, sections, count, times);
-    let spent = std::num::wrapping_sub_u64(clock(), start);
+    let spent = clock(rt).wrapping_sub(start);
     if count < 32768 {
         print(1, count * 2, b" adds, rows: ", rows as u64);
         print(2, count * 2, b" adds, nanoseconds each: ", spent / 650);
@@ -161,6 +169,7 @@ fn run(
 
 // With as many rows as names: one for each, and one for the empty name and the null symbol.
 fn measure(
+    rt: &impl CpuClock,
     bytes: &mut [u8],
     names: &mut [u64],
     symbols: &mut [u64],
@@ -174,6 +183,7 @@ fn measure(
         if named <= names.len() {
             if rows <= symbols.len() {
                 run(
+                    rt,
                     bytes,
                     &mut names[..named],
                     &mut symbols[..rows],
@@ -186,16 +196,22 @@ fn measure(
     }
 }
 
-fn report(bytes: &mut [u8], names: &mut [u64], symbols: &mut [u64], sections: &mut [u64]) {
-    measure(bytes, names, symbols, sections, 50, 6500);
-    measure(bytes, names, symbols, sections, 5000, 65);
-    measure(bytes, names, symbols, sections, 32500, 10);
+fn report(
+    rt: &impl CpuClock,
+    bytes: &mut [u8],
+    names: &mut [u64],
+    symbols: &mut [u64],
+    sections: &mut [u64],
+) {
+    measure(rt, bytes, names, symbols, sections, 50, 6500);
+    measure(rt, bytes, names, symbols, sections, 5000, 65);
+    measure(rt, bytes, names, symbols, sections, 32500, 10);
 }
 
-fn main() {
+fn main(rt: HostRuntime) {
     let mut names = [0u64; 292509];
     let mut symbols = [0u64; 260008];
     let mut sections = [0u64; 9];
     let mut bytes = [0u8; 393216];
-    report(&mut bytes, &mut names, &mut symbols, &mut sections);
+    report(&rt, &mut bytes, &mut names, &mut symbols, &mut sections);
 }

@@ -5,6 +5,7 @@
 #![tactic(auto)]
 
 use link::{Interned, Link, SymbolId};
+use std::io::Stdin;
 use symbol::{SttFile, Symbol, SymbolValue, SymbolVisibility};
 use symbols::Symbols;
 use text::{Lines, Number, Step, Taken};
@@ -329,19 +330,19 @@ fn taken_line(
     }
 }
 
-fn read_line(buf: &mut [u8], lines: Lines, before: Taken) -> Step {
+fn read_line(input: &mut Stdin, buf: &mut [u8], lines: Lines, before: Taken) -> Step {
     if let Taken::Long = before {
-        let rest = text::skip_line(buf, lines);
-        return text::next_line(buf, rest);
+        let rest = text::skip_line(input, buf, lines);
+        return text::next_line(input, buf, rest);
     }
-    text::next_line(buf, lines)
+    text::next_line(input, buf, lines)
 }
 
 // The sheet at its next line.
-fn read_on(s: Sheet, buf: &mut [u8]) -> Sheet {
+fn read_on(s: Sheet, input: &mut Stdin, buf: &mut [u8]) -> Sheet {
     if s.going {
         let before = s.taken;
-        let step = read_line(buf, s.lines, before);
+        let step = read_line(input, buf, s.lines, before);
         let taken = step.taken;
         let line = std::num::wrapping_add_u64(s.line, 1);
         return sheet_at(s.table, step.lines, taken, line, s.blank, s.refused, true);
@@ -351,6 +352,7 @@ fn read_on(s: Sheet, buf: &mut [u8]) -> Sheet {
 
 fn turn(
     s: Sheet,
+    input: &mut Stdin,
     buf: &mut [u8],
     bytes: &mut [u8],
     names: &mut [u64],
@@ -359,11 +361,12 @@ fn turn(
     refusals: &mut [u64],
 ) -> Sheet {
     let next = taken_line(s, buf, bytes, names, symbols, sections, refusals);
-    read_on(next, buf)
+    read_on(next, input, buf)
 }
 
 fn turns(
     s: Sheet,
+    input: &mut Stdin,
     buf: &mut [u8],
     bytes: &mut [u8],
     names: &mut [u64],
@@ -375,7 +378,7 @@ fn turns(
     let mut left: u64 = 0xffff_ffff_ffff_ffff;
     while 0 < left {
         if now.going {
-            now = turn(now, buf, bytes, names, symbols, sections, refusals);
+            now = turn(now, input, buf, bytes, names, symbols, sections, refusals);
             left -= 1;
         } else {
             return now;
@@ -390,15 +393,15 @@ fn no_names(s: Sheet) -> Sheet {
 }
 
 // At the first data line: the line of names before it says nothing, but has to be there.
-fn first_line(buf: &mut [u8], table: Symbols) -> Sheet {
-    let step = text::next_line(buf, text::new());
+fn first_line(input: &mut Stdin, buf: &mut [u8], table: Symbols) -> Sheet {
+    let step = text::next_line(input, buf, text::new());
     let taken = step.taken;
     let s = sheet_at(table, step.lines, taken, 0, 0, 0, true);
     match taken {
         Taken::End => no_names(s),
         Taken::More => no_names(s),
-        Taken::Long => read_on(s, buf),
-        Taken::Line { from: _, len: _ } => read_on(s, buf),
+        Taken::Long => read_on(s, input, buf),
+        Taken::Line { from: _, len: _ } => read_on(s, input, buf),
     }
 }
 
@@ -537,6 +540,7 @@ fn print(s: Sheet, buf: &mut [u8], bytes: &[u8], names: &[u64], symbols: &[u64],
 
 fn read_and_print(
     table: Symbols,
+    input: &mut Stdin,
     buf: &mut [u8],
     bytes: &mut [u8],
     names: &mut [u64],
@@ -544,12 +548,13 @@ fn read_and_print(
     sections: &mut [u64],
     refusals: &mut [u64],
 ) {
-    let first = first_line(buf, table);
-    let s = turns(first, buf, bytes, names, symbols, sections, refusals);
+    let first = first_line(input, buf, table);
+    let s = turns(first, input, buf, bytes, names, symbols, sections, refusals);
     print(s, buf, bytes, names, symbols, refusals);
 }
 
 fn run(
+    input: &mut Stdin,
     buf: &mut [u8],
     bytes: &mut [u8],
     names: &mut [u64],
@@ -558,10 +563,12 @@ fn run(
     refusals: &mut [u64],
 ) {
     let o = Symbols::new(0, false, bytes, names, symbols, sections);
-    read_and_print(o.table, buf, bytes, names, symbols, sections, refusals);
+    read_and_print(
+        o.table, input, buf, bytes, names, symbols, sections, refusals,
+    );
 }
 
-fn main() {
+fn main(rt: HostRuntime) {
     let mut names = [0u64; 368649];
     let mut symbols = [0u64; 327680];
     let mut sections = [0u64; 90];
@@ -569,6 +576,7 @@ fn main() {
     let mut buf = [0u8; 589824];
     let mut refusals = [0u64; 65536];
     run(
+        &mut rt.stdin(),
         &mut buf,
         &mut bytes,
         &mut names,

@@ -2,32 +2,34 @@
 #![tactic(auto)]
 
 use archive_walk::{Begun, Offer, Walk};
-use libc::STDOUT_FILENO;
 use link::{Interned, Link, Refusal, SymbolId};
 use object_requirement::Admission;
 use symbol::SttFile;
 use symbols::Symbols;
 use upcoming_symbol::{ElfSymbol, UpcomingSymbol};
 
+// The descriptor of standard output.
+const STANDARD_OUTPUT: i32 = 1;
+
 fn space() {
-    io::write_all(STDOUT_FILENO, b" ");
+    io::write_all(STANDARD_OUTPUT, b" ");
 }
 
 fn line() {
-    io::write_all(STDOUT_FILENO, b"\n");
+    io::write_all(STANDARD_OUTPUT, b"\n");
 }
 
 fn print_refusal(r: Refusal) {
-    io::write_all(STDOUT_FILENO, b"refused ");
-    io::print_decimal(STDOUT_FILENO, r.number);
+    io::write_all(STANDARD_OUTPUT, b"refused ");
+    io::print_decimal(STANDARD_OUTPUT, r.number);
     space();
-    io::print_decimal(STDOUT_FILENO, r.place);
+    io::print_decimal(STANDARD_OUTPUT, r.place);
     line();
 }
 
 fn print_passes(what: &[u8], passes: usize) {
-    io::write_all(STDOUT_FILENO, what);
-    io::print_decimal(STDOUT_FILENO, passes as u64);
+    io::write_all(STANDARD_OUTPUT, what);
+    io::print_decimal(STANDARD_OUTPUT, passes as u64);
     line();
 }
 
@@ -38,8 +40,8 @@ fn print_offer(offer: Offer) {
             entry: _,
             passes,
         } => {
-            io::write_all(STDOUT_FILENO, b"member ");
-            io::print_decimal(STDOUT_FILENO, offset);
+            io::write_all(STANDARD_OUTPUT, b"member ");
+            io::print_decimal(STANDARD_OUTPUT, offset);
             print_passes(b" pass ", passes);
         }
         Offer::Done { passes } => print_passes(b"done ", passes),
@@ -248,20 +250,20 @@ fn removed_name(
     let w1 = next(w, index, cells, l, bytes, names, symbols);
     print_passes(b"passes ", w1.passes);
     if same_cells(cells, before, 32) {
-        io::write_all(STDOUT_FILENO, b"cells as they were\n");
+        io::write_all(STANDARD_OUTPUT, b"cells as they were\n");
     }
 }
 
 // ---- admission
 
 fn print_admission(what: &[u8], a: Admission) {
-    io::write_all(STDOUT_FILENO, what);
+    io::write_all(STANDARD_OUTPUT, what);
     match a {
         Admission::Yes => {
-            io::write_all(STDOUT_FILENO, b"yes\n");
+            io::write_all(STANDARD_OUTPUT, b"yes\n");
         }
         Admission::No => {
-            io::write_all(STDOUT_FILENO, b"no\n");
+            io::write_all(STANDARD_OUTPUT, b"no\n");
         }
         Admission::Refused { refusal } => print_refusal(refusal),
     }

@@ -1,25 +1,10 @@
 -- Document 01's worked examples of a walk, computed: P10, P11, for both profiles with a strong name; then first-seen order, a removed name, and a
 -- weak reference by profile.
 -- Assumes nothing.
-use Rattle.std.specs.Prelude.{ℕ, ◌≡◌, refl, Bool, true, false, List, [], ◌∷◌, replicate}
-use Rattle.gabi.specs.StringTable.{before_zero, ended, name_at}
-use Rattle.cells.specs.Rows.{put_row}
-use Rattle.byte_slices.specs.Bytes.{word_at, same}
-use Rattle.link.specs.Bounds.{lesser}
-use Rattle.link.specs.Judge.{judge_sections, judge_names, judge_lists, after_symbols, after_sections, judge_of}
+use Rattle.std.specs.Prelude.{ℕ, ◌≡◌, Bool, true, false, List, [], ◌∷◌, replicate}
 use Rattle.link.specs.Counts.{no_names, with_names, with_symbols, with_profile}
-use Rattle.keyed_hash.specs.Keyed as Keyed
-use Rattle.interner.specs.Hash.{spread, head_cell}
-use Rattle.interner.specs.Names.{chase, seek_of, find_from, find_of}
-use Rattle.symbol_resolution.specs.Holder.{held_by, holder_of}
-use Rattle.symbol_resolution.specs.RowsUndefined.{strong_undefined}
-use Rattle.archive_index.specs.Index.{count_of, offset_of, after_of, cut_of}
-use Rattle.archive_index.specs.Rows as Rows
-use Rattle.archive_index.specs.Open.{open_rows_of, open_names_of, open_entries_of, open_of}
-use Rattle.archive_walk.specs.Look.{Table, table_of, judge_table, name_holder, removed_name, ties_row, tied_name}
-use Rattle.archive_walk.specs.Names.{name_chain, along, bears_of, borne_from, chained, headed_of, noted_of}
-use Rattle.archive_walk.specs.Walk.{begun_of, start_of, offer_of, marked, enqueue, tie_of, tie_all, removed_of, make_of, search_of, pass_of, walk_fits, go_of, next_of}
-use Rattle.archive_laws.specs.Runs.{Run, step_run, history, start_run}
+use Rattle.archive_walk.specs.Look.{Table, table_of}
+use Rattle.archive_laws.specs.Runs.{Run, history, start_run}
 
 -- a row's codes of visibility
 abbrev strong : ℕ
@@ -119,29 +104,5 @@ abbrev pub All : List Example → Type 0
 All [] = Unit {0}
 All (e ∷ es) = Right e × All es
 
-abbrev in_both : (Bool → Example) → List Example → List Example
+abbrev pub in_both : (Bool → Example) → List Example → List Example
 in_both e es = e false ∷ e true ∷ es
-
-pub examples : All (in_both p10_in (in_both p11_in (in_both first_tied (in_both removed_later (in_both nothing (weak_ties ∷ weak_ties_none ∷ []))))))
-unfolding before_zero ended name_at put_row same lesser judge_sections judge_names judge_lists after_symbols after_sections judge_of word_at Keyed.folded Keyed.mixed Keyed.hash_from Keyed.point_of Keyed.hash_of spread head_cell chase seek_of find_from find_of held_by holder_of count_of offset_of after_of cut_of Rows.descend Rows.spot_of Rows.enter_of Rows.enter_all Rows.no_heads Rows.rows_of open_rows_of open_names_of open_entries_of open_of name_chain along bears_of borne_from chained headed_of noted_of judge_table name_holder removed_name strong_undefined ties_row tied_name begun_of start_of offer_of marked enqueue tie_of tie_all removed_of make_of search_of pass_of walk_fits go_of next_of step_run history start_run
-examples =
-    ((refl, refl, refl), ((refl, refl, refl), ((refl, refl, refl), ((refl, refl, refl), ((refl, refl, refl), ((refl, refl, refl), ((refl, refl, refl), ((refl, refl, refl), ((refl, refl, refl), ((refl, refl, refl), ((refl, refl, refl), ((refl, refl, refl), tt))))))))))))
-
--- for the list of all examples that are marked for proof
-pub p10-right : Right p10
-p10-right = examples.0
-
-pub p10-gabi-right : Right (p10_in true)
-p10-gabi-right = examples.1.0
-
-pub p11-right : Right p11
-p11-right = examples.1.1.0
-
-pub p11-gabi-right : Right (p11_in true)
-p11-gabi-right = examples.1.1.1.0
-
-pub weak-ties-right : Right weak_ties
-weak-ties-right = examples.1.1.1.1.1.1.1.1.1.1.0
-
-pub weak-ties-none-right : Right weak_ties_none
-weak-ties-none-right = examples.1.1.1.1.1.1.1.1.1.1.1.0

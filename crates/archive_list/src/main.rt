@@ -5,41 +5,47 @@
 #![tactic(auto)]
 
 use archive_walk::{Begun, Offer, Walk};
-use libc::{STDIN_FILENO, STDOUT_FILENO};
 use link::{Interned, Link, Refusal};
+use std::rt::Env;
 use symbol::SttFile;
 use symbols::Symbols;
 use upcoming_symbol::{ElfSymbol, UpcomingSymbol};
 
+// The descriptor of standard input.
+const STANDARD_INPUT: i32 = 0;
+
+// The descriptor of standard output.
+const STANDARD_OUTPUT: i32 = 1;
+
 fn space() {
-    io::write_all(STDOUT_FILENO, b" ");
+    io::write_all(STANDARD_OUTPUT, b" ");
 }
 
 fn line() {
-    io::write_all(STDOUT_FILENO, b"\n");
+    io::write_all(STANDARD_OUTPUT, b"\n");
 }
 
 fn print_refusal(r: Refusal) {
-    io::write_all(STDOUT_FILENO, b"refused ");
-    io::print_decimal(STDOUT_FILENO, r.number);
+    io::write_all(STANDARD_OUTPUT, b"refused ");
+    io::print_decimal(STANDARD_OUTPUT, r.number);
     space();
-    io::print_decimal(STDOUT_FILENO, r.place);
+    io::print_decimal(STANDARD_OUTPUT, r.place);
     line();
 }
 
 // ---- the entries
 
 fn print_entry(index: &[u8], cells: &[u64], k: usize) {
-    io::print_decimal(STDOUT_FILENO, k as u64);
+    io::print_decimal(STANDARD_OUTPUT, k as u64);
     space();
-    io::print_decimal(STDOUT_FILENO, archive_index::offset(index, k));
+    io::print_decimal(STANDARD_OUTPUT, archive_index::offset(index, k));
     space();
-    io::write_all(STDOUT_FILENO, archive_index::name(index, cells, k));
+    io::write_all(STANDARD_OUTPUT, archive_index::name(index, cells, k));
     line();
 }
 
 fn print_entries(index: &[u8], cells: &[u64], entries: usize) {
-    io::write_all(STDOUT_FILENO, b"entry offset name\n");
+    io::write_all(STANDARD_OUTPUT, b"entry offset name\n");
     for k in 0..entries {
         print_entry(index, cells, k);
     }
@@ -96,14 +102,14 @@ fn undefined(
 // ---- the walk
 
 fn print_member(index: &[u8], entries: usize, offset: u64, entry: usize, passes: usize) {
-    io::print_decimal(STDOUT_FILENO, passes as u64);
+    io::print_decimal(STANDARD_OUTPUT, passes as u64);
     space();
-    io::print_decimal(STDOUT_FILENO, entry as u64);
+    io::print_decimal(STANDARD_OUTPUT, entry as u64);
     space();
-    io::print_decimal(STDOUT_FILENO, offset);
+    io::print_decimal(STANDARD_OUTPUT, offset);
     space();
     io::write_all(
-        STDOUT_FILENO,
+        STANDARD_OUTPUT,
         archive_reader::entry_name(index, entries, entry),
     );
     line();
@@ -117,8 +123,8 @@ fn print_offer(index: &[u8], entries: usize, offer: Offer) {
             passes,
         } => print_member(index, entries, offset, entry, passes),
         Offer::Done { passes } => {
-            io::write_all(STDOUT_FILENO, b"done ");
-            io::print_decimal(STDOUT_FILENO, passes as u64);
+            io::write_all(STANDARD_OUTPUT, b"done ");
+            io::print_decimal(STANDARD_OUTPUT, passes as u64);
             line();
         }
         Offer::Refused { refusal } => print_refusal(refusal),
@@ -151,7 +157,7 @@ fn walk(
     names: &[u64],
     symbols: &[u64],
 ) {
-    io::write_all(STDOUT_FILENO, b"pass entry offset name\n");
+    io::write_all(STANDARD_OUTPUT, b"pass entry offset name\n");
     let mut w = start;
     let mut left = start.entries;
     while 0 < left {
@@ -195,11 +201,11 @@ fn run(
     list(index, cells, l, bytes, names, symbols);
 }
 
-fn main() {
+fn main(rt: HostRuntime) {
     let mut index = io::large_buffer();
-    let n = io::read_full(STDIN_FILENO, &mut index);
+    let n = io::read_full(STANDARD_INPUT, &mut index);
     let mut name = io::buffer();
-    let m = os::arg(1, &mut name);
+    let m = rt.arg(1, &mut name).unwrap_or(0);
     let mut cells = [0u64; 65536];
     let mut bytes = [0u8; 4096];
     let mut names = [0u64; 18];

@@ -1,5 +1,5 @@
 // The archive index as a struct that holds the caller's slice and the number of entries, and gives an entry's offset and name. The functions over the
-// struct are thin, and proved by hand; each has one of plain parameters above it.
+// struct are thin; each has one of plain parameters above it.
 #![tactic(auto)]
 
 ghost use Rattle.std.specs.Prelude.{◌≡◌, ◌+◌, ◌*◌, ◌≤◌, length};

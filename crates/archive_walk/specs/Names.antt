@@ -2,7 +2,7 @@
 -- The chains lie in the cells in which the index had the tree of members while it was opened: entry k's link and the head of chain k. A start leaves them empty; a pass chains an entry when it marks its name as required, once for each member and name: so neither entries that no
 -- pass marked nor copies of one name make a chain longer.
 -- Assumes nothing.
-use Rattle.std.specs.Prelude.{ℕ, zero, suc, ◌+◌, ◌*◌, ◌-◌, ◌/◌, ◌%◌, Bool, true, false, cond, List, eqb, ltb, set}
+use Rattle.std.specs.Prelude.{ℕ, zero, suc, ◌+◌, ◌-◌, ◌%◌, Bool, true, false, cond, List, eqb, ltb, set}
 use Rattle.byte_slices.specs.Bytes.{same}
 use Rattle.keyed_hash.specs.Keyed.{hash_of, hash_bound}
 use Rattle.archive_index.specs.Rows.{required_at, member_at, next_at, head_at, stored_name, required_field, link_field, head_field, rows_in, cell_of}

@@ -1,6 +1,6 @@
 -- Document 01, "Archives": the walk over an archive's members, call by call.
 -- Assumes nothing.
-use Rattle.std.specs.Prelude.{ℕ, zero, suc, ◌+◌, ◌*◌, ◌/◌, Bool, true, false, cond, List, [], ◌∷◌, eqb, ltb, set, length}
+use Rattle.std.specs.Prelude.{ℕ, zero, suc, ◌+◌, Bool, true, false, cond, List, [], ◌∷◌, eqb, ltb, set, length}
 use Rattle.link.specs.Bounds.{not_lent}
 use Rattle.link.specs.Judge.{refused}
 use Rattle.link.specs.Said.{SaidWith}

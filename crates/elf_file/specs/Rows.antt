@@ -82,8 +82,8 @@ flags_of file h =
     h.flags / shf_exclude % 2 + h.flags / shf_gnu_retain % 2 * retain_flag + h.flags / shf_alloc % 2 * read_flag + comdat_of file h * comdat_flag
 
 -- where its contents lie: e entries and c cells of contents stand before
-unfoldable pub first_by_rank : Header → ℕ → ℕ → ℕ
-first_by_rank h e c =
+unfoldable pub first_row_of : Header → ℕ → ℕ → ℕ
+first_row_of h e c =
     cond (excluded h) 0
     (cond (eqb h.kind sht_symtab) e
     (cond (eqb h.kind sht_strtab) h.offset (cond (eqb h.kind sht_rel) c (cond (eqb h.kind sht_rela) c (cond (eqb h.kind sht_group) c 0)))))
@@ -93,4 +93,4 @@ count_of h = cond (excluded h) 0 (cond (eqb h.kind sht_symtab) (entries_in h) (c
 
 unfoldable pub header_row_of : List ℕ → List ℕ → Header → ℕ → ℕ → List ℕ
 header_row_of file names h e c =
-    named_kind names h ∷ h.name ∷ flags_of file h ∷ h.link ∷ h.info ∷ first_by_rank h e c ∷ count_of h ∷ 0 ∷ []
+    named_kind names h ∷ h.name ∷ flags_of file h ∷ h.link ∷ h.info ∷ first_row_of h e c ∷ count_of h ∷ 0 ∷ []

@@ -3,7 +3,7 @@ ghost use Rattle.std.specs.Prelude.{◌≡◌, true, false, ◌<◌, ◌-◌, �
 ghost use Rattle.gabi.specs.StringTable.{name_at};
 ghost use Rattle.gabi.specs.File.{word_size};
 ghost use Rattle.byte_slices.specs.Bytes.{same};
-ghost use Rattle.elf_file.specs.Rows.{entries_in, contents_in, room_of, room_as, kind_of, eh_frame_hdr, named_kind, strings_of, names_of, strings_number, comdat_of, flags_of, first_of, count_of};
+ghost use Rattle.elf_file.specs.Rows.{entries_in, contents_in, room_of, room_as, kind_of, eh_frame_hdr, named_kind, strings_of, names_of, strings_number, comdat_of, flags_of, first_row_of, count_of};
 
 use crate::Header;
 
@@ -216,7 +216,7 @@ pub fn flags_of(image: &[u8], h: Header) -> u64
 }
 
 pub fn first_of(h: Header, e: u64, c: u64) -> u64
-    ensures { result ≡ first_of h e c }
+    ensures { result ≡ first_row_of h e c }
 {
     if crate::checks::excluded(h) {
         return 0;

@@ -1,11 +1,3 @@
 pub mod Object
-pub mod Terms
-pub mod Ranges
-pub mod Names
 pub mod Back
 pub mod Writer
-pub mod Trip
-pub mod Accepted
-pub mod Examples
-pub mod Tables
-pub mod Proof

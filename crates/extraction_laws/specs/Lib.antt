@@ -1,11 +1,3 @@
 pub mod Some
 pub mod Member
-pub mod Taken
-pub mod Chosen
-pub mod Wanted
 pub mod Differences
-pub mod Terms
-pub mod MemberWords
-pub mod Answer
-pub mod Admission
-pub mod Proof

@@ -23,11 +23,11 @@ unfoldable pub intern_call : List ℕ → List ℕ → List ℕ → List ℕ →
 intern_call h b n x = cond (is_short h) (intern_left (told 1 h) b n) (intern_told h (intern_of (store_of b n (link_in h)) x))
 
 -- where a name starts in so many bytes, whatever its row holds
-unfoldable pub first_by_rank : List ℕ → ℕ → ℕ → ℕ
-first_by_rank n id bytes = lesser (get_or n (id * 8 + 0) 0) bytes
+unfoldable pub first_byte : List ℕ → ℕ → ℕ → ℕ
+first_byte n id bytes = lesser (get_or n (id * 8 + 0) 0) bytes
 
 unfoldable pub part_reply : List ℕ → ℕ → ℕ → ℕ → ℕ → ℕ → Reply
-part_reply n id bytes len number place = cond (eqb number 0) (result_of (first_by_rank n id bytes) len 0 0) (refusal_of number place)
+part_reply n id bytes len number place = cond (eqb number 0) (result_of (first_byte n id bytes) len 0 0) (refusal_of number place)
 
 abbrev pub resolve_reply : List ℕ → List ℕ → ℕ → Resolved → Reply
 resolve_reply b n id w = part_reply n id (length b) (length w.name) w.refusal.number w.refusal.place

@@ -8,7 +8,7 @@ ghost use Rattle.interner.specs.Names.{store_of};
 ghost use Rattle.interner.specs.Calls.{said, lent_of};
 ghost use Rattle.ffi_cells.specs.Header.{saying};
 ghost use Rattle.ffi_cells.specs.Contract.{told_exit};
-ghost use Rattle.ffi_names.specs.Calls.{first_of, part_reply, found_reply, find_reply};
+ghost use Rattle.ffi_names.specs.Calls.{first_byte, part_reply, found_reply, find_reply};
 ghost use Rattle.ffi_names.specs.Contract.{intern_exit, InternMeets, ResolveMeets, FindMeets};
 
 use ffi_cells::Reply;
@@ -40,7 +40,7 @@ pub fn intern(header: &mut [u64], bytes: &mut [u8], names: &mut [u64], name: &[u
 
 // Where a name starts in so many bytes, whatever its row holds.
 fn first_of(names: &[u64], id: usize, bytes: usize) -> u64
-    ensures { result ≡ first_of names.now id bytes }
+    ensures { result ≡ first_byte names.now id bytes }
 {
     let start = cells::row_get(names, id, 0) as usize;
     if start < bytes {

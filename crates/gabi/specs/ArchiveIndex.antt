@@ -1,7 +1,7 @@
 -- An archive's symbol table in the System V format: the bytes of the first member, whose name is empty ("/"). The chapters on object files don't have it;
 -- document 01 names it. Held against an index that ar of GNU binutils 2.40 wrote.
 -- Assumes nothing.
-use Rattle.std.specs.Prelude.{ℕ, ◌/◌, ◌%◌, ◌<◌, ◌≡◌, List, [], ◌∷◌, ◌++◌, ◌≢◌, length}
+use Rattle.std.specs.Prelude.{ℕ, ◌/◌, ◌%◌, ◌<◌, List, [], ◌∷◌, ◌++◌, ◌≢◌, length}
 
 -- a symbol's name, and the offset in the archive of the member that defines it
 pub record Entry : Type 0 where

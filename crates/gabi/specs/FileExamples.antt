@@ -1,7 +1,7 @@
 -- Worked examples: the first bytes of an object that as of GNU binutils wrote, and single entries.
 -- Assumes nothing.
 use Rattle.std.specs.Prelude.{ℕ, ◌≡◌, refl, List, [], ◌∷◌}
-use Rattle.gabi.specs.File.{half_at, word_at, xword_at, e_magic, elf_magic, e_class, elf_class64, e_data, elf_data2_lsb, e_type, et_rel, e_shoff, e_shnum, e_shstrndx, section_count, name_section, st_name, st_bind, st_type, st_visibility, st_shndx, st_value, st_size, r_sym, is_comdat, member_at}
+use Rattle.gabi.specs.File.{half_at, word_at, xword_at, e_magic, elf_magic, e_class, elf_class64, e_data, elf_data2_lsb, e_type, et_rel, e_shoff, section_count, name_section, st_name, st_bind, st_type, st_visibility, st_shndx, st_value, st_size, r_sym, is_comdat, member_at}
 
 -- of seven sections, the headers at 168, the names in the sixth
 abbrev object : List ℕ

@@ -1,24 +1,15 @@
 -- Worked examples of document 01 and of the reading of it, computed from the contract's definition.
 -- Assumes nothing.
-use Rattle.std.specs.Prelude.{ℕ, zero, suc, ◌+◌, ◌≡◌, refl, false, List, [], ◌∷◌, ◌++◌, replicate}
-use Rattle.byte_slices.specs.Bytes.{same}
+use Rattle.std.specs.Prelude.{ℕ, zero, suc, ◌+◌, ◌≡◌, List, [], ◌∷◌, ◌++◌, replicate}
 use Rattle.link.specs.declared.Link.{Link}
-use Rattle.link.specs.Bounds.{lesser}
 use Rattle.link.specs.Judge as Link
 use Rattle.link.specs.Counts.{no_names, with_names, with_symbols, with_sections, with_lists, with_slots}
-use Rattle.symbol_resolution.specs.Decide.{section_cell}
-use Rattle.symbol_resolution.specs.Apply.{set_section_symbol}
-use Rattle.symbols.specs.Remove.{drop_section, remove_row_of}
-use Rattle.sections.specs.Rows.{state_at, is_built, built_state, program, section_cells, reserved_cells}
+use Rattle.sections.specs.Rows.{state_at, built_state, program, section_cells, reserved_cells}
 use Rattle.symbol.specs.Row as Symbol
 use Rattle.gc_sections.specs.declared.EntryPoint.TheVariants as Entry
 use Rattle.gc_sections.specs.declared.Answer.{Answer}
 use Rattle.gc_sections.specs.declared.Answer.TheVariants.{Dropped, Refused}
-use Rattle.gc_sections.specs.Each.{each}
-use Rattle.gc_sections.specs.Roots.{value_lead, lead_of, readable, name_is, rooted, is_root}
-use Rattle.gc_sections.specs.Reach.{save_of, reach_of, add_of, root_symbol, root_section, end_of, relocation, relocations, follow, visit, clear_cell, start_of, roots_of, process_of, walked}
-use Rattle.gc_sections.specs.Sweep.{drop_unreached, dropped_now, purge_symbol, sweep_sections, purge_symbols}
-use Rattle.gc_sections.specs.Run.{Left, Lists, lists_of, judge_cells, judge_of, purge_of, sweep_of, finished, collect_of, run_of}
+use Rattle.gc_sections.specs.Run.{Left, Lists, lists_of, run_of}
 
 -- counts: one name of no bytes; so many symbols, sections and list cells
 abbrev pub counts : ℕ → ℕ → ℕ → Link
@@ -123,13 +114,3 @@ unreadable =
 abbrev pub All : List Example → Type 0
 All [] = Unit {0}
 All (e ∷ es) = Right e × All es
-
-pub examples : All (p12 ∷ short_marks ∷ two_unbuilt ∷ unreadable ∷ [])
-unfolding same lesser Link.judge_sections Link.judge_names Link.judge_lists Link.after_symbols Link.after_sections Link.judge_of Link.change_of section_cell set_section_symbol drop_section remove_row_of is_built each value_lead lead_of readable name_is rooted is_root
-    save_of reach_of add_of root_symbol root_section end_of relocation relocations follow visit clear_cell start_of roots_of process_of walked drop_unreached dropped_now purge_symbol
-    sweep_sections purge_symbols judge_cells judge_of purge_of sweep_of finished collect_of run_of
-examples = ((refl, refl, refl), ((refl, refl, refl), ((refl, refl, refl), ((refl, refl, refl), tt))))
-
--- for the list of all examples that are marked for proof
-pub p12-right : Right p12
-p12-right = examples.0

@@ -1,9 +1,5 @@
 pub mod Reached
 pub mod Marks
-pub mod Walk
-pub mod Exact
-pub mod Collected
 pub mod Terms
-pub mod Again
 pub mod Examples
 pub mod Proof

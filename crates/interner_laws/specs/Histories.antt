@@ -1,27 +1,6 @@
 -- Histories of calls, over any state: what each call keeps, any history keeps; and an id stands for ever for what it was issued for.
 -- Assumes nothing.
-use Rattle.std.specs.Prelude.{ℕ, ◌<◌, ◌≤◌, ◌≡◌, refl}
-use Rattle.std.proofs.Common.{le_trans, le_refl, ap, sym, ◌∙◌}
-use mathlib.Core.List.{List, [], ◌∷◌}
-
-module _ {S X : Type 0} (next : S → X → S) where
-  -- what the calls leave, one after the other
-  unfoldable pub history : List X → S → S
-  history [] s = s
-  history (x ∷ xs) s = history xs (next s x)
-
-  module _ (Good : S → Type 0) (step : (s : S) (x : X) → Good s → Good (next s x)) where
-    pub always : (xs : List X) (s : S) → Good s → Good (history xs s)
-    unfolding history
-    always [] s g = g
-    always (x ∷ xs) s g = always xs (next s x) (step s x g)
-
-    module _ (Keeps : S → S → Type 0) (none : (s : S) → Keeps s s) (both : (s t u : S) → Keeps s t → Keeps t u → Keeps s u)
-        (one : (s : S) (x : X) → Good s → Keeps s (next s x)) where
-      pub kept : (xs : List X) (s : S) → Good s → Keeps s (history xs s)
-      unfolding history
-      kept [] s g = none s
-      kept (x ∷ xs) s g = both s (next s x) (history xs (next s x)) (one s x g) (kept xs (next s x) (step s x g))
+use Rattle.std.specs.Prelude.{ℕ, ◌<◌, ◌≤◌, ◌≡◌}
 
 -- ids of what a state has issued
 module _ {S X : Type 0} (count : S → ℕ) (name : S → ℕ → X) where
@@ -33,21 +12,3 @@ module _ {S X : Type 0} (count : S → ℕ) (name : S → ℕ → X) where
   pub record StaysIn (s t : S) : Type 0 where
     pub grows : count s ≤ count t
     pub olds : (i : ℕ) → i < count s → name t i ≡ name s i
-
-  pub stays-none : (s : S) → StaysIn s s
-  stays-none s = record { grows = le_refl _; olds = λ i h. refl }
-
-  pub stays-both : (s t u : S) → StaysIn s t → StaysIn t u → StaysIn s u
-  stays-both s t u p q = record { grows = le_trans p.grows q.grows; olds = λ i h. q.olds i (le_trans h p.grows) ∙ p.olds i h }
-
-  pub issued-stays : (s t : S) (i : ℕ) (x : X) → StaysIn s t → IssuedIn s i x → IssuedIn t i x
-  issued-stays s t i x p q = record { low = le_trans q.low p.grows; right = p.olds i q.low ∙ q.right }
-
-  -- where no two ids stand for the same
-  module _ (s : S) (distinct : (i j : ℕ) → i < count s → j < count s → name s i ≡ name s j → i ≡ j) (i j : ℕ) (x y : X)
-      (p : IssuedIn s i x) (q : IssuedIn s j y) where
-    pub one-id : x ≡ y → i ≡ j
-    one-id e = distinct i j p.low q.low (p.right ∙ e ∙ sym q.right)
-
-    pub one_name : i ≡ j → x ≡ y
-    one_name e = sym p.right ∙ ap (name s) e ∙ q.right

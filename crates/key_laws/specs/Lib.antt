@@ -1,3 +1,1 @@
 pub mod Rekeyed
-pub mod SectionNames
-pub mod Proof

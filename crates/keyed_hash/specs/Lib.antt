@@ -1,3 +1,4 @@
 pub mod Keyed
 pub mod Ways
 pub mod Proof
+pub mod Polynomial

@@ -3,7 +3,7 @@
 use Rattle.std.specs.Prelude.{◌/◌, List, [], ◌++◌, length}
 use Rattle.merge_laws.specs.Calls.{Linked, all_in}
 use Rattle.link_laws.specs.Read as Read
-use Rattle.link_laws.specs.Calls.{Call, intern, add, remove, add_group, merge, merge_file, load, collect, plain_collect, library_in, reads, add_list, adds_up_to}
+use Rattle.link_laws.specs.Calls.{Call, intern, add, remove, add_group, merge, merge_file, load, collect, plain_collect, library_in, reads, add_list}
 use Rattle.elf_laws.specs.Object as ElfFile
 use Rattle.link_laws.specs.Rules.{Rule}
 use Rattle.link_laws.specs.TableRules.{get_head, present_rules, get_global_head, global_rules, remove_head, absent_rules, intern_head, room_rules, resolve_head, issued_alone, add_head, add_rules}

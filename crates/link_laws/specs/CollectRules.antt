@@ -6,7 +6,7 @@ use Rattle.link.specs.Bounds.{not_lent}
 use Rattle.gc_sections.specs.declared.EntryPoint.{EntryPoint}
 use Rattle.gc_sections.specs.declared.EntryPoint.TheVariants as Entry
 use Rattle.symbol_laws.specs.History.{State}
-use Rattle.plain_laws.specs.Terms.{how_many}
+use Rattle.plain_laws.specs.BuiltRows.{how_many}
 use Rattle.link_laws.specs.Rules.{Rule, ◌gives◌at◌, some, lent_rows, head_rules}
 use Rattle.link_laws.specs.TableRules.{bytes_of, is_removed}
 use Rattle.link_laws.specs.ObjectRules.{cell_at}

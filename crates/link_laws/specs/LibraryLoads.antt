@@ -1,6 +1,6 @@
 -- A library's input row comes from a load that was answered "loaded", and from no other call.
 -- Assumes nothing.
-use Rattle.std.specs.Prelude.{ℕ, ◌+◌, ◌≡◌, List, ◌∷◌, ◌++◌}
+use Rattle.std.specs.Prelude.{ℕ, ◌≡◌, List, ◌∷◌, ◌++◌}
 use Rattle.std.proofs.Common.{ap}
 use Rattle.link.specs.declared.Link.{Link}
 use Rattle.shared_objects.specs.declared.Answer.TheVariants.{Loaded}

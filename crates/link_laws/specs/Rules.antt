@@ -18,9 +18,9 @@ abbrev pub ◌gives◌at◌ : Bool → ℕ → ℕ → Rule
 ◌gives◌at◌ b n p = record { holds = b; number = n; place = p }
 
 -- number and place of the first that holds; 0 where none does: a result
-abbrev pub first_by_rank : List Rule → Refusal
-first_by_rank [] = refused 0 0
-first_by_rank (r ∷ rs) = cond r.holds (refused r.number r.place) (first_by_rank rs)
+abbrev pub first_refusal : List Rule → Refusal
+first_refusal [] = refused 0 0
+first_refusal (r ∷ rs) = cond r.holds (refused r.number r.place) (first_refusal rs)
 
 -- "else 0, as for a direct add"
 abbrev pub placeless : List Rule → List Rule

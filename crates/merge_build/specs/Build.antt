@@ -1,6 +1,6 @@
 -- Document 01, "Objects": uninitialized, then program sections (18, then 19). A section's row is built where it was reserved.
 -- Assumes nothing.
-use Rattle.std.specs.Prelude.{ℕ, zero, suc, ◌+◌, ◌-◌, ◌*◌, Bool, true, false, cond, List, eqb, ltb, get_or, length}
+use Rattle.std.specs.Prelude.{ℕ, zero, suc, ◌+◌, ◌-◌, Bool, true, false, cond, List, eqb, ltb, length}
 use Rattle.link.specs.declared.Link.{Link}
 use Rattle.link.specs.declared.Stage.{Stage}
 use Rattle.link.specs.declared.Interned.{Interned}

@@ -1,6 +1,6 @@
 -- Document 01, "Objects": ".., uninitialized, program sections (18, then 19)"; "An input's row is taken last (2, place 0)".
 -- Assumes nothing.
-use Rattle.std.specs.Prelude.{ℕ, ◌+◌, cond, List, [], ◌∷◌, eqb, ltb, length}
+use Rattle.std.specs.Prelude.{ℕ, cond, List, [], ◌∷◌, eqb, ltb, length}
 use Rattle.cells.specs.Rows.{put_row}
 use Rattle.link.specs.declared.Link.{Link}
 use Rattle.link.specs.declared.Stage.{Stage}

@@ -1,6 +1,6 @@
 -- "Of several relocation tables for a section the last counts. Only a relocation's symbol is taken."
 -- Assumes nothing.
-use Rattle.std.specs.Prelude.{ℕ, ◌+◌, ◌-◌, ◌*◌, Bool, true, false, cond, List, [], ◌∷◌, eqb, leb, get_or, set}
+use Rattle.std.specs.Prelude.{ℕ, ◌+◌, ◌-◌, Bool, true, false, cond, List, [], ◌∷◌, eqb, leb, get_or, set}
 use Rattle.byte_slices.specs.Bytes.{part}
 use Rattle.elf_object.specs.Kinds.{program}
 use Rattle.elf_object.specs.Rows.{link_at, first_at, count_at, section_of, relocations_at}

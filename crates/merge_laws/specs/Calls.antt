@@ -1,21 +1,15 @@
 -- Histories of direct calls and merges on a link.
 -- Assumes nothing.
 use Rattle.std.specs.Prelude.{ℕ, List, [], ◌∷◌, ◌++◌}
-use Rattle.std.proofs.Common.{sym, subst, append-nil, append_assoc}
 use Rattle.link.specs.Judge.{going_of}
 use Rattle.symbol_laws.specs.History as History
 use Rattle.symbol_laws.specs.History.{State, Entry, run, log}
-use Rattle.symbol_laws.specs.Held.{Inv}
-use Rattle.symbol_laws.specs.Calls.{history_parts}
-use Rattle.symbol_laws.specs.Proof.Calls.{calls-keep, history-run}
 use Rattle.merge_stages.specs.Stages.{All, all_of, Object}
-use Rattle.merge_elf.specs.Merge.{merge_of, finished_of}
+use Rattle.merge_elf.specs.Merge.{merge_of}
 use Rattle.merge_laws.specs.Steps.{log_steps}
 use Rattle.merge_laws.specs.MergeSteps.{merge_steps}
-use Rattle.merge_laws.specs.Whole.{table_in, merge-makes}
-use Rattle.merge_laws.specs.Proof.Kept.{steps-keep}
-use Rattle.merge_laws.specs.Marked.{marks_of, Marked}
-use Rattle.merge_laws.specs.Proof.Marked.{parts-marked, steps-marked}
+use Rattle.merge_laws.specs.Whole.{table_in}
+use Rattle.merge_laws.specs.Marked.{marks_of}
 
 -- the table, and the lists that only merges and loads write
 pub record Linked : Type 0 where
@@ -62,23 +56,6 @@ abbrev pub RemovesNothing : List Call → Linked → Type 0
 RemovesNothing [] s = Unit {0}
 RemovesNothing (k ∷ ks) s = (Removes k s → ⊥) × RemovesNothing ks (call_next k s)
 
--- ---- what holds after every history
-
-pub call-keep : (k : Call) (s : Linked) (past : List Entry) → (Removes k s → ⊥) → Inv s.table past → Inv (call_next k s).table (past ++ call_notes k s)
-call-keep (direct k) s past q i =
-    subst (λ (l : List Entry). Inv (History.call_next k s.table) (past ++ l)) (append-nil (History.call_notes k s.table))
-    (calls-keep (k ∷ []) s.table past (q, tt) i)
-call-keep (merge o work ids) s past q i =
-    subst (λ (t : State). Inv t (past ++ call_notes (merge o work ids) s)) (merge-makes o (all_in s work ids)).leads
-    (steps-keep (merge_steps o (all_in s work ids)) s.table past i)
-
-pub calls-keep-inv : (ks : List Call) (s : Linked) (past : List Entry) → RemovesNothing ks s → Inv s.table past
-    → Inv (run_calls ks s).table (past ++ log_calls ks s)
-calls-keep-inv [] s past q i = subst (Inv s.table) (sym (append-nil past)) i
-calls-keep-inv (k ∷ ks) s past q i =
-    subst (Inv (run_calls ks (call_next k s)).table) (append_assoc past (call_notes k s) (log_calls ks (call_next k s)))
-    (calls-keep-inv ks (call_next k s) (past ++ call_notes k s) q.1 (call-keep k s past q.0 i))
-
 -- ---- signatures
 
 -- those of the groups that were accepted, in order
@@ -89,19 +66,3 @@ call_marks (merge o work ids) s = marks_of (merge_steps o (all_in s work ids)) s
 abbrev pub signatures : List Call → Linked → List (List ℕ)
 signatures [] s = []
 signatures (k ∷ ks) s = call_marks k s ++ signatures ks (call_next k s)
-
-call-marked : (k : Call) (s : Linked) (met : List (List ℕ)) → (Removes k s → ⊥) → Marked s.table met → Marked (call_next k s).table (met ++ call_marks k s)
-call-marked (direct k) s met q m =
-    subst (Marked (History.call_next k s.table)) (sym (append-nil met))
-    (subst (λ (t : State). Marked t met) (sym (history-run (k ∷ []) s.table (q, tt))) (parts-marked (history_parts (k ∷ []) s.table) s.table met m))
-call-marked (merge o work ids) s met q m =
-    let steps = merge-makes o (all_in s work ids) in
-    subst (λ (t : State). Marked t (met ++ call_marks (merge o work ids) s)) steps.leads
-    (steps-marked (merge_steps o (all_in s work ids)) s.table met steps.accepted m)
-
-pub calls-marked : (ks : List Call) (s : Linked) (met : List (List ℕ)) → RemovesNothing ks s → Marked s.table met
-    → Marked (run_calls ks s).table (met ++ signatures ks s)
-calls-marked [] s met q m = subst (Marked s.table) (sym (append-nil met)) m
-calls-marked (k ∷ ks) s met q m =
-    subst (Marked (run_calls ks (call_next k s)).table) (append_assoc met (call_marks k s) (signatures ks (call_next k s)))
-    (calls-marked ks (call_next k s) (met ++ call_marks k s) q.1 (call-marked k s met q.0 m))

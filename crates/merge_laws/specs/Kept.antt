@@ -1,6 +1,6 @@
 -- What holds of every table in which nothing was removed, kept by every step.
 -- Assumes nothing.
-use Rattle.std.specs.Prelude.{◌+◌, cond, List, [], ◌∷◌, ◌++◌, eqb}
+use Rattle.std.specs.Prelude.{cond, List, [], ◌∷◌, ◌++◌, eqb}
 use Rattle.symbol.specs.declared.Row.{Row}
 use Rattle.symbol_laws.specs.History.{Part, issue, put}
 use Rattle.merge_laws.specs.Steps.{Step, part, mark, others}

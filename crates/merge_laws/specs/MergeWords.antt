@@ -3,7 +3,7 @@
 -- Assumes nothing.
 use Rattle.std.specs.Prelude.{ℕ, zero, suc, ◌≡◌, Bool, true, false, cond, ◌&&◌, ◌||◌, List, [], ◌∷◌, ◌++◌, eqb, get_or}
 use Rattle.gabi.specs.StringTable.{has_name, name_at, among}
-use Rattle.symbol_laws.specs.ObjectWords.{part_from, sections_in, program, uninitialized, symbol_table, string_table, rel, rela, group, info_of, first_by_rank, count_of, link_of, loaded_as, strings_of, entries_of, entry_name}
+use Rattle.symbol_laws.specs.ObjectWords.{part_from, sections_in, program, uninitialized, symbol_table, string_table, rel, rela, group, info_of, first_entry_row, count_of, link_of, loaded_as, strings_of, entries_of, entry_name}
 
 module _ (headers : List ℕ) where
   -- a program or an uninitialized section
@@ -23,7 +23,7 @@ module _ (headers : List ℕ) where
   -- sections that is such a table of section m names, in order
   unfoldable pub named_by : List ℕ → ℕ → ℕ → List ℕ
   named_by contents m zero = []
-  named_by contents m (suc t) = cond (relocates t m) (part_from contents (first_by_rank headers t) (count_of headers t)) (named_by contents m t)
+  named_by contents m (suc t) = cond (relocates t m) (part_from contents (first_entry_row headers t) (count_of headers t)) (named_by contents m t)
 
   -- the entries of the loaded symbol table among the first k sections; a second one gives 24
   unfoldable pub entries_to : List ℕ → ℕ → List ℕ
@@ -64,7 +64,7 @@ module _ (headers entries contents file : List ℕ) where
   group_signature g = symbol_name (info_of headers g)
 
   abbrev pub group_section : ℕ → ℕ
-  group_section g = get_or contents (first_by_rank headers g) 0
+  group_section g = get_or contents (first_entry_row headers g) 0
 
   -- the signatures of the groups among the first k sections
   unfoldable pub own_signatures : ℕ → List (List ℕ)

@@ -1,7 +1,7 @@
 -- Rows past the counts are never written by the steps of a call, and no lent slice gets longer or shorter.
 -- Assumes nothing.
-use Rattle.std.specs.Prelude.{ℕ, ◌*◌, ◌<◌, ◌≤◌, ◌≡◌, get_or, length}
-use Rattle.symbol_laws.specs.History.{State}
+use Rattle.std.specs.Prelude.{ℕ, ◌*◌, ◌<◌, ◌≤◌, ◌≡◌, List, ◌++◌, get_or, length}
+use Rattle.symbol_laws.specs.History.{State, Entry}
 
 -- from s to t: rows and bytes past t's counts stand as they stood
 pub record TablePast (s t : State) : Type 0 where
@@ -13,3 +13,7 @@ pub record TablePast (s t : State) : Type 0 where
   pub names-long : length t.names ≡ length s.names
   pub bytes-long : length t.bytes ≡ length s.bytes
   pub sections-long : length t.sections ≡ length s.sections
+
+-- the log, and behind it what the symbols before an object's own symbol have added to it
+abbrev pub past_with : List Entry → List Entry → List Entry
+past_with past own = past ++ own

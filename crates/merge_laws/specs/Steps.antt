@@ -1,13 +1,12 @@
 -- What calls write of the table, one step after the other.
 -- Assumes nothing.
-use Rattle.std.specs.Prelude.{ℕ, ◌+◌, ◌*◌, ◌<◌, ◌≤◌, ◌≡◌, refl, List, [], ◌∷◌, ◌++◌, true, get_or, set, take, drop, length}
-use Rattle.std.proofs.Common.{sym, ap, ◌∙◌, subst}
+use Rattle.std.specs.Prelude.{ℕ, ◌+◌, ◌*◌, ◌<◌, ◌≤◌, ◌≡◌, List, [], ◌∷◌, ◌++◌, true, get_or, set, take, drop, length}
 use Rattle.link.specs.Said.{number_in}
 use Rattle.link.specs.declared.Link.{Link}
 use Rattle.interner.specs.Names.{fits_of}
 use Rattle.link.specs.Bounds.{section_rows}
 use Rattle.link.specs.Counts.{with_sections, with_inputs, with_lists, with_broken}
-use Rattle.symbol_laws.specs.History.{State, store, Entry, run, log, run-append, Part, issue, put, put_of, id_of, part_next, part_notes}
+use Rattle.symbol_laws.specs.History.{State, store, Entry, run, log, Part, issue, put, put_of, id_of, part_next, part_notes}
 
 pub data Step : Type 0 where
   -- a name issued, or a row added under an issued name
@@ -76,17 +75,3 @@ AllGo (k ∷ ks) s = Goes k s × AllGo ks (step_next k s)
 pub record Makes (s : State) (ks : List Step) (t : State) : Type 0 where
   pub leads : run_steps ks s ≡ t
   pub accepted : AllGo ks s
-
-pub makes_none : (s : State) → Makes s [] s
-makes_none s = record { leads = refl; accepted = tt }
-
-go-append : (ks ls : List Step) (s : State) → AllGo ks s → AllGo ls (run_steps ks s) → AllGo (ks ++ ls) s
-go-append [] ls s a b = b
-go-append (k ∷ ks) ls s a b = (a.0, go-append ks ls (step_next k s) a.1 b)
-
-pub makes_both : (s t u : State) (ks ls : List Step) → Makes s ks t → Makes t ls u → Makes s (ks ++ ls) u
-makes_both s t u ks ls a b =
-    record {
-      leads = run-append step_next step_notes ks ls s ∙ ap (run_steps ls) a.leads ∙ b.leads;
-      accepted = go-append ks ls s a.accepted (subst (AllGo ls) (sym a.leads) b.accepted);
-    }

@@ -99,3 +99,7 @@ placeless = 20 ∷ 22 ∷ 23 ∷ 25 ∷ 26 ∷ 30 ∷ []
 -- "one of the refusals 1 to 25 of its table"; document 02: "Demand 1 and the table gain these and all later numbers"
 abbrev pub refusals : List ℕ
 refusals = unstarred ++ (2 ∷ starred)
+
+-- those that leave all that came before the element, where it is a symbol
+abbrev pub symbol_left_numbers : List ℕ
+symbol_left_numbers = symbol_numbers

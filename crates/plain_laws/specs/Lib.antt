@@ -1,5 +1,1 @@
-pub mod Visits
-pub mod Agrees
-pub mod Terms
-pub mod Examples
-pub mod Proof
+pub mod BuiltRows

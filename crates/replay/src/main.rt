@@ -14,6 +14,7 @@ use replay_object::Object;
 use replay_tally::Tally;
 use replay_text::Changed;
 use replay_words::Lend;
+use std::io::Stdin;
 use symbols::Symbols;
 use text::{Lines, Taken};
 
@@ -984,8 +985,8 @@ fn goes_on(taken: Taken) -> bool {
 }
 
 // The next line, counted.
-fn read_on(g: Reading, buf: &mut [u8]) -> Reading {
-    let step = text::next_line(buf, g.lines);
+fn read_on(g: Reading, input: &mut Stdin, buf: &mut [u8]) -> Reading {
+    let step = text::next_line(input, buf, g.lines);
     let r = g.replay;
     let state = r.state;
     let passing = r.passing;
@@ -1067,6 +1068,7 @@ fn print(g: Reading, out: &[u8]) {
 
 fn turn(
     g: Reading,
+    input: &mut Stdin,
     buf: &mut [u8],
     out: &mut [u8],
     bytes: &mut [u8],
@@ -1080,7 +1082,7 @@ fn turn(
     rows: &mut [u64],
     file: &mut [u8],
 ) -> Reading {
-    let next = read_on(g, buf);
+    let next = read_on(g, input, buf);
     let taken = next.taken;
     let line = line_of(taken, buf);
     let before = next.replay;
@@ -1099,6 +1101,7 @@ fn turn(
 // Nothing says that the input ends, so turns are counted down.
 fn turns(
     g: Reading,
+    input: &mut Stdin,
     buf: &mut [u8],
     out: &mut [u8],
     bytes: &mut [u8],
@@ -1117,8 +1120,8 @@ fn turns(
     while 0 < left {
         if now.going {
             now = turn(
-                now, buf, out, bytes, names, symbols, sections, inputs, lists, work, ids, rows,
-                file,
+                now, input, buf, out, bytes, names, symbols, sections, inputs, lists, work, ids,
+                rows, file,
             );
             left -= 1;
         } else {
@@ -1128,7 +1131,7 @@ fn turns(
     }
 }
 
-fn main() {
+fn main(rt: HostRuntime) {
     let mut buf = [0u8; 65536];
     let mut out = [0u8; 65536];
     let mut bytes = [0u8; 65536];
@@ -1143,6 +1146,7 @@ fn main() {
     let mut file = [0u8; 40960];
     turns(
         unread(),
+        &mut rt.stdin(),
         &mut buf,
         &mut out,
         &mut bytes,

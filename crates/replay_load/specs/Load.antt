@@ -5,11 +5,8 @@ use denote.Triple.Both.{Both}
 use Rattle.byte_slices.specs.Bytes.{part}
 use Rattle.link.specs.declared.Link.{Link}
 use Rattle.shared_objects.specs.declared.Answer.{Answer}
-use Rattle.shared_objects.specs.declared.Answer.TheVariants as Answer
-use Rattle.shared_objects.specs.declared.Outcome.{Outcome}
 use Rattle.shared_objects.specs.Load.{All, all_of, Input, input_as, Left, load_of, Cells}
 use Rattle.replay_text.specs.declared.replies.Reply.{Reply}
-use Rattle.replay_text.specs.declared.replies.Reply.TheVariants as Reply
 use Rattle.replay_text.specs.declared.replies.Changed.{Changed}
 use Rattle.replay_words.specs.declared.lend.Lend.{Lend}
 use Rattle.replay_words.specs.Part as Part

@@ -1,6 +1,6 @@
 -- A shared object as a list tells it: its bytes and cells, and how far they are told.
 -- Assumes nothing.
-use Rattle.std.specs.Prelude.{ℕ, ◌+◌, ◌-◌, ◌*◌, ◌%◌, ◌^◌, Bool, true, false, cond, List, [], ◌∷◌, slice_set}
+use Rattle.std.specs.Prelude.{ℕ, ◌+◌, ◌-◌, ◌*◌, ◌%◌, ◌^◌, true, false, cond, List, [], ◌∷◌, slice_set}
 use Rattle.cells.specs.Rows.{put_row}
 use Rattle.symbol.specs.Codes.{successor}
 use Rattle.text.specs.Fields.{field_of}

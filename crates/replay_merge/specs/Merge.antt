@@ -7,10 +7,8 @@ use Rattle.link.specs.declared.Link.{Link}
 use Rattle.merge_stages.specs.Stages.{All, all_of, Cells}
 use Rattle.merge_stages.specs.Stages as Stages
 use Rattle.merge_elf.specs.declared.Answer.{Answer}
-use Rattle.merge_elf.specs.declared.Answer.TheVariants as Answer
 use Rattle.merge_elf.specs.Merge.{Left, merge_of}
 use Rattle.replay_text.specs.declared.replies.Reply.{Reply}
-use Rattle.replay_text.specs.declared.replies.Reply.TheVariants as Reply
 use Rattle.replay_text.specs.declared.replies.Changed.{Changed}
 use Rattle.replay_words.specs.declared.lend.Lend.{Lend}
 use Rattle.replay_words.specs.Part as Part

@@ -1,7 +1,7 @@
 -- An object as a list tells it: its cells and bytes, and how far they are told. Headers begin at cell 0, entries of symbol tables at 2,048, contents
 -- at 4,096; each part has 2,048 cells.
 -- Assumes nothing.
-use Rattle.std.specs.Prelude.{ℕ, zero, suc, ◌+◌, ◌*◌, ◌%◌, ◌^◌, Bool, cond, List, [], ◌∷◌, ◌==◌, nat_lt, slice_set}
+use Rattle.std.specs.Prelude.{ℕ, zero, suc, ◌+◌, ◌*◌, ◌%◌, ◌^◌, cond, List, [], ◌∷◌, ◌==◌, nat_lt, slice_set}
 use Rattle.byte_slices.specs.Bytes.{part}
 use Rattle.cells.specs.Rows.{put_row}
 use Rattle.symbol.specs.Codes.{successor}
@@ -67,8 +67,8 @@ unfoldable pub put_list_of : List ℕ → ℕ → List ℕ → ℕ → List ℕ
 put_list_of c at line count = cond (nat_lt 2048 count) c (list_from count c at line 0)
 
 -- where its contents begin: by the list's words for a symbol table, in the file for a string table, else among the contents
-unfoldable pub first_by_rank : Object → List ℕ → ℕ → ℕ
-first_by_rank o line kind =
+unfoldable pub contents_start_of : Object → List ℕ → ℕ → ℕ
+contents_start_of o line kind =
     cond (kind == 3) (number_at line 11) (cond (kind == 10) (number_at line 11) (cond (kind == 4) o.bytes o.contents))
 
 unfoldable pub count_of : List ℕ → ℕ → ℕ → ℕ
@@ -84,7 +84,7 @@ header_of c o line bytes =
     ∷ flags_of line
     ∷ number_at line 6
     ∷ number_at line 7
-    ∷ first_by_rank o line (number_at line 1)
+    ∷ contents_start_of o line (number_at line 1)
     ∷ count_of line (number_at line 1) bytes
     ∷ 0
     ∷ [])

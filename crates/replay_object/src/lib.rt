@@ -3,7 +3,7 @@
 #![tactic(auto)]
 
 ghost use Rattle.std.specs.Prelude.{◌≡◌, ◌≤◌};
-ghost use Rattle.replay_object.specs.Told.{announced_as, announce_of, part_cells, headers_in, entries_in, contents_in, conversion_in, flag_of, flags_of, listed_of, put_list_of, first_of, count_of, header_of, cells_as, symbol_of, section_of, more_of, told_after};
+ghost use Rattle.replay_object.specs.Told.{announced_as, announce_of, part_cells, headers_in, entries_in, contents_in, conversion_in, flag_of, flags_of, listed_of, put_list_of, contents_start_of, count_of, header_of, cells_as, symbol_of, section_of, more_of, told_after};
 ghost use Rattle.replay_object.specs.Conversion.{cell_of, convert_of};
 
 // Rows and the section-name string section that were announced; rows, contents and bytes that were told so far.
@@ -141,7 +141,7 @@ fn put_list(cells: &mut [u64], at: usize, line: &[u8], count: usize)
 
 // Where a section's contents begin and how many they are: symbols by the LIST's words, bytes in the file, else among the contents.
 fn first(o: Object, line: &[u8], kind: u64) -> u64
-    ensures { result ≡ first_of o line.now kind }
+    ensures { result ≡ contents_start_of o line.now kind }
 {
     match kind {
         3 => replay_words::number(line, 11),

@@ -1,6 +1,6 @@
 -- Answers as the oracle's lists write them: the pieces that are put one behind the other.
 -- Assumes nothing.
-use Rattle.std.specs.Prelude.{ℕ, ◌+◌, ◌-◌, ◌^◌, Bool, true, false, cond, List, [], ◌∷◌, ◌++◌, eqb, ltb, length, ℤ}
+use Rattle.std.specs.Prelude.{ℕ, ◌+◌, ◌-◌, Bool, true, false, cond, List, [], ◌∷◌, ◌++◌, eqb, ltb, length}
 use Rattle.text.specs.Text.{Text, put_of}
 use Rattle.link.specs.declared.Refusal.{Refusal}
 use Rattle.interner.specs.Names.{name_at}

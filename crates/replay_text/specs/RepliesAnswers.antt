@@ -4,14 +4,11 @@ use Rattle.std.specs.Prelude.{ℕ, Bool, true, false, cond, List, [], ◌∷◌,
 use Rattle.link.specs.declared.Link.{Link}
 use Rattle.interner.specs.Names.{find_of}
 use Rattle.symbols.specs.declared.Found.{Found}
-use Rattle.symbols.specs.declared.Found.TheVariants as Found
 use Rattle.symbols.specs.declared.SectionSymbol.{SectionSymbol}
-use Rattle.symbols.specs.declared.SectionSymbol.TheVariants as SectionSymbol
 use Rattle.symbols.specs.Lookup.{get_of, get_global_of, section_symbol_of}
 use Rattle.replay_words.specs.Words.{word_is, number_at, name_at}
 use Rattle.replay_text.specs.Answers.{Pieces, space_word, numbered, refusal_text, symbol_text}
 use Rattle.replay_text.specs.declared.replies.Reply.{Reply}
-use Rattle.replay_text.specs.declared.replies.Reply.TheVariants as Reply
 
 -- `id `
 abbrev pub id_word : List ℕ

@@ -3,7 +3,6 @@
 use Rattle.std.specs.Prelude.{ℕ, Bool, true, cond, List, eqb, length}
 use denote.Triple.Both.{Both}
 use Rattle.link.specs.declared.Link.{Link}
-use Rattle.link.specs.declared.Lent.{Lent}
 use Rattle.link.specs.declared.Refusal.{Refusal}
 use Rattle.link.specs.declared.Stage.{Stage}
 use Rattle.link.specs.Said.{Said, accepted, refusing}

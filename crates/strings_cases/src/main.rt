@@ -1,26 +1,27 @@
 // Names looked up at the edges of string tables: a line for each, the table's length, the offset, found or missing, the name.
 #![tactic(auto)]
 
-use libc::STDOUT_FILENO;
+// The descriptor of standard output.
+const STANDARD_OUTPUT: i32 = 1;
 
 fn space() {
-    io::write_all(STDOUT_FILENO, b" ");
+    io::write_all(STANDARD_OUTPUT, b" ");
 }
 
 fn show(table: &[u8], offset: usize) {
     let mut found = false;
     let name = strings::get(table, offset, &mut found);
-    io::print_decimal(STDOUT_FILENO, table.len() as u64);
+    io::print_decimal(STANDARD_OUTPUT, table.len() as u64);
     space();
-    io::print_decimal(STDOUT_FILENO, offset as u64);
+    io::print_decimal(STANDARD_OUTPUT, offset as u64);
     space();
     if found {
-        io::write_all(STDOUT_FILENO, b"found [");
+        io::write_all(STANDARD_OUTPUT, b"found [");
     } else {
-        io::write_all(STDOUT_FILENO, b"missing [");
+        io::write_all(STANDARD_OUTPUT, b"missing [");
     }
-    io::write_all(STDOUT_FILENO, name);
-    io::write_all(STDOUT_FILENO, b"]\n");
+    io::write_all(STANDARD_OUTPUT, name);
+    io::write_all(STANDARD_OUTPUT, b"]\n");
 }
 
 // From the first name, in its middle, on its zero byte, the last name, its zero byte, at the end, past it.

@@ -65,8 +65,8 @@ module _ (headers : List ℕ) (n : ℕ) where
   abbrev pub info_of : ℕ
   info_of = cell headers n 4
 
-  abbrev pub first_by_rank : ℕ
-  first_by_rank = cell headers n 5
+  abbrev pub first_entry_row : ℕ
+  first_entry_row = cell headers n 5
 
   abbrev pub count_of : ℕ
   count_of = cell headers n 6
@@ -86,13 +86,13 @@ module _ (headers : List ℕ) (n : ℕ) where
 
 -- the bytes of a string section; of another section none. That a name is missing there has to be said beside: an empty string section has one
 unfoldable pub strings_of : List ℕ → List ℕ → Bool → ℕ → List ℕ
-strings_of headers file there n = cond there (part_from file (first_by_rank headers n) (count_of headers n)) []
+strings_of headers file there n = cond there (part_from file (first_entry_row headers n) (count_of headers n)) []
 
 -- ---- symbols
 
 -- the entries of symbol table t
 abbrev pub entries_of : List ℕ → List ℕ → ℕ → List ℕ
-entries_of headers entries t = part_from entries (first_by_rank headers t * 8) (count_of headers t * 8)
+entries_of headers entries t = part_from entries (first_entry_row headers t * 8) (count_of headers t * 8)
 
 abbrev pub entries_in : List ℕ → ℕ
 entries_in table = length table / 8

@@ -1,6 +1,6 @@
 -- What the table's calls answer, in document 01's terms, and what they leave.
 -- Assumes nothing.
-use Rattle.std.specs.Prelude.{ℕ, false, List}
+use Rattle.std.specs.Prelude.{ℕ, List}
 use Rattle.link.specs.declared.Link.{Link}
 use Rattle.link.specs.declared.Lent.{Lent}
 use Rattle.link.specs.Judge.{refused}

@@ -1,9 +1,11 @@
-// Lines of standard input, and text that is put together piece by piece.
+// Lines of any input, and text that is put together piece by piece.
 ghost use Rattle.std.specs.Prelude.{◌≡◌, ◌-◌, ◌≤◌, get_or, set, length, drop};
 ghost use Rattle.std.proofs.Math.Seq.{paste};
 ghost use Rattle.text.specs.Unread.{lines_at, unread};
 ghost use Rattle.text.specs.Line.{end_in, span_of, rest_of, unended_of, left_of, settle_of, is_more};
 ghost use Rattle.text.specs.Next.{front_as, front_of, ReadOn, ReadLine, NextLine, longer_of, past_of, Skipped};
+
+use std::io::Read;
 
 // ---- lines
 
@@ -169,7 +171,7 @@ fn move_down(buf: &mut [u8], start: usize, end: usize)
     ensures { buf.new ≡ paste buf.old 0 (drop start buf.old) (end - start) }
 {
     let mut from = start;
-    let mut to = 0;
+    let mut to: usize = 0;
     while from < end {
         let b = byte_at(buf, from);
         put_byte(buf, to, b);
@@ -210,41 +212,44 @@ fn longer(end: usize, more: usize, len: usize) -> usize
 }
 
 // One read behind the bytes that are there.
-fn read_more(buf: &mut [u8], l: Lines) -> Lines
+fn read_more<R: Read>(input: &mut R, buf: &mut [u8], l: Lines) -> Lines
     ensures { ReadOn buf.old l buf.new result }
 {
     let end = l.end;
     if buf.len() <= end {
         return lines_at(l.start, l.seen, end, true, l.failed);
     }
-    let got = libc::read(0, &mut buf[end..]);
-    let more = io::count(got, buf);
-    if more == 0 {
-        return lines_at(l.start, l.seen, end, true, got < 0);
+    match input.read(&mut buf[end..]) {
+        Err(_) => lines_at(l.start, l.seen, end, true, true),
+        Ok(more) => {
+            if more == 0 {
+                return lines_at(l.start, l.seen, end, true, false);
+            }
+            lines_at(l.start, l.seen, longer(end, more, buf.len()), false, false)
+        }
     }
-    lines_at(l.start, l.seen, longer(end, more, buf.len()), false, false)
 }
 
 // Reads until there is a line. What is there lies at the front, and holds no line end.
-fn read_line(buf: &mut [u8], l: Lines) -> Step
+fn read_line<R: Read>(input: &mut R, buf: &mut [u8], l: Lines) -> Step
     ensures { ReadLine buf.old l.end buf.new result }
 {
     let mut step = settle(buf, lines_at(0, l.end, l.end, l.over, l.failed));
     while goes_on(step) {
-        let lines = read_more(buf, step.lines);
+        let lines = read_more(input, buf, step.lines);
         step = settle(buf, lines);
     }
     step
 }
 
 // The next line, without its line end; it lies in the buffer.
-pub fn next_line(buf: &mut [u8], l: Lines) -> Step
+pub fn next_line<R: Read>(input: &mut R, buf: &mut [u8], l: Lines) -> Step
     ensures { NextLine buf.old l buf.new result }
 {
     let step = settle(buf, l);
     if goes_on(step) {
         let front = to_front(buf, step.lines);
-        return read_line(buf, front);
+        return read_line(input, buf, front);
     }
     step
 }
@@ -267,7 +272,7 @@ fn past_line(buf: &[u8], l: Lines) -> Lines
 }
 
 // What follows a Long: the rest of that line is passed over. Nothing says that the input ends, so turns are counted down.
-pub fn skip_line(buf: &mut [u8], l: Lines) -> Lines
+pub fn skip_line<R: Read>(input: &mut R, buf: &mut [u8], l: Lines) -> Lines
     ensures { Skipped buf.new result }
 {
     let mut lines = emptied(l);
@@ -279,7 +284,7 @@ pub fn skip_line(buf: &mut [u8], l: Lines) -> Lines
         if 0 < lines.start {
             return lines;
         }
-        let read = read_more(buf, lines);
+        let read = read_more(input, buf, lines);
         lines = past_line(buf, read);
         turns -= 1;
     }

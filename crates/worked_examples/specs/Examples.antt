@@ -1,16 +1,9 @@
 -- Document 01, "Marked for proof", with the add sheet and the example of "Bounds": rows of one list, and one theorem over it. Groups, and the
 -- crates of the laws of walks and collections, say what their rows mean.
 -- Assumes nothing.
-use Rattle.std.specs.Prelude.{ℕ, zero, suc, ◌+◌, ◌*◌, ◌-◌, ◌^◌, ◌≡◌, refl, Bool, true, false, List, [], ◌∷◌, ℤ, pos, negsuc, length, replicate}
+use Rattle.std.specs.Prelude.{ℕ, zero, suc, ◌+◌, ◌*◌, ◌-◌, ◌^◌, ◌≡◌, Bool, true, false, List, [], ◌∷◌, ℤ, pos, negsuc, length, replicate}
 use Rattle.link.specs.Said.{Said, accepted, refusing}
-use Rattle.cells.specs.Rows.{put_row}
-use Rattle.byte_slices.specs.Bytes.{word_at, same, copied}
-use Rattle.link.specs.Bounds.{lesser}
 use Rattle.link.specs.Judge as Judge
-use Rattle.keyed_hash.specs.Keyed as Keyed
-use Rattle.interner.specs.Hash.{spread, head_cell}
-use Rattle.interner.specs.Names as Names
-use Rattle.interner.specs.Calls as Interns
 use Rattle.symbol.specs.declared.Symbol.{Symbol}
 use Rattle.symbol.specs.declared.SymbolType.{SymbolType}
 use Rattle.symbol.specs.declared.SymbolType.TheVariants as Ty
@@ -19,28 +12,18 @@ use Rattle.symbol.specs.declared.SymbolVisibility.TheVariants.{Local, Global}
 use Rattle.symbol.specs.declared.SymbolValue.{SymbolValue}
 use Rattle.symbol.specs.declared.SymbolValue.TheVariants as Val
 use Rattle.symbol.specs.declared.SttFile.TheVariants as File
-use Rattle.symbol.specs.Offset.{offset_of, word_of}
-use Rattle.symbol.specs.Codes.{type_at, successor, file_at, visibility_at, value_at}
-use Rattle.symbol.specs.Row.{symbol_at, set_row}
-use Rattle.symbol.specs.Hidden.{hidden_code, hide_code, show_code, passes, hide_if, pass_hidden}
+use Rattle.symbol.specs.Offset.{offset_of}
 use Rattle.upcoming_symbol.specs.declared.UpcomingSymbol.{UpcomingSymbol}
 use Rattle.upcoming_symbol.specs.declared.UpcomingSymbol.TheVariants.{Elf, ExternallyDefined}
-use Rattle.upcoming_symbol.specs.Judge as Fields
-use Rattle.upcoming_symbol.specs.Upcoming.{in_section, conversion_from, converted_of, undefined_of, value_of, elf_row_of, library_code, external_row_of}
-use Rattle.symbol_resolution.specs.Holder.{held_by, holder_of}
-use Rattle.symbol_resolution.specs.Decide as Decide
-use Rattle.symbol_resolution.specs.Apply.{note_name, set_section_symbol, note_section, append_of, replaced_in, amended_in, apply_of}
 use Rattle.symbols.specs.declared.Found.{Found}
 use Rattle.symbols.specs.declared.Found.TheVariants as Fd
 use Rattle.symbols.specs.Calls.{Left}
-use Rattle.symbols.specs.New.{clear_symbols, null_of, new_of}
-use Rattle.symbols.specs.Add.{judge_add_of, issued_of, direct_holder_of, place_of, decided_of, committed_of, add_row_of, add_of}
-use Rattle.symbols.specs.Lookup.{found_at, get_of}
+use Rattle.symbols.specs.New.{new_of}
+use Rattle.symbols.specs.Lookup.{get_of}
 use Rattle.archive_laws.specs.Examples as Walks
 use Rattle.gc_laws.specs.Examples as Collections
-use Rattle.plain_laws.specs.Examples as PlainCollections
+use Rattle.plain_laws.proofs.Examples as PlainCollections
 use Rattle.worked_examples.specs.Groups as Groups
-use Rattle.worked_examples.specs.Proof.Groups as GroupsLaws
 use Rattle.symbol_laws.specs.History.{State, with_table, opened, call_next, intern, add_to}
 
 -- ---- the table that the examples start from
@@ -225,8 +208,3 @@ cases =
 abbrev pub All : (Case → Type 0) → List Case → Type 0
 All P [] = Unit {0}
 All P (x ∷ xs) = P x × All P xs
-
-pub promises : All Right cases
-unfolding start put_row same copied lesser Judge.judge_sections Judge.judge_names Judge.judge_lists Judge.after_symbols Judge.after_sections Judge.judge_of Judge.change_of word_at Keyed.folded Keyed.mixed Keyed.hash_from Keyed.point_of Keyed.hash_of spread head_cell Names.chase Names.seek_of Names.find_from Names.find_of Names.room_of Names.fits_of Names.linked Names.keep_of Interns.issue_of Interns.intern_of Interns.clear_heads Interns.new_of offset_of word_of type_at successor file_at visibility_at value_at symbol_at set_row Fields.section_in_range Fields.elf_in_range Fields.external_in_range Fields.shown_of Fields.hidden_of Fields.judge_of in_section conversion_from converted_of undefined_of value_of elf_row_of library_code external_row_of held_by holder_of Decide.weak_of Decide.reference_rank Decide.rank_of Decide.type_refusal Decide.section_cell Decide.section_room Decide.room_of Decide.new_of Decide.replace_of hidden_code hide_code show_code passes hide_if pass_hidden Decide.kept_of Decide.ranked_of Decide.known_of Decide.decide_of note_name set_section_symbol note_section append_of replaced_in amended_in apply_of clear_symbols null_of new_of judge_add_of issued_of direct_holder_of place_of decided_of committed_of add_row_of add_of found_at get_of
-promises =
-    (((refl, refl, refl), (refl, refl, refl)), (((refl, refl, refl), (refl, refl, refl)), (refl, (refl, (((refl, refl, refl), (refl, refl, refl)), (((refl, refl, refl), (refl, refl, refl)), ((refl, refl, refl), ((refl, refl, refl), ((refl, refl, refl), (((refl, refl, refl), (refl, refl, refl)), (GroupsLaws.p8-right, (GroupsLaws.p8-comdat-right, (((refl, refl, refl), (refl, refl, refl)), ((refl, refl, refl), ((refl, refl, refl), (Walks.p10-right, (Walks.p10-gabi-right, (Walks.p11-right, (Walks.p11-gabi-right, (Walks.weak-ties-right, (Walks.weak-ties-none-right, (Collections.p12-right, (PlainCollections.p12-right, (((refl, refl, refl), (refl, refl, refl)), ((refl, refl, refl), ((refl, refl, refl), (((refl, refl, refl), (refl, refl, refl)), (((refl, refl, refl), (refl, refl, refl)), (((refl, refl, refl), (refl, refl, refl)), ((refl, refl, refl), ((refl, refl, refl), ((refl, refl, refl), ((refl, refl, refl), ((refl, refl, refl), ((refl, refl, refl), ((refl, refl, refl), ((refl, refl, refl), (((refl, refl, refl), (refl, refl, refl)), tt))))))))))))))))))))))))))))))))))))))

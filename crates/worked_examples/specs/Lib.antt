@@ -1,4 +1,2 @@
 pub mod Examples
 pub mod Groups
-pub mod Lists
-pub mod Proof

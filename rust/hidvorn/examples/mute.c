@@ -1,7 +1,7 @@
 /* A title's link, in C: the emulator core carries a weak `mute` that does nothing, and its mixer calls it by
  * name; the sound archive has the strong one, which clears the mix buffer. Prints who holds `mute` at the end.
  *
- *   cc -std=c99 -I rust/hidvorn/include rust/hidvorn/examples/mute.c target/staticlib/libffi.a -o mute && ./mute
+ *   cc -std=c99 -I rust/hidvorn/include rust/hidvorn/examples/mute.c crates/ffi/out/libffi.a -o mute && ./mute
  */
 #include "hidvorn.h"
 

@@ -1,4 +1,4 @@
-/* The symbol half of an ELF linker: the calls of libffi.a (`rt staticlib ffi`), which are proved. x86-64.
+/* The symbol half of an ELF linker: the calls of libffi.a (`rt lib` in crates/ffi), which are proved. x86-64.
  *
  * A slice is a pointer and a length in elements. A pointer that isn't const is written, and may overlap no
  * other slice of the call; the pointer of a slice of length 0 isn't read, but mustn't be null. Every call is

@@ -1,4 +1,3 @@
-use Rattle.std.proofs.Common.{rules}
 use Rattle.add_list.specs.Proof.Ways.{list-broken, list-short, list-adds}
 use Rattle.add_list.proofs.add_list.Goals as goal
 

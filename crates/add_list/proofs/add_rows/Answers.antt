@@ -1,9 +1,5 @@
 use Rattle.std.proofs.Common.{rules}
-use Prim.Native.Nat.{◌-◌, ◌<◌}
-use mathlib.Core.Path.{◌≡◌}
-use lib.ListN.{length}
-use Rattle.add_list.specs.Contract.{listed}
-use Rattle.add_list.specs.Proof.Ways.{Reached, reached-start, reached-on, reached-stop, reached-end}
+use Rattle.add_list.specs.Proof.Ways.{reached-start, reached-on, reached-stop, reached-end}
 use Rattle.add_list.proofs.add_rows.Goals as goal
 
 pub loop-k-init : goal.loop-k-init

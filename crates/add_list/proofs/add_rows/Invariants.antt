@@ -1,9 +1,8 @@
-use Rattle.std.proofs.Common.{rules}
 use Prim.Native.Nat.{◌-◌, ◌<◌}
 use mathlib.Core.Path.{◌≡◌}
 use lib.ListN.{length}
 use Rattle.add_list.specs.Contract.{listed}
-use Rattle.add_list.specs.Proof.Ways.{Reached, reached-start, reached-on, reached-stop, reached-end}
+use Rattle.add_list.specs.Proof.Ways.{Reached}
 use Rattle.add_list.proofs.add_rows.Given as goal
 
 abbrev pub invariant-loop-k : goal.invariant-loop-k

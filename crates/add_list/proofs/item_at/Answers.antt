@@ -1,4 +1,3 @@
-use Rattle.std.proofs.Common.{rules}
 use Rattle.add_list.specs.Proof.Ways.{item-is}
 use Rattle.add_list.proofs.item_at.Goals as goal
 

@@ -1,4 +1,3 @@
-use Rattle.std.proofs.Common.{rules}
 use Rattle.add_list.specs.Proof.Ways.{noted-symbol, noted-refused}
 use Rattle.add_list.proofs.note.Goals as goal
 

@@ -1,4 +1,3 @@
-use Rattle.std.proofs.Common.{rules}
 use Rattle.add_list.specs.Proof.Ways.{turn-done}
 use Rattle.add_list.proofs.turn.Goals as goal
 

@@ -1,6 +1,6 @@
 -- The ways through the functions.
 -- Assumes nothing.
-use Rattle.std.specs.Prelude.{ℕ, ◌+◌, ◌-◌, ◌<◌, ◌≤◌, ◌≡◌, refl, true, false, List, [], set, length}
+use Rattle.std.specs.Prelude.{ℕ, ◌+◌, ◌-◌, ◌<◌, ◌≤◌, ◌≡◌, refl, true, false, List, set, length}
 use Rattle.std.proofs.Math.Nat.{sub-zero}
 use native.Mathlib.Omega.{arith}
 use Rattle.std.proofs.Math.Path.{sym}
@@ -10,13 +10,12 @@ use Rattle.link.specs.declared.Link.{Link}
 use Rattle.link.specs.declared.SymbolId.{SymbolId}
 use Rattle.link.specs.declared.Refusal.{Refusal}
 use Rattle.link.specs.Judge.{refused, none}
-use Rattle.link.specs.Said.{Said, accepted, refusing}
 use Rattle.symbol.specs.declared.SttFile.{SttFile}
 use Rattle.symbol.specs.Codes.{file_at}
 use Rattle.upcoming_symbol.specs.declared.ElfSymbol.{ElfSymbol}
 use Rattle.upcoming_symbol.specs.declared.UpcomingSymbol.{UpcomingSymbol}
 use Rattle.upcoming_symbol.specs.declared.UpcomingSymbol.TheVariants.{Elf}
-use Rattle.symbol_resolution.specs.Apply.{Table, table_of}
+use Rattle.symbol_resolution.specs.Apply.{table_of}
 use Rattle.symbols.specs.declared.Symbols.{Symbols}
 use Rattle.symbols.specs.declared.Outcome.{Outcome}
 use Rattle.symbols.specs.declared.Answer.{Answer}
@@ -25,7 +24,7 @@ use Rattle.symbols.specs.Calls.{Left, said, outcome}
 use Rattle.symbols.specs.Add.{add_of}
 use Rattle.elf_object.specs.Rows.{rows_in, field, elf_at}
 use Rattle.elf_object.specs.Proof.Ways.{one_less}
-use Rattle.add_list.specs.AddList.{item_at, items_from, items_of, ListLeft, list_left, noted_of, turn_of, adds_of, add_list_of}
+use Rattle.add_list.specs.AddList.{item_at, items_from, items_of, ListLeft, noted_of, turn_of, adds_of, add_list_of}
 use Rattle.add_list.specs.Proof.Items.{items-length}
 use Rattle.add_list.specs.declared.Listed.{Listed}
 use Rattle.add_list.specs.Contract.{Noted, noted, noted_as, listed_at, listed}

@@ -1,5 +1,4 @@
-use Rattle.std.proofs.Common.{rules}
-use Rattle.std.proofs.Common.{◌-◌, ◌≤◌, rules}
+use Rattle.std.proofs.Common.{◌-◌, ◌≤◌}
 use Rattle.archive_bench.proofs.depth.Given as goal
 
 abbrev pub invariant-loop-n : goal.invariant-loop-n

@@ -1,5 +1,4 @@
-use Rattle.std.proofs.Common.{rules}
-use Rattle.std.proofs.Common.{◌≡◌, ◌-◌, length, rules}
+use Rattle.std.proofs.Common.{◌≡◌, ◌-◌, length}
 use Rattle.archive_bench.proofs.note_all.Given as goal
 
 abbrev pub invariant-loop-k : goal.invariant-loop-k

@@ -1,4 +1,3 @@
-use Rattle.std.proofs.Common.{rules}
 use Rattle.std.proofs.Common.{arith}
 use Rattle.archive_index.specs.Proof.Ways.{after-fits, after-found, after-cut}
 use Rattle.archive_index.proofs.after_name.Goals as goal

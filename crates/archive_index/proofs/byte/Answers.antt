@@ -1,4 +1,3 @@
-use Rattle.std.proofs.Common.{rules}
 use Rattle.std.proofs.Common.{arith}
 use mathlib.Core.Path.{sym}
 use lib.ListN.{get_or-eq_default}

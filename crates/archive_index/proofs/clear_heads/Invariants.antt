@@ -1,9 +1,7 @@
-use Rattle.std.proofs.Common.{rules}
 use Prim.Native.Nat.{◌-◌, ◌≤◌}
 use mathlib.Core.Path.{◌≡◌}
 use lib.ListN.{length}
 use Rattle.archive_index.specs.Rows.{no_heads}
-use Rattle.archive_index.specs.Proof.Ways.{heads-none, heads-more, heads-all}
 use Rattle.archive_index.proofs.clear_heads.Given as goal
 
 abbrev pub invariant-loop-k : goal.invariant-loop-k

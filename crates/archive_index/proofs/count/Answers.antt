@@ -1,4 +1,3 @@
-use Rattle.std.proofs.Common.{rules}
 use Rattle.archive_index.specs.Proof.Ways.{count-is}
 use Rattle.archive_index.proofs.count.Goals as goal
 

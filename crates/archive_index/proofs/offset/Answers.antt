@@ -1,4 +1,3 @@
-use Rattle.std.proofs.Common.{rules}
 use Rattle.archive_index.specs.Proof.Ways.{offset-in, offset-out}
 use Rattle.archive_index.proofs.offset.Goals as goal
 

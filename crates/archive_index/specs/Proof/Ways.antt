@@ -6,7 +6,8 @@ use native.Mathlib.Omega.{arith}
 use Rattle.std.proofs.Math.Path.{refl, sym, subst}
 use Rattle.std.proofs.Math.ListN.{get_or, get_or-eq_default}
 use borrow.Author.Tests.{eq-eqb, ne_eqb, lt-ltb, le-ltb}
-use Rattle.gabi.specs.StringTable.{ended, name_at, name-inside}
+use Rattle.gabi.specs.StringTable.{ended, name_at}
+use Rattle.gabi.proofs.StringTableLaws.{name-inside}
 use Rattle.strings.specs.Lookup.{Looked, looked, look_ended}
 use Rattle.cells.specs.Rows.{put_row}
 use Rattle.link.specs.Bounds.{lesser}

@@ -1,4 +1,3 @@
-use Rattle.std.proofs.Common.{rules}
 use Rattle.archive_reader.specs.Proof.Ways.{offset-there, offset-none}
 use Rattle.archive_reader.proofs.offset_in.Goals as goal
 

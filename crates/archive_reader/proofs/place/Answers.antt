@@ -1,7 +1,4 @@
 use Rattle.std.proofs.Common.{rules}
-use Prim.Native.Nat.{◌-◌, ◌≤◌}
-use mathlib.Core.Path.{◌≡◌}
-use Rattle.archive_index.specs.Index.{place_of}
 use Rattle.archive_reader.specs.Proof.Ways.{place-first, place-next, place-there}
 use Rattle.archive_reader.proofs.place.Goals as goal
 

@@ -1,8 +1,5 @@
-use Rattle.std.proofs.Common.{rules}
-use Prim.Native.Nat.{◌-◌, ◌≤◌}
-use mathlib.Core.Path.{◌≡◌}
+use Rattle.std.proofs.Common.{◌≡◌, ◌-◌, ◌≤◌}
 use Rattle.archive_index.specs.Index.{place_of}
-use Rattle.archive_reader.specs.Proof.Ways.{place-first, place-next, place-there}
 use Rattle.archive_reader.proofs.place.Given as goal
 
 abbrev pub invariant-loop-i : goal.invariant-loop-i

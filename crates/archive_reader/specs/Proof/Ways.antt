@@ -4,7 +4,8 @@ use Rattle.std.specs.Prelude.{ℕ, ◌+◌, ◌*◌, ◌/◌, ◌<◌, ◌≤◌
 use Rattle.std.proofs.Common.{add-one, arith, ap, ◌∙◌}
 use Rattle.std.proofs.Math.Path.{refl, sym}
 use borrow.Author.Tests.{lt-ltb, le-ltb}
-use Rattle.gabi.specs.StringTable.{ended, name_at, name-part}
+use Rattle.gabi.specs.StringTable.{ended, name_at}
+use Rattle.gabi.proofs.StringTableLaws.{name-part}
 use Rattle.strings.specs.Lookup.{Looked, looked, look_ended}
 use Rattle.archive_index.specs.Index.{offset_of, after_of, place_of, name_of}
 use Rattle.archive_reader.specs.Entry.{entry_offset, entry_name}

@@ -1,4 +1,3 @@
-use Rattle.std.proofs.Common.{rules}
 use Rattle.archive_walk.specs.Proof.Ways.{bears-free, bears-other, bears-name}
 use Rattle.archive_walk.proofs.bears.Goals as goal
 

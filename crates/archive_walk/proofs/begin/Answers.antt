@@ -1,4 +1,3 @@
-use Rattle.std.proofs.Common.{rules}
 use Rattle.archive_walk.specs.Proof.Ways.{begin-ready, begin-refused}
 use Rattle.archive_walk.proofs.begin.Goals as goal
 

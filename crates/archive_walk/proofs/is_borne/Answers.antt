@@ -1,6 +1,3 @@
-use Rattle.std.proofs.Common.{rules}
-use mathlib.Core.Path.{◌≡◌}
-use Rattle.archive_walk.specs.Names.{along, bears_of, borne_from}
 use Rattle.archive_walk.specs.Proof.Ways.{borne-start, along-end, along-hit, along-on, along-out}
 use Rattle.archive_walk.proofs.is_borne.Goals as goal
 

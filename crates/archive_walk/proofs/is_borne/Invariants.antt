@@ -1,7 +1,5 @@
-use Rattle.std.proofs.Common.{rules}
 use mathlib.Core.Path.{◌≡◌}
 use Rattle.archive_walk.specs.Names.{along, bears_of, borne_from}
-use Rattle.archive_walk.specs.Proof.Ways.{borne-start, along-end, along-hit, along-on, along-out}
 use Rattle.archive_walk.proofs.is_borne.Given as goal
 
 abbrev pub invariant-loop-left : goal.invariant-loop-left

@@ -1,4 +1,3 @@
-use Rattle.std.proofs.Common.{rules}
 use Rattle.archive_walk.specs.Proof.Ways.{required-is, required-none}
 use Rattle.archive_walk.proofs.is_required.Goals as goal
 

@@ -1,4 +1,3 @@
-use Rattle.std.proofs.Common.{rules}
 use Rattle.archive_walk.specs.Proof.Ways.{name-chain-none, name-chain-some}
 use Rattle.archive_walk.proofs.name_chain.Goals as goal
 

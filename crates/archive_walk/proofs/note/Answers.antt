@@ -1,4 +1,3 @@
-use Rattle.std.proofs.Common.{rules}
 use Rattle.archive_walk.specs.Proof.Ways.{note-known, note-new}
 use Rattle.archive_walk.proofs.note.Goals as goal
 

@@ -1,4 +1,3 @@
-use Rattle.std.proofs.Common.{rules}
 use Rattle.archive_walk.specs.Proof.Ways.{head-is, head-past}
 use Rattle.archive_walk.proofs.put_at_head.Goals as goal
 

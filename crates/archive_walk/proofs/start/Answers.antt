@@ -1,4 +1,3 @@
-use Rattle.std.proofs.Common.{rules}
 use Rattle.archive_walk.specs.Proof.Ways.{start_is}
 use Rattle.archive_walk.proofs.start.Goals as goal
 

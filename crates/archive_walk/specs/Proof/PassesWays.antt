@@ -8,9 +8,8 @@ use mathlib.Core.List.{List}
 use Rattle.std.proofs.Math.Dec.{eqb}
 use Rattle.std.proofs.Math.ListN.{get_or, set, get_or-eq_default}
 use Rattle.std.proofs.Math.Seq.{set_out}
-use borrow.Author.Tests.{eq-eqb, ltb-true, ltb-false, eqb-true, eqb-false}
+use borrow.Author.Tests.{ltb-true, ltb-false, eqb-true, eqb-false}
 use Rattle.cells.specs.Proof.Split.{by-test}
-use Rattle.byte_slices.specs.Bytes.{part}
 use Rattle.byte_slices.specs.Proof.Ways.{pick, apart}
 use Rattle.link.specs.declared.SymbolId.{SymbolId}
 use Rattle.symbol_resolution.specs.declared.rows.Holder.{Holder}

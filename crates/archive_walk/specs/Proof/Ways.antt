@@ -28,7 +28,7 @@ use Rattle.archive_walk.specs.declared.Walk.{Walk}
 use Rattle.archive_walk.specs.declared.Started.{Started}
 use Rattle.archive_walk.specs.declared.Begun.TheVariants.{Ready}
 use Rattle.archive_walk.specs.declared.Begun.TheVariants as Begins
-use Rattle.archive_walk.specs.declared.Offer.TheVariants.{Member, Done, Refused}
+use Rattle.archive_walk.specs.declared.Offer.TheVariants.{Member, Done}
 use Rattle.archive_walk.specs.declared.Moved.{Moved}
 use Rattle.archive_walk.specs.Look.{Table, lent_of, judge_table, name_holder, ties_row, tied_name}
 use Rattle.archive_walk.specs.Walk.{start_left, fresh_walk, no_walk, begun_of, start_of, step_moved, refused_move, handed_out, ended, offer_of, Queue, queue_of, marked, enqueue, tie_of, tie_all, removed_of, passed, make_of, search_of, pass_of, walk_fits, go_of, next_of}

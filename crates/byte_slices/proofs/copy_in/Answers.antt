@@ -1,4 +1,3 @@
-use Rattle.std.proofs.Common.{rules}
 use Rattle.byte_slices.specs.Proof.Ways.{copied-not, copied-short, copied-whole}
 use Rattle.byte_slices.proofs.copy_in.Goals as goal
 

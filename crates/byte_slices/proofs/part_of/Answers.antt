@@ -1,7 +1,4 @@
-use Rattle.std.proofs.Common.{rules}
-use Prim.Native.Nat.{ℕ, suc, ◌+◌, ◌-◌, ◌<◌, ◌≤◌}
-use Rattle.std.proofs.Common.{arith}
-use mathlib.Core.Path.{◌≡◌, sym, ◌∙◌, refl}
+use mathlib.Core.Path.{sym, refl}
 use lib.Seq.{length-take-le}
 use Rattle.cells.specs.Proof.Part.{part-past, part_in, part-all}
 use Rattle.byte_slices.proofs.part_of.Goals as goal

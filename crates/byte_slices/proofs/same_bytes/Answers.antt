@@ -1,8 +1,4 @@
 use Rattle.std.proofs.Common.{rules}
-use Prim.Native.Nat.{◌+◌, ◌*◌, ◌-◌, ◌/◌, ◌%◌, ◌≤◌}
-use mathlib.Core.Path.{◌≡◌}
-use lib.ListN.{length, drop}
-use Rattle.byte_slices.specs.Bytes.{same}
 use Rattle.byte_slices.specs.Proof.Ways.{same-ne, same_stop, same-on, same-last}
 use Rattle.byte_slices.proofs.same_bytes.Goals as goal
 

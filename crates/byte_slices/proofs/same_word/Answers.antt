@@ -1,4 +1,3 @@
-use Rattle.std.proofs.Common.{rules}
 use Rattle.byte_slices.specs.Proof.Ways.{word_same, word-other}
 use Rattle.byte_slices.proofs.same_word.Goals as goal
 

@@ -1,4 +1,3 @@
-use Rattle.std.proofs.Common.{rules}
 use Rattle.byte_slices.specs.Proof.Ways.{word-whole, whole-bytes}
 use Rattle.byte_slices.proofs.whole_word.Goals as goal
 

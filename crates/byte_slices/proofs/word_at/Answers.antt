@@ -1,4 +1,3 @@
-use Rattle.std.proofs.Common.{rules}
 use Rattle.byte_slices.specs.Proof.Ways.{word_none, none-bytes}
 use Rattle.byte_slices.proofs.word_at.Goals as goal
 

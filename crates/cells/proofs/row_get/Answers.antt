@@ -1,8 +1,6 @@
 use Prim.Native.Nat.{◌+◌, ◌*◌}
-use mathlib.Core.Path.{sym}
 use Rattle.cells.specs.Proof.Cell.{get-out}
 use Rattle.std.proofs.Common.{arith}
-use Rattle.std.proofs.Common.{rules}
 use Rattle.cells.proofs.row_get.Goals as goal
 
 pub returns-else-f-lt1152921504606846976 : goal.returns-else-f-lt1152921504606846976

@@ -1,7 +1,6 @@
 use mathlib.Core.Path.{sym}
 use lib.Seq.{set_out}
 use Rattle.std.proofs.Common.{arith}
-use Rattle.std.proofs.Common.{rules}
 use Rattle.cells.proofs.row_put.Goals as goal
 
 pub returns-else-f-lt1152921504606846976 : goal.returns-else-f-lt1152921504606846976

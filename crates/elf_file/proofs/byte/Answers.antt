@@ -1,4 +1,3 @@
-use Rattle.std.proofs.Common.{rules}
 use Rattle.elf_file.specs.Proof.Ways.{byte-read}
 use Rattle.elf_file.proofs.byte.Goals as goal
 

@@ -1,4 +1,3 @@
-use Rattle.std.proofs.Common.{rules}
 use Prim.Native.Nat.{◌*◌}
 use Rattle.std.proofs.Common.{arith}
 use Rattle.cells.specs.Proof.Part.{part-past}

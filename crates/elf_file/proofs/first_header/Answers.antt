@@ -1,4 +1,3 @@
-use Rattle.std.proofs.Common.{rules}
 use Rattle.elf_file.specs.Proof.Ways.{first_read}
 use Rattle.elf_file.proofs.first_header.Goals as goal
 

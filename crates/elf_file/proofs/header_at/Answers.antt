@@ -1,4 +1,3 @@
-use Rattle.std.proofs.Common.{rules}
 use Rattle.elf_file.specs.Proof.Ways.{header-in}
 use Rattle.elf_file.proofs.header_at.Goals as goal
 

@@ -1,4 +1,3 @@
-use Rattle.std.proofs.Common.{rules}
 use Rattle.elf_file.specs.Proof.Ways.{header_read}
 use Rattle.elf_file.proofs.header_of.Goals as goal
 

@@ -1,4 +1,3 @@
-use Rattle.std.proofs.Common.{rules}
 use Rattle.elf_file.specs.Proof.Ways.{table-read, table-large}
 use Rattle.elf_file.proofs.header_table.Goals as goal
 

@@ -1,4 +1,3 @@
-use Rattle.std.proofs.Common.{rules}
 use Rattle.elf_file.specs.Proof.Ways.{names-first, names-read}
 use Rattle.elf_file.proofs.name_section.Goals as goal
 

@@ -1,4 +1,3 @@
-use Rattle.std.proofs.Common.{rules}
 use Rattle.elf_file.specs.Proof.Ways.{rel-read}
 use Rattle.elf_file.proofs.r_sym.Goals as goal
 

@@ -1,4 +1,3 @@
-use Rattle.std.proofs.Common.{rules}
 use Rattle.elf_file.specs.Proof.Ways.{count_none, count-first, count-read}
 use Rattle.elf_file.proofs.section_count.Goals as goal
 

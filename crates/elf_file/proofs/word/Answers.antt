@@ -1,4 +1,3 @@
-use Rattle.std.proofs.Common.{rules}
 use Rattle.elf_file.specs.Proof.Ways.{word_read, word_small}
 use Rattle.elf_file.proofs.word.Goals as goal
 

@@ -1,4 +1,3 @@
-use Rattle.std.proofs.Common.{rules}
 use Rattle.elf_file.specs.Proof.Ways.{xword-none, xword-read}
 use Rattle.elf_file.proofs.xword.Goals as goal
 

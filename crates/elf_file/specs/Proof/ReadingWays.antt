@@ -19,14 +19,14 @@ use Rattle.gabi.specs.File.{half_at, xword_at, section_count, header_table, name
 use Rattle.elf_file.specs.File.{header_at}
 use Rattle.elf_file.specs.Check.{file_refusal}
 use Rattle.elf_file.specs.declared.rows.Room.{Room}
-use Rattle.elf_file.specs.Rows.{entries_in, contents_in, entry_count, content_count, room_of, room_as, named_kind, names_of, strings_number, flags_of, first_by_rank, count_of, header_row_of}
+use Rattle.elf_file.specs.Rows.{entries_in, contents_in, entry_count, content_count, room_of, room_as, named_kind, names_of, strings_number, flags_of, first_row_of, count_of, header_row_of}
 use Rattle.elf_file.specs.Proof.RowsWays.{entries-step, contents-step}
 use Rattle.elf_file.specs.declared.reading.Reading.{Reading}
 use Rattle.elf_file.specs.Read.{headers_into, symbol_row, symbols_into, all_symbols_into, element_at, elements_into, all_elements_into, written_of, done, read_as, roomed_of, read_of}
 
 -- ---- single rows
 
-pub header-stored : (file names l t : List ℕ) (i : ℕ) (h : Header) (e c k f p q : ℕ) → k ≡ named_kind names h → f ≡ flags_of file h → p ≡ first_by_rank h e c → q ≡ count_of h
+pub header-stored : (file names l t : List ℕ) (i : ℕ) (h : Header) (e c k f p q : ℕ) → k ≡ named_kind names h → f ≡ flags_of file h → p ≡ first_row_of h e c → q ≡ count_of h
     → t ≡ put_row l i (k ∷ h.name ∷ f ∷ h.link ∷ h.info ∷ p ∷ q ∷ 0 ∷ []) → t ≡ put_row l i (header_row_of file names h e c)
 unfolding header_row_of
 header-stored file names l t i h e c k f p q a b d g z = simp (z, a, b, d, g)

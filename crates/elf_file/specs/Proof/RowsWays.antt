@@ -13,7 +13,7 @@ use Rattle.elf_file.specs.declared.Header.{Header}
 use Rattle.elf_file.specs.File.{header_at}
 use Rattle.elf_file.specs.Check.{excluded}
 use Rattle.elf_file.specs.declared.rows.Room.{Room}
-use Rattle.elf_file.specs.Rows.{entries_in, contents_in, entry_count, content_count, room_as, room_of, kinds, kind_of, eh_frame_hdr, named_kind, strings_of, names_of, strings_number, comdat_of, flags_of, first_by_rank, count_of}
+use Rattle.elf_file.specs.Rows.{entries_in, contents_in, entry_count, content_count, room_as, room_of, kinds, kind_of, eh_frame_hdr, named_kind, strings_of, names_of, strings_number, comdat_of, flags_of, first_row_of, count_of}
 
 -- ---- counts
 
@@ -214,34 +214,34 @@ module _ (file : List ℕ) (h : Header) (t : ℕ) where
   flags-read c e q = simp (q, e)
 
 module _ (h : Header) (e c t : ℕ) (x : Bool) where
-  pub first-none : x ≡ excluded h → x ≡ true → t ≡ 0 → t ≡ first_by_rank h e c
-  unfolding first_by_rank
+  pub first-none : x ≡ excluded h → x ≡ true → t ≡ 0 → t ≡ first_row_of h e c
+  unfolding first_row_of
   first-none a b q = simp (q, ← a, b)
 
-  pub first-2 : x ≡ excluded h → x ≡ false → h.kind ≡ 2 → t ≡ e → t ≡ first_by_rank h e c
-  unfolding first_by_rank
+  pub first-2 : x ≡ excluded h → x ≡ false → h.kind ≡ 2 → t ≡ e → t ≡ first_row_of h e c
+  unfolding first_row_of
   first-2 a b k q = simp (q, ← a, b, eq-eqb _ _ k)
 
-  pub first-3 : x ≡ excluded h → x ≡ false → (h.kind ≡ 2 → ⊥) → h.kind ≡ 3 → t ≡ h.offset → t ≡ first_by_rank h e c
-  unfolding first_by_rank
+  pub first-3 : x ≡ excluded h → x ≡ false → (h.kind ≡ 2 → ⊥) → h.kind ≡ 3 → t ≡ h.offset → t ≡ first_row_of h e c
+  unfolding first_row_of
   first-3 a b k l q = simp (q, ← a, b, ne_eqb _ _ k, eq-eqb _ _ l)
 
-  pub first-9 : x ≡ excluded h → x ≡ false → (h.kind ≡ 2 → ⊥) → (h.kind ≡ 3 → ⊥) → h.kind ≡ 9 → t ≡ c → t ≡ first_by_rank h e c
-  unfolding first_by_rank
+  pub first-9 : x ≡ excluded h → x ≡ false → (h.kind ≡ 2 → ⊥) → (h.kind ≡ 3 → ⊥) → h.kind ≡ 9 → t ≡ c → t ≡ first_row_of h e c
+  unfolding first_row_of
   first-9 a b k l m q = simp (q, ← a, b, ne_eqb _ _ k, ne_eqb _ _ l, eq-eqb _ _ m)
 
-  pub first-4 : x ≡ excluded h → x ≡ false → (h.kind ≡ 2 → ⊥) → (h.kind ≡ 3 → ⊥) → (h.kind ≡ 9 → ⊥) → h.kind ≡ 4 → t ≡ c → t ≡ first_by_rank h e c
-  unfolding first_by_rank
+  pub first-4 : x ≡ excluded h → x ≡ false → (h.kind ≡ 2 → ⊥) → (h.kind ≡ 3 → ⊥) → (h.kind ≡ 9 → ⊥) → h.kind ≡ 4 → t ≡ c → t ≡ first_row_of h e c
+  unfolding first_row_of
   first-4 a b k l m n q = simp (q, ← a, b, ne_eqb _ _ k, ne_eqb _ _ l, ne_eqb _ _ m, eq-eqb _ _ n)
 
   pub first-17 : x ≡ excluded h → x ≡ false → (h.kind ≡ 2 → ⊥) → (h.kind ≡ 3 → ⊥) → (h.kind ≡ 9 → ⊥) → (h.kind ≡ 4 → ⊥) → h.kind ≡ 17 → t ≡ c
-      → t ≡ first_by_rank h e c
-  unfolding first_by_rank
+      → t ≡ first_row_of h e c
+  unfolding first_row_of
   first-17 a b k l m n o q = simp (q, ← a, b, ne_eqb _ _ k, ne_eqb _ _ l, ne_eqb _ _ m, ne_eqb _ _ n, eq-eqb _ _ o)
 
   pub first-other : x ≡ excluded h → x ≡ false → (h.kind ≡ 2 → ⊥) → (h.kind ≡ 3 → ⊥) → (h.kind ≡ 9 → ⊥) → (h.kind ≡ 4 → ⊥) → (h.kind ≡ 17 → ⊥)
-      → t ≡ 0 → t ≡ first_by_rank h e c
-  unfolding first_by_rank
+      → t ≡ 0 → t ≡ first_row_of h e c
+  unfolding first_row_of
   first-other a b k l m n o q = simp (q, ← a, b, ne_eqb _ _ k, ne_eqb _ _ l, ne_eqb _ _ m, ne_eqb _ _ n, ne_eqb _ _ o)
 
 module _ (h : Header) (t : ℕ) (x : Bool) where

@@ -1,4 +1,3 @@
-use Rattle.std.proofs.Common.{rules}
 use Rattle.elf_object.specs.Proof.Ways.{elf-same}
 use Rattle.elf_object.proofs.elf_at.Goals as goal
 

@@ -1,4 +1,3 @@
-use Rattle.std.proofs.Common.{rules}
 use Rattle.elf_object.specs.Proof.Ways.{entries-past, entries-all, entries-in, rows-length}
 use Rattle.elf_object.proofs.entries_from.Goals as goal
 

@@ -1,4 +1,3 @@
-use Rattle.std.proofs.Common.{rules}
 use Rattle.elf_object.specs.Proof.Ways.{excluded-yes, excluded-no}
 use Rattle.elf_object.proofs.is_excluded.Goals as goal
 

@@ -1,4 +1,3 @@
-use Rattle.std.proofs.Common.{rules}
 use Rattle.elf_object.specs.Proof.Ways.{loaded-past, loaded-excluded, loaded-yes, loaded-other}
 use Rattle.elf_object.proofs.is_loaded.Goals as goal
 

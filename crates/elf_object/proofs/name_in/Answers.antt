@@ -1,4 +1,3 @@
-use Rattle.std.proofs.Common.{rules}
 use Rattle.elf_object.specs.Proof.Ways.{name-loaded, name-missing}
 use Rattle.elf_object.proofs.name_in.Goals as goal
 

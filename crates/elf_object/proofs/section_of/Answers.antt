@@ -1,4 +1,3 @@
-use Rattle.std.proofs.Common.{rules}
 use Rattle.elf_object.specs.Proof.Ways.{section-none, section-before}
 use Rattle.elf_object.proofs.section_of.Goals as goal
 

@@ -1,4 +1,3 @@
-use Rattle.std.proofs.Common.{rules}
 use Rattle.elf_object.proofs.strings_at.Goals as goal
 
 pub returns : goal.returns

@@ -1,4 +1,3 @@
-use Rattle.std.proofs.Common.{rules}
 use Rattle.elf_object.specs.Proof.Ways.{table_none, table-loaded}
 use Rattle.elf_object.proofs.table_entries.Goals as goal
 

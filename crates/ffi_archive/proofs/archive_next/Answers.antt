@@ -1,4 +1,3 @@
-use Rattle.std.proofs.Common.{rules}
 use Rattle.ffi_archive.specs.Proof.Ways.{next-short, next-none, next_fits}
 use Rattle.ffi_archive.proofs.archive_next.Goals as goal
 

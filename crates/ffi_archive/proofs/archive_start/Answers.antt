@@ -1,4 +1,3 @@
-use Rattle.std.proofs.Common.{rules}
 use Rattle.ffi_archive.specs.Proof.Ways.{start-short, start_none, start_fits}
 use Rattle.ffi_archive.proofs.archive_start.Goals as goal
 

@@ -1,4 +1,3 @@
-use Rattle.std.proofs.Common.{rules}
 use Rattle.ffi_archive.specs.Proof.Ways.{begun-known}
 use Rattle.ffi_archive.proofs.begun.Goals as goal
 

@@ -1,4 +1,3 @@
-use Rattle.std.proofs.Common.{rules}
 use Rattle.ffi_archive.specs.Proof.Ways.{matches-short, matches-none, matches-told}
 use Rattle.ffi_archive.proofs.matches.Goals as goal
 

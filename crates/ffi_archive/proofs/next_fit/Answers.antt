@@ -1,4 +1,3 @@
-use Rattle.std.proofs.Common.{rules}
 use Rattle.ffi_archive.specs.Proof.Ways.{next-told}
 use Rattle.ffi_archive.proofs.next_fit.Goals as goal
 

@@ -1,4 +1,3 @@
-use Rattle.std.proofs.Common.{rules}
 use Rattle.ffi_archive.specs.Proof.Ways.{counts-put}
 use Rattle.ffi_archive.proofs.put_counts.Goals as goal
 

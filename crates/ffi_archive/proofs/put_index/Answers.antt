@@ -1,4 +1,3 @@
-use Rattle.std.proofs.Common.{rules}
 use Rattle.ffi_archive.specs.Proof.Ways.{index-put}
 use Rattle.ffi_archive.proofs.put_index.Goals as goal
 

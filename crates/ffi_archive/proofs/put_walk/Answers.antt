@@ -1,4 +1,3 @@
-use Rattle.std.proofs.Common.{rules}
 use Rattle.ffi_archive.specs.Proof.Ways.{walk_put}
 use Rattle.ffi_archive.proofs.put_walk.Goals as goal
 

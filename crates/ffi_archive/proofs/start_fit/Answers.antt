@@ -1,4 +1,3 @@
-use Rattle.std.proofs.Common.{rules}
 use Rattle.ffi_archive.specs.Proof.Ways.{start-told}
 use Rattle.ffi_archive.proofs.start_fit.Goals as goal
 

@@ -1,4 +1,3 @@
-use Rattle.std.proofs.Common.{rules}
 use Rattle.ffi_archive.specs.Proof.Ways.{walk-read}
 use Rattle.ffi_archive.proofs.walk_in.Goals as goal
 

@@ -1,4 +1,3 @@
-use Rattle.std.proofs.Common.{rules}
 use Rattle.ffi_cells.specs.Proof.Ways.{global-known}
 use Rattle.ffi_cells.specs.Cells.{global_code}
 use Rattle.ffi_cells.proofs.global_code.Goals as goal

@@ -1,4 +1,3 @@
-use Rattle.std.proofs.Common.{rules}
 use Rattle.ffi_cells.specs.Proof.Ways.{item-short, item-unknown, item-unvalued, item-valued, item-other}
 use Rattle.ffi_cells.proofs.is_item.Goals as goal
 

@@ -1,4 +1,3 @@
-use Rattle.std.proofs.Common.{rules}
 use Rattle.ffi_cells.specs.Proof.Ways.{item-global, item-hidden, item-section, item-external, item-elf, item-null}
 use Rattle.ffi_cells.proofs.item_in.Goals as goal
 

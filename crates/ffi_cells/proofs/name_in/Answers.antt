@@ -1,4 +1,3 @@
-use Rattle.std.proofs.Common.{rules}
 use Rattle.ffi_cells.specs.Proof.Ways.{name-read}
 use Rattle.ffi_cells.proofs.name_in.Goals as goal
 

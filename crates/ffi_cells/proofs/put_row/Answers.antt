@@ -1,4 +1,3 @@
-use Rattle.std.proofs.Common.{rules}
 use Rattle.ffi_cells.specs.Proof.Ways.{row_put}
 use Rattle.ffi_cells.proofs.put_row.Goals as goal
 

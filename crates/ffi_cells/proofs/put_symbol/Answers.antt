@@ -1,4 +1,3 @@
-use Rattle.std.proofs.Common.{rules}
 use Rattle.ffi_cells.specs.Proof.Ways.{symbol-put}
 use Rattle.ffi_cells.proofs.put_symbol.Goals as goal
 

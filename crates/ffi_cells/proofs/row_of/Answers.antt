@@ -1,4 +1,3 @@
-use Rattle.std.proofs.Common.{rules}
 use Rattle.ffi_cells.specs.Proof.Ways.{row_made}
 use Rattle.ffi_cells.proofs.row_of.Goals as goal
 

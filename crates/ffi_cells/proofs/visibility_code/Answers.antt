@@ -1,4 +1,3 @@
-use Rattle.std.proofs.Common.{rules}
 use Rattle.ffi_cells.specs.Proof.Ways.{visibility-known}
 use Rattle.ffi_cells.proofs.visibility_code.Goals as goal
 

@@ -1,4 +1,3 @@
-use Rattle.std.proofs.Common.{rules}
 use Rattle.ffi_cells.specs.Proof.Ways.{words-read}
 use Rattle.ffi_cells.proofs.words_in.Goals as goal
 

@@ -1,4 +1,3 @@
-use Rattle.std.proofs.Common.{rules}
 use Rattle.ffi_collect.specs.Proof.Ways.{collected-known}
 use Rattle.ffi_collect.proofs.collected.Goals as goal
 

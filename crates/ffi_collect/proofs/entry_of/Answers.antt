@@ -1,4 +1,3 @@
-use Rattle.std.proofs.Common.{rules}
 use Rattle.ffi_collect.specs.Proof.Ways.{entry_known}
 use Rattle.ffi_collect.specs.Calls.{entry_of}
 use Rattle.ffi_collect.proofs.entry_of.Goals as goal

@@ -1,4 +1,3 @@
-use Rattle.std.proofs.Common.{rules}
 use Rattle.ffi_collect.specs.Proof.Ways.{run_short, run-told}
 use Rattle.ffi_collect.proofs.gc_run.Goals as goal
 

@@ -1,4 +1,3 @@
-use Rattle.std.proofs.Common.{rules}
 use Rattle.ffi_collect.specs.Proof.Ways.{plain-short, plain-told}
 use Rattle.ffi_collect.proofs.plain_run.Goals as goal
 

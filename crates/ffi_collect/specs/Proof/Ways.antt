@@ -1,6 +1,6 @@
 -- The ways through the functions.
 -- Assumes nothing.
-use Rattle.std.specs.Prelude.{ℕ, ◌<◌, ◌≤◌, ◌≡◌, Bool, true, false, List, length}
+use Rattle.std.specs.Prelude.{ℕ, ◌<◌, ◌≤◌, ◌≡◌, Bool, List, length}
 use borrow.Author.Tests.{lt-ltb, le-ltb}
 use Rattle.link.specs.declared.Link.{Link}
 use Rattle.gc_sections.specs.declared.Answer.{Answer}

@@ -1,4 +1,3 @@
-use Rattle.std.proofs.Common.{rules}
 use Rattle.ffi_list.specs.Proof.Ways.{list-short, list-told}
 use Rattle.ffi_list.proofs.add_list.Goals as goal
 

@@ -1,4 +1,3 @@
-use Rattle.std.proofs.Common.{rules}
 use Rattle.ffi_load.specs.Proof.Ways.{said-known}
 use Rattle.ffi_load.proofs.loaded.Goals as goal
 

@@ -1,4 +1,3 @@
-use Rattle.std.proofs.Common.{rules}
 use Rattle.ffi_merge.specs.Proof.Ways.{group-short, group-told}
 use Rattle.ffi_merge.proofs.add_group.Goals as goal
 

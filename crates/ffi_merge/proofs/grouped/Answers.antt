@@ -1,4 +1,3 @@
-use Rattle.std.proofs.Common.{rules}
 use Rattle.ffi_merge.specs.Proof.Ways.{grouped-known}
 use Rattle.ffi_merge.proofs.grouped.Goals as goal
 

@@ -1,4 +1,3 @@
-use Rattle.std.proofs.Common.{rules}
 use Rattle.ffi_merge.specs.Proof.Ways.{merged-known}
 use Rattle.ffi_merge.proofs.merged.Goals as goal
 

@@ -21,10 +21,10 @@ module _ (a file rows : List ℕ) (t : ReadLeft) where
   unfolding read_call
   read_short i q = simp (q, lt-ltb _ _ i)
 
-  pub read_told : (l b : List ℕ) (r : Reading) → 8 ≤ length a → done l r ≡ read_of file rows
+  pub read-told : (l b : List ℕ) (r : Reading) → 8 ≤ length a → done l r ≡ read_of file rows
       → b ≡ put_row a 0 (r.place ∷ r.sections ∷ r.entries ∷ r.contents ∷ r.strings ∷ 0 ∷ 0 ∷ 0 ∷ []) → t ≡ read_left r.number b l → t ≡ read_call a file rows
   unfolding read_call
-  read_told l b r i e f q = q ∙ ap (λ (x : List ℕ). read_left r.number x l) f ∙ ap (read_told a) e ∙ rw (le-ltb (length a) 8 i)
+  read-told l b r i e f q = q ∙ ap (λ (x : List ℕ). read_left r.number x l) f ∙ ap (read_told a) e ∙ rw (le-ltb (length a) 8 i)
 
 module _ (h file : List ℕ) (m : Lent) (t : FileLeft) where
   pub file-short : length h < 24 → t ≡ file_left (told 1 h) m → t ≡ file_call h file m

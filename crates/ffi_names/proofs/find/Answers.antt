@@ -1,4 +1,3 @@
-use Rattle.std.proofs.Common.{rules}
 use Rattle.ffi_names.specs.Proof.Ways.{find-short, find-told}
 use Rattle.ffi_names.proofs.find.Goals as goal
 

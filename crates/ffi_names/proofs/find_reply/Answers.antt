@@ -1,4 +1,3 @@
-use Rattle.std.proofs.Common.{rules}
 use Rattle.ffi_names.specs.Proof.Ways.{find-refused, find-answered}
 use Rattle.ffi_names.proofs.find_reply.Goals as goal
 

@@ -1,4 +1,3 @@
-use Rattle.std.proofs.Common.{rules}
 use Rattle.ffi_names.specs.Proof.Ways.{first-in, first_past}
 use Rattle.ffi_names.proofs.first_of.Goals as goal
 

@@ -1,4 +1,3 @@
-use Rattle.std.proofs.Common.{rules}
 use Rattle.ffi_names.specs.Proof.Ways.{found-issued, found_none}
 use Rattle.ffi_names.proofs.found_reply.Goals as goal
 

@@ -1,4 +1,3 @@
-use Rattle.std.proofs.Common.{rules}
 use Rattle.ffi_names.specs.Proof.Ways.{intern-short, intern-told}
 use Rattle.ffi_names.proofs.intern.Goals as goal
 

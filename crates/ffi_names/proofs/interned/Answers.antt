@@ -1,4 +1,3 @@
-use Rattle.std.proofs.Common.{rules}
 use Rattle.ffi_names.specs.Proof.Ways.{said-known}
 use Rattle.ffi_names.proofs.interned.Goals as goal
 

@@ -1,4 +1,3 @@
-use Rattle.std.proofs.Common.{rules}
 use Rattle.ffi_names.specs.Proof.Ways.{part-found, part-refused}
 use Rattle.ffi_names.proofs.part_reply.Goals as goal
 

@@ -1,4 +1,3 @@
-use Rattle.std.proofs.Common.{rules}
 use Rattle.ffi_names.specs.Proof.Ways.{resolve-short, resolve-told}
 use Rattle.ffi_names.proofs.resolve.Goals as goal
 

@@ -3,13 +3,12 @@
 -- Assumes nothing.
 use Rattle.std.specs.Prelude.{ℕ, zero, suc, ◌+◌, ◌*◌, ◌<◌, ◌≤◌, ◌≡◌, refl, Bool, true, false, cond, List, [], ◌∷◌, ltb, get_or, length, take, drop}
 use Rattle.std.proofs.Common.{arith, sym, ap, ◌∙◌, drop_of_length-le, ltb-true, ltb-false, eq-eqb, lt-ltb}
-use Rattle.std.proofs.Math.Seq.{take-nil}
 use Rattle.link.specs.Bounds.{lesser}
 use Rattle.link.specs.Judge.{change_of}
 use Rattle.link.specs.Said.{accepted}
 use Rattle.interner.specs.Names.{Store, name_at, find_of, fits_of, keep_of}
 use Rattle.interner.specs.Calls.{left, lent, issue_of, intern_of}
-use Rattle.ffi_names.specs.Calls.{first_by_rank}
+use Rattle.ffi_names.specs.Calls.{first_byte}
 
 -- the two cases of a test
 pick : {A : Type 0} (P : A → Type 0) (t : Bool) (a b : A) → (t ≡ true → P a) → (t ≡ false → P b) → P (cond t a b)
@@ -27,13 +26,13 @@ same_from b s =
     pick (λ (k : ℕ). drop k b ≡ drop s b) (ltb s (length b)) s (length b) (λ t. refl)
     (λ t. let h : length b ≤ length b = omega arith in drop_of_length-le b h ∙ sym (drop_of_length-le b (ltb-false _ _ t)))
 
-pub part-named : (b n : List ℕ) (id : ℕ) → take (length (name_at b n id)) (drop (first_by_rank n id (length b)) b) ≡ name_at b n id
-unfolding first_by_rank
+pub part-named : (b n : List ℕ) (id : ℕ) → take (length (name_at b n id)) (drop (first_byte n id (length b)) b) ≡ name_at b n id
+unfolding first_byte
 part-named b n id =
     ap (take (length (name_at b n id))) (same_from b (get_or n (id * 8 + 0) 0)) ∙ take-taken (get_or n (id * 8 + 1) 0) (drop (get_or n (id * 8 + 0) 0) b)
 
-pub first-within : (b n : List ℕ) (id : ℕ) → first_by_rank n id (length b) ≤ length b
-unfolding first_by_rank lesser
+pub first-within : (b n : List ℕ) (id : ℕ) → first_byte n id (length b) ≤ length b
+unfolding first_byte lesser
 first-within b n id =
     pick (λ (k : ℕ). k ≤ length b) (ltb (get_or n (id * 8 + 0) 0) (length b)) (get_or n (id * 8 + 0) 0) (length b)
     (λ t. omega (arith, ltb-true (get_or n (id * 8 + 0) 0) (length b) t)) (λ t. omega arith)

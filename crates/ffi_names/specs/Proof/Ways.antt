@@ -12,7 +12,7 @@ use Rattle.interner.specs.Names.{Store, store_of, find_of}
 use Rattle.interner.specs.Calls.{Left, said, lent, intern_of, Resolved, resolve_of}
 use Rattle.ffi_cells.specs.declared.header.Reply.{Reply}
 use Rattle.ffi_cells.specs.Header.{is_short, link_in, result_of, refusal_of, refused_of, saying, Told, told, tell_of, answer_of}
-use Rattle.ffi_names.specs.Calls.{InternLeft, intern_left, intern_call, first_by_rank, part_reply, resolve_reply, resolve_call, found_reply, find_reply, find_call}
+use Rattle.ffi_names.specs.Calls.{InternLeft, intern_left, intern_call, first_byte, part_reply, resolve_reply, resolve_call, found_reply, find_reply, find_call}
 
 pub said-known : (a : Answer) (t : Reply) (k : Answer) → a ≡ k → t ≡ saying (said k) → t ≡ saying (said a)
 said-known a t k e q = simp (q, e)
@@ -28,16 +28,16 @@ module _ (h b n x : List ℕ) (t : InternLeft) where
   intern-told l w r y s e f g i q = simp (q, i, g, le-ltb _ _ s, ← e, ← f)
 
 module _ (n : List ℕ) (id bytes : ℕ) where
-  pub first-in : (t s : ℕ) → s ≡ get_or n (id * 8 + 0) 0 → s < bytes → t ≡ s → t ≡ first_by_rank n id bytes
-  unfolding first_by_rank lesser
+  pub first-in : (t s : ℕ) → s ≡ get_or n (id * 8 + 0) 0 → s < bytes → t ≡ s → t ≡ first_byte n id bytes
+  unfolding first_byte lesser
   first-in t s e h q = simp (q, ← e, lt-ltb _ _ h)
 
-  pub first_past : (t s : ℕ) → s ≡ get_or n (id * 8 + 0) 0 → bytes ≤ s → t ≡ bytes → t ≡ first_by_rank n id bytes
-  unfolding first_by_rank lesser
+  pub first_past : (t s : ℕ) → s ≡ get_or n (id * 8 + 0) 0 → bytes ≤ s → t ≡ bytes → t ≡ first_byte n id bytes
+  unfolding first_byte lesser
   first_past t s e h q = simp (q, ← e, le-ltb _ _ h)
 
   module _ (len number place : ℕ) (t : Reply) where
-    pub part-found : (f : ℕ) → number ≡ 0 → f ≡ first_by_rank n id bytes → t ≡ result_of f len 0 0 → t ≡ part_reply n id bytes len number place
+    pub part-found : (f : ℕ) → number ≡ 0 → f ≡ first_byte n id bytes → t ≡ result_of f len 0 0 → t ≡ part_reply n id bytes len number place
     unfolding part_reply
     part-found f z e q = simp (q, e, eq-eqb _ _ z)
 

@@ -1,4 +1,3 @@
-use Rattle.std.proofs.Common.{rules}
 use Rattle.ffi_symbols.specs.Proof.Ways.{add-short, add-item, add_none}
 use Rattle.ffi_symbols.proofs.add.Goals as goal
 

@@ -1,4 +1,3 @@
-use Rattle.std.proofs.Common.{rules}
 use Rattle.ffi_symbols.specs.Proof.Ways.{add-told}
 use Rattle.ffi_symbols.proofs.add_known.Goals as goal
 

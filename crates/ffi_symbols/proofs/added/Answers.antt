@@ -1,4 +1,3 @@
-use Rattle.std.proofs.Common.{rules}
 use Rattle.ffi_symbols.specs.Proof.Ways.{said-known}
 use Rattle.ffi_symbols.proofs.added.Goals as goal
 

@@ -1,4 +1,3 @@
-use Rattle.std.proofs.Common.{rules}
 use Rattle.ffi_symbols.specs.Proof.Ways.{new-short, new-old, new-gabi, new-other}
 use Rattle.ffi_symbols.proofs.new.Goals as goal
 

@@ -1,4 +1,3 @@
-use Rattle.std.proofs.Common.{rules}
 use Rattle.ffi_symbols.specs.Proof.Ways.{new-told}
 use Rattle.ffi_symbols.proofs.new_in.Goals as goal
 

@@ -1,4 +1,3 @@
-use Rattle.std.proofs.Common.{rules}
 use Rattle.ffi_symbols.specs.Proof.Ways.{remove-short, remove-told}
 use Rattle.ffi_symbols.proofs.remove.Goals as goal
 

@@ -1,4 +1,3 @@
-use Rattle.std.proofs.Common.{rules}
 use Rattle.gc_sections.specs.Proof.ReachWays.{add-nowhere, add-section}
 use Rattle.gc_sections.proofs.add.Goals as goal
 

@@ -1,4 +1,3 @@
-use Rattle.std.proofs.Common.{rules}
 use Rattle.gc_sections.specs.Proof.ReachWays.{entry-none, entry-symbol}
 use Rattle.gc_sections.proofs.add_entry.Goals as goal
 

@@ -1,4 +1,3 @@
-use Rattle.std.proofs.Common.{rules}
 use Rattle.gc_sections.specs.Proof.ReachWays.{cell-cleared}
 use Rattle.gc_sections.proofs.clear_cell.Goals as goal
 

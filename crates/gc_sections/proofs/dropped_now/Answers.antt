@@ -1,4 +1,3 @@
-use Rattle.std.proofs.Common.{rules}
 use Rattle.gc_sections.specs.Proof.RunWays.{now-past, now-yes, now-no}
 use Rattle.gc_sections.proofs.dropped_now.Goals as goal
 

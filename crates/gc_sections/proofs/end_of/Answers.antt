@@ -1,4 +1,3 @@
-use Rattle.std.proofs.Common.{rules}
 use Rattle.gc_sections.specs.Proof.ReachWays.{end_none, end-cut, end_whole}
 use Rattle.gc_sections.proofs.end_of.Goals as goal
 

@@ -1,4 +1,3 @@
-use Rattle.std.proofs.Common.{rules}
 use Rattle.gc_sections.specs.Proof.RunWays.{finish-swept, finish-refused}
 use Rattle.gc_sections.proofs.finish.Goals as goal
 

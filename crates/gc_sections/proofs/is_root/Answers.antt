@@ -1,4 +1,3 @@
-use Rattle.std.proofs.Common.{rules}
 use Rattle.gc_sections.specs.Proof.ReachWays.{root-built, root-unbuilt}
 use Rattle.gc_sections.proofs.is_root.Goals as goal
 

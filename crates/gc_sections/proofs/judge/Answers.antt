@@ -1,4 +1,3 @@
-use Rattle.std.proofs.Common.{rules}
 use Rattle.gc_sections.specs.Proof.RunWays.{judge-head, judge-on}
 use Rattle.gc_sections.proofs.judge.Goals as goal
 

@@ -1,4 +1,3 @@
-use Rattle.std.proofs.Common.{rules}
 use Rattle.gc_sections.specs.Proof.RunWays.{cells-marks, cells-work, cells-enough}
 use Rattle.gc_sections.proofs.judge_cells.Goals as goal
 

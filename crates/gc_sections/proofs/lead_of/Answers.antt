@@ -1,4 +1,3 @@
-use Rattle.std.proofs.Common.{rules}
 use Rattle.gc_sections.specs.Proof.ReachWays.{lead-absent, lead-removed, lead-present}
 use Rattle.gc_sections.proofs.lead_of.Goals as goal
 

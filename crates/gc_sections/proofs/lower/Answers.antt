@@ -1,4 +1,3 @@
-use Rattle.std.proofs.Common.{rules}
 use Rattle.gc_sections.specs.Proof.ReachWays.{lower-first, lower-new, lower-old}
 use Rattle.gc_sections.proofs.lower.Goals as goal
 

@@ -1,4 +1,3 @@
-use Rattle.std.proofs.Common.{rules}
 use Rattle.gc_sections.specs.Proof.ReachWays.{name-compared}
 use Rattle.gc_sections.proofs.name_is.Goals as goal
 

@@ -1,9 +1,4 @@
 use Rattle.std.proofs.Common.{rules}
-use Prim.Native.Nat.{◌-◌}
-use mathlib.Core.Path.{◌≡◌}
-use lib.ListN.{length}
-use Rattle.gc_sections.specs.Each.{each}
-use Rattle.gc_sections.specs.Reach.{walk_of, visit, process_of}
 use Rattle.gc_sections.specs.Proof.EachWays.{each_on, each-end}
 use Rattle.gc_sections.specs.Proof.ReachWays.{process-start}
 use Rattle.gc_sections.proofs.process.Goals as goal

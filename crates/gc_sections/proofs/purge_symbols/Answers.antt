@@ -1,10 +1,4 @@
 use Rattle.std.proofs.Common.{rules}
-use Prim.Native.Nat.{◌-◌, ◌≤◌}
-use mathlib.Core.Path.{◌≡◌}
-use lib.ListN.{length}
-use Rattle.gc_sections.specs.Each.{each}
-use Rattle.symbols.specs.Remove.{rows_of}
-use Rattle.gc_sections.specs.Sweep.{purged_of, purge_symbol, purge_symbols}
 use Rattle.gc_sections.specs.Proof.EachWays.{each_on, each-end}
 use Rattle.gc_sections.specs.Proof.RunWays.{purge-start}
 use Rattle.gc_sections.proofs.purge_symbols.Goals as goal

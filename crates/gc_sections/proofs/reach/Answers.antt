@@ -1,4 +1,3 @@
-use Rattle.std.proofs.Common.{rules}
 use Rattle.gc_sections.specs.Proof.ReachWays.{reach-built, reach-unbuilt}
 use Rattle.gc_sections.proofs.reach.Goals as goal
 

@@ -1,4 +1,3 @@
-use Rattle.std.proofs.Common.{rules}
 use Rattle.gc_sections.specs.Proof.ReachWays.{not-read, read-program, read-uninitialized, read-other}
 use Rattle.gc_sections.proofs.readable.Goals as goal
 

@@ -1,4 +1,3 @@
-use Rattle.std.proofs.Common.{rules}
 use Rattle.gc_sections.specs.Proof.ReachWays.{relocation-added}
 use Rattle.gc_sections.proofs.relocation.Goals as goal
 

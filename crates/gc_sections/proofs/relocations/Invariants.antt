@@ -1,11 +1,8 @@
-use Rattle.std.proofs.Common.{rules}
 use Prim.Native.Nat.{◌-◌}
 use mathlib.Core.Path.{◌≡◌}
 use lib.ListN.{length}
 use Rattle.gc_sections.specs.Each.{each}
 use Rattle.gc_sections.specs.Reach.{walk_of, relocation, relocations}
-use Rattle.gc_sections.specs.Proof.EachWays.{each_on, each-end}
-use Rattle.gc_sections.specs.Proof.ReachWays.{relocations-start}
 use Rattle.gc_sections.proofs.relocations.Given as goal
 
 abbrev pub invariant-loop-j : goal.invariant-loop-j

@@ -1,4 +1,3 @@
-use Rattle.std.proofs.Common.{rules}
 use Rattle.gc_sections.specs.Proof.ReachWays.{section-root, section-other}
 use Rattle.gc_sections.proofs.root_section.Goals as goal
 

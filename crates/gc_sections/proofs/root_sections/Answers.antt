@@ -1,9 +1,4 @@
 use Rattle.std.proofs.Common.{rules}
-use Prim.Native.Nat.{◌-◌}
-use mathlib.Core.Path.{◌≡◌}
-use lib.ListN.{length}
-use Rattle.gc_sections.specs.Each.{each}
-use Rattle.gc_sections.specs.Reach.{walk_of, root_section}
 use Rattle.gc_sections.specs.Proof.EachWays.{each_start, each_on, each-end}
 use Rattle.gc_sections.proofs.root_sections.Goals as goal
 

@@ -1,4 +1,3 @@
-use Rattle.std.proofs.Common.{rules}
 use Rattle.gc_sections.specs.Proof.ReachWays.{symbol-marked, symbol-unmarked, symbol-past}
 use Rattle.gc_sections.proofs.root_symbol.Goals as goal
 

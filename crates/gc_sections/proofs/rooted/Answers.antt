@@ -1,4 +1,3 @@
-use Rattle.std.proofs.Common.{rules}
 use Rattle.gc_sections.specs.Proof.ReachWays.{rooted-unreadable, rooted-retained, rooted-named}
 use Rattle.gc_sections.proofs.rooted.Goals as goal
 

@@ -1,4 +1,3 @@
-use Rattle.std.proofs.Common.{rules}
 use Rattle.gc_sections.specs.Proof.ReachWays.{roots-all}
 use Rattle.gc_sections.proofs.roots.Goals as goal
 

@@ -1,4 +1,3 @@
-use Rattle.std.proofs.Common.{rules}
 use Rattle.gc_sections.specs.Proof.ReachWays.{save-again, save-full, save-new}
 use Rattle.gc_sections.proofs.save.Goals as goal
 

@@ -1,4 +1,3 @@
-use Rattle.std.proofs.Common.{rules}
 use Rattle.gc_sections.specs.Proof.ReachWays.{start-cleared}
 use Rattle.gc_sections.proofs.start.Goals as goal
 

@@ -1,4 +1,3 @@
-use Rattle.std.proofs.Common.{rules}
 use Rattle.gc_sections.specs.Proof.RunWays.{sweep-done}
 use Rattle.gc_sections.proofs.sweep.Goals as goal
 

@@ -1,9 +1,4 @@
 use Rattle.std.proofs.Common.{rules}
-use Prim.Native.Nat.{◌-◌, ◌≤◌}
-use mathlib.Core.Path.{◌≡◌}
-use lib.ListN.{length}
-use Rattle.gc_sections.specs.Each.{each}
-use Rattle.gc_sections.specs.Sweep.{swept_of, drop_unreached, sweep_sections}
 use Rattle.gc_sections.specs.Proof.EachWays.{each_on, each-end}
 use Rattle.gc_sections.specs.Proof.RunWays.{sweep-start}
 use Rattle.gc_sections.proofs.sweep_sections.Goals as goal

@@ -1,4 +1,3 @@
-use Rattle.std.proofs.Common.{rules}
 use Rattle.gc_sections.specs.Proof.ReachWays.{lead-section, lead-relative, lead-address, lead-none}
 use Rattle.gc_sections.proofs.value_lead.Goals as goal
 

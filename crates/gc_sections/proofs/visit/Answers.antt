@@ -1,4 +1,3 @@
-use Rattle.std.proofs.Common.{rules}
 use Rattle.gc_sections.specs.Proof.ReachWays.{visit-none, visit-some}
 use Rattle.gc_sections.proofs.visit.Goals as goal
 

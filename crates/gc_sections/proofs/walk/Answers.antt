@@ -1,4 +1,3 @@
-use Rattle.std.proofs.Common.{rules}
 use Rattle.gc_sections.specs.Proof.ReachWays.{walk-done}
 use Rattle.gc_sections.proofs.walk.Goals as goal
 

@@ -1,4 +1,3 @@
-use Rattle.std.proofs.Common.{rules}
 use Rattle.interner.specs.Proof.Ways.{find_at}
 use Rattle.interner.proofs.find.Goals as goal
 

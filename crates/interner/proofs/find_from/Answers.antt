@@ -1,4 +1,3 @@
-use Rattle.std.proofs.Common.{rules}
 use Rattle.interner.specs.Proof.Ways.{find-known, find-new}
 use Rattle.interner.proofs.find_from.Goals as goal
 

@@ -1,7 +1,5 @@
-use Rattle.std.proofs.Common.{rules}
 use mathlib.Core.Path.{◌≡◌}
 use Rattle.interner.specs.Names.{seek_of, chase}
-use Rattle.interner.specs.Proof.Ways.{seek-start, chase-out, chase-end, chase-hit, chase-on}
 use Rattle.interner.proofs.seek.Given as goal
 
 abbrev pub invariant-loop-left : goal.invariant-loop-left

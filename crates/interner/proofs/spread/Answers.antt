@@ -1,4 +1,3 @@
-use Rattle.std.proofs.Common.{rules}
 use Rattle.interner.specs.Proof.Ways.{spread-fits, spread-is, spread-most}
 use Rattle.interner.proofs.spread.Goals as goal
 

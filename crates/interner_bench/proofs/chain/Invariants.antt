@@ -1,5 +1,4 @@
-use Rattle.std.proofs.Common.{rules}
-use Rattle.std.proofs.Common.{◌-◌, ◌≤◌, rules}
+use Rattle.std.proofs.Common.{◌-◌, ◌≤◌}
 use Rattle.interner_bench.proofs.chain.Given as goal
 
 abbrev pub invariant-loop-length : goal.invariant-loop-length

@@ -1,5 +1,4 @@
-use Rattle.std.proofs.Common.{rules}
-use Rattle.std.proofs.Common.{◌-◌, length, rules}
+use Rattle.std.proofs.Common.{◌-◌, length}
 use Rattle.interner_bench.proofs.chains.Given as goal
 
 abbrev pub invariant-loop-head : goal.invariant-loop-head

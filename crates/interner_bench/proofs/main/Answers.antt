@@ -1,5 +1,4 @@
-use Rattle.std.proofs.Common.{rules}
-use Rattle.std.proofs.Common.{ℕ, sym, rules}
+use Rattle.std.proofs.Common.{ℕ, sym}
 use lib.ListN.{length-replicate}
 use Rattle.interner_bench.proofs.main.Goals as goal
 

@@ -1,8 +1,6 @@
-use Rattle.std.proofs.Common.{rules}
-use Prim.Native.Nat.{◌+◌, ◌-◌, ◌<◌, ◌≤◌}
+use Prim.Native.Nat.{◌-◌, ◌<◌, ◌≤◌}
 use lib.ListN.{length}
 use Rattle.keyed_hash.specs.Ways.{Rest}
-use Rattle.keyed_hash.specs.Proof.Ways.{start_small, half-small, rest_all, rest-whole, hash-end}
 use Rattle.keyed_hash.proofs.hash.Given as goal
 
 abbrev pub invariant-loop-i : goal.invariant-loop-i

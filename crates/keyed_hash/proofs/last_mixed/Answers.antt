@@ -1,4 +1,3 @@
-use Rattle.std.proofs.Common.{rules}
 use Rattle.keyed_hash.specs.Proof.Ways.{word_small, last_word, last_none}
 use Rattle.keyed_hash.proofs.last_mixed.Goals as goal
 

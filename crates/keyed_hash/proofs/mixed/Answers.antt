@@ -1,4 +1,3 @@
-use Rattle.std.proofs.Common.{rules}
 use Rattle.keyed_hash.specs.Proof.Ways.{product-fits, mixed-is, mixed-small}
 use Rattle.keyed_hash.proofs.mixed.Goals as goal
 

@@ -1,4 +1,3 @@
-use Rattle.std.proofs.Common.{rules}
 use Rattle.byte_slices.specs.Proof.Ways.{word-whole}
 use Rattle.keyed_hash.specs.Proof.Ways.{four-small}
 use Rattle.keyed_hash.proofs.whole_word.Goals as goal

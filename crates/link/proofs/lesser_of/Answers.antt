@@ -1,4 +1,3 @@
-use Rattle.std.proofs.Common.{rules}
 use Rattle.link.specs.Proof.Ways.{lesser-first, lesser-second}
 use Rattle.link.proofs.lesser_of.Goals as goal
 

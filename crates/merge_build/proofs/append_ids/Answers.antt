@@ -1,8 +1,6 @@
 use Rattle.std.proofs.Common.{rules}
-use Prim.Native.Nat.{◌-◌}
-use mathlib.Core.Path.{◌≡◌, refl}
-use lib.ListN.{length}
-use Rattle.merge_build.specs.Proof.RelocationWays.{Appended, appended-none, appended-more, appended-all}
+use mathlib.Core.Path.{refl}
+use Rattle.merge_build.specs.Proof.RelocationWays.{appended-none, appended-more, appended-all}
 use Rattle.merge_build.proofs.append_ids.Goals as goal
 
 pub loop-j-init : goal.loop-j-init

@@ -1,8 +1,7 @@
-use Rattle.std.proofs.Common.{rules}
 use Prim.Native.Nat.{◌-◌}
-use mathlib.Core.Path.{◌≡◌, refl}
+use mathlib.Core.Path.{◌≡◌}
 use lib.ListN.{length}
-use Rattle.merge_build.specs.Proof.RelocationWays.{Appended, appended-none, appended-more, appended-all}
+use Rattle.merge_build.specs.Proof.RelocationWays.{Appended}
 use Rattle.merge_build.proofs.append_ids.Given as goal
 
 abbrev pub invariant-loop-j : goal.invariant-loop-j

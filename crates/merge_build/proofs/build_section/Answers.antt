@@ -1,4 +1,3 @@
-use Rattle.std.proofs.Common.{rules}
 use Rattle.merge_build.specs.Proof.BuildWays.{section-skipped, section-nameless, section-named}
 use Rattle.merge_build.proofs.build_section.Goals as goal
 

@@ -1,9 +1,5 @@
 use Rattle.std.proofs.Common.{rules}
-use Prim.Native.Nat.{◌-◌, ◌<◌}
-use mathlib.Core.Path.{◌≡◌}
-use lib.ListN.{length}
-use Rattle.merge_build.specs.Build.{object_of, state_of}
-use Rattle.merge_build.specs.Proof.BuildWays.{Reached, reached-start, reached-on, reached-stop, reached-end}
+use Rattle.merge_build.specs.Proof.BuildWays.{reached-start, reached-on, reached-stop, reached-end}
 use Rattle.merge_build.proofs.build_sections.Goals as goal
 
 pub loop-n-init : goal.loop-n-init

@@ -1,4 +1,3 @@
-use Rattle.std.proofs.Common.{rules}
 use Rattle.merge_build.specs.Proof.BuildWays.{commit-full, commit-refused, commit-built}
 use Rattle.merge_build.proofs.commit.Goals as goal
 

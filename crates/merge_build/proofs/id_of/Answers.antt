@@ -1,4 +1,3 @@
-use Rattle.std.proofs.Common.{rules}
 use Rattle.merge_build.specs.Proof.RelocationWays.{id-none, id-before}
 use Rattle.merge_build.proofs.id_of.Goals as goal
 

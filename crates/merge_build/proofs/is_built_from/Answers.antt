@@ -1,4 +1,3 @@
-use Rattle.std.proofs.Common.{rules}
 use Rattle.merge_build.specs.Proof.BuildWays.{from-other, from-removed, from-kept}
 use Rattle.merge_build.proofs.is_built_from.Goals as goal
 

@@ -1,4 +1,3 @@
-use Rattle.std.proofs.Common.{rules}
 use Rattle.merge_build.specs.Proof.RelocationWays.{limit-linked, limit-other}
 use Rattle.merge_build.proofs.limit_of.Goals as goal
 

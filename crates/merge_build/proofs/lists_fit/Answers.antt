@@ -1,4 +1,3 @@
-use Rattle.std.proofs.Common.{rules}
 use Rattle.elf_object.specs.Proof.Ways.{range-past, range-short, range-in}
 use Rattle.merge_build.proofs.lists_fit.Goals as goal
 

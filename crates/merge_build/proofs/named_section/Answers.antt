@@ -1,4 +1,3 @@
-use Rattle.std.proofs.Common.{rules}
 use Rattle.merge_build.specs.Proof.BuildWays.{named-done}
 use Rattle.merge_build.proofs.named_section.Goals as goal
 

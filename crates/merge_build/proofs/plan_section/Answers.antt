@@ -1,4 +1,3 @@
-use Rattle.std.proofs.Common.{rules}
 use Rattle.merge_build.specs.Proof.BuildWays.{plan-nameless, plan-unknown, plan-full, plan-fine}
 use Rattle.merge_build.proofs.plan_section.Goals as goal
 

@@ -1,4 +1,3 @@
-use Rattle.std.proofs.Common.{rules}
 use Rattle.merge_build.specs.Proof.RelocationWays.{id-put}
 use Rattle.merge_build.proofs.put_id.Goals as goal
 

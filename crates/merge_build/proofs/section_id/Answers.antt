@@ -1,4 +1,3 @@
-use Rattle.std.proofs.Common.{rules}
 use Rattle.merge_build.specs.Proof.BuildWays.{row-none, row-reserved}
 use Rattle.merge_build.proofs.section_id.Goals as goal
 

@@ -1,4 +1,3 @@
-use Rattle.std.proofs.Common.{rules}
 use Rattle.merge_build.specs.Proof.BuildWays.{row_same}
 use Rattle.merge_build.proofs.section_row.Goals as goal
 

@@ -1,4 +1,3 @@
-use Rattle.std.proofs.Common.{rules}
 use Rattle.merge_build.specs.Proof.RelocationWays.{symbol-past, symbol-none, symbol-known}
 use Rattle.merge_build.proofs.symbol_ok.Goals as goal
 

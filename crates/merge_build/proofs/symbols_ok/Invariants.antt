@@ -1,9 +1,7 @@
-use Rattle.std.proofs.Common.{rules}
 use Prim.Native.Nat.{◌-◌}
 use mathlib.Core.Path.{◌≡◌}
 use lib.ListN.{length, drop}
 use Rattle.merge_build.specs.Relocations.{symbols_ok}
-use Rattle.merge_build.specs.Proof.RelocationWays.{symbols-on, symbols-stop, symbols-end}
 use Rattle.merge_build.proofs.symbols_ok.Given as goal
 
 abbrev pub invariant-loop-j : goal.invariant-loop-j

@@ -1,4 +1,3 @@
-use Rattle.std.proofs.Common.{rules}
 use Rattle.merge_build.specs.Proof.RelocationWays.{table-program, table_none}
 use Rattle.merge_build.proofs.table_for.Goals as goal
 

@@ -1,4 +1,3 @@
-use Rattle.std.proofs.Common.{rules}
 use Rattle.merge_build.specs.Proof.RelocationWays.{symbols-none, symbols-part}
 use Rattle.merge_build.proofs.table_symbols.Goals as goal
 

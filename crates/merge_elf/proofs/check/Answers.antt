@@ -1,4 +1,3 @@
-use Rattle.std.proofs.Common.{rules}
 use Rattle.merge_elf.specs.Proof.Ways.{head-counts, head_rows, head-work, head-ids, head-fine}
 use Rattle.merge_elf.proofs.check.Goals as goal
 

@@ -1,4 +1,3 @@
-use Rattle.std.proofs.Common.{rules}
 use Rattle.merge_elf.specs.Proof.Ways.{ended-merged, ended-refused}
 use Rattle.merge_elf.proofs.ended.Goals as goal
 

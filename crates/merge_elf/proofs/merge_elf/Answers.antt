@@ -1,4 +1,3 @@
-use Rattle.std.proofs.Common.{rules}
 use Rattle.merge_elf.specs.Proof.Ways.{merge-refused, merge-judged}
 use Rattle.merge_elf.proofs.merge_elf.Goals as goal
 

@@ -1,4 +1,3 @@
-use Rattle.std.proofs.Common.{rules}
 use Rattle.merge_elf.specs.Proof.Ways.{finished}
 use Rattle.merge_elf.proofs.merge_judged.Goals as goal
 

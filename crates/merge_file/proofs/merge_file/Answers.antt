@@ -1,5 +1,3 @@
-use Rattle.std.proofs.Common.{rules}
-use mathlib.Core.Path.{refl}
 use Rattle.merge_file.specs.Proof.Ways.{read-room, file-broken, file-read}
 use Rattle.merge_file.proofs.merge_file.Goals as goal
 

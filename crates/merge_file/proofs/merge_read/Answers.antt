@@ -1,4 +1,3 @@
-use Rattle.std.proofs.Common.{rules}
 use Rattle.merge_file.specs.Proof.Ways.{read-stopped, read-merged}
 use Rattle.merge_file.proofs.merge_read.Goals as goal
 

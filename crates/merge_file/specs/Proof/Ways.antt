@@ -1,25 +1,23 @@
 -- The ways through the functions.
 -- Assumes nothing.
-use Rattle.std.specs.Prelude.{ℕ, ◌+◌, ◌*◌, ◌<◌, ◌≤◌, ◌≡◌, refl, Bool, true, false, List, eqb, leb, ltb, take, drop}
+use Rattle.std.specs.Prelude.{ℕ, ◌+◌, ◌*◌, ◌≤◌, ◌≡◌, refl, true, false, List, eqb, leb, ltb, take, drop}
 use Rattle.std.proofs.Common.{arith, ◌∙◌}
 use Rattle.std.proofs.Math.Path.{sym, ap}
 use Rattle.std.proofs.Math.ListN.{length}
 use borrow.Author.Tests.{eq-eqb, ne_eqb, eqb-true, ltb-true, ltb-false, leb-true, leb-false}
 use Rattle.cells.specs.Proof.Split.{by-test}
 use Rattle.byte_slices.specs.Proof.Ways.{apart}
-use Rattle.link.specs.declared.Link.{Link}
 use Rattle.link.specs.Judge.{refused}
 use Rattle.merge_stages.specs.Stages.{All, Object, object_of}
-use Rattle.merge_elf.specs.declared.Answer.TheVariants.{Refused}
 use Rattle.merge_elf.specs.declared.Outcome.{Outcome}
-use Rattle.merge_elf.specs.Merge.{Left, leave, leave_as, merge_of}
+use Rattle.merge_elf.specs.Merge.{Left, leave_as, merge_of}
 use Rattle.gabi.specs.File.{section_count, header_table}
 use Rattle.elf_file.specs.Check.{file_refusal}
 use Rattle.elf_file.specs.Rows.{entry_count, content_count}
 use Rattle.elf_file.specs.declared.reading.Reading.{Reading}
 use Rattle.elf_file.specs.Read.{Done, done, read_as, read_of}
 use Rattle.elf_laws.specs.Object.{rows_of, cells_of, laid}
-use Rattle.elf_laws.specs.Terms.{read-refused, read_short, read-rows, laid-long, headers-part, entries-part, contents-part}
+use Rattle.elf_laws.proofs.Terms.{read-refused, read_short, read-rows, laid-long, headers-part, entries-part, contents-part}
 use Rattle.merge_file.specs.MergeFile.{FileLeft, file_left, unread, file_head_of, merge_file_of, refused_as, cut_of, merge_read_of}
 
 -- ---- the rows that a read wrote

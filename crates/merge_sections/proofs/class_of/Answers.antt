@@ -1,4 +1,3 @@
-use Rattle.std.proofs.Common.{rules}
 use Rattle.merge_sections.specs.Proof.Ways.{class-excluded, class-kind}
 use Rattle.merge_sections.proofs.class_of.Goals as goal
 

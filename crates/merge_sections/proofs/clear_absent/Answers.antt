@@ -1,8 +1,6 @@
 use Rattle.std.proofs.Common.{rules}
-use Prim.Native.Nat.{◌-◌}
-use mathlib.Core.Path.{◌≡◌, refl}
-use lib.ListN.{length}
-use Rattle.merge_sections.specs.Notes.{each_from, clear_one_of, clear_all_of}
+use mathlib.Core.Path.{refl}
+use Rattle.merge_sections.specs.Notes.{clear_all_of}
 use Rattle.merge_sections.specs.Proof.Ways.{each_start, each-end, each_on}
 use Rattle.merge_sections.proofs.clear_absent.Goals as goal
 

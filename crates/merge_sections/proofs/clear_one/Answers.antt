@@ -1,4 +1,3 @@
-use Rattle.std.proofs.Common.{rules}
 use Rattle.merge_sections.specs.Proof.Ways.{clear-absent, clear-present}
 use Rattle.merge_sections.proofs.clear_one.Goals as goal
 

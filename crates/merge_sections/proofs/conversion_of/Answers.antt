@@ -1,4 +1,3 @@
-use Rattle.std.proofs.Common.{rules}
 use Rattle.merge_sections.specs.Proof.Ways.{conversion-nothing, conversion-row, conversion-not-loaded}
 use Rattle.merge_sections.proofs.conversion_of.Goals as goal
 

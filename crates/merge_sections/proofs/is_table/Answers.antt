@@ -1,4 +1,3 @@
-use Rattle.std.proofs.Common.{rules}
 use Rattle.merge_sections.specs.Proof.Ways.{table-first, table-second}
 use Rattle.merge_sections.proofs.is_table.Goals as goal
 

@@ -1,4 +1,3 @@
-use Rattle.std.proofs.Common.{rules}
 use Rattle.merge_sections.specs.Proof.Ways.{noted}
 use Rattle.merge_sections.proofs.note.Goals as goal
 

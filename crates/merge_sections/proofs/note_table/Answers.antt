@@ -1,4 +1,3 @@
-use Rattle.std.proofs.Common.{rules}
 use Rattle.merge_sections.specs.Proof.Ways.{note-absent, note-table, note-other}
 use Rattle.merge_sections.proofs.note_table.Goals as goal
 

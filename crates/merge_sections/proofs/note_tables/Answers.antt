@@ -1,8 +1,6 @@
 use Rattle.std.proofs.Common.{rules}
-use Prim.Native.Nat.{◌-◌}
-use mathlib.Core.Path.{◌≡◌, refl}
-use lib.ListN.{length}
-use Rattle.merge_sections.specs.Notes.{each_from, note_table_of, note_tables_of}
+use mathlib.Core.Path.{refl}
+use Rattle.merge_sections.specs.Notes.{note_tables_of}
 use Rattle.merge_sections.specs.Proof.Ways.{each_start, each-end, each_on}
 use Rattle.merge_sections.proofs.note_tables.Goals as goal
 

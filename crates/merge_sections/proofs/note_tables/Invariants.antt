@@ -1,9 +1,7 @@
-use Rattle.std.proofs.Common.{rules}
 use Prim.Native.Nat.{◌-◌}
-use mathlib.Core.Path.{◌≡◌, refl}
+use mathlib.Core.Path.{◌≡◌}
 use lib.ListN.{length}
 use Rattle.merge_sections.specs.Notes.{each_from, note_table_of, note_tables_of}
-use Rattle.merge_sections.specs.Proof.Ways.{each_start, each-end, each_on}
 use Rattle.merge_sections.proofs.note_tables.Given as goal
 
 abbrev pub invariant-loop-t : goal.invariant-loop-t

@@ -1,4 +1,3 @@
-use Rattle.std.proofs.Common.{rules}
 use Rattle.merge_sections.specs.Proof.Ways.{refusal-kind, refusal-second, refusal-first, refusal-room, refusal-full, refusal-none}
 use Rattle.merge_sections.proofs.refusal_of.Goals as goal
 

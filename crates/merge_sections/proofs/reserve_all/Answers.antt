@@ -1,8 +1,6 @@
 use Rattle.std.proofs.Common.{rules}
-use Prim.Native.Nat.{◌-◌}
-use mathlib.Core.Path.{◌≡◌, refl}
-use lib.ListN.{length}
-use Rattle.merge_sections.specs.Reserve.{state_of, reserve_from, reserve_all_of}
+use mathlib.Core.Path.{refl}
+use Rattle.merge_sections.specs.Reserve.{reserve_all_of}
 use Rattle.merge_sections.specs.Proof.Ways.{sections-start, sections-end, sections-stop, sections-on}
 use Rattle.merge_sections.proofs.reserve_all.Goals as goal
 

@@ -1,9 +1,7 @@
-use Rattle.std.proofs.Common.{rules}
 use Prim.Native.Nat.{◌-◌}
-use mathlib.Core.Path.{◌≡◌, refl}
+use mathlib.Core.Path.{◌≡◌}
 use lib.ListN.{length}
 use Rattle.merge_sections.specs.Reserve.{state_of, reserve_from, reserve_all_of}
-use Rattle.merge_sections.specs.Proof.Ways.{sections-start, sections-end, sections-stop, sections-on}
 use Rattle.merge_sections.proofs.reserve_all.Given as goal
 
 abbrev pub invariant-loop-n : goal.invariant-loop-n

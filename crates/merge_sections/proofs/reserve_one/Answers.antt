@@ -1,4 +1,3 @@
-use Rattle.std.proofs.Common.{rules}
 use Rattle.merge_sections.specs.Proof.Ways.{one-refused, one-reserved}
 use Rattle.merge_sections.proofs.reserve_one.Goals as goal
 

@@ -1,4 +1,3 @@
-use Rattle.std.proofs.Common.{rules}
 use Rattle.merge_sections.specs.Proof.Ways.{table-new, table_same}
 use Rattle.merge_sections.proofs.table_after.Goals as goal
 

@@ -1,4 +1,3 @@
-use Rattle.std.proofs.Common.{rules}
 use Rattle.merge_sections.specs.Proof.Ways.{row-taken, row-not-taken}
 use Rattle.merge_sections.proofs.take_row.Goals as goal
 

@@ -1,4 +1,3 @@
-use Rattle.std.proofs.Common.{rules}
 use Rattle.merge_symbols.specs.Proof.Ways.{accept-done}
 use Rattle.merge_symbols.proofs.accept.Goals as goal
 

@@ -1,4 +1,3 @@
-use Rattle.std.proofs.Common.{rules}
 use Rattle.merge_symbols.specs.Proof.Ways.{cell-decided}
 use Rattle.merge_symbols.proofs.cell_of.Goals as goal
 

@@ -1,4 +1,3 @@
-use Rattle.std.proofs.Common.{rules}
 use Rattle.merge_symbols.specs.Proof.Ways.{commit-full, commit-refused, commit-done}
 use Rattle.merge_symbols.proofs.commit.Goals as goal
 

@@ -1,4 +1,3 @@
-use Rattle.std.proofs.Common.{rules}
 use Rattle.merge_symbols.specs.Proof.Ways.{named-done}
 use Rattle.merge_symbols.proofs.merge_named.Goals as goal
 

@@ -1,4 +1,3 @@
-use Rattle.std.proofs.Common.{rules}
 use Rattle.merge_symbols.specs.Proof.Ways.{symbol-nameless, symbol-named}
 use Rattle.merge_symbols.proofs.merge_symbol.Goals as goal
 

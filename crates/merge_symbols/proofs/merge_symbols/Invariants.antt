@@ -1,9 +1,8 @@
-use Rattle.std.proofs.Common.{rules}
 use Prim.Native.Nat.{◌-◌, ◌<◌}
 use mathlib.Core.Path.{◌≡◌}
 use lib.ListN.{length}
 use Rattle.merge_symbols.specs.Stage.{object_of, state_of}
-use Rattle.merge_symbols.specs.Proof.Ways.{Reached, reached-start, reached-on, reached-stop, reached-end}
+use Rattle.merge_symbols.specs.Proof.Ways.{Reached}
 use Rattle.merge_symbols.proofs.merge_symbols.Given as goal
 
 abbrev pub invariant-loop-i : goal.invariant-loop-i

@@ -1,4 +1,3 @@
-use Rattle.std.proofs.Common.{rules}
 use Rattle.object_requirement.specs.Proof.Ways.{bears-name, bears-missing, bears-other}
 use Rattle.object_requirement.proofs.bears_required.Goals as goal
 

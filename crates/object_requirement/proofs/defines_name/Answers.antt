@@ -1,4 +1,3 @@
-use Rattle.std.proofs.Common.{rules}
 use Rattle.object_requirement.specs.Proof.Ways.{defines-not, defines-global, defines-weak, defines-other}
 use Rattle.object_requirement.proofs.defines_name.Goals as goal
 

@@ -1,11 +1,8 @@
-use Rattle.std.proofs.Common.{rules}
 use Prim.Native.Nat.{◌-◌}
 use mathlib.Core.Path.{◌≡◌}
 use Rattle.archive_walk.specs.Names.{required_of}
 use Rattle.cells.specs.Search.{any_from}
-use Rattle.cells.specs.Proof.Search.{any-on, any-stop, any-end}
 use Rattle.object_requirement.specs.Matches.{in_section, has_global_symbol}
-use Rattle.object_requirement.specs.Proof.Ways.{sections-start}
 use Rattle.object_requirement.proofs.has_global_symbol.Given as goal
 
 abbrev pub invariant-loop-n : goal.invariant-loop-n

@@ -1,4 +1,3 @@
-use Rattle.std.proofs.Common.{rules}
 use Rattle.object_requirement.specs.Proof.Ways.{section-table, section-none}
 use Rattle.object_requirement.proofs.in_section.Goals as goal
 

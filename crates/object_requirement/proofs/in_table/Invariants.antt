@@ -1,11 +1,8 @@
-use Rattle.std.proofs.Common.{rules}
 use Prim.Native.Nat.{◌-◌}
 use mathlib.Core.Path.{◌≡◌}
 use Rattle.archive_walk.specs.Names.{required_of}
 use Rattle.cells.specs.Search.{any_from}
-use Rattle.cells.specs.Proof.Search.{any-on, any-stop, any-end}
 use Rattle.object_requirement.specs.Matches.{bears_required, in_table}
-use Rattle.object_requirement.specs.Proof.Ways.{table-start}
 use Rattle.object_requirement.proofs.in_table.Given as goal
 
 abbrev pub invariant-loop-i : goal.invariant-loop-i

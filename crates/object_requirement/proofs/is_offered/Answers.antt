@@ -1,4 +1,3 @@
-use Rattle.std.proofs.Common.{rules}
 use Rattle.object_requirement.specs.Proof.Ways.{offered-index, offered-rows, offered-entry, offered-none}
 use Rattle.object_requirement.proofs.is_offered.Goals as goal
 

@@ -1,4 +1,3 @@
-use Rattle.std.proofs.Common.{rules}
 use Rattle.object_requirement.specs.Proof.Ways.{section-past, section-yes, section-other}
 use Rattle.object_requirement.proofs.is_section.Goals as goal
 

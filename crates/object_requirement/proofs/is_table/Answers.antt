@@ -1,4 +1,3 @@
-use Rattle.std.proofs.Common.{rules}
 use Rattle.object_requirement.specs.Proof.Ways.{table-yes, table-other}
 use Rattle.object_requirement.proofs.is_table.Goals as goal
 

@@ -1,4 +1,3 @@
-use Rattle.std.proofs.Common.{rules}
 use Rattle.object_requirement.specs.Proof.Ways.{matches-refused, matches-unoffered, matches-yes, matches-no}
 use Rattle.object_requirement.proofs.matches.Goals as goal
 

@@ -1,4 +1,3 @@
-use Rattle.std.proofs.Common.{rules}
 use Rattle.object_requirement.specs.Proof.Ways.{admits-gabi, admits-old}
 use Rattle.object_requirement.proofs.may_admit.Goals as goal
 

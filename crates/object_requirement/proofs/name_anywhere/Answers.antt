@@ -1,4 +1,3 @@
-use Rattle.std.proofs.Common.{rules}
 use Rattle.object_requirement.specs.Proof.Ways.{name-there, name-missing}
 use Rattle.object_requirement.proofs.name_anywhere.Goals as goal
 

@@ -1,4 +1,3 @@
-use Rattle.std.proofs.Common.{rules}
 use Rattle.object_requirement.proofs.strings_at.Goals as goal
 
 pub returns : goal.returns

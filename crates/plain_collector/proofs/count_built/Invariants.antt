@@ -1,10 +1,7 @@
-use Rattle.std.proofs.Common.{rules}
 use Prim.Native.Nat.{◌-◌, ◌≤◌}
 use mathlib.Core.Path.{◌≡◌}
 use Rattle.gc_sections.specs.Each.{each}
-use Rattle.gc_sections.specs.Proof.EachWays.{each_on, each-end}
 use Rattle.plain_collector.specs.Run.{count_one, count_built}
-use Rattle.plain_collector.specs.Proof.Ways.{count-start}
 use Rattle.plain_collector.proofs.count_built.Given as goal
 
 abbrev pub invariant-loop-i : goal.invariant-loop-i

@@ -1,4 +1,3 @@
-use Rattle.std.proofs.Common.{rules}
 use Rattle.plain_collector.specs.Proof.Ways.{entry-none, entry-symbol}
 use Rattle.plain_collector.proofs.entry_lead.Goals as goal
 

@@ -1,4 +1,3 @@
-use Rattle.std.proofs.Common.{rules}
 use Rattle.plain_collector.specs.Proof.Ways.{judge-broken, judge-short, judge-many, judge-few}
 use Rattle.plain_collector.proofs.judge.Goals as goal
 

@@ -1,4 +1,3 @@
-use Rattle.std.proofs.Common.{rules}
 use Rattle.plain_collector.specs.Proof.Ways.{marked-yes, marked-no, marked-past}
 use Rattle.plain_collector.proofs.marked_lead.Goals as goal
 

@@ -1,4 +1,3 @@
-use Rattle.std.proofs.Common.{rules}
 use Rattle.plain_collector.specs.Proof.Ways.{reach-all}
 use Rattle.plain_collector.proofs.reach.Goals as goal
 

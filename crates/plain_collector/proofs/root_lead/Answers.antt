@@ -1,4 +1,3 @@
-use Rattle.std.proofs.Common.{rules}
 use Rattle.plain_collector.specs.Proof.Ways.{root-yes, root-no}
 use Rattle.plain_collector.proofs.root_lead.Goals as goal
 

@@ -1,10 +1,5 @@
 use Rattle.std.proofs.Common.{rules}
-use Prim.Native.Nat.{◌-◌, ◌≤◌}
-use mathlib.Core.Path.{◌≡◌}
-use lib.ListN.{length}
-use Rattle.gc_sections.specs.Each.{each}
 use Rattle.gc_sections.specs.Proof.EachWays.{each_start, each_on, each-end}
-use Rattle.plain_collector.specs.Visit.{visited_of, root_symbol}
 use Rattle.plain_collector.specs.Proof.Ways.{symbol-turn}
 use Rattle.plain_collector.proofs.root_symbols.Goals as goal
 

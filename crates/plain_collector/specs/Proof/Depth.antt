@@ -14,7 +14,7 @@ use Rattle.gc_sections.specs.declared.Lead.TheVariants.{Nowhere, Section}
 use Rattle.gc_sections.specs.Each.{each}
 use Rattle.gc_sections.specs.Roots.{section_id}
 use Rattle.gc_sections.specs.Reach.{lower_of, end_of}
-use Rattle.plain_collector.specs.Visit.{Visited, visited_of, unvisited, target_of, enter, enter_lead, visit_of, visited}
+use Rattle.plain_collector.specs.Visit.{Visited, visited_of, unvisited, target_of, enter, enter_lead, visit_of}
 
 -- ---- a section that is marked
 

@@ -2,11 +2,11 @@
 -- Assumes nothing.
 use Prim.Native.Nat.{ℕ, suc, ◌+◌, ◌-◌, ◌/◌, ◌<◌, ◌≤◌}
 use native.Mathlib.Omega.{arith}
-use Rattle.std.specs.Prelude.{◌≡◌, refl, Bool, true, false, cond, List, eqb, ltb, set, length}
+use Rattle.std.specs.Prelude.{◌≡◌, Bool, true, false, cond, List, eqb, ltb, set, length}
 use Rattle.std.proofs.Math.Path.{sym, ap}
-use Rattle.std.proofs.Common.{◌∙◌, length-set}
+use Rattle.std.proofs.Common.{◌∙◌}
 use Rattle.std.proofs.Math.ListN.{get_or, get_or-eq_default}
-use borrow.Author.Tests.{eq-eqb, ne_eqb, lt-ltb, le-ltb, eqb-true, eqb-false, ltb-false}
+use borrow.Author.Tests.{eq-eqb, ne_eqb, lt-ltb, le-ltb, eqb-false, ltb-false}
 use Rattle.cells.specs.Proof.Split.{by-test}
 use Rattle.link.specs.declared.Link.{Link}
 use Rattle.link.specs.declared.Lent.{Lent}
@@ -28,8 +28,8 @@ use Rattle.gc_sections.specs.Roots.{symbol_id, section_id, lead_of, is_root}
 use Rattle.gc_sections.specs.Reach.{lower_of, end_of, clear_cell}
 use Rattle.gc_sections.specs.Run.{Left, left, Lists, lent_of, judge_cells, judge_of, finish_of, work_width}
 use Rattle.gc_sections.specs.Proof.RunWays.{never}
-use Rattle.plain_collector.specs.Visit.{Visited, visited_of, unvisited, enter_lead, visit_of, visited, marked_lead, root_lead, entry_lead, root_symbol, root_section, reached_of}
-use Rattle.plain_collector.specs.Proof.Depth.{built-falls, relocation_to, follow, visit-is, visit-less, depths}
+use Rattle.plain_collector.specs.Visit.{Visited, visited_of, unvisited, visit_of, visited, marked_lead, root_lead, entry_lead, root_symbol, root_section, reached_of}
+use Rattle.plain_collector.specs.Proof.Depth.{built-falls, relocation_to, visit-is, visit-less, depths}
 use Rattle.plain_collector.specs.Proof.Head.{judge-passed}
 use Rattle.plain_collector.specs.Run.{count_one, count_built, judge_plain, finished, plain_of, most_built}
 

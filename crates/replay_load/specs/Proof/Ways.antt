@@ -1,16 +1,14 @@
 -- The ways through the functions of Told and Load.
 -- Assumes nothing.
-use Rattle.std.specs.Prelude.{◌≡◌, ℕ, ◌+◌, ◌-◌, ◌*◌, ◌%◌, ◌^◌, ◌<◌, ◌≤◌, Bool, true, false, List, [], ◌∷◌, ◌++◌, length, take, slice_set, refl}
-use Rattle.std.proofs.Common.{arith, sym, ap, ◌∙◌}
-use borrow.Author.Tests.{eq-eqb, ne_eqb, lt-ltb, le-ltb}
+use Rattle.std.specs.Prelude.{◌≡◌, ℕ, ◌+◌, ◌-◌, ◌*◌, ◌%◌, ◌^◌, ◌<◌, ◌≤◌, Bool, true, false, List, [], ◌∷◌, length, take, slice_set}
+use Rattle.std.proofs.Common.{arith}
+use borrow.Author.Tests.{lt-ltb, le-ltb}
 use Rattle.byte_slices.specs.Bytes.{part}
 use Rattle.cells.specs.Rows.{put_row}
-use Rattle.link.specs.declared.Link.{Link}
 use Rattle.symbol.specs.Codes.{successor}
 use Rattle.shared_objects.specs.declared.Answer.{Answer}
-use Rattle.shared_objects.specs.declared.Answer.TheVariants as Answer
 use Rattle.shared_objects.specs.declared.Outcome.{Outcome}
-use Rattle.shared_objects.specs.Load.{All, all_of, input_as, Left, outcome, load_of}
+use Rattle.shared_objects.specs.Load.{All, all_of, input_as, Left, load_of}
 use Rattle.text.specs.Fields.{field_of}
 use Rattle.text.specs.Text.{Text, text_of, put_of}
 use Rattle.replay_words.specs.Words.{word_is, number_at, name_at}
@@ -21,7 +19,7 @@ use Rattle.replay_words.specs.declared.lend.Lend.{Lend}
 use Rattle.replay_words.specs.Part as Part
 use Rattle.replay_load.specs.declared.Library.{Library}
 use Rattle.replay_load.specs.Told.{zero_word, one_word, ended_of, put_ended, soname_in, Bytes, bytes_of, Cells, cells_of, Told, told_of, more_of, path_after, announce_of, strings_of, symbol_of, need_of}
-use Rattle.replay_load.specs.Load.{changed_as, entry_cells, input_of, Done, done_of, load_all, rest_after, lent_lists, load_lists, lent_stores, load_lent}
+use Rattle.replay_load.specs.Load.{changed_as, entry_cells, Done, done_of, load_all, rest_after, load_lists, load_lent}
 
 pub span_none : (from to t : ℕ) → to < from → t ≡ 0 → t ≡ to - from
 span_none from to t h q = omega arith

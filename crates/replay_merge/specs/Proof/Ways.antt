@@ -5,7 +5,6 @@ use Rattle.byte_slices.specs.Bytes.{part}
 use Rattle.merge_stages.specs.Stages.{All, all_of}
 use Rattle.merge_stages.specs.Stages as Stages
 use Rattle.merge_elf.specs.declared.Answer.{Answer}
-use Rattle.merge_elf.specs.declared.Answer.TheVariants as Answer
 use Rattle.merge_elf.specs.declared.Outcome.{Outcome}
 use Rattle.merge_elf.specs.Merge.{Left, merge_of}
 use Rattle.replay_text.specs.declared.replies.Reply.TheVariants as Reply

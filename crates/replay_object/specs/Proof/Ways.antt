@@ -12,7 +12,7 @@ use Rattle.text.specs.Fields.{field_of}
 use Rattle.replay_words.specs.Words.{word_is, number_in, number_at}
 use Rattle.replay_words.specs.Spelled.{Spelled, put_bytes}
 use Rattle.replay_object.specs.declared.Object.{Object}
-use Rattle.replay_object.specs.Told.{wrapped, announced_as, announce_of, part_cells, headers_in, entries_in, one_word, flag_of, flags_of, listed_of, list_from, put_list_of, first_by_rank, count_of, header_of, more_of, Told, told_as, section_after, section_of, Cells, cells_as, symbol_of}
+use Rattle.replay_object.specs.Told.{wrapped, announced_as, announce_of, part_cells, headers_in, entries_in, one_word, flag_of, flags_of, listed_of, list_from, put_list_of, contents_start_of, count_of, header_of, more_of, Told, told_as, section_after, section_of, Cells, cells_as, symbol_of}
 use Rattle.replay_object.specs.Conversion.{none_word, unloaded_word, cell_of, convert_from, convert_of}
 
 pub announce-done : (line : List ℕ) (a b c : ℕ) (t : Object) → a ≡ number_at line 1 → b ≡ number_at line 2 → c ≡ number_at line 3
@@ -78,20 +78,20 @@ module _ (c₀ : List ℕ) (at : ℕ) (line : List ℕ) (count : ℕ) where
     list-end g h w q = let n : count - j ≡ 0 = omega arith in let z : list_from count c₀ at line 0 ≡ c = w ∙ rw n in simp (q, le-ltb _ _ g, z)
 
 module _ (o : Object) (line : List ℕ) (kind t : ℕ) where
-  pub first-table : kind ≡ 3 → t ≡ number_at line 11 → t ≡ first_by_rank o line kind
-  unfolding first_by_rank
+  pub first-table : kind ≡ 3 → t ≡ number_at line 11 → t ≡ contents_start_of o line kind
+  unfolding contents_start_of
   first-table e q = simp (q, eq-eqb _ _ e)
 
-  pub first-dynamic : kind ≡ 10 → t ≡ number_at line 11 → t ≡ first_by_rank o line kind
-  unfolding first_by_rank
+  pub first-dynamic : kind ≡ 10 → t ≡ number_at line 11 → t ≡ contents_start_of o line kind
+  unfolding contents_start_of
   first-dynamic e q = simp (q, e)
 
-  pub first-strings : kind ≡ 4 → t ≡ o.bytes → t ≡ first_by_rank o line kind
-  unfolding first_by_rank
+  pub first-strings : kind ≡ 4 → t ≡ o.bytes → t ≡ contents_start_of o line kind
+  unfolding contents_start_of
   first-strings e q = simp (q, e)
 
-  pub first-other : (kind ≢ 3) → (kind ≢ 10) → (kind ≢ 4) → t ≡ o.contents → t ≡ first_by_rank o line kind
-  unfolding first_by_rank
+  pub first-other : (kind ≢ 3) → (kind ≢ 10) → (kind ≢ 4) → t ≡ o.contents → t ≡ contents_start_of o line kind
+  unfolding contents_start_of
   first-other d e f q = simp (q, ne_eqb _ _ d, ne_eqb _ _ e, ne_eqb _ _ f)
 
 module _ (line : List ℕ) (kind bytes t : ℕ) where
@@ -113,7 +113,7 @@ module _ (line : List ℕ) (kind bytes t : ℕ) where
 
 pub header-done : (c : List ℕ) (o : Object) (line : List ℕ) (bytes kind name flags link info first count : ℕ) (t : List ℕ)
     → kind ≡ number_at line 1 → name ≡ number_at line 2 → flags ≡ flags_of line → link ≡ number_at line 6 → info ≡ number_at line 7
-    → first ≡ first_by_rank o line kind → count ≡ count_of line kind bytes
+    → first ≡ contents_start_of o line kind → count ≡ count_of line kind bytes
     → t ≡ put_row c o.headers (kind ∷ name ∷ flags ∷ link ∷ info ∷ first ∷ count ∷ 0 ∷ []) → t ≡ header_of c o line bytes
 unfolding header_of
 header-done c o line bytes kind name flags link info first count t e f g h i j k q = simp (q, j, k, e, f, g, h, i)

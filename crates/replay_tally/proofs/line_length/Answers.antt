@@ -1,8 +1,3 @@
-use Rattle.std.proofs.Common.{rules}
-use Prim.Native.Nat.{◌+◌, ◌-◌, ◌≤◌}
-use mathlib.Core.Path.{◌≡◌}
-use lib.ListN.{length, drop}
-use Rattle.replay_tally.specs.Answer.{line_length}
 use Rattle.replay_tally.specs.Proof.Ways.{line_on, line-stop, line-out}
 use Rattle.replay_tally.proofs.line_length.Goals as goal
 

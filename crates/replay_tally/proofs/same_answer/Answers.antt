@@ -1,4 +1,3 @@
-use Rattle.std.proofs.Common.{rules}
 use Rattle.replay_tally.specs.Proof.Ways.{meets-empty, meets_any, meets-same}
 use Rattle.replay_tally.proofs.same_answer.Goals as goal
 

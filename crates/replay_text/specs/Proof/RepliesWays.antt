@@ -1,7 +1,7 @@
 -- The ways through the functions.
 -- Assumes nothing.
-use Rattle.std.specs.Prelude.{ℕ, ◌≡◌, refl, Bool, true, false, List, [], ◌∷◌, ◌++◌}
-use Rattle.std.proofs.Common.{sym, ◌∙◌}
+use Rattle.std.specs.Prelude.{ℕ, ◌≡◌, Bool, true, false, List}
+use Rattle.std.proofs.Common.{◌∙◌}
 use Rattle.std.proofs.Math.Path.{ap}
 use Rattle.text.specs.Text.{Text, text_of, put_of}
 use Rattle.link.specs.declared.Link.{Link}
@@ -11,15 +11,12 @@ use Rattle.link.specs.declared.Refusal.{Refusal}
 use Rattle.interner.specs.Names.{find_of}
 use Rattle.symbol.specs.declared.Symbol.{Symbol}
 use Rattle.symbols.specs.declared.Found.{Found}
-use Rattle.symbols.specs.declared.Found.TheVariants as Found
 use Rattle.symbols.specs.declared.SectionSymbol.{SectionSymbol}
-use Rattle.symbols.specs.declared.SectionSymbol.TheVariants as SectionSymbol
 use Rattle.symbols.specs.Lookup.{get_of, get_global_of, section_symbol_of}
 use Rattle.replay_words.specs.Words.{word_is, number_at, name_at}
-use Rattle.replay_text.specs.Answers.{Pieces, put_all, space_word, numbered, refusal_text, symbol_text}
+use Rattle.replay_text.specs.Answers.{put_all, space_word, numbered, refusal_text, symbol_text}
 use Rattle.replay_text.specs.Proof.Ways.{put-more}
 use Rattle.replay_text.specs.declared.replies.Reply.{Reply}
-use Rattle.replay_text.specs.declared.replies.Reply.TheVariants as Reply
 use Rattle.replay_text.specs.RepliesAnswers.{id_word, ok_word, merged_word, loaded_word, not_needed_word, none_word, counts_word, broken_word, whole_word, counts_key, get_key, global_key, reply_text, found_text, section_symbol_text, broken_text, pair_text, end_text, front_text, back_text, counts_text, look_text}
 
 module _ (b : List ℕ) (t : Text) (r : Reply) where

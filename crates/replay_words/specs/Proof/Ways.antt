@@ -1,6 +1,6 @@
 -- The ways through the functions of Words and Spelled.
 -- Assumes nothing.
-use Rattle.std.specs.Prelude.{◌≡◌, ℕ, suc, ◌+◌, ◌-◌, ◌*◌, ◌/◌, ◌%◌, ◌^◌, ◌<◌, ◌≤◌, Bool, true, false, List, [], ◌∷◌, length, drop, ◌≢◌, slice_index, slice_set, refl}
+use Rattle.std.specs.Prelude.{◌≡◌, ℕ, suc, ◌+◌, ◌-◌, ◌*◌, ◌/◌, ◌%◌, ◌^◌, ◌<◌, ◌≤◌, Bool, true, false, List, length, drop, ◌≢◌, slice_index, slice_set}
 use native.Mathlib.Omega.{arith}
 use Rattle.std.proofs.Common.{add-one, ap, ◌∙◌}
 use Rattle.std.proofs.Math.Path.{sym}
@@ -12,7 +12,7 @@ use Rattle.text.specs.Fields.{field_of}
 use Rattle.text.specs.Decimal.{decimal_of}
 use Rattle.text.specs.declared.fields.Number.{Number}
 use Rattle.text.specs.declared.fields.Number.TheVariants.{None, Value}
-use Rattle.replay_words.specs.Words.{word_is, value_of, number_in, number_at, dash, name_at}
+use Rattle.replay_words.specs.Words.{word_is, number_in, number_at, dash, name_at}
 use Rattle.replay_words.specs.Order.{before_of}
 use Rattle.replay_words.specs.Spelled.{letter_of, digit_of, spelled_of, put_from, Spelled, spelled, put_bytes}
 

@@ -1,4 +1,3 @@
-use Rattle.std.proofs.Common.{rules}
 use Rattle.section_groups.specs.Proof.Ways.{admitted-done}
 use Rattle.section_groups.proofs.commit_group.Goals as goal
 

@@ -1,4 +1,3 @@
-use Rattle.std.proofs.Common.{rules}
 use Rattle.section_groups.specs.Proof.Ways.{repeated-new, repeated-yes, repeated-no}
 use Rattle.section_groups.proofs.is_repeated.Goals as goal
 

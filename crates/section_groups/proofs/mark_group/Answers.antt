@@ -1,4 +1,3 @@
-use Rattle.std.proofs.Common.{rules}
 use Rattle.section_groups.specs.Proof.Ways.{group-marked, group-removed}
 use Rattle.section_groups.proofs.mark_group.Goals as goal
 

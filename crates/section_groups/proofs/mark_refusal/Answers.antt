@@ -1,4 +1,3 @@
-use Rattle.std.proofs.Common.{rules}
 use Rattle.section_groups.specs.Proof.Ways.{mark-full, mark-room, mark-none}
 use Rattle.section_groups.proofs.mark_refusal.Goals as goal
 

@@ -1,4 +1,3 @@
-use Rattle.std.proofs.Common.{rules}
 use Rattle.section_groups.specs.Proof.Ways.{removed-marked, removed-none}
 use Rattle.section_groups.proofs.mark_removed.Goals as goal
 

@@ -1,4 +1,3 @@
-use Rattle.std.proofs.Common.{rules}
 use Rattle.section_groups.specs.Proof.Ways.{named-stopped, named-going}
 use Rattle.section_groups.proofs.named_group.Goals as goal
 

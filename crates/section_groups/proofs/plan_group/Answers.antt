@@ -1,4 +1,3 @@
-use Rattle.std.proofs.Common.{rules}
 use Rattle.section_groups.specs.Proof.Ways.{plan-full, plan-fits}
 use Rattle.section_groups.proofs.plan_group.Goals as goal
 

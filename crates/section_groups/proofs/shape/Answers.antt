@@ -1,4 +1,3 @@
-use Rattle.std.proofs.Common.{rules}
 use Rattle.section_groups.specs.Proof.Ways.{shape-plain, shape-count, shape-link, shape-symbol, shape-fine}
 use Rattle.section_groups.proofs.shape.Goals as goal
 

@@ -1,4 +1,3 @@
-use Rattle.std.proofs.Common.{rules}
 use Rattle.section_groups.specs.Proof.Ways.{signature-read}
 use Rattle.section_groups.proofs.signature.Goals as goal
 

@@ -1,4 +1,3 @@
-use Rattle.std.proofs.Common.{rules}
 use Rattle.section_groups.specs.Proof.Ways.{group-shapeless, group-unsigned, group-signed}
 use Rattle.section_groups.proofs.take_group.Goals as goal
 

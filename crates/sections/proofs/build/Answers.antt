@@ -1,4 +1,3 @@
-use Rattle.std.proofs.Common.{rules}
 use Rattle.sections.specs.Proof.Ways.{build-done}
 use Rattle.sections.proofs.build.Goals as goal
 

@@ -1,4 +1,3 @@
-use Rattle.std.proofs.Common.{rules}
 use Rattle.sections.specs.Proof.Ways.{built-past, built-yes, built-no}
 use Rattle.sections.proofs.is_built.Goals as goal
 

@@ -1,4 +1,3 @@
-use Rattle.std.proofs.Common.{rules}
 use Rattle.sections.specs.Proof.Ways.{room-yes, room-no}
 use Rattle.sections.proofs.room.Goals as goal
 

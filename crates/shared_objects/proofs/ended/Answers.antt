@@ -1,4 +1,3 @@
-use Rattle.std.proofs.Common.{rules}
 use Rattle.shared_objects.specs.Proof.LoadWays.{ended-loaded, ended-refused}
 use Rattle.shared_objects.proofs.ended.Goals as goal
 

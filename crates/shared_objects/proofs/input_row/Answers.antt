@@ -1,4 +1,3 @@
-use Rattle.std.proofs.Common.{rules}
 use Rattle.shared_objects.specs.Proof.StageWays.{input-full, input-taken}
 use Rattle.shared_objects.proofs.input_row.Goals as goal
 

@@ -1,4 +1,3 @@
-use Rattle.std.proofs.Common.{rules}
 use Rattle.shared_objects.specs.Proof.LoadWays.{want-judged, want-always}
 use Rattle.shared_objects.proofs.is_wanted.Goals as goal
 

@@ -1,4 +1,3 @@
-use Rattle.std.proofs.Common.{rules}
 use Rattle.shared_objects.specs.Proof.StageWays.{contents-stopped, contents-lists}
 use Rattle.shared_objects.proofs.load_contents.Goals as goal
 
@@ -6,8 +5,4 @@ pub returns-then-number-ne0 : goal.returns-then-number-ne0
 returns-then-number-ne0 c = search contents-stopped
 
 pub returns : goal.returns
-returns = λ c.
-    let u = c.before.before.before.before.before.before.before.before in
-    let t = u.before.before.before.before.before.before in
-    let s = t.before.before.before.before.before.before.before.before.before.before.before in
-    search (contents-lists, u.load-lists.ensures, t.if1.false, s.load-symbols.ensures)
+returns c = search (contents-lists, c.load_lists.ensures, c.if-number-ne0.false, c.load_symbols-u.ensures)

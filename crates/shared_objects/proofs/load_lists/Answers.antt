@@ -1,4 +1,3 @@
-use Rattle.std.proofs.Common.{rules}
 use Rattle.shared_objects.specs.Proof.StageWays.{lists-stopped, lists-input}
 use Rattle.shared_objects.proofs.load_lists.Goals as goal
 

@@ -1,6 +1,6 @@
 -- The ways through the functions.
 -- Assumes nothing.
-use Rattle.std.specs.Prelude.{ℕ, ◌+◌, ◌-◌, ◌<◌, ◌≤◌, ◌≡◌, Bool, List, [], ◌∷◌, ◌++◌, get_or, set, length, take, drop, replicate}
+use Rattle.std.specs.Prelude.{ℕ, ◌+◌, ◌-◌, ◌<◌, ◌≤◌, ◌≡◌, Bool, List, ◌∷◌, get_or, set, length, drop}
 use Rattle.std.proofs.Common.{add-one, ap, ◌∙◌, drop_of_length-le, drop-cons}
 use Rattle.std.proofs.Math.Nat.{sub-zero}
 use native.Mathlib.Omega.{arith}
@@ -19,7 +19,7 @@ use Rattle.elf_object.specs.Proof.Ways.{one_less}
 use Rattle.cells.specs.Search.{any_from}
 use Rattle.cells.specs.Proof.Search.{any-start}
 use Rattle.shared_objects.specs.Lists.{has_id}
-use Rattle.shared_objects.specs.Need.{library_name, input_kind_at, dependencies_at, undefined_at, depends_on, mark_names, mark_library, mark_from, mark_all, provides, clear_named, clear_mark, clear_from, clear_all, lacked_by, wanted_in, View, view_of, name_wanted, symbol_wanted, some_wanted, Judged, judged_as, marked_of, need_of}
+use Rattle.shared_objects.specs.Need.{library_name, input_kind_at, depends_on, mark_names, mark_library, mark_from, mark_all, provides, clear_named, clear_mark, clear_from, clear_all, lacked_by, wanted_in, View, view_of, name_wanted, symbol_wanted, some_wanted, Judged, judged_as, marked_of, need_of}
 
 module _ (file path : List ℕ) (sonamed : Bool) (soname : ℕ) (t : List ℕ) where
   pub name-soname : (x : Looked) → sonamed ≡ true → x ≡ look_up file soname → t ≡ x.name → t ≡ library_name file path sonamed soname

@@ -15,7 +15,7 @@ use Rattle.elf_object.specs.Rows.{rows_in, field}
 use Rattle.elf_object.specs.Proof.Ways.{one_less}
 use Rattle.shared_objects.specs.Record.{Recorded, recorded_of, record_of}
 use Rattle.shared_objects.specs.Define.{Added, added_of, define_of}
-use Rattle.shared_objects.specs.SymbolsLoad.{State, state_of, with_added, with_recorded, staged, library_symbol_named, looked_of, symbol_of, symbols_from, symbols_of}
+use Rattle.shared_objects.specs.SymbolsLoad.{State, with_added, with_recorded, staged, library_symbol_named, looked_of, symbol_of, symbols_from, symbols_of}
 
 module _ (entries : List ℕ) (s t : State) (x : List ℕ) (i binding section : ℕ) where
   pub named-defined : (visibility : ℕ) (a : Added) → binding ≡ field entries i 1 → section ≡ field entries i 4 → (section ≡ 0 → ⊥) → visibility ≡ field entries i 3

@@ -1,9 +1,4 @@
-use Rattle.std.proofs.Common.{rules}
-use Prim.Native.Nat.{ℕ, ◌≤◌, ◌-◌, ◌+◌, suc}
 use Rattle.std.proofs.Common.{arith}
-use mathlib.Core.Path.{◌≡◌}
-use lib.ListN.{length, drop}
-use Rattle.gabi.specs.StringTable.{before_zero}
 use Rattle.strings.specs.Proof.Ways.{stop, on, out}
 use Rattle.strings.proofs.before_zero.Goals as goal
 

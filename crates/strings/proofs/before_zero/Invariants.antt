@@ -1,10 +1,7 @@
-use Rattle.std.proofs.Common.{rules}
-use Prim.Native.Nat.{ℕ, ◌≤◌, ◌-◌, ◌+◌, suc}
-use Rattle.std.proofs.Common.{arith}
+use Prim.Native.Nat.{◌≤◌, ◌-◌, ◌+◌}
 use mathlib.Core.Path.{◌≡◌}
 use lib.ListN.{length, drop}
 use Rattle.gabi.specs.StringTable.{before_zero}
-use Rattle.strings.specs.Proof.Ways.{stop, on, out}
 use Rattle.strings.proofs.before_zero.Given as goal
 
 abbrev pub invariant-loop-i : goal.invariant-loop-i

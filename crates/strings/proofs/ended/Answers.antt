@@ -1,4 +1,3 @@
-use Rattle.std.proofs.Common.{rules}
 use Rattle.std.proofs.Common.{arith}
 use native.Mathlib.Nat.{le_of_lt}
 use mathlib.Core.Path.{sym, refl, ◌∙◌}

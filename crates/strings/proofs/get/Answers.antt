@@ -1,6 +1,5 @@
-use Rattle.std.proofs.Common.{rules}
 use mathlib.Core.Path.{sym, refl, ◌∙◌}
-use Rattle.gabi.specs.StringTable.{has_ended}
+use Rattle.gabi.proofs.StringTableLaws.{has_ended}
 use Rattle.strings.specs.Proof.Ways.{empty-looked, empty-front, as-ended}
 use Rattle.strings.proofs.get.Goals as goal
 

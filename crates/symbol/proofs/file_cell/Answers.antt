@@ -1,4 +1,3 @@
-use Rattle.std.proofs.Common.{rules}
 use Rattle.symbol.specs.Proof.Ways.{cell-named}
 use Rattle.symbol.proofs.file_cell.Goals as goal
 

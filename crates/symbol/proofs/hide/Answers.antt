@@ -1,4 +1,3 @@
-use Rattle.std.proofs.Common.{rules}
 use Rattle.symbol.specs.Proof.Ways.{hide-weak, hide-same, hide-other}
 use Rattle.symbol.proofs.hide.Goals as goal
 

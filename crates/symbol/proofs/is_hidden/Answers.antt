@@ -1,4 +1,3 @@
-use Rattle.std.proofs.Common.{rules}
 use Rattle.symbol.specs.Proof.Ways.{hidden-global, hidden-weak, hidden-not}
 use Rattle.symbol.proofs.is_hidden.Goals as goal
 

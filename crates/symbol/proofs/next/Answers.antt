@@ -1,4 +1,3 @@
-use Rattle.std.proofs.Common.{rules}
 use Rattle.symbol.specs.Proof.Ways.{next_more, next-same}
 use Rattle.symbol.proofs.next.Goals as goal
 

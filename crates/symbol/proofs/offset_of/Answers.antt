@@ -1,4 +1,3 @@
-use Rattle.std.proofs.Common.{rules}
 use Rattle.symbol.specs.Proof.Signed.{high_fits, low-offset, high-offset}
 use Rattle.symbol.proofs.offset_of.Goals as goal
 

@@ -1,4 +1,3 @@
-use Rattle.std.proofs.Common.{rules}
 use Rattle.symbol.specs.Proof.Ways.{pass-hides, pass-not}
 use Rattle.symbol.proofs.pass_hidden.Goals as goal
 

@@ -1,4 +1,3 @@
-use Rattle.std.proofs.Common.{rules}
 use Rattle.symbol.specs.Proof.Ways.{passes-by, passes-never}
 use Rattle.symbol.proofs.passes_hidden.Goals as goal
 

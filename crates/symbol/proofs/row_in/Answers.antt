@@ -1,4 +1,3 @@
-use Rattle.std.proofs.Common.{rules}
 use Rattle.symbol.specs.Proof.Ways.{row_read}
 use Rattle.symbol.proofs.row_in.Goals as goal
 

@@ -1,4 +1,3 @@
-use Rattle.std.proofs.Common.{rules}
 use Rattle.symbol.specs.Proof.Ways.{row-set}
 use Rattle.symbol.proofs.set_row.Goals as goal
 

@@ -1,4 +1,3 @@
-use Rattle.std.proofs.Common.{rules}
 use Rattle.symbol.specs.Proof.Ways.{show-same, show-weak, show-other}
 use Rattle.symbol.proofs.show.Goals as goal
 

@@ -1,4 +1,3 @@
-use Rattle.std.proofs.Common.{rules}
 use Rattle.std.proofs.Common.{arith}
 use Rattle.symbol.specs.Proof.Signed.{minus-fits, minus-castable, minus-below, same-castable, negative-word, positive-word}
 use Rattle.symbol.proofs.word_of.Goals as goal

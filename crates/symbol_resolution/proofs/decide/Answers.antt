@@ -1,4 +1,3 @@
-use Rattle.std.proofs.Common.{rules}
 use Rattle.symbol_resolution.specs.Proof.DecideWays.{decide-judged, decide-local, decide-named}
 use Rattle.symbol_resolution.proofs.decide.Goals as goal
 

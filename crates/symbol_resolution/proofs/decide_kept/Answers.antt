@@ -1,4 +1,3 @@
-use Rattle.std.proofs.Common.{rules}
 use Rattle.symbol_resolution.specs.Proof.DecideWays.{kept-shown, kept-hidden, kept-amended}
 use Rattle.symbol_resolution.proofs.decide_kept.Goals as goal
 

@@ -1,4 +1,3 @@
-use Rattle.std.proofs.Common.{rules}
 use Rattle.symbol_resolution.specs.Proof.DecideWays.{known-value, known-yields, known_twice, known_kept}
 use Rattle.symbol_resolution.proofs.decide_known.Goals as goal
 

@@ -1,4 +1,3 @@
-use Rattle.std.proofs.Common.{rules}
 use Rattle.symbol_resolution.specs.Proof.DecideWays.{local-held}
 use Rattle.symbol_resolution.proofs.decide_local.Goals as goal
 

@@ -1,4 +1,3 @@
-use Rattle.std.proofs.Common.{rules}
 use Rattle.symbol_resolution.specs.Proof.DecideWays.{named-held}
 use Rattle.symbol_resolution.proofs.decide_named.Goals as goal
 

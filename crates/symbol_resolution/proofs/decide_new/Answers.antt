@@ -1,4 +1,3 @@
-use Rattle.std.proofs.Common.{rules}
 use Rattle.symbol_resolution.specs.Proof.DecideWays.{new-value, new-type, new-fits, new-full}
 use Rattle.symbol_resolution.proofs.decide_new.Goals as goal
 

@@ -1,4 +1,3 @@
-use Rattle.std.proofs.Common.{rules}
 use Rattle.symbol_resolution.specs.Proof.DecideWays.{replace-type, replace-fine}
 use Rattle.symbol_resolution.proofs.decide_replace.Goals as goal
 

@@ -1,4 +1,3 @@
-use Rattle.std.proofs.Common.{rules}
 use Rattle.symbol_resolution.specs.Proof.DecideWays.{weak-shown, weak-hidden, weak-not}
 use Rattle.symbol_resolution.proofs.is_weak.Goals as goal
 

@@ -1,4 +1,3 @@
-use Rattle.std.proofs.Common.{rules}
 use Rattle.symbol_resolution.specs.Proof.DecideWays.{rank-undefined, rank-weak, rank-strong}
 use Rattle.symbol_resolution.proofs.rank.Goals as goal
 

@@ -1,4 +1,3 @@
-use Rattle.std.proofs.Common.{rules}
 use Rattle.symbol_resolution.specs.Proof.DecideWays.{reference-old, reference-weak, reference-strong}
 use Rattle.symbol_resolution.proofs.reference_rank.Goals as goal
 

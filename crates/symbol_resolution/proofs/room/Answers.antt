@@ -1,4 +1,3 @@
-use Rattle.std.proofs.Common.{rules}
 use Rattle.symbol_resolution.specs.Proof.DecideWays.{room-full, room-global, room-local, room-cell, room-no-cell}
 use Rattle.symbol_resolution.proofs.room.Goals as goal
 

@@ -1,4 +1,3 @@
-use Rattle.std.proofs.Common.{rules}
 use Rattle.symbol_resolution.specs.Proof.DecideWays.{type-fine, type-file, type-other}
 use Rattle.symbol_resolution.proofs.type_refusal.Goals as goal
 

@@ -1,4 +1,3 @@
-use Rattle.std.proofs.Common.{rules}
 use Rattle.symbols.specs.Proof.Ways.{symbols-cleared}
 use Rattle.symbols.proofs.clear_section_symbols.Goals as goal
 

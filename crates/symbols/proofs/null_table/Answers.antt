@@ -1,4 +1,3 @@
-use Rattle.std.proofs.Common.{rules}
 use Rattle.symbols.specs.Proof.Ways.{null-no-name, null-done}
 use Rattle.symbols.proofs.null_table.Goals as goal
 

@@ -1,6 +1,6 @@
 -- What a direct add of a row leaves and answers, by the decision on it.
 -- Assumes nothing.
-use Rattle.std.specs.Prelude.{ℕ, ◌≡◌, true, false, eqb}
+use Rattle.std.specs.Prelude.{◌≡◌, eqb}
 use Rattle.std.proofs.Common.{sym, eqb-true}
 use Rattle.cells.specs.Proof.Split.{by-test}
 use Rattle.link.specs.Said.{number_in}

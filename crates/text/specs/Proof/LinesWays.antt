@@ -19,7 +19,7 @@ use Rattle.text.specs.declared.lines.Taken.TheVariants.{Line, Long, End, More}
 use Rattle.text.specs.declared.lines.Step.{Step}
 use Rattle.text.specs.Unread.{lines_at}
 use Rattle.text.specs.Line.{line_end, end_from, end_in, span_of, rest_of, unended_of, left_of, step_of, settled_at, settle_of, is_more}
-use Rattle.text.specs.Next.{Front, front_as, seen_all, front_of, longer_of, ReadOn, ReadLine, NextBy, NextLine, past_at, past_of, Skipped}
+use Rattle.text.specs.Next.{Front, front_as, front_of, longer_of, ReadOn, ReadLine, NextBy, NextLine, past_at, past_of, Skipped}
 use Rattle.text.specs.Text.{Text, text_of, put_of, PutDecimal}
 
 module _ (b x e : List ℕ) (n : ℕ) (t : Text) where

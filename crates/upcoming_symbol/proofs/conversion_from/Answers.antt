@@ -1,4 +1,3 @@
-use Rattle.std.proofs.Common.{rules}
 use Rattle.upcoming_symbol.specs.Proof.Ways.{from_nothing, from-not-loaded, from-section}
 use Rattle.upcoming_symbol.proofs.conversion_from.Goals as goal
 

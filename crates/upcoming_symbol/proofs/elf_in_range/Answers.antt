@@ -1,4 +1,3 @@
-use Rattle.std.proofs.Common.{rules}
 use Rattle.upcoming_symbol.specs.Proof.Ways.{elf-binding, elf-kind, elf-visibility, elf-section}
 use Rattle.upcoming_symbol.proofs.elf_in_range.Goals as goal
 

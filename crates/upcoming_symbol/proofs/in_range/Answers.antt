@@ -1,4 +1,3 @@
-use Rattle.std.proofs.Common.{rules}
 use Rattle.upcoming_symbol.specs.Proof.Ways.{external-binding, external-visibility, external-fine, range-known}
 use Rattle.upcoming_symbol.proofs.in_range.Goals as goal
 

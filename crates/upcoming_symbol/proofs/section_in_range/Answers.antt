@@ -1,4 +1,3 @@
-use Rattle.std.proofs.Common.{rules}
 use Rattle.upcoming_symbol.specs.Proof.Ways.{section-ordinary, section-other}
 use Rattle.upcoming_symbol.specs.Judge.{section_in_range}
 use Rattle.upcoming_symbol.proofs.section_in_range.Goals as goal

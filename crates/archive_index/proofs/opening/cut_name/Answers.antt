@@ -1,8 +1,5 @@
 use Rattle.std.proofs.Common.{rules}
 use native.Mathlib.Nat.{sub-zero}
-use Prim.Native.Nat.{◌-◌}
-use mathlib.Core.Path.{◌≡◌}
-use Rattle.archive_index.specs.Index.{cut_of}
 use Rattle.archive_index.specs.Proof.Ways.{cut_on, cut-here, cut-end}
 use Rattle.archive_index.proofs.opening.cut_name.Goals as goal
 

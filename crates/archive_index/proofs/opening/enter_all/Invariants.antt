@@ -1,10 +1,7 @@
-use Rattle.std.proofs.Common.{rules}
-use native.Mathlib.Nat.{sub-zero}
 use Prim.Native.Nat.{◌-◌}
 use mathlib.Core.Path.{◌≡◌}
 use lib.ListN.{length}
 use Rattle.archive_index.specs.Rows.{enter_all}
-use Rattle.archive_index.specs.Proof.Ways.{all-on, all_end}
 use Rattle.archive_index.proofs.opening.enter_all.Given as goal
 
 abbrev pub invariant-loop-k : goal.invariant-loop-k

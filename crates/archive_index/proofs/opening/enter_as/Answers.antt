@@ -1,4 +1,3 @@
-use Rattle.std.proofs.Common.{rules}
 use Rattle.archive_index.specs.Proof.Ways.{enter-known, enter-new}
 use Rattle.archive_index.proofs.opening.enter_as.Goals as goal
 

@@ -1,4 +1,3 @@
-use Rattle.std.proofs.Common.{rules}
 use Rattle.archive_index.specs.Proof.Ways.{of_is}
 use Rattle.archive_index.proofs.opening.is_of.Goals as goal
 

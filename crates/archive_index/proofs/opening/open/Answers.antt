@@ -1,4 +1,3 @@
-use Rattle.std.proofs.Common.{rules}
 use Rattle.archive_index.specs.Proof.Ways.{open-empty, open-short, open-offsets, open-many, open-entries}
 use Rattle.archive_index.proofs.opening.open.Goals as goal
 

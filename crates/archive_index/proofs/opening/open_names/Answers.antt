@@ -1,4 +1,3 @@
-use Rattle.std.proofs.Common.{rules}
 use Rattle.archive_index.specs.Proof.Ways.{open-cut, open_full, open-rows}
 use Rattle.archive_index.proofs.opening.open_names.Goals as goal
 

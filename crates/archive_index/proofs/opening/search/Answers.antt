@@ -1,6 +1,3 @@
-use Rattle.std.proofs.Common.{rules}
-use mathlib.Core.Path.{◌≡◌}
-use Rattle.archive_index.specs.Rows.{descend}
 use Rattle.archive_index.specs.Proof.Ways.{descend-out, descend-hit, descend-free, descend-on}
 use Rattle.archive_index.proofs.opening.search.Goals as goal
 

@@ -1,7 +1,5 @@
-use Rattle.std.proofs.Common.{rules}
 use mathlib.Core.Path.{◌≡◌}
 use Rattle.archive_index.specs.Rows.{descend}
-use Rattle.archive_index.specs.Proof.Ways.{descend-out, descend-hit, descend-free, descend-on}
 use Rattle.archive_index.proofs.opening.search.Given as goal
 
 abbrev pub invariant-loop-left : goal.invariant-loop-left

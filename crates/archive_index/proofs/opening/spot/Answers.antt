@@ -1,4 +1,3 @@
-use Rattle.std.proofs.Common.{rules}
 use Rattle.archive_index.specs.Proof.Ways.{spot-root, spot-near, spot-far}
 use Rattle.archive_index.proofs.opening.spot.Goals as goal
 

@@ -1,4 +1,3 @@
-use Rattle.std.proofs.Common.{rules}
 use Rattle.archive_walk.specs.Proof.PassesWays.{ties-known}
 use Rattle.archive_walk.proofs.passes.does_tie.Goals as goal
 

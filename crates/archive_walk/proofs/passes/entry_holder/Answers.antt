@@ -1,4 +1,3 @@
-use Rattle.std.proofs.Common.{rules}
 use Rattle.archive_walk.specs.Proof.PassesWays.{entry-is}
 use Rattle.archive_walk.proofs.passes.entry_holder.Goals as goal
 

@@ -1,4 +1,3 @@
-use Rattle.std.proofs.Common.{rules}
 use Rattle.archive_walk.specs.Proof.Ways.{fits-index, fits-rows, fits-queued, fits-offered, fits-passes, fits_all}
 use Rattle.archive_walk.proofs.passes.fits.Goals as goal
 

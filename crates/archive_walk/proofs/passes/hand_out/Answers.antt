@@ -1,4 +1,3 @@
-use Rattle.std.proofs.Common.{rules}
 use Rattle.archive_walk.specs.Proof.Ways.{offer-member, offer-done}
 use Rattle.archive_walk.proofs.passes.hand_out.Goals as goal
 

@@ -1,4 +1,3 @@
-use Rattle.std.proofs.Common.{rules}
 use Rattle.archive_walk.specs.Proof.PassesWays.{noted_read, noted-out}
 use Rattle.archive_walk.proofs.passes.is_noted.Goals as goal
 

@@ -1,4 +1,3 @@
-use Rattle.std.proofs.Common.{rules}
 use Rattle.archive_walk.specs.Proof.PassesWays.{tied_is}
 use Rattle.archive_walk.proofs.passes.is_tied.Goals as goal
 

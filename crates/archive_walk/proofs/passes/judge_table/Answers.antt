@@ -1,4 +1,3 @@
-use Rattle.std.proofs.Common.{rules}
 use Rattle.archive_walk.specs.Proof.Ways.{judged-is}
 use Rattle.archive_walk.proofs.passes.judge_table.Goals as goal
 

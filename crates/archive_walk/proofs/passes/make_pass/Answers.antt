@@ -1,4 +1,3 @@
-use Rattle.std.proofs.Common.{rules}
 use Rattle.archive_walk.specs.Proof.Ways.{make-is}
 use Rattle.archive_walk.proofs.passes.make_pass.Goals as goal
 

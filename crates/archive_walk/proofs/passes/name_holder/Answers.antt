@@ -1,4 +1,3 @@
-use Rattle.std.proofs.Common.{rules}
 use Rattle.archive_walk.specs.Proof.Ways.{holder-is}
 use Rattle.archive_walk.proofs.passes.name_holder.Goals as goal
 

@@ -1,4 +1,3 @@
-use Rattle.std.proofs.Common.{rules}
 use Rattle.archive_walk.specs.Proof.Ways.{next-done, next-odd, next-queued, next-pass, sum_fits, passes-fit}
 use Rattle.archive_walk.proofs.passes.next.Goals as goal
 

@@ -1,4 +1,3 @@
-use Rattle.std.proofs.Common.{rules}
 use Rattle.archive_walk.specs.Proof.PassesWays.{note-not, note-put, note-out}
 use Rattle.archive_walk.proofs.passes.note_tie.Goals as goal
 

@@ -1,4 +1,3 @@
-use Rattle.std.proofs.Common.{rules}
 use Rattle.archive_walk.specs.Proof.Ways.{pass-judged, pass-removed, pass-made}
 use Rattle.archive_walk.specs.Proof.PassesWays.{noted-enough}
 use Rattle.archive_walk.proofs.passes.pass.Goals as goal

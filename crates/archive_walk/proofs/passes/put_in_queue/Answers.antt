@@ -1,4 +1,3 @@
-use Rattle.std.proofs.Common.{rules}
 use Rattle.archive_walk.specs.Proof.Ways.{queue-new, queue-mate, queue-old}
 use Rattle.archive_walk.proofs.passes.put_in_queue.Goals as goal
 

@@ -1,4 +1,3 @@
-use Rattle.std.proofs.Common.{rules}
 use Rattle.archive_walk.specs.Proof.Ways.{ties-strong, ties-undefined}
 use Rattle.archive_walk.proofs.passes.row_ties.Goals as goal
 

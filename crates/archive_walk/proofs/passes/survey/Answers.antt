@@ -1,11 +1,5 @@
 use Rattle.std.proofs.Common.{rules}
 use native.Mathlib.Nat.{sub-zero}
-use Prim.Native.Nat.{◌-◌}
-use mathlib.Core.Path.{◌≡◌}
-use lib.ListN.{length}
-use Rattle.archive_walk.specs.Look.{table_of}
-use Rattle.archive_walk.specs.Walk.{removed_of}
-use Rattle.archive_walk.specs.Notes.{Noted}
 use Rattle.archive_walk.specs.Proof.PassesWays.{noted-none, noted_more, survey-hit, survey-on}
 use Rattle.archive_walk.specs.Proof.Ways.{search-end}
 use Rattle.archive_walk.proofs.passes.survey.Goals as goal

@@ -1,4 +1,3 @@
-use Rattle.std.proofs.Common.{rules}
 use Rattle.archive_walk.specs.Proof.Ways.{tie-tied, tie-not}
 use Rattle.archive_walk.proofs.passes.tie.Goals as goal
 

@@ -1,12 +1,6 @@
 use Rattle.std.proofs.Common.{rules}
 use native.Mathlib.Nat.{sub-zero}
-use Prim.Native.Nat.{◌+◌, ◌-◌, ◌≤◌}
-use mathlib.Core.Path.{◌≡◌}
-use lib.ListN.{length}
-use Rattle.archive_walk.specs.Look.{table_of}
-use Rattle.archive_walk.specs.Walk.{queue_of, tie_all}
 use Rattle.archive_walk.specs.Proof.Ways.{all-on, all_end, count-on}
-use Rattle.archive_walk.specs.Notes.{Noted}
 use Rattle.archive_walk.specs.Proof.PassesWays.{noted-on}
 use Rattle.archive_walk.proofs.passes.tie_all.Goals as goal
 

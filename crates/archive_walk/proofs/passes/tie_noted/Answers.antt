@@ -1,4 +1,3 @@
-use Rattle.std.proofs.Common.{rules}
 use Rattle.archive_walk.specs.Proof.PassesWays.{tie-skipped}
 use Rattle.archive_walk.proofs.passes.tie_noted.Goals as goal
 

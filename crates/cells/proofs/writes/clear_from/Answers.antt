@@ -1,8 +1,5 @@
-use Prim.Native.Nat.{◌≤◌, ◌-◌}
-use mathlib.Core.Path.{◌≡◌}
-use lib.ListN.{length}
 use Rattle.std.proofs.Common.{rules}
-use Rattle.cells.specs.Proof.Cell.{zeroed, zeroed-none, zeroed-more, zeroed-all}
+use Rattle.cells.specs.Proof.Cell.{zeroed-none, zeroed-more, zeroed-all}
 use Rattle.cells.proofs.writes.clear_from.Goals as goal
 
 pub loop-i-init : goal.loop-i-init

@@ -1,8 +1,7 @@
 use Prim.Native.Nat.{◌≤◌, ◌-◌}
 use mathlib.Core.Path.{◌≡◌}
 use lib.ListN.{length}
-use Rattle.std.proofs.Common.{rules}
-use Rattle.cells.specs.Proof.Cell.{zeroed, zeroed-none, zeroed-more, zeroed-all}
+use Rattle.cells.specs.Proof.Cell.{zeroed}
 use Rattle.cells.proofs.writes.clear_from.Given as goal
 
 abbrev pub invariant-loop-i : goal.invariant-loop-i

@@ -1,4 +1,3 @@
-use Rattle.std.proofs.Common.{rules}
 use Rattle.cells.specs.Proof.Rows.{front-stored}
 use Rattle.cells.proofs.writes.row_front.Goals as goal
 

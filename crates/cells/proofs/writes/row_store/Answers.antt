@@ -1,4 +1,3 @@
-use Rattle.std.proofs.Common.{rules}
 use Rattle.cells.specs.Proof.Rows.{row-stored}
 use Rattle.cells.proofs.writes.row_store.Goals as goal
 

@@ -1,9 +1,5 @@
-use Rattle.std.proofs.Common.{rules}
-use Prim.Native.Nat.{◌-◌}
-use mathlib.Core.Path.{◌≡◌}
-use Rattle.elf_object.specs.Judge.{first_bad}
 use Rattle.elf_object.specs.Proof.Ways.{first-start, first_on, first-stop, first-end}
-use Rattle.elf_file.specs.Check.{table_ok, bad_table}
+use Rattle.elf_file.specs.Check.{bad_table}
 use Rattle.elf_file.proofs.checks.bad_table.Goals as goal
 
 pub loop-i-init : goal.loop-i-init

@@ -1,4 +1,3 @@
-use Rattle.std.proofs.Common.{rules}
 use Rattle.elf_file.specs.Proof.ChecksWays.{entries-cut, entries-whole, entries-empty, entries-group}
 use Rattle.elf_file.proofs.checks.entries_ok.Goals as goal
 

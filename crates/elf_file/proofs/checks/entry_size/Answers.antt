@@ -1,4 +1,3 @@
-use Rattle.std.proofs.Common.{rules}
 use Rattle.elf_file.specs.Proof.ChecksWays.{size-2, size-4, size-9, size-17, size-3, size_none}
 use Rattle.elf_file.proofs.checks.entry_size.Goals as goal
 

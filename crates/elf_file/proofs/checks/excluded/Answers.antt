@@ -1,4 +1,3 @@
-use Rattle.std.proofs.Common.{rules}
 use Rattle.elf_file.specs.Proof.ChecksWays.{excluded-yes, excluded-no}
 use Rattle.elf_file.proofs.checks.excluded.Goals as goal
 

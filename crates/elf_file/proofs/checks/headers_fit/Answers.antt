@@ -1,4 +1,3 @@
-use Rattle.std.proofs.Common.{rules}
 use Rattle.elf_file.specs.Proof.ChecksWays.{fit_none, fit-past, fit-first, fit-short, fit_all}
 use Rattle.elf_file.proofs.checks.headers_fit.Goals as goal
 

@@ -1,4 +1,3 @@
-use Rattle.std.proofs.Common.{rules}
 use Rattle.elf_file.specs.Proof.ChecksWays.{object-short, object-magic, object-class, object-data, object_type, object-yes}
 use Rattle.elf_file.proofs.checks.is_object.Goals as goal
 

@@ -1,4 +1,3 @@
-use Rattle.std.proofs.Common.{rules}
 use Rattle.elf_file.specs.Proof.ChecksWays.{refusal-26, refusal-headers, refusal-table, refusal-none}
 use Rattle.elf_file.proofs.checks.refusal.Goals as goal
 

@@ -1,4 +1,3 @@
-use Rattle.std.proofs.Common.{rules}
 use Rattle.elf_file.specs.Proof.ChecksWays.{header-excluded, header-other, header-past, header-long, header-judged}
 use Rattle.elf_file.proofs.checks.section_ok.Goals as goal
 

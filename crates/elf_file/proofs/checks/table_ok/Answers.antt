@@ -1,4 +1,3 @@
-use Rattle.std.proofs.Common.{rules}
 use Rattle.elf_file.specs.Proof.ChecksWays.{table-judged}
 use Rattle.elf_file.proofs.checks.table_ok.Goals as goal
 

@@ -1,9 +1,4 @@
 use Rattle.std.proofs.Common.{rules}
-use Prim.Native.Nat.{◌+◌, ◌-◌}
-use mathlib.Core.Path.{◌≡◌}
-use lib.ListN.{length}
-use Rattle.elf_file.specs.Rows.{content_count}
-use Rattle.elf_file.specs.Read.{all_elements_into}
 use Rattle.elf_file.specs.Proof.ReadingWays.{contents-left-start, contents-left-on, contents-fit, contents-past, all-elements-start, all-elements-on, all-elements-end}
 use Rattle.elf_file.proofs.reading.all_elements.Goals as goal
 

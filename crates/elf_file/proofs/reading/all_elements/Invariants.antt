@@ -1,10 +1,8 @@
-use Rattle.std.proofs.Common.{rules}
 use Prim.Native.Nat.{◌+◌, ◌-◌}
 use mathlib.Core.Path.{◌≡◌}
 use lib.ListN.{length}
 use Rattle.elf_file.specs.Rows.{content_count}
 use Rattle.elf_file.specs.Read.{all_elements_into}
-use Rattle.elf_file.specs.Proof.ReadingWays.{contents-left-start, contents-left-on, contents-fit, contents-past, all-elements-start, all-elements-on, all-elements-end}
 use Rattle.elf_file.proofs.reading.all_elements.Given as goal
 
 abbrev pub invariant-loop-i : goal.invariant-loop-i

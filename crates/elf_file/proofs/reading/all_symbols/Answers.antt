@@ -1,9 +1,4 @@
 use Rattle.std.proofs.Common.{rules}
-use Prim.Native.Nat.{◌+◌, ◌-◌}
-use mathlib.Core.Path.{◌≡◌}
-use lib.ListN.{length}
-use Rattle.elf_file.specs.Rows.{entry_count}
-use Rattle.elf_file.specs.Read.{all_symbols_into}
 use Rattle.elf_file.specs.Proof.ReadingWays.{entries-left-start, entries-left-on, entries_fit, entries-past, all-symbols-start, all-symbols-on, all-symbols-end}
 use Rattle.elf_file.proofs.reading.all_symbols.Goals as goal
 

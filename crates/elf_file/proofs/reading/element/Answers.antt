@@ -1,4 +1,3 @@
-use Rattle.std.proofs.Common.{rules}
 use Rattle.elf_file.specs.Proof.ReadingWays.{element-17, element-9, element-4}
 use Rattle.elf_file.proofs.reading.element.Goals as goal
 

@@ -1,8 +1,4 @@
 use Rattle.std.proofs.Common.{rules}
-use Prim.Native.Nat.{◌-◌}
-use mathlib.Core.Path.{◌≡◌}
-use lib.ListN.{length}
-use Rattle.elf_file.specs.Read.{elements_into}
 use Rattle.elf_file.specs.Proof.ReadingWays.{elements-start, elements-on, elements-end}
 use Rattle.elf_file.proofs.reading.elements.Goals as goal
 

@@ -1,9 +1,7 @@
-use Rattle.std.proofs.Common.{rules}
 use Prim.Native.Nat.{◌-◌}
 use mathlib.Core.Path.{◌≡◌}
 use lib.ListN.{length}
 use Rattle.elf_file.specs.Read.{elements_into}
-use Rattle.elf_file.specs.Proof.ReadingWays.{elements-start, elements-on, elements-end}
 use Rattle.elf_file.proofs.reading.elements.Given as goal
 
 abbrev pub invariant-loop-j : goal.invariant-loop-j

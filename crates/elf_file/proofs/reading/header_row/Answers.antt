@@ -1,4 +1,3 @@
-use Rattle.std.proofs.Common.{rules}
 use Rattle.elf_file.specs.Proof.ReadingWays.{header-stored}
 use Rattle.elf_file.proofs.reading.header_row.Goals as goal
 

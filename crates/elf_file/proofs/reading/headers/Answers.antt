@@ -1,9 +1,5 @@
 use Rattle.std.proofs.Common.{rules}
-use Prim.Native.Nat.{◌-◌}
-use mathlib.Core.Path.{◌≡◌}
-use lib.ListN.{length}
-use Rattle.elf_file.specs.Read.{headers_into}
-use Rattle.elf_file.specs.Proof.ReadingWays.{Sums, sums-start, sums_on, entries-add, contents-add, headers-start, headers-on, headers-end}
+use Rattle.elf_file.specs.Proof.ReadingWays.{sums-start, sums_on, entries-add, contents-add, headers-start, headers-on, headers-end}
 use Rattle.elf_file.proofs.reading.headers.Goals as goal
 
 pub loop-i-init : goal.loop-i-init

@@ -1,9 +1,8 @@
-use Rattle.std.proofs.Common.{rules}
 use Prim.Native.Nat.{◌-◌}
 use mathlib.Core.Path.{◌≡◌}
 use lib.ListN.{length}
 use Rattle.elf_file.specs.Read.{headers_into}
-use Rattle.elf_file.specs.Proof.ReadingWays.{Sums, sums-start, sums_on, entries-add, contents-add, headers-start, headers-on, headers-end}
+use Rattle.elf_file.specs.Proof.ReadingWays.{Sums}
 use Rattle.elf_file.proofs.reading.headers.Given as goal
 
 abbrev pub invariant-loop-i : goal.invariant-loop-i

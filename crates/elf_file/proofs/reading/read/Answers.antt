@@ -1,4 +1,3 @@
-use Rattle.std.proofs.Common.{rules}
 use Rattle.elf_file.specs.Proof.ReadingWays.{read-refused, read-roomed}
 use Rattle.elf_file.proofs.reading.read.Goals as goal
 

@@ -1,4 +1,3 @@
-use Rattle.std.proofs.Common.{rules}
 use Rattle.elf_file.specs.Proof.ReadingWays.{fits-entries, fits-cells, roomed-fits, roomed-short}
 use Rattle.elf_file.proofs.reading.roomed.Goals as goal
 

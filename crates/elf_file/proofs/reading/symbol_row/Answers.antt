@@ -1,4 +1,3 @@
-use Rattle.std.proofs.Common.{rules}
 use Rattle.elf_file.specs.Proof.ReadingWays.{symbol-stored}
 use Rattle.elf_file.proofs.reading.symbol_row.Goals as goal
 

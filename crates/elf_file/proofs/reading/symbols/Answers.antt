@@ -1,8 +1,4 @@
 use Rattle.std.proofs.Common.{rules}
-use Prim.Native.Nat.{◌-◌}
-use mathlib.Core.Path.{◌≡◌}
-use lib.ListN.{length}
-use Rattle.elf_file.specs.Read.{symbols_into}
 use Rattle.elf_file.specs.Proof.ReadingWays.{symbols-start, symbols-on, symbols-end}
 use Rattle.elf_file.proofs.reading.symbols.Goals as goal
 

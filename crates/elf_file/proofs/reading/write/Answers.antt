@@ -1,4 +1,3 @@
-use Rattle.std.proofs.Common.{rules}
 use Rattle.elf_file.specs.Proof.ReadingWays.{written}
 use Rattle.elf_file.proofs.reading.write.Goals as goal
 

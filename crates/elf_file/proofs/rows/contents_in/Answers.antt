@@ -1,4 +1,3 @@
-use Rattle.std.proofs.Common.{rules}
 use Rattle.elf_file.specs.Proof.RowsWays.{contents-none, contents-rel, contents-rela, contents-group, contents-other}
 use Rattle.elf_file.proofs.rows.contents_in.Goals as goal
 

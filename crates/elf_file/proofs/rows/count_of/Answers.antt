@@ -1,4 +1,3 @@
-use Rattle.std.proofs.Common.{rules}
 use Rattle.elf_file.specs.Proof.RowsWays.{count_none, count-2, count-3, count-other}
 use Rattle.elf_file.proofs.rows.count_of.Goals as goal
 

@@ -1,4 +1,3 @@
-use Rattle.std.proofs.Common.{rules}
 use Rattle.elf_file.specs.Proof.RowsWays.{entries_none, entries-symbols, entries-other}
 use Rattle.elf_file.proofs.rows.entries_in.Goals as goal
 

@@ -1,4 +1,3 @@
-use Rattle.std.proofs.Common.{rules}
 use Rattle.elf_file.specs.Proof.RowsWays.{first-none, first-2, first-3, first-9, first-4, first-17, first-other}
 use Rattle.elf_file.proofs.rows.first_of.Goals as goal
 

@@ -1,4 +1,3 @@
-use Rattle.std.proofs.Common.{rules}
 use Rattle.elf_file.specs.Proof.RowsWays.{flags-read}
 use Rattle.elf_file.proofs.rows.flags_of.Goals as goal
 

@@ -1,4 +1,3 @@
-use Rattle.std.proofs.Common.{rules}
 use Rattle.elf_file.specs.Proof.RowsWays.{name-same}
 use Rattle.elf_file.proofs.rows.is_frame_header.Goals as goal
 

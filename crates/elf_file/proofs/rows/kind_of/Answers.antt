@@ -1,4 +1,3 @@
-use Rattle.std.proofs.Common.{rules}
 use Rattle.elf_file.specs.Proof.RowsWays.{kind-versions, kind-listed, kind-other}
 use Rattle.elf_file.proofs.rows.kind_of.Goals as goal
 

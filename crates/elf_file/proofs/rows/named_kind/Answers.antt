@@ -1,4 +1,3 @@
-use Rattle.std.proofs.Common.{rules}
 use Rattle.elf_file.specs.Proof.RowsWays.{kind-frames, kind-data, kind-typed}
 use Rattle.elf_file.proofs.rows.named_kind.Goals as goal
 

@@ -1,4 +1,3 @@
-use Rattle.std.proofs.Common.{rules}
 use Rattle.elf_file.specs.Proof.RowsWays.{names-none, names_in, names-past}
 use Rattle.elf_file.proofs.rows.names_of.Goals as goal
 

@@ -1,6 +1,4 @@
-use Rattle.std.proofs.Common.{rules}
-use Prim.Native.Nat.{◌-◌}
-use Rattle.elf_file.specs.Proof.RowsWays.{Kept, kept-start, kept_on, room-short, room-entries, room-contents, room_fits}
+use Rattle.elf_file.specs.Proof.RowsWays.{kept-start, kept_on, room-short, room-entries, room-contents, room_fits}
 use Rattle.elf_file.proofs.rows.room_for.Goals as goal
 
 pub returns-then-cells-n : goal.returns-then-cells-n

@@ -1,6 +1,5 @@
-use Rattle.std.proofs.Common.{rules}
 use Prim.Native.Nat.{◌-◌}
-use Rattle.elf_file.specs.Proof.RowsWays.{Kept, kept-start, kept_on, room-short, room-entries, room-contents, room_fits}
+use Rattle.elf_file.specs.Proof.RowsWays.{Kept}
 use Rattle.elf_file.proofs.rows.room_for.Given as goal
 
 abbrev pub invariant-loop-i : goal.invariant-loop-i

@@ -1,4 +1,3 @@
-use Rattle.std.proofs.Common.{rules}
 use Rattle.elf_file.specs.Proof.RowsWays.{number-none, number_is, number_past}
 use Rattle.elf_file.proofs.rows.strings_number.Goals as goal
 

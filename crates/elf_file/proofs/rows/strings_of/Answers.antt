@@ -1,4 +1,3 @@
-use Rattle.std.proofs.Common.{rules}
 use Rattle.elf_file.specs.Proof.RowsWays.{strings-none, strings-part, strings-other}
 use Rattle.elf_file.proofs.rows.strings_of.Goals as goal
 

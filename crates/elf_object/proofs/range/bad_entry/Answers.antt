@@ -1,7 +1,4 @@
-use Rattle.std.proofs.Common.{rules}
-use Prim.Native.Nat.{◌-◌}
-use mathlib.Core.Path.{◌≡◌}
-use Rattle.elf_object.specs.Judge.{entry_ok, first_bad, bad_entry}
+use Rattle.elf_object.specs.Judge.{bad_entry}
 use Rattle.elf_object.specs.Proof.Ways.{first-start, first_on, first-stop, first-end}
 use Rattle.elf_object.proofs.range.bad_entry.Goals as goal
 

@@ -1,8 +1,6 @@
-use Rattle.std.proofs.Common.{rules}
 use Prim.Native.Nat.{◌-◌}
 use mathlib.Core.Path.{◌≡◌}
 use Rattle.elf_object.specs.Judge.{header_ok, first_bad, bad_header}
-use Rattle.elf_object.specs.Proof.Ways.{first-start, first_on, first-stop, first-end}
 use Rattle.elf_object.proofs.range.bad_header.Given as goal
 
 abbrev pub invariant-loop-n : goal.invariant-loop-n

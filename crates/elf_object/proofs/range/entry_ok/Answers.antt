@@ -1,4 +1,3 @@
-use Rattle.std.proofs.Common.{rules}
 use Rattle.elf_object.specs.Proof.Ways.{entry_past, entry-judged}
 use Rattle.elf_object.proofs.range.entry_ok.Goals as goal
 

@@ -1,4 +1,3 @@
-use Rattle.std.proofs.Common.{rules}
 use Rattle.elf_object.specs.Proof.Ways.{header-past, header-kind, header-flags, header-contents}
 use Rattle.elf_object.proofs.range.header_ok.Goals as goal
 

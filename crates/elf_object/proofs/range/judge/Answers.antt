@@ -1,4 +1,3 @@
-use Rattle.std.proofs.Common.{rules}
 use Rattle.elf_object.specs.Proof.Ways.{judge-header, judge-entry, judge-fine}
 use Rattle.elf_object.proofs.range.judge.Goals as goal
 

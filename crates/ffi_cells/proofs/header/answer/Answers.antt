@@ -1,4 +1,3 @@
-use Rattle.std.proofs.Common.{rules}
 use Rattle.ffi_cells.specs.Proof.HeaderWays.{answer-told}
 use Rattle.ffi_cells.proofs.header.answer.Goals as goal
 

@@ -1,4 +1,3 @@
-use Rattle.std.proofs.Common.{rules}
 use Rattle.ffi_cells.specs.Header.{flag_of}
 use Rattle.ffi_cells.proofs.header.flag.Goals as goal
 

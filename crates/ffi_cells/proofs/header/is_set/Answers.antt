@@ -1,4 +1,3 @@
-use Rattle.std.proofs.Common.{rules}
 use Rattle.ffi_cells.specs.Proof.HeaderWays.{set-not, set_so}
 use Rattle.ffi_cells.proofs.header.is_set.Goals as goal
 

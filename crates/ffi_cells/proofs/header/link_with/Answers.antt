@@ -1,4 +1,3 @@
-use Rattle.std.proofs.Common.{rules}
 use Rattle.ffi_cells.specs.Proof.HeaderWays.{link-with}
 use Rattle.ffi_cells.proofs.header.link_with.Goals as goal
 

@@ -1,4 +1,3 @@
-use Rattle.std.proofs.Common.{rules}
 use Rattle.ffi_cells.specs.Proof.HeaderWays.{counts-put}
 use Rattle.ffi_cells.proofs.header.put_counts.Goals as goal
 

@@ -1,4 +1,3 @@
-use Rattle.std.proofs.Common.{rules}
 use Rattle.ffi_cells.specs.Proof.HeaderWays.{profile-put}
 use Rattle.ffi_cells.proofs.header.put_profile.Goals as goal
 

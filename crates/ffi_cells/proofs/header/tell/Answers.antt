@@ -1,4 +1,3 @@
-use Rattle.std.proofs.Common.{rules}
 use Rattle.ffi_cells.specs.Proof.HeaderWays.{tell-told}
 use Rattle.ffi_cells.proofs.header.tell.Goals as goal
 

@@ -1,5 +1,3 @@
-use mathlib.Core.Path.{refl}
-use Rattle.std.proofs.Common.{rules}
 use Rattle.ffi_merge.specs.Proof.FileWays.{file-short, file-told}
 use Rattle.ffi_merge.proofs.file.merge_file.Goals as goal
 
@@ -7,8 +5,4 @@ pub returns-then-header-lt-HEADER_CELLS : goal.returns-then-header-lt-HEADER_CEL
 returns-then-header-lt-HEADER_CELLS c = search file-short
 
 pub returns : goal.returns
-returns = λ c.
-    let ended = c.before.before in
-    let called = ended.before.before.before.before.before.before.before.before.before.before.before.before.before.before.before.before.before.before.before.before.before.before in
-    let began = called.before.before.before.before.before.before.before.before.before.before in
-    file-told _ _ _ _ _ _ _ _ began.before.before.if1.false began.link-in.ensures called.merge-file.ensures ended.before.merged.ensures ended.tell.ensures refl
+returns c = search file-told

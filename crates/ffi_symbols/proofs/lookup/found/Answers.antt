@@ -1,4 +1,3 @@
-use Rattle.std.proofs.Common.{rules}
 use Rattle.ffi_symbols.specs.Proof.LookupWays.{found-row, found-refused}
 use Rattle.ffi_symbols.proofs.lookup.found.Goals as goal
 

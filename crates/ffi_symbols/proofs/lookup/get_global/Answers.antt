@@ -1,4 +1,3 @@
-use Rattle.std.proofs.Common.{rules}
 use Rattle.ffi_symbols.specs.Proof.LookupWays.{look-short, look-room, get-global-found}
 use Rattle.ffi_symbols.proofs.lookup.get_global.Goals as goal
 

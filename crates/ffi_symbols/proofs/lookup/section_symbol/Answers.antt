@@ -1,4 +1,3 @@
-use Rattle.std.proofs.Common.{rules}
 use Rattle.ffi_symbols.specs.Proof.LookupWays.{section-known}
 use Rattle.ffi_symbols.proofs.lookup.section_symbol.Goals as goal
 

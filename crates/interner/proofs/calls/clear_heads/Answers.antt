@@ -1,4 +1,3 @@
-use Rattle.std.proofs.Common.{rules}
 use Rattle.interner.specs.Proof.CallWays.{heads-cleared}
 use Rattle.interner.proofs.calls.clear_heads.Goals as goal
 

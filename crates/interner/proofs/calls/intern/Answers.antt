@@ -1,4 +1,3 @@
-use Rattle.std.proofs.Common.{rules}
 use Rattle.interner.specs.Proof.CallWays.{intern-refused, intern-judged}
 use Rattle.interner.proofs.calls.intern.Goals as goal
 

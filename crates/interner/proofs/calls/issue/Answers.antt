@@ -1,4 +1,3 @@
-use Rattle.std.proofs.Common.{rules}
 use Rattle.interner.specs.Proof.CallWays.{issue-known, issue-new, issue-full}
 use Rattle.interner.proofs.calls.issue.Goals as goal
 

@@ -1,4 +1,3 @@
-use Rattle.std.proofs.Common.{rules}
 use Rattle.interner.specs.Proof.CallWays.{new_none, new-made}
 use Rattle.interner.proofs.calls.new.Goals as goal
 

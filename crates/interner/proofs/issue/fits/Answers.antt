@@ -1,4 +1,3 @@
-use Rattle.std.proofs.Common.{rules}
 use Rattle.interner.specs.Proof.Ways.{fits-known, fits-new}
 use Rattle.interner.proofs.issue.fits.Goals as goal
 

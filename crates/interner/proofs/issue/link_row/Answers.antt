@@ -1,4 +1,3 @@
-use Rattle.std.proofs.Common.{rules}
 use Rattle.interner.specs.Proof.Ways.{row-linked}
 use Rattle.interner.proofs.issue.link_row.Goals as goal
 

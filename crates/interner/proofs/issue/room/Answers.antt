@@ -1,4 +1,3 @@
-use Rattle.std.proofs.Common.{rules}
 use Rattle.interner.specs.Proof.Ways.{room-lent, room_row, room-over, room-short, room-yes}
 use Rattle.interner.proofs.issue.room.Goals as goal
 

@@ -1,4 +1,3 @@
-use Rattle.std.proofs.Common.{rules}
 use Rattle.link.specs.Proof.Ways.{over-sections, over-symbols, over-names, over-rest}
 use Rattle.link.proofs.checks.judge.Goals as goal
 

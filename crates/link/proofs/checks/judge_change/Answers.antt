@@ -1,4 +1,3 @@
-use Rattle.std.proofs.Common.{rules}
 use Rattle.link.specs.Proof.Ways.{change-broken, change-judged}
 use Rattle.link.proofs.checks.judge_change.Goals as goal
 

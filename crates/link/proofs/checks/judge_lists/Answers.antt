@@ -1,4 +1,3 @@
-use Rattle.std.proofs.Common.{rules}
 use Rattle.link.specs.Proof.Ways.{inputs-over, lists-over, lists-fine}
 use Rattle.link.proofs.checks.judge_lists.Goals as goal
 

@@ -1,4 +1,3 @@
-use Rattle.std.proofs.Common.{rules}
 use Rattle.link.specs.Proof.Ways.{names-short, names-over, bytes-over, names-fine}
 use Rattle.link.proofs.checks.judge_names.Goals as goal
 

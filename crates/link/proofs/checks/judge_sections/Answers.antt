@@ -1,4 +1,3 @@
-use Rattle.std.proofs.Common.{rules}
 use Rattle.link.specs.Proof.Ways.{sections-short, sections-over, sections-fine}
 use Rattle.link.proofs.checks.judge_sections.Goals as goal
 

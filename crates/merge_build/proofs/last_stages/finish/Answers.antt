@@ -1,4 +1,3 @@
-use Rattle.std.proofs.Common.{rules}
 use Rattle.merge_build.specs.Proof.Ways.{built-done}
 use Rattle.merge_build.proofs.last_stages.finish.Goals as goal
 

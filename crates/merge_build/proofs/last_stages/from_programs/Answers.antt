@@ -1,4 +1,3 @@
-use Rattle.std.proofs.Common.{rules}
 use mathlib.Core.Path.{refl}
 use Rattle.merge_build.specs.Proof.Ways.{program-refused, program-stopped, program-done}
 use Rattle.merge_build.proofs.last_stages.from_programs.Goals as goal

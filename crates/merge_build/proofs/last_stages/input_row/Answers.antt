@@ -1,4 +1,3 @@
-use Rattle.std.proofs.Common.{rules}
 use Rattle.merge_build.specs.Proof.Ways.{input-full, input-taken}
 use Rattle.merge_build.proofs.last_stages.input_row.Goals as goal
 

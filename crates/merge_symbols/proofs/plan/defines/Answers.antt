@@ -1,4 +1,3 @@
-use Rattle.std.proofs.Common.{rules}
 use Rattle.merge_symbols.specs.Proof.PlanWays.{defines-none, defines-reserved, defines-yes, defines-no}
 use Rattle.merge_symbols.proofs.plan.defines.Goals as goal
 

@@ -1,4 +1,3 @@
-use Rattle.std.proofs.Common.{rules}
 use Rattle.merge_symbols.specs.Proof.PlanWays.{file-new, file-same}
 use Rattle.merge_symbols.proofs.plan.file_after.Goals as goal
 

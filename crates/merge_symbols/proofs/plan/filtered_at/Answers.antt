@@ -1,4 +1,3 @@
-use Rattle.std.proofs.Common.{rules}
 use Rattle.merge_symbols.specs.Proof.PlanWays.{filtered-done}
 use Rattle.merge_symbols.proofs.plan.filtered_at.Goals as goal
 

@@ -1,4 +1,3 @@
-use Rattle.std.proofs.Common.{rules}
 use Rattle.merge_symbols.specs.Proof.PlanWays.{first-later, first-defined, first-typed, first-empty}
 use Rattle.merge_symbols.proofs.plan.is_first.Goals as goal
 

@@ -1,4 +1,3 @@
-use Rattle.std.proofs.Common.{rules}
 use Rattle.merge_symbols.specs.Proof.PlanWays.{judged-full, judged-fits}
 use Rattle.merge_symbols.proofs.plan.judged.Goals as goal
 

@@ -1,4 +1,3 @@
-use Rattle.std.proofs.Common.{rules}
 use Rattle.merge_symbols.specs.Proof.PlanWays.{place-name, place-symbol}
 use Rattle.merge_symbols.proofs.plan.place_of.Goals as goal
 

@@ -1,4 +1,3 @@
-use Rattle.std.proofs.Common.{rules}
 use Rattle.merge_symbols.specs.Proof.PlanWays.{planned-done}
 use Rattle.merge_symbols.proofs.plan.plan_symbol.Goals as goal
 

@@ -1,4 +1,3 @@
-use Rattle.std.proofs.Common.{rules}
 use Rattle.merge_symbols.specs.Proof.PlanWays.{rule-first, rule-file, rule-group, rule-add}
 use Rattle.merge_symbols.proofs.plan.rule.Goals as goal
 

@@ -1,4 +1,3 @@
-use Rattle.std.proofs.Common.{rules}
 use Rattle.section_groups.specs.Proof.AloneWays.{add-refused, add-judged}
 use Rattle.section_groups.proofs.alone.add_group.Goals as goal
 

@@ -1,4 +1,3 @@
-use Rattle.std.proofs.Common.{rules}
 use Rattle.section_groups.specs.Proof.AloneWays.{answer-added, answer-refused}
 use Rattle.section_groups.proofs.alone.answered.Goals as goal
 

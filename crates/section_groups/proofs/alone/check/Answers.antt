@@ -1,4 +1,3 @@
-use Rattle.std.proofs.Common.{rules}
 use Rattle.section_groups.specs.Proof.AloneWays.{head-counts, head_rows, head-no-group, head-marks, head-fine}
 use Rattle.section_groups.proofs.alone.check.Goals as goal
 

@@ -1,4 +1,3 @@
-use Rattle.std.proofs.Common.{rules}
 use Rattle.section_groups.specs.Proof.AloneWays.{table-loaded, table_none}
 use Rattle.section_groups.proofs.alone.symbols_of.Goals as goal
 

@@ -1,8 +1,6 @@
-use Rattle.std.proofs.Common.{rules}
 use Prim.Native.Nat.{◌-◌}
 use mathlib.Core.Path.{◌≡◌}
 use Rattle.elf_object.specs.Judge.{first_bad}
-use Rattle.elf_object.specs.Proof.Ways.{first-start, first_on, first-stop, first-end}
 use Rattle.section_groups.specs.Filter.{symbol_ok, filter_of}
 use Rattle.section_groups.proofs.filter.filter_symbol_table.Given as goal
 

@@ -1,4 +1,3 @@
-use Rattle.std.proofs.Common.{rules}
 use Rattle.section_groups.specs.Proof.Ways.{after-reserved, after-removed, after_kept}
 use Rattle.section_groups.proofs.filter.section_after.Goals as goal
 

@@ -1,4 +1,3 @@
-use Rattle.std.proofs.Common.{rules}
 use Rattle.section_groups.specs.Proof.Ways.{symbol-shown, symbol-kept, symbol-removed}
 use Rattle.section_groups.proofs.filter.symbol_ok.Goals as goal
 

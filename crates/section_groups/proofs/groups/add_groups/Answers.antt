@@ -1,8 +1,6 @@
 use Rattle.std.proofs.Common.{rules}
-use Prim.Native.Nat.{◌-◌, ◌<◌}
-use mathlib.Core.Path.{◌≡◌, refl}
-use lib.ListN.{length}
-use Rattle.section_groups.specs.Group.{object_of, step_of, groups_from, groups_of}
+use mathlib.Core.Path.{refl}
+use Rattle.section_groups.specs.Group.{groups_of}
 use Rattle.section_groups.specs.Proof.Ways.{groups-start, groups-end, groups-stop, groups-on}
 use Rattle.section_groups.proofs.groups.add_groups.Goals as goal
 

@@ -1,9 +1,7 @@
-use Rattle.std.proofs.Common.{rules}
 use Prim.Native.Nat.{◌-◌, ◌<◌}
-use mathlib.Core.Path.{◌≡◌, refl}
+use mathlib.Core.Path.{◌≡◌}
 use lib.ListN.{length}
 use Rattle.section_groups.specs.Group.{object_of, step_of, groups_from, groups_of}
-use Rattle.section_groups.specs.Proof.Ways.{groups-start, groups-end, groups-stop, groups-on}
 use Rattle.section_groups.proofs.groups.add_groups.Given as goal
 
 abbrev pub invariant-loop-n : goal.invariant-loop-n

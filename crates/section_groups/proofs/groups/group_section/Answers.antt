@@ -1,4 +1,3 @@
-use Rattle.std.proofs.Common.{rules}
 use Rattle.section_groups.specs.Proof.Ways.{section-group, section-other}
 use Rattle.section_groups.proofs.groups.group_section.Goals as goal
 

@@ -1,9 +1,4 @@
-use Rattle.std.proofs.Common.{rules}
-use Prim.Native.Nat.{◌-◌}
-use mathlib.Core.Path.{◌≡◌}
-use Rattle.elf_object.specs.Judge.{first_bad}
 use Rattle.elf_object.specs.Proof.Ways.{first_on, first-stop, first-end}
-use Rattle.shared_objects.specs.Head.{dependencies_ok, bad_need}
 use Rattle.shared_objects.specs.Proof.Ways.{bad-start}
 use Rattle.shared_objects.proofs.checks.bad_need.Goals as goal
 

@@ -1,4 +1,3 @@
-use Rattle.std.proofs.Common.{rules}
 use Rattle.shared_objects.specs.Proof.Ways.{head-counts, head_rows, head-unnamed, head-marks, head-fine}
 use Rattle.shared_objects.proofs.checks.check.Goals as goal
 

@@ -1,4 +1,3 @@
-use Rattle.std.proofs.Common.{rules}
 use Rattle.shared_objects.specs.Proof.Ways.{has-looked}
 use Rattle.shared_objects.proofs.checks.has_name.Goals as goal
 

@@ -1,4 +1,3 @@
-use Rattle.std.proofs.Common.{rules}
 use Rattle.shared_objects.specs.Proof.Ways.{unnamed-soname, unnamed-archived}
 use Rattle.shared_objects.proofs.checks.is_unnamed.Goals as goal
 

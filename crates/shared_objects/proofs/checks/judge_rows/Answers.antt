@@ -1,4 +1,3 @@
-use Rattle.std.proofs.Common.{rules}
 use Rattle.shared_objects.specs.Proof.Ways.{rows-entry, rows-soname, rows-need, rows-fine}
 use Rattle.shared_objects.proofs.checks.judge_rows.Goals as goal
 

@@ -1,4 +1,3 @@
-use Rattle.std.proofs.Common.{rules}
 use Rattle.shared_objects.specs.Proof.Ways.{marks-unasked, marks-few, marks-enough}
 use Rattle.shared_objects.proofs.checks.marks_short.Goals as goal
 

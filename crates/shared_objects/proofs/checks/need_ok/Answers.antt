@@ -1,4 +1,3 @@
-use Rattle.std.proofs.Common.{rules}
 use Rattle.shared_objects.specs.Proof.Ways.{need-done}
 use Rattle.shared_objects.proofs.checks.need_ok.Goals as goal
 

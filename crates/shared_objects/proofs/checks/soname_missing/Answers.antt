@@ -1,4 +1,3 @@
-use Rattle.std.proofs.Common.{rules}
 use Rattle.shared_objects.specs.Proof.Ways.{soname-none, soname-found, soname-lost}
 use Rattle.shared_objects.proofs.checks.soname_missing.Goals as goal
 

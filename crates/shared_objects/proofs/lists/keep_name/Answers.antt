@@ -1,4 +1,3 @@
-use Rattle.std.proofs.Common.{rules}
 use Rattle.shared_objects.specs.Proof.ListsWays.{kept-done}
 use Rattle.shared_objects.proofs.lists.keep_name.Goals as goal
 

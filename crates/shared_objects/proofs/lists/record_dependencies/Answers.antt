@@ -1,9 +1,5 @@
 use Rattle.std.proofs.Common.{rules}
-use Prim.Native.Nat.{◌-◌, ◌<◌}
-use mathlib.Core.Path.{◌≡◌}
-use lib.ListN.{length}
-use Rattle.shared_objects.specs.Record.{recorded_of}
-use Rattle.shared_objects.specs.Proof.ListsWays.{Listed, listed_start, listed-on, listed-stop, listed-end}
+use Rattle.shared_objects.specs.Proof.ListsWays.{listed_start, listed-on, listed-stop, listed-end}
 use Rattle.shared_objects.proofs.lists.record_dependencies.Goals as goal
 
 pub loop-j-init : goal.loop-j-init

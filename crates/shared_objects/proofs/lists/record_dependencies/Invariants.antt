@@ -1,9 +1,8 @@
-use Rattle.std.proofs.Common.{rules}
 use Prim.Native.Nat.{◌-◌, ◌<◌}
 use mathlib.Core.Path.{◌≡◌}
 use lib.ListN.{length}
 use Rattle.shared_objects.specs.Record.{recorded_of}
-use Rattle.shared_objects.specs.Proof.ListsWays.{Listed, listed_start, listed-on, listed-stop, listed-end}
+use Rattle.shared_objects.specs.Proof.ListsWays.{Listed}
 use Rattle.shared_objects.proofs.lists.record_dependencies.Given as goal
 
 abbrev pub invariant-loop-j : goal.invariant-loop-j

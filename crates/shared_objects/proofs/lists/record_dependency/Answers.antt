@@ -1,4 +1,3 @@
-use Rattle.std.proofs.Common.{rules}
 use Rattle.shared_objects.specs.Proof.ListsWays.{dependency-done}
 use Rattle.shared_objects.proofs.lists.record_dependency.Goals as goal
 

@@ -1,4 +1,3 @@
-use Rattle.std.proofs.Common.{rules}
 use Rattle.shared_objects.specs.Proof.ListsWays.{fits-nameless, fits-full, fits_both}
 use Rattle.shared_objects.proofs.lists.record_fits.Goals as goal
 

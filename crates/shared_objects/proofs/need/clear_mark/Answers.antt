@@ -1,4 +1,3 @@
-use Rattle.std.proofs.Common.{rules}
 use Rattle.shared_objects.specs.Proof.NeedWays.{clear-unprovided, clear-nameless, clear-named}
 use Rattle.shared_objects.proofs.need.clear_mark.Goals as goal
 

@@ -1,8 +1,5 @@
 use Rattle.std.proofs.Common.{rules}
-use Prim.Native.Nat.{◌-◌, ◌<◌}
-use mathlib.Core.Path.{◌≡◌}
-use lib.ListN.{length}
-use Rattle.shared_objects.specs.Proof.NeedWays.{Cleared, cleared-start, cleared-on, cleared-end}
+use Rattle.shared_objects.specs.Proof.NeedWays.{cleared-start, cleared-on, cleared-end}
 use Rattle.shared_objects.proofs.need.clear_marks.Goals as goal
 
 pub loop-i-init : goal.loop-i-init

@@ -1,8 +1,7 @@
-use Rattle.std.proofs.Common.{rules}
 use Prim.Native.Nat.{◌-◌, ◌<◌}
 use mathlib.Core.Path.{◌≡◌}
 use lib.ListN.{length}
-use Rattle.shared_objects.specs.Proof.NeedWays.{Cleared, cleared-start, cleared-on, cleared-end}
+use Rattle.shared_objects.specs.Proof.NeedWays.{Cleared}
 use Rattle.shared_objects.proofs.need.clear_marks.Given as goal
 
 abbrev pub invariant-loop-i : goal.invariant-loop-i

@@ -1,4 +1,3 @@
-use Rattle.std.proofs.Common.{rules}
 use Rattle.shared_objects.specs.Proof.NeedWays.{depends-unissued, depends-listed}
 use Rattle.shared_objects.proofs.need.depends.Goals as goal
 

@@ -1,8 +1,3 @@
-use Rattle.std.proofs.Common.{rules}
-use Prim.Native.Nat.{◌-◌}
-use mathlib.Core.Path.{◌≡◌}
-use lib.ListN.{length, drop}
-use Rattle.shared_objects.specs.Lists.{has_id}
 use Rattle.shared_objects.specs.Proof.NeedWays.{has_end, has-stop, has_on}
 use Rattle.shared_objects.proofs.need.has_id.Goals as goal
 

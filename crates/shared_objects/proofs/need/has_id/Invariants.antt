@@ -1,9 +1,7 @@
-use Rattle.std.proofs.Common.{rules}
 use Prim.Native.Nat.{◌-◌}
 use mathlib.Core.Path.{◌≡◌}
 use lib.ListN.{length, drop}
 use Rattle.shared_objects.specs.Lists.{has_id}
-use Rattle.shared_objects.specs.Proof.NeedWays.{has_end, has-stop, has_on}
 use Rattle.shared_objects.proofs.need.has_id.Given as goal
 
 abbrev pub invariant-loop-j : goal.invariant-loop-j

@@ -1,4 +1,3 @@
-use Rattle.std.proofs.Common.{rules}
 use Rattle.shared_objects.specs.Proof.NeedWays.{need-judged}
 use Rattle.shared_objects.proofs.need.is_needed.Goals as goal
 

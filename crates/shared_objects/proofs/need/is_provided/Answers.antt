@@ -1,4 +1,3 @@
-use Rattle.std.proofs.Common.{rules}
 use Rattle.shared_objects.specs.Proof.NeedWays.{provides-undefined, provides-global, provides-weak, provides-other}
 use Rattle.shared_objects.proofs.need.is_provided.Goals as goal
 

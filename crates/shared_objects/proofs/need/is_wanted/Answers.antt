@@ -1,4 +1,3 @@
-use Rattle.std.proofs.Common.{rules}
 use Rattle.shared_objects.specs.Proof.NeedWays.{wanted-unissued, wanted-marked, wanted-lacked}
 use Rattle.shared_objects.proofs.need.is_wanted.Goals as goal
 

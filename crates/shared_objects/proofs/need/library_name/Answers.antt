@@ -1,4 +1,3 @@
-use Rattle.std.proofs.Common.{rules}
 use Rattle.shared_objects.specs.Proof.NeedWays.{name-soname, name-path}
 use Rattle.shared_objects.proofs.need.library_name.Goals as goal
 

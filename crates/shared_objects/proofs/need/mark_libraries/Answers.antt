@@ -1,8 +1,6 @@
 use Rattle.std.proofs.Common.{rules}
-use Prim.Native.Nat.{◌-◌}
-use mathlib.Core.Path.{◌≡◌, refl}
-use lib.ListN.{length}
-use Rattle.shared_objects.specs.Proof.NeedWays.{Marked, marked_start, marked-on, marked-end}
+use mathlib.Core.Path.{refl}
+use Rattle.shared_objects.specs.Proof.NeedWays.{marked_start, marked-on, marked-end}
 use Rattle.shared_objects.proofs.need.mark_libraries.Goals as goal
 
 pub loop-k-init : goal.loop-k-init

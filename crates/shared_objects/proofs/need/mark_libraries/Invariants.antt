@@ -1,8 +1,7 @@
-use Rattle.std.proofs.Common.{rules}
 use Prim.Native.Nat.{◌-◌}
-use mathlib.Core.Path.{◌≡◌, refl}
+use mathlib.Core.Path.{◌≡◌}
 use lib.ListN.{length}
-use Rattle.shared_objects.specs.Proof.NeedWays.{Marked, marked_start, marked-on, marked-end}
+use Rattle.shared_objects.specs.Proof.NeedWays.{Marked}
 use Rattle.shared_objects.proofs.need.mark_libraries.Given as goal
 
 abbrev pub invariant-loop-k : goal.invariant-loop-k

@@ -1,4 +1,3 @@
-use Rattle.std.proofs.Common.{rules}
 use Rattle.shared_objects.specs.Proof.NeedWays.{library-other, library-depends, library-marks}
 use Rattle.shared_objects.proofs.need.mark_library.Goals as goal
 

@@ -1,8 +1,6 @@
 use Rattle.std.proofs.Common.{rules}
-use Prim.Native.Nat.{◌-◌}
-use mathlib.Core.Path.{◌≡◌, refl}
-use lib.ListN.{length}
-use Rattle.shared_objects.specs.Proof.NeedWays.{Named, named_none, named_more, named-all}
+use mathlib.Core.Path.{refl}
+use Rattle.shared_objects.specs.Proof.NeedWays.{named_none, named_more, named-all}
 use Rattle.shared_objects.proofs.need.mark_names.Goals as goal
 
 pub loop-j-init : goal.loop-j-init

@@ -1,8 +1,7 @@
-use Rattle.std.proofs.Common.{rules}
 use Prim.Native.Nat.{◌-◌}
-use mathlib.Core.Path.{◌≡◌, refl}
+use mathlib.Core.Path.{◌≡◌}
 use lib.ListN.{length}
-use Rattle.shared_objects.specs.Proof.NeedWays.{Named, named_none, named_more, named-all}
+use Rattle.shared_objects.specs.Proof.NeedWays.{Named}
 use Rattle.shared_objects.proofs.need.mark_names.Given as goal
 
 abbrev pub invariant-loop-j : goal.invariant-loop-j

@@ -1,9 +1,4 @@
-use Rattle.std.proofs.Common.{rules}
-use Prim.Native.Nat.{◌-◌}
-use mathlib.Core.Path.{◌≡◌}
-use Rattle.cells.specs.Search.{any_from}
 use Rattle.cells.specs.Proof.Search.{any-on, any-stop, any-end}
-use Rattle.shared_objects.specs.Need.{view_of, symbol_wanted, some_wanted}
 use Rattle.shared_objects.specs.Proof.NeedWays.{some-start}
 use Rattle.shared_objects.proofs.need.some_wanted.Goals as goal
 

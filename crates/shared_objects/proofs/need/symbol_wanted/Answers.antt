@@ -1,4 +1,3 @@
-use Rattle.std.proofs.Common.{rules}
 use Rattle.shared_objects.specs.Proof.NeedWays.{symbol-named, symbol-nameless, symbol-unprovided}
 use Rattle.shared_objects.proofs.need.symbol_wanted.Goals as goal
 

@@ -1,4 +1,3 @@
-use Rattle.std.proofs.Common.{rules}
 use Rattle.shared_objects.specs.Proof.DefineWays.{accept-done}
 use Rattle.shared_objects.proofs.symbols.accept.Goals as goal
 

@@ -1,4 +1,3 @@
-use Rattle.std.proofs.Common.{rules}
 use Rattle.shared_objects.specs.Proof.DefineWays.{commit-full, commit-refused, commit-done}
 use Rattle.shared_objects.proofs.symbols.commit.Goals as goal
 

@@ -1,4 +1,3 @@
-use Rattle.std.proofs.Common.{rules}
 use Rattle.shared_objects.specs.Proof.DefineWays.{define-done}
 use Rattle.shared_objects.proofs.symbols.define.Goals as goal
 

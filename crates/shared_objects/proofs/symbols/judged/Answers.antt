@@ -1,4 +1,3 @@
-use Rattle.std.proofs.Common.{rules}
 use Rattle.shared_objects.specs.Proof.DefineWays.{judged-full, judged-fits}
 use Rattle.shared_objects.proofs.symbols.judged.Goals as goal
 

@@ -1,4 +1,3 @@
-use Rattle.std.proofs.Common.{rules}
 use Rattle.shared_objects.specs.Proof.SymbolsLoadWays.{named-defined, named-recorded, named-passed}
 use Rattle.shared_objects.proofs.symbols.load_named.Goals as goal
 

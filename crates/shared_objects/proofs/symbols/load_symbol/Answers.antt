@@ -1,4 +1,3 @@
-use Rattle.std.proofs.Common.{rules}
 use Rattle.shared_objects.specs.Proof.SymbolsLoadWays.{symbol-named, symbol-nameless}
 use Rattle.shared_objects.proofs.symbols.load_symbol.Goals as goal
 

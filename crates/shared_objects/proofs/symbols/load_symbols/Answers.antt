@@ -1,9 +1,5 @@
 use Rattle.std.proofs.Common.{rules}
-use Prim.Native.Nat.{◌-◌, ◌<◌}
-use mathlib.Core.Path.{◌≡◌}
-use lib.ListN.{length}
-use Rattle.shared_objects.specs.SymbolsLoad.{state_of}
-use Rattle.shared_objects.specs.Proof.SymbolsLoadWays.{Reached, reached-start, reached-on, reached-stop, reached-end}
+use Rattle.shared_objects.specs.Proof.SymbolsLoadWays.{reached-start, reached-on, reached-stop, reached-end}
 use Rattle.shared_objects.proofs.symbols.load_symbols.Goals as goal
 
 pub loop-i-init : goal.loop-i-init

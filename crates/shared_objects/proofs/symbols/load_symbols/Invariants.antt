@@ -1,9 +1,8 @@
-use Rattle.std.proofs.Common.{rules}
 use Prim.Native.Nat.{◌-◌, ◌<◌}
 use mathlib.Core.Path.{◌≡◌}
 use lib.ListN.{length}
 use Rattle.shared_objects.specs.SymbolsLoad.{state_of}
-use Rattle.shared_objects.specs.Proof.SymbolsLoadWays.{Reached, reached-start, reached-on, reached-stop, reached-end}
+use Rattle.shared_objects.specs.Proof.SymbolsLoadWays.{Reached}
 use Rattle.shared_objects.proofs.symbols.load_symbols.Given as goal
 
 abbrev pub invariant-loop-i : goal.invariant-loop-i

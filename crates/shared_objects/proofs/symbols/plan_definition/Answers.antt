@@ -1,4 +1,3 @@
-use Rattle.std.proofs.Common.{rules}
 use Rattle.shared_objects.specs.Proof.DefineWays.{planned-done}
 use Rattle.shared_objects.proofs.symbols.plan_definition.Goals as goal
 

@@ -1,4 +1,3 @@
-use Rattle.std.proofs.Common.{rules}
 use Rattle.symbol.specs.Proof.Ways.{file-none, file-named}
 use Rattle.symbol.proofs.read.file_at.Goals as goal
 

@@ -1,4 +1,3 @@
-use Rattle.std.proofs.Common.{rules}
 use Rattle.symbol.specs.Proof.Ways.{symbol-read}
 use Rattle.symbol.proofs.read.symbol_at.Goals as goal
 

@@ -1,4 +1,3 @@
-use Rattle.std.proofs.Common.{rules}
 use Rattle.symbol_resolution.specs.Proof.DecideWays.{holder-new, holder-none, holder-later, holder-removed, holder_known}
 use Rattle.symbol_resolution.proofs.rows.holder_of.Goals as goal
 

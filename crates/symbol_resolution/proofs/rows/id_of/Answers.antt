@@ -1,4 +1,3 @@
-use Rattle.std.proofs.Common.{rules}
 use Rattle.symbol_resolution.specs.Proof.DecideWays.{id-decided}
 use Rattle.symbol_resolution.proofs.rows.id_of.Goals as goal
 

@@ -1,4 +1,3 @@
-use Rattle.std.proofs.Common.{rules}
 use Rattle.symbol_resolution.specs.Proof.Undefined.{strong-defined, strong-global, strong-hidden, strong-weak}
 use Rattle.symbol_resolution.proofs.rows.is_strong_undefined.Goals as goal
 

@@ -1,4 +1,3 @@
-use Rattle.std.proofs.Common.{rules}
 use Rattle.symbol_resolution.specs.Proof.ApplyWays.{section-set}
 use Rattle.symbol_resolution.proofs.rows.put_section_symbol.Goals as goal
 

@@ -1,4 +1,3 @@
-use Rattle.std.proofs.Common.{rules}
 use Rattle.symbol_resolution.specs.Proof.ApplyWays.{amend-done}
 use Rattle.symbol_resolution.proofs.write.amend.Goals as goal
 

@@ -1,4 +1,3 @@
-use Rattle.std.proofs.Common.{rules}
 use Rattle.symbol_resolution.specs.Proof.ApplyWays.{apply-decided, apply-replace, apply-amend}
 use Rattle.symbol_resolution.proofs.write.apply.Goals as goal
 

@@ -1,4 +1,3 @@
-use Rattle.std.proofs.Common.{rules}
 use Rattle.symbol_resolution.specs.Proof.ApplyWays.{name-global, name-local}
 use Rattle.symbol_resolution.proofs.write.note_name.Goals as goal
 

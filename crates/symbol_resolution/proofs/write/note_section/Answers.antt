@@ -1,4 +1,3 @@
-use Rattle.std.proofs.Common.{rules}
 use Rattle.symbol_resolution.specs.Proof.ApplyWays.{section-noted, section-other, section-global}
 use Rattle.symbol_resolution.proofs.write.note_section.Goals as goal
 

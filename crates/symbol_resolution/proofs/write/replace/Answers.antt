@@ -1,4 +1,3 @@
-use Rattle.std.proofs.Common.{rules}
 use Rattle.symbol_resolution.specs.Proof.ApplyWays.{replace-done}
 use Rattle.symbol_resolution.proofs.write.replace.Goals as goal
 

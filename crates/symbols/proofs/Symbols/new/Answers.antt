@@ -1,4 +1,3 @@
-use Rattle.std.proofs.Common.{rules}
 use Rattle.symbols.specs.Proof.Ways.{new-no-row, new-named}
 use Rattle.symbols.proofs.Symbols.new.Goals as goal
 

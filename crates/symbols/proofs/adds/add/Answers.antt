@@ -1,4 +1,3 @@
-use Rattle.std.proofs.Common.{rules}
 use Rattle.symbols.specs.Proof.Ways.{add-refused, add-judged}
 use Rattle.symbols.proofs.adds.add.Goals as goal
 

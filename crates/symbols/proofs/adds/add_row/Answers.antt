@@ -1,4 +1,3 @@
-use Rattle.std.proofs.Common.{rules}
 use Rattle.symbols.specs.Proof.Ways.{row-added}
 use Rattle.symbols.proofs.adds.add_row.Goals as goal
 

@@ -1,4 +1,3 @@
-use Rattle.std.proofs.Common.{rules}
 use Rattle.symbols.specs.Proof.Ways.{commit-name, commit-refused, commit-done}
 use Rattle.symbols.proofs.adds.commit.Goals as goal
 

@@ -1,4 +1,3 @@
-use Rattle.std.proofs.Common.{rules}
 use Rattle.symbols.specs.Proof.Ways.{decided}
 use Rattle.symbols.proofs.adds.decide.Goals as goal
 

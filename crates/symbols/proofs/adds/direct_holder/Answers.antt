@@ -1,4 +1,3 @@
-use Rattle.std.proofs.Common.{rules}
 use Rattle.symbols.specs.Proof.Ways.{holder-issued, holder-unissued}
 use Rattle.symbols.proofs.adds.direct_holder.Goals as goal
 

@@ -1,4 +1,3 @@
-use Rattle.std.proofs.Common.{rules}
 use Rattle.symbols.specs.Proof.Ways.{file-not, file-issued}
 use Rattle.symbols.proofs.adds.file_issued.Goals as goal
 

@@ -1,4 +1,3 @@
-use Rattle.std.proofs.Common.{rules}
 use Rattle.symbols.specs.Proof.Ways.{file-known}
 use Rattle.symbols.proofs.adds.file_of.Goals as goal
 

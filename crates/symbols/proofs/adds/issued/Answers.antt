@@ -1,4 +1,3 @@
-use Rattle.std.proofs.Common.{rules}
 use Rattle.symbols.specs.Proof.Ways.{issued-not, issued-file}
 use Rattle.symbols.proofs.adds.issued.Goals as goal
 

@@ -1,4 +1,3 @@
-use Rattle.std.proofs.Common.{rules}
 use Rattle.symbols.specs.Proof.Ways.{judge-head, judge-fine, judge-range}
 use Rattle.symbols.proofs.adds.judge_add.Goals as goal
 

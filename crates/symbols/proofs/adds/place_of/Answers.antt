@@ -1,4 +1,3 @@
-use Rattle.std.proofs.Common.{rules}
 use Rattle.symbols.specs.Proof.Ways.{place-name, place-file}
 use Rattle.symbols.proofs.adds.place_of.Goals as goal
 

@@ -1,4 +1,3 @@
-use Rattle.std.proofs.Common.{rules}
 use Rattle.symbols.specs.Proof.Ways.{unissued-file, unissued-name}
 use Rattle.symbols.proofs.adds.unissued_file.Goals as goal
 

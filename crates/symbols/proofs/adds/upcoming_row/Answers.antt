@@ -1,4 +1,3 @@
-use Rattle.std.proofs.Common.{rules}
 use Rattle.symbols.specs.Proof.Ways.{row_made}
 use Rattle.symbols.proofs.adds.upcoming_row.Goals as goal
 

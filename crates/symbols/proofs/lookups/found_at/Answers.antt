@@ -1,4 +1,3 @@
-use Rattle.std.proofs.Common.{rules}
 use Rattle.symbols.specs.Proof.Ways.{found-removed, found-row}
 use Rattle.symbols.proofs.lookups.found_at.Goals as goal
 

@@ -1,4 +1,3 @@
-use Rattle.std.proofs.Common.{rules}
 use Rattle.symbols.specs.Proof.Ways.{get_refused, get_absent, get-found}
 use Rattle.symbols.proofs.lookups.get.Goals as goal
 

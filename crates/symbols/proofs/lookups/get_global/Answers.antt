@@ -1,4 +1,3 @@
-use Rattle.std.proofs.Common.{rules}
 use Rattle.symbols.specs.Proof.Ways.{global-refused, global-held}
 use Rattle.symbols.proofs.lookups.get_global.Goals as goal
 

@@ -1,4 +1,3 @@
-use Rattle.std.proofs.Common.{rules}
 use Rattle.symbols.specs.Proof.Ways.{held-refused, held-row}
 use Rattle.symbols.proofs.lookups.held_at.Goals as goal
 

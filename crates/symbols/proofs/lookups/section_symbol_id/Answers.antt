@@ -1,4 +1,3 @@
-use Rattle.std.proofs.Common.{rules}
 use Rattle.symbols.specs.Proof.Ways.{section-none, section-past, section-symbol}
 use Rattle.symbols.proofs.lookups.section_symbol_id.Goals as goal
 

@@ -1,4 +1,3 @@
-use Rattle.std.proofs.Common.{rules}
 use Rattle.symbols.specs.Proof.Ways.{dropped, dropped-not}
 use Rattle.symbols.proofs.removal.drop_section.Goals as goal
 

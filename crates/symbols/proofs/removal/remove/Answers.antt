@@ -1,4 +1,3 @@
-use Rattle.std.proofs.Common.{rules}
 use Rattle.symbols.specs.Proof.Ways.{remove-refused, remove_absent, remove-done}
 use Rattle.symbols.proofs.removal.remove.Goals as goal
 

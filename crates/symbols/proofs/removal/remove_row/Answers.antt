@@ -1,4 +1,3 @@
-use Rattle.std.proofs.Common.{rules}
 use Rattle.symbols.specs.Proof.Ways.{removed-before, removed-now}
 use Rattle.symbols.proofs.removal.remove_row.Goals as goal
 

@@ -1,4 +1,3 @@
-use Rattle.std.proofs.Common.{rules}
 use Rattle.upcoming_symbol.specs.Proof.Ways.{converted-nothing, converted-not-loaded, converted-section}
 use Rattle.upcoming_symbol.proofs.row.converted.Goals as goal
 

@@ -1,4 +1,3 @@
-use Rattle.std.proofs.Common.{rules}
 use Rattle.upcoming_symbol.specs.Proof.Ways.{elf-done}
 use Rattle.upcoming_symbol.proofs.row.elf_row.Goals as goal
 

@@ -1,4 +1,3 @@
-use Rattle.std.proofs.Common.{rules}
 use Rattle.upcoming_symbol.specs.Proof.Ways.{external-done}
 use Rattle.upcoming_symbol.proofs.row.external_row.Goals as goal
 

@@ -1,4 +1,3 @@
-use Rattle.std.proofs.Common.{rules}
 use Rattle.upcoming_symbol.specs.Judge.{hidden_of}
 use Rattle.upcoming_symbol.specs.Proof.Ways.{hidden-known, hidden-other}
 use Rattle.upcoming_symbol.proofs.row.hidden.Goals as goal

@@ -1,4 +1,3 @@
-use Rattle.std.proofs.Common.{rules}
 use Rattle.upcoming_symbol.specs.Proof.Ways.{in_whole, in-offset, in-named}
 use Rattle.upcoming_symbol.proofs.row.in_section.Goals as goal
 

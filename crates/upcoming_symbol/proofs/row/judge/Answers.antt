@@ -1,4 +1,3 @@
-use Rattle.std.proofs.Common.{rules}
 use Rattle.upcoming_symbol.specs.Proof.Ways.{judge-shown, judge-hidden, judge-other}
 use Rattle.upcoming_symbol.proofs.row.judge.Goals as goal
 

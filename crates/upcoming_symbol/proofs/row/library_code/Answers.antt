@@ -1,4 +1,3 @@
-use Rattle.std.proofs.Common.{rules}
 use Rattle.upcoming_symbol.specs.Proof.Ways.{library-shown, library-same}
 use Rattle.upcoming_symbol.proofs.row.library_code.Goals as goal
 

@@ -1,4 +1,3 @@
-use Rattle.std.proofs.Common.{rules}
 use Rattle.upcoming_symbol.specs.Proof.Ways.{name-known}
 use Rattle.upcoming_symbol.proofs.row.name_of.Goals as goal
 

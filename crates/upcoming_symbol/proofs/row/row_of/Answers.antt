@@ -1,4 +1,3 @@
-use Rattle.std.proofs.Common.{rules}
 use Rattle.upcoming_symbol.specs.Proof.Ways.{row-valued, row-known, row-elf}
 use Rattle.upcoming_symbol.proofs.row.row_of.Goals as goal
 

@@ -1,4 +1,3 @@
-use Rattle.std.proofs.Common.{rules}
 use Rattle.upcoming_symbol.specs.Judge.{shown_of}
 use Rattle.upcoming_symbol.specs.Proof.Ways.{shown-known, shown-other}
 use Rattle.upcoming_symbol.proofs.row.shown.Goals as goal

@@ -1,4 +1,3 @@
-use Rattle.std.proofs.Common.{rules}
 use Rattle.upcoming_symbol.specs.Proof.Ways.{value-weak, value-undefined, value-absolute, value-common, value-section}
 use Rattle.upcoming_symbol.proofs.row.value_of.Goals as goal
 

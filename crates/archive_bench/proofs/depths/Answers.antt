@@ -1,9 +1,0 @@
-use Rattle.std.proofs.Common.{rules}
-use Rattle.std.proofs.Common.{◌-◌, rules}
-use Rattle.archive_bench.proofs.depths.Goals as goal
-
-pub loop-k-init : goal.loop-k-init
-loop-k-init c = tt
-
-pub loop-k-preserved : goal.loop-k-preserved
-loop-k-preserved c = tt

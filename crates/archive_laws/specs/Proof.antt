@@ -1,5 +1,0 @@
-pub mod Counts
-pub mod Bits
-pub mod Entries
-pub mod Required
-pub mod Asked

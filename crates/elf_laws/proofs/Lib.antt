@@ -1,0 +1,11 @@
+pub mod Names
+pub mod Terms
+pub mod Examples
+pub mod Tables
+pub mod Ranges
+pub mod Trip
+pub mod Accepted
+pub mod Written
+pub mod Back
+pub mod Writer
+pub mod Rows

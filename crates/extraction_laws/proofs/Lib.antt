@@ -1,0 +1,10 @@
+pub mod Wanted
+pub mod Taken
+pub mod Terms
+pub mod MemberWords
+pub mod Admission
+pub mod Answer
+pub mod Differences
+pub mod Chosen
+pub mod Some
+pub mod Member

@@ -1,0 +1,6 @@
+pub mod Split
+pub mod Resolution
+pub mod Archive
+pub mod Groups
+pub mod Visibility
+pub mod StringTableLaws

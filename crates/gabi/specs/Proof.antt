@@ -1,5 +1,0 @@
-pub mod Split
-pub mod Resolution
-pub mod Archive
-pub mod Groups
-pub mod Visibility

@@ -1,0 +1,13 @@
+pub mod Collected
+pub mod Again
+pub mod Terms
+pub mod Examples
+pub mod Exact
+pub mod Walk
+pub mod Own
+pub mod BySection
+pub mod Paint
+pub mod WorkCells
+pub mod Swept
+pub mod Marks
+pub mod Head

@@ -1,0 +1,9 @@
+pub mod Ids
+pub mod Terms
+pub mod Interns
+pub mod Histories
+pub mod Judged
+pub mod Written
+pub mod Find
+pub mod Same
+pub mod More

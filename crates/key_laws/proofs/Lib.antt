@@ -1,0 +1,13 @@
+pub mod Rekeyed
+pub mod SectionNames
+pub mod SymbolStage
+pub mod PlainReads
+pub mod Groups
+pub mod Load
+pub mod RekeyedLemmas
+pub mod SectionCalls
+pub mod Tables
+pub mod Merge
+pub mod BuildStage
+pub mod ReadsLemmas
+pub mod NewTables

@@ -1,0 +1,95 @@
+-- The refusals of a walk and of admission.
+-- Assumes nothing.
+use Rattle.std.specs.Prelude.{ℕ, ◌/◌, refl, Bool, true, false, List, eqb, ltb, length}
+use Rattle.byte_slices.specs.Proof.Ways.{pick}
+use Rattle.link.specs.declared.Link.{Link}
+use Rattle.link.specs.declared.Refusal.{Refusal}
+use Rattle.link.specs.Proof.Passed.{judge-gives}
+use Rattle.elf_object.specs.Judge as Elf
+use Rattle.archive_index.specs.declared.Opened.{Opened}
+use Rattle.archive_index.specs.Index.{count_of, cut_of, names_at}
+use Rattle.archive_index.specs.Open as Open
+use Rattle.archive_index.specs.Open.{offsets_in, open_rows_of, open_names_of, open_entries_of, open_of}
+use Rattle.archive_walk.specs.declared.Walk.{Walk}
+use Rattle.archive_walk.specs.declared.Started.{Started}
+use Rattle.archive_walk.specs.Look.{judge_table}
+use Rattle.archive_walk.specs.Look as Look
+use Rattle.archive_walk.specs.Walk.{Step, begun_number, number_of, begun_of, start_of, offer_of, removed_of, make_of, search_of, pass_of, walk_fits, go_of, next_of}
+use Rattle.object_requirement.specs.declared.Admission.{Admission}
+use Rattle.object_requirement.specs.Matches as Matches
+use Rattle.object_requirement.specs.Matches.{admission, offered_in, has_global_symbol, matches_of}
+use Rattle.archive_walk.specs.Names.{required_of}
+use Rattle.merge_laws.proofs.ByNumber.{elf-gives}
+use Rattle.link_laws.proofs.Among.{Among}
+use Rattle.link_laws.specs.Table.{call_numbers}
+use Rattle.link_laws.specs.Calls.{archive_start, archive_next, matches}
+
+open-numbers : (key : ℕ) (s l : List ℕ) → Among (call_numbers (archive_start key s l)) (open_of s l).opened.refusal.number
+unfolding open_of open_entries_of open_names_of open_rows_of
+open-numbers key s l =
+    let c : ℕ = count_of s in
+    pick P (eqb (length s) 0) _ _ (λ a. refl)
+    (λ a.
+    pick P (ltb (length s) 4) _ _ (λ a. refl)
+    (λ a.
+    pick P (ltb (offsets_in (length s)) c) _ _ (λ a. refl)
+    (λ a.
+    pick P (ltb 65535 c) _ _ (λ a. refl)
+    (λ a. pick P (ltb (cut_of s (names_at c) c 0) c) _ _ (λ a. refl) (λ a. pick P (ltb (length l / 8) c) _ _ (λ a. refl) (λ a. refl))))))
+  where
+    P : Open.Left → Type 0
+    P o = Among (call_numbers (archive_start key s l)) o.opened.refusal.number
+
+begun-numbers : (xs : List ℕ) (key n : ℕ) (o : Opened) → Among xs o.refusal.number → Among xs (begun_number (begun_of key n o).begun)
+unfolding begun_of
+begun-numbers xs key n o e =
+    pick (λ (x : Started). Among xs (begun_number x.begun)) (eqb o.refusal.number 0) _ _ (λ a. refl) (λ a. e)
+
+pub start-numbers : (key : ℕ) (s l : List ℕ) → Among (call_numbers (archive_start key s l)) (begun_number (start_of key s l).started.begun)
+unfolding start_of
+start-numbers key s l = begun-numbers (call_numbers (archive_start key s l)) key (length s) (open_of s l).opened (open-numbers key s l)
+
+offered-numbers : (s l : List ℕ) (w : Walk) → Among (call_numbers (archive_next s l w)) (number_of (offer_of s l w).moved.offer)
+unfolding offer_of
+offered-numbers s l w =
+    pick (λ (x : Step). Among (call_numbers (archive_next s l w)) (number_of x.moved.offer)) (ltb w.offered w.queued) _ _ (λ a. refl) (λ a. refl)
+
+judged-table : (s l : List ℕ) (w : Walk) (t : Look.Table) → Among (call_numbers (archive_next s l w)) (judge_table t).number
+unfolding judge_table
+judged-table s l w t = judge-gives (λ (r : Refusal). Among (call_numbers (archive_next s l w)) r.number) (λ k. refl) refl t.link _
+
+pub next-numbers : (s l : List ℕ) (w : Walk) (t : Look.Table) → Among (call_numbers (archive_next s l w)) (number_of (next_of s l w t).moved.offer)
+unfolding next_of go_of pass_of search_of make_of
+next-numbers s l w t =
+    pick P w.done _ _ (λ a. refl)
+    (λ a.
+    pick P (walk_fits s l w) _ _
+    (λ a.
+    pick P (ltb w.offered w.queued) _ _ (λ a. offers l w)
+    (λ a.
+    pick P (eqb (judge_table t).number 0) _ _
+    (λ a. pick P (ltb (removed_of s l t w.entries 0) w.entries) _ _ (λ a. refl) (λ a. offers _ _)) (λ a. judges)))
+    (λ a. refl))
+  where
+    P : Step → Type 0
+    P x = Among (call_numbers (archive_next s l w)) (number_of x.moved.offer)
+
+    offers : (l : List ℕ) (w : Walk) → P (offer_of s l w)
+    offers l w = offered-numbers s l w
+
+    judges : Among (call_numbers (archive_next s l w)) (judge_table t).number
+    judges = judged-table s l w t
+
+pub matches-numbers : (link : Link) (headers entries contents file s l : List ℕ) (w : Walk) (e : ℕ) → Among (call_numbers (matches headers entries contents file s l w e)) (Matches.number_of (matches_of link headers entries contents file s l w e))
+unfolding matches_of
+matches-numbers link headers entries contents file s l w e =
+    pick P (eqb (Elf.judge_of headers entries (length contents) (length file)).number 0) _ _
+    (λ a. pick P (offered_in s l w e) _ _ (λ b. either (has_global_symbol link.gabi headers entries file (required_of s l w e))) (λ b. refl))
+    (λ a. elf-gives (λ (r : Refusal). Among (call_numbers (matches headers entries contents file s l w e)) r.number) (λ k. refl) refl headers entries (length contents) (length file))
+  where
+    P : Admission → Type 0
+    P x = Among (call_numbers (matches headers entries contents file s l w e)) (Matches.number_of x)
+
+    either : (b : Bool) → P (admission b)
+    either true = refl
+    either false = refl

@@ -1,0 +1,90 @@
+-- Of `add_group` as a call of its own: the answer is that of the first rule that holds.
+-- Assumes nothing.
+use Rattle.std.specs.Prelude.{ℕ, ◌/◌, ◌≡◌, Bool, true, not, cond, List, [], ◌∷◌, ◌++◌, eqb, ltb, length}
+use Rattle.std.proofs.Math.Path.{refl, ap}
+use Rattle.std.proofs.Common.{sym, ◌∙◌}
+use Rattle.cells.specs.Proof.Split.{by-test}
+use Rattle.link.specs.declared.Refusal.{Refusal}
+use Rattle.link.specs.declared.Stage.{Stage}
+use Rattle.link.specs.Judge.{refused, change_of, going_of}
+use Rattle.elf_object.specs.Rows as Elf
+use Rattle.elf_object.specs.Judge as Object
+use Rattle.section_groups.specs.Group as Group
+use Rattle.section_groups.specs.declared.alone.Outcome.{Outcome}
+use Rattle.section_groups.specs.AddGroup as AddGroup
+use Rattle.section_groups.specs.AddGroup.{marks_refusal, rows_refusal, check_of, head_in, answer_of, add_group_of}
+use Rattle.interner_laws.specs.Good.{Chained}
+use Rattle.symbol_laws.specs.History.{State, store}
+use Rattle.merge_laws.specs.Calls.{Linked}
+use Rattle.link_laws.specs.Calls.{add_group, group_in, call_refusal}
+use Rattle.link_laws.specs.Rules.{Rule, ◌gives◌at◌, first_refusal, head_rules, numbered}
+use Rattle.link_laws.proofs.Rules.{numbered-both, first-none, taken, left_out, headed, not-below, head-rules}
+use Rattle.link_laws.specs.ObjectRules.{cell_at, is_excluded, is_section, object_rules}
+use Rattle.link_laws.proofs.ObjectExactly.{object-exactly, object-numbered}
+use Rattle.link_laws.specs.GroupRules.{alone, own_group_rules, group_head}
+use Rattle.link_laws.proofs.MergeExactly.{excluded-is}
+use Rattle.link_laws.proofs.MergeGroups.{group-exactly}
+
+pub loaded-is : (headers : List ℕ) (n kind : ℕ) → Elf.is_loaded headers n kind ≡ is_section headers n kind
+unfolding Elf.is_loaded
+loaded-is headers n kind =
+    rw (not-below n (length headers / 8), excluded-is headers n)
+    (by-test (ltb n (length headers / 8))
+    (λ a. by-test (is_excluded headers n) (λ b. rw (a, b)) (λ b. by-test (eqb (cell_at headers n 0) kind) (λ d. rw (a, b, d)) (λ d. rw (a, b, d))))
+    (λ a. rw a))
+
+-- a result has place 0
+answer-said : (s : Stage) (r : Refusal) → refused s.number s.place ≡ r → (eqb r.number 0 ≡ true → r ≡ refused 0 0) → AddGroup.refusal_of (answer_of s).answer ≡ r
+unfolding answer_of
+answer-said s r e q =
+    by-test (eqb s.number 0)
+    (λ a. ap (λ (x : Outcome). AddGroup.refusal_of x.answer) (taken _ _ a) ∙ sym (q (ap (λ (x : Refusal). eqb x.number 0) (sym e) ∙ a)))
+    (λ a. ap (λ (x : Outcome). AddGroup.refusal_of x.answer) (left_out _ _ a) ∙ e)
+
+module _ (o : Group.Object) (work : List ℕ) (n : ℕ) (s : Linked) where
+  abbrev t : State
+  t = s.table
+
+  abbrev marks : ℕ
+  marks = length work / 8
+
+  abbrev rows : List Rule
+  rows = object_rules o.headers o.entries o.contents o.image
+
+  abbrev marks_rules : List Rule
+  marks_rules = (not (is_section o.headers n 7) gives 1 at n) ∷ (ltb marks (length o.headers / 8) gives 2 at 0) ∷ []
+
+  marks-exactly : marks_refusal o.headers (length work) n ≡ first_refusal marks_rules
+  unfolding marks_refusal
+  marks-exactly = rw (loaded-is o.headers n 7) (by-test (is_section o.headers n 7) (λ a. rw a) (λ a. rw a))
+
+  own : rows_refusal o.headers (length work) n (Object.judge_of o.headers o.entries (length o.contents) (length o.image)) ≡ first_refusal (rows ++ marks_rules)
+  unfolding rows_refusal
+  own =
+      headed marks_rules (λ (r : Refusal). r) rows (Object.judge_of o.headers o.entries (length o.contents) (length o.image)) _ _
+      (object-numbered o.headers o.entries o.contents o.image) (object-exactly o.headers o.entries o.contents o.image) refl
+      (λ e. marks-exactly)
+
+  head-exactly : head_in o (group_in t work) n ≡ first_refusal (group_head o n t marks)
+  unfolding check_of
+  head-exactly =
+      headed (rows ++ marks_rules) (λ (r : Refusal). r) (head_rules t.link (AddGroup.lent (group_in t work))) (change_of t.link (AddGroup.lent (group_in t work))) _ _ refl
+      (head-rules t.link (AddGroup.lent (group_in t work))) refl (λ e. own)
+
+  pub head-numbered : numbered (group_head o n t marks) ≡ true
+  head-numbered = numbered-both rows marks_rules (object-numbered o.headers o.entries o.contents o.image) refl
+
+  loaded-alone : AddGroup.loaded_in o ≡ alone o
+  unfolding AddGroup.table_in
+  loaded-alone =
+      ap (λ (b : Bool). Group.object_of o.headers (cond b o.entries []) o.contents o.image o.table) (loaded-is o.headers o.table 3)
+
+  pub add-group-exactly : Chained (store t) → call_refusal (add_group o work n) s ≡ first_refusal (group_head o n t marks ++ own_group_rules (alone o) n t marks)
+  unfolding add_group_of
+  add-group-exactly c =
+      let here = Group.step_of t.bytes t.names work (going_of t.link) in
+      headed (own_group_rules (alone o) n t marks) (λ (x : AddGroup.Left). x.said) (group_head o n t marks) (head_in o (group_in t work) n) _ _ head-numbered head-exactly refl
+      (λ e.
+      answer-said _ (first_refusal (own_group_rules (alone o) n t marks))
+      (group-exactly (AddGroup.loaded_in o) here n c ∙ ap (λ (x : Group.Object). first_refusal (own_group_rules x n t marks)) loaded-alone)
+      (λ z. first-none (own_group_rules (alone o) n t marks) refl z))

@@ -1,0 +1,242 @@
+-- The inputs' own entries behind a name's accepted adds: those of objects, of libraries and of direct adds; what the rows mean is what they say.
+-- Assumes nothing.
+use Prim.Native.Nat.{ℕ}
+use Rattle.std.specs.Prelude.{◌≡◌, refl, Bool, true, false, cond, not, ◌&&◌, eqb, ltb}
+use Rattle.std.proofs.Common.{sym, ap, ◌∙◌, eqb-true, eq-eqb, ne_eqb, lt-ltb}
+use Rattle.std.proofs.lemmas.Bool.{false≢true}
+use mathlib.Core.List.{List, [], ◌∷◌, ◌++◌}
+use Rattle.cells.specs.Proof.Split.{by-test}
+use Rattle.gabi.specs.SymbolTable.{Sym, stb_global, stb_weak, stv_default, stv_hidden, shn_undef, shn_abs, shn_loreserve, is_reference, is_weak, is_global}
+use Rattle.gabi.specs.Groups.{undefine}
+use Rattle.symbol.specs.declared.Row.{Row}
+use Rattle.symbol.specs.declared.Words.{Words}
+use Rattle.symbol.specs.declared.SymbolVisibility.{SymbolVisibility}
+use Rattle.symbol.specs.declared.SymbolVisibility.TheVariants.{Local, Global}
+use Rattle.symbol.specs.declared.SymbolValue.{SymbolValue}
+use Rattle.symbol.specs.Codes.{visibility_at, value_at}
+use Rattle.symbol_resolution.specs.Decide.{weak_of}
+use Rattle.upcoming_symbol.specs.declared.ElfSymbol.{ElfSymbol}
+use Rattle.upcoming_symbol.specs.declared.UpcomingSymbol.{UpcomingSymbol}
+use Rattle.upcoming_symbol.specs.Upcoming.{name_of}
+use Rattle.symbols.specs.Add.{empty_at}
+use Rattle.symbol_laws.specs.Rank as Rank
+use Rattle.symbol_laws.specs.ObjectWords.{entry}
+use Rattle.symbol_laws.specs.Gabi.{Means, AllMean}
+use Rattle.symbol_laws.specs.Hidden.{hides, AllShow}
+use Rattle.symbol_laws.specs.ContentWords.{Admitted, shows, shared_entry}
+use Rattle.symbol_laws.specs.DirectContents as Direct
+use Rattle.symbol_laws.specs.DirectContents.{FromAdd, ElfValue, is_undefined, symbol_of}
+use Rattle.merge_stages.specs.Stages as Stages
+use Rattle.merge_laws.specs.MergeWords as Words
+use Rattle.merge_laws.proofs.ObjectContents as Objects
+use Rattle.merge_laws.proofs.LogContents.{FromSymbol}
+use Rattle.merge_laws.specs.Calls.{Linked, all_in}
+use Rattle.shared_objects.specs.Load as Shared
+use Rattle.load_laws.proofs.LibraryContents.{FromLibrary}
+use Rattle.link_laws.specs.Calls.{Call, intern, add, remove, add_group, merge, merge_file, load, collect, plain_collect, library_in, call_next, reads, add_list}
+use Rattle.elf_laws.specs.Object as ElfFile
+use Rattle.link_laws.proofs.Kept.{signatures}
+use Rattle.link_laws.proofs.Contents.{FromCall, FromCalls, here, later}
+
+-- ---- an entry as it reaches the link
+
+-- of an object: undefined by now, as the gABI has it, if a repeated group lists its section
+abbrev pub object_entry : (o : Stages.Object) (a : Stages.All) (met : List (List ℕ)) → ℕ → Sym
+object_entry o a met i =
+    let table = Words.symbols_of o.headers o.entries o.contents o.image in
+    cond (ltb (entry table i).section shn_loreserve && Objects.is_discarded o.headers o.entries o.contents o.image a.stage.link.sections met table i) (undefine (entry table i)) (entry table i)
+
+-- of a direct add, ExternallyDefined as a shared object's: a definition other than an Elf symbol's counts as absolute
+abbrev pub add_entry : {gabi : Bool} {conversion : List ℕ} {empty : Bool} {r : Row} {u : UpcomingSymbol} → FromAdd gabi conversion empty r u → Sym
+add_entry (Direct.unknown name a b c d) = symbol_of stb_global 0 stv_default shn_undef 0
+add_entry (Direct.hidden name value a b c d e) = symbol_of stb_global 0 stv_hidden (cond (is_undefined value) shn_undef shn_abs) 0
+add_entry {gabi} (Direct.external name visibility binding p a b c d) = shared_entry gabi (symbol_of binding 0 visibility shn_abs 0)
+add_entry (Direct.elf e name file p a b c d) = symbol_of e.binding e.kind e.visibility e.section e.value
+
+-- ---- what a row means
+
+weakness : SymbolVisibility → Bool
+weakness Local = false
+weakness (Global weak hidden) = weak
+
+weak-is : (c : ℕ) → weak_of c ≡ weakness (visibility_at c)
+unfolding weak_of visibility_at weakness
+weak-is c =
+    by-test (eqb c 1) (λ a. let e : c ≡ 1 = eqb-true _ _ a in rw e)
+    (λ a.
+    by-test (eqb c 2) (λ b. let e : c ≡ 2 = eqb-true _ _ b in rw e)
+    (λ b.
+    by-test (eqb c 3) (λ d. let e : c ≡ 3 = eqb-true _ _ d in rw e)
+    (λ d. by-test (eqb c 4) (λ f. let e : c ≡ 4 = eqb-true _ _ f in rw e) (λ f. rw (a, b, d, f)))))
+
+undefined-is : (w : Words) → is_undefined (value_at w) ≡ eqb w.kind 7
+unfolding value_at
+undefined-is w =
+    by-test (eqb w.kind 1) (λ a. let e : w.kind ≡ 1 = eqb-true _ _ a in rw (a, e))
+    (λ a.
+    by-test (eqb w.kind 2) (λ b. let e : w.kind ≡ 2 = eqb-true _ _ b in rw (a, b, e))
+    (λ b.
+    by-test (eqb w.kind 3) (λ c. let e : w.kind ≡ 3 = eqb-true _ _ c in rw (a, b, c, e))
+    (λ c.
+    by-test (eqb w.kind 4) (λ d. let e : w.kind ≡ 4 = eqb-true _ _ d in rw (a, b, c, d, e))
+    (λ d.
+    by-test (eqb w.kind 5) (λ f. let e : w.kind ≡ 5 = eqb-true _ _ f in rw (a, b, c, d, f, e))
+    (λ f.
+    by-test (eqb w.kind 6) (λ g. let e : w.kind ≡ 6 = eqb-true _ _ g in rw (a, b, c, d, f, g, e))
+    (λ g. by-test (eqb w.kind 7) (λ h. rw (a, b, c, d, f, g, h)) (λ h. rw (a, b, c, d, f, g, h))))))))
+
+-- weak, hidden and definedness of a row and of a symbol
+pub record Stands (r : Row) (s : Sym) : Type 0 where
+  pub means : Means r s
+  pub hidden : hides (visibility_at r.visibility) ≡ eqb s.visibility stv_hidden
+  pub seen : eqb s.visibility stv_default ≡ not (eqb s.visibility stv_hidden)
+
+stands : (r : Row) (s : Sym) → visibility_at r.visibility ≡ Global (eqb s.binding stb_weak) (eqb s.visibility stv_hidden) → eqb s.binding stb_global ≡ not (eqb s.binding stb_weak)
+    → eqb s.visibility stv_default ≡ not (eqb s.visibility stv_hidden) → is_undefined (value_at r.value) ≡ eqb s.section shn_undef → Stands r s
+unfolding is_reference is_weak is_global weakness
+stands r s v b e u =
+    record {
+      means = record { refers = sym (undefined-is r.value) ∙ u; weakly = weak-is r.visibility ∙ ap weakness v; bound = b };
+      hidden = ap hides v;
+      seen = e;
+    }
+
+-- ---- of an object
+
+module _ (o : Stages.Object) (a : Stages.All) (met : List (List ℕ)) (r : Row) where
+  object-stands : (p : FromSymbol o a met r) → Stands r (object_entry o a met p.number)
+  unfolding undefine
+  object-stands p =
+      let table : List ℕ = Words.symbols_of o.headers o.entries o.contents o.image in
+      let e : Sym = entry table p.number in
+      let c = p.content in
+      by-test (ltb e.section shn_loreserve && gone)
+      (λ t. rw t (stands r (undefine e) c.shown c.passed.bound c.passed.seen (lost t (value_at r.value) c.value)))
+      (λ t. rw t (stands r e c.shown c.passed.bound c.passed.seen (left t (value_at r.value) c.value)))
+    where
+      abbrev-table : List ℕ
+      abbrev-table = Words.symbols_of o.headers o.entries o.contents o.image
+
+      gone : Bool
+      gone = Objects.is_discarded o.headers o.entries o.contents o.image a.stage.link.sections met abbrev-table p.number
+
+      sec : ℕ
+      sec = (entry abbrev-table p.number).section
+
+      IsValue : SymbolValue → Type 0
+      IsValue = Objects.IsValue o.headers o.entries o.contents o.image a.stage.link.sections met abbrev-table p.number
+
+      out : (x y : Bool) → x && y ≡ true → y ≡ false → ⊥
+      out true true q z = false≢true (sym z)
+      out true false q z = false≢true q
+      out false y q z = false≢true q
+
+      low : (x y : Bool) → x && y ≡ true → x ≡ true
+      low true y q = refl
+      low false y q = q
+
+      absolute-high : sec ≡ shn_abs → ltb sec shn_loreserve ≡ true → ⊥
+      absolute-high q t = false≢true (sym (ap (λ (n : ℕ). ltb n shn_loreserve) q) ∙ t)
+
+      lost : ltb sec shn_loreserve && gone ≡ true → (v : SymbolValue) → IsValue v → is_undefined v ≡ eqb shn_undef shn_undef
+      lost t v (Objects.undefined q) = refl
+      lost t v (Objects.discarded q g) = refl
+      lost t v (Objects.absolute q) = absurd (absolute-high q (low (ltb sec shn_loreserve) gone t))
+      lost t v (Objects.unloaded n g q x y) = absurd (out (ltb sec shn_loreserve) gone t g)
+      lost t v (Objects.whole n g q x) = absurd (out (ltb sec shn_loreserve) gone t g)
+      lost t v (Objects.within z n g q x y) = absurd (out (ltb sec shn_loreserve) gone t g)
+
+      left : ltb sec shn_loreserve && gone ≡ false → (v : SymbolValue) → IsValue v → is_undefined v ≡ eqb sec shn_undef
+      left t v (Objects.undefined q) = sym (eq-eqb sec shn_undef q)
+      left t v (Objects.discarded q g) = absurd (false≢true (sym t ∙ rw (lt-ltb sec shn_loreserve q, g)))
+      left t v (Objects.absolute q) = sym (ap (λ (n : ℕ). eqb n shn_undef) q)
+      left t v (Objects.unloaded n g q x y) = sym (ne_eqb sec shn_undef n)
+      left t v (Objects.whole n g q x) = sym (ne_eqb sec shn_undef n)
+      left t v (Objects.within z n g q x y) = sym (ne_eqb sec shn_undef n)
+
+-- ---- of a library
+
+shared-stands : (gabi : Bool) (r : Row) (e : Sym) → Admitted e → visibility_at r.visibility ≡ shows (shared_entry gabi e) → is_undefined (value_at r.value) ≡ eqb e.section shn_undef
+    → Stands r (shared_entry gabi e)
+shared-stands false r e p v u = stands r e v p.bound p.seen u
+shared-stands true r e p v u = stands r (shared_entry true e) v p.bound refl u
+
+library-stands : (o : Shared.Input) (a : Shared.All) (r : Row) (p : FromLibrary o a r) → Stands r (shared_entry a.link.gabi (entry o.entries p.number))
+library-stands o a r p =
+    shared-stands a.link.gabi r (entry o.entries p.number) p.passed p.shown (ap is_undefined p.value ∙ sym (ne_eqb _ _ p.defines))
+
+-- ---- of a direct add
+
+elf-undefined : (conversion : List ℕ) (empty : Bool) (e : ElfSymbol) (v : SymbolValue) → ElfValue conversion empty e v → is_undefined v ≡ eqb e.section shn_undef
+elf-undefined conversion empty e v (Direct.undefined q) = sym (eq-eqb _ _ q)
+elf-undefined conversion empty e v (Direct.absolute q) = sym (ap (λ (n : ℕ). eqb n shn_undef) q)
+elf-undefined conversion empty e v (Direct.unloaded n q) = sym (ne_eqb _ _ n)
+elf-undefined conversion empty e v (Direct.whole i n q x) = sym (ne_eqb _ _ n)
+elf-undefined conversion empty e v (Direct.within i z n q x y) = sym (ne_eqb _ _ n)
+
+add-stands : (gabi : Bool) (conversion : List ℕ) (empty : Bool) (r : Row) (u : UpcomingSymbol) (p : FromAdd gabi conversion empty r u) → Stands r (add_entry p)
+add-stands gabi conversion empty r u (Direct.unknown name a b c d) = stands r _ c refl refl (ap is_undefined d)
+add-stands gabi conversion empty r u (Direct.hidden name value a b c d e) = stands r _ c refl refl (e ∙ back (is_undefined value))
+  where
+    back : (b : Bool) → b ≡ eqb (cond b shn_undef shn_abs) shn_undef
+    back true = refl
+    back false = refl
+add-stands gabi conversion empty r u (Direct.external name visibility binding p a b c d) = shared-stands gabi r _ p c (ap is_undefined d)
+add-stands gabi conversion empty r u (Direct.elf e name file p a b c d) = stands r _ c p.bound p.seen (elf-undefined conversion empty e (value_at r.value) d)
+
+-- ---- of any call
+
+abbrev pub call_entry : (k : Call) (s : Linked) (met : List (List ℕ)) (r : Row) → FromCall k s met r → Sym
+call_entry (intern x) s met r p = absurd p
+call_entry (reads k) s met r p = absurd p
+call_entry (add conversion u) s met r p = add_entry p
+call_entry (add_list conversion adds ids) s met r p = add_entry p.from
+call_entry (remove id) s met r p = absurd p
+call_entry (add_group o work n) s met r p = absurd p
+call_entry (merge o work ids) s met r p = object_entry o (all_in s work ids) met p.number
+call_entry (merge_file file cells work ids) s met r p = object_entry (ElfFile.rows_of file) (all_in s work ids) met p.1.number
+call_entry (load o marks) s met r p = shared_entry s.table.link.gabi (entry o.entries p.number)
+call_entry (collect marks entry work) s met r p = absurd p
+call_entry (plain_collect marks entry work) s met r p = absurd p
+
+call-stands : (k : Call) (s : Linked) (met : List (List ℕ)) (r : Row) (p : FromCall k s met r) → Stands r (call_entry k s met r p)
+call-stands (intern x) s met r p = absurd p
+call-stands (reads k) s met r p = absurd p
+call-stands (add conversion u) s met r p = add-stands s.table.link.gabi conversion (empty_at s.table.names (name_of u)) r u p
+call-stands (add_list conversion adds ids) s met r p =
+    add-stands p.state.link.gabi conversion (empty_at p.state.names (name_of p.symbol)) r p.symbol p.from
+call-stands (remove id) s met r p = absurd p
+call-stands (add_group o work n) s met r p = absurd p
+call-stands (merge o work ids) s met r p = object-stands o (all_in s work ids) met r p
+call-stands (merge_file file cells work ids) s met r p = object-stands (ElfFile.rows_of file) (all_in s work ids) met r p.1
+call-stands (load o marks) s met r p = library-stands o (library_in s marks) r p
+call-stands (collect marks entry work) s met r p = absurd p
+call-stands (plain_collect marks entry work) s met r p = absurd p
+
+-- the entry that a row is from
+abbrev pub entry_of : (r : Row) (ks : List Call) (s : Linked) (met : List (List ℕ)) → FromCalls r ks s met → Sym
+entry_of r [] s met p = elim p [ ]
+entry_of r (k ∷ ks) s met (here p) = call_entry k s met r p
+entry_of r (k ∷ ks) s met (later p) = entry_of r ks (call_next k s) (met ++ signatures (k ∷ []) s) p
+
+entry-stands : (r : Row) (ks : List Call) (s : Linked) (met : List (List ℕ)) (p : FromCalls r ks s met) → Stands r (entry_of r ks s met p)
+entry-stands r [] s met p = elim p [ ]
+entry-stands r (k ∷ ks) s met (here p) = call-stands k s met r p
+entry-stands r (k ∷ ks) s met (later p) = entry-stands r ks (call_next k s) (met ++ signatures (k ∷ []) s) p
+
+module _ (ks : List Call) (s : Linked) (met : List (List ℕ)) where
+  abbrev pub AllFrom : List Row → Type 0
+  AllFrom rs = Rank.All (λ r. FromCalls r ks s met) rs
+
+  -- the entries of several
+  abbrev pub entries_of : (rs : List Row) → AllFrom rs → List Sym
+  entries_of [] p = []
+  entries_of (r ∷ rs) p = entry_of r ks s met p.0 ∷ entries_of rs p.1
+
+  pub all-mean : (rs : List Row) (p : AllFrom rs) → AllMean rs (entries_of rs p)
+  all-mean [] p = tt
+  all-mean (r ∷ rs) p = ((entry-stands r ks s met p.0).means, all-mean rs p.1)
+
+  pub all-show : (rs : List Row) (p : AllFrom rs) → AllShow rs (entries_of rs p)
+  all-show [] p = tt
+  all-show (r ∷ rs) p = ((entry-stands r ks s met p.0).hidden, (entry-stands r ks s met p.0).seen, all-show rs p.1)

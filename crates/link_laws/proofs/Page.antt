@@ -1,0 +1,333 @@
+-- The terms of acceptance on one page: statements only, each proved by citing a theorem. Terms.antt has more of them, by place and number.
+--
+-- The words, besides the calls themselves (Calls.antt: `Call`, `callLeft` what a call leaves and answers, `callRefusal` its number and place, `callNext`
+-- the link after it, `runCalls` the link after a list of them):
+--   s0            the link that an accepted Symbols::new left
+--   end           run_calls ks s0, after calls ks that remove nothing (RemovesNothing)
+--   lookup b s    what get_global answers for the bytes b: a row, or a refusal (Words.antt, as the next three)
+--   undefined b s lookup b s is a row whose value is `Undefined`
+--   adds b ks s0  the accepted adds of the name b that aren't local, oldest first: the id answered to each, and the row it would be
+--   gabi          the profile: false the old one, true gABI's; hidden_by gabi l r is r, in gABI's hidden if one of l is
+--   strong b s    lookup b s is a row that is global and not weak
+--   ties b s      undefined b s, in the gABI profile undefined b s && strong b s
+--   tied i s      the members of the entries of index i whose name ties in s, by their offsets, in the index' order
+--   offered i w   the members that the walk w offered, by their offsets, in order; first_seen and without (PassList.antt) on such lists
+--   m             the number of members that an index names
+--   Before, After a section is built before a collection, after it; Reached (gc_laws/specs/Reached.antt) what relocations reach from the roots
+--   NeededIn      what makes a library needed, by lookups and by the libraries that were loaded (NeededIn.antt)
+--   Exit, Meets   what a caller sees of a call, and the call's contract (Contracts.antt)
+--   earlier k s   s; of a list of adds, the link after those of its adds that were accepted (Calls.antt)
+-- Witness.antt has a history that meets the premises.
+-- Assumes nothing.
+use Rattle.std.specs.Prelude.{ℕ, ◌+◌, ◌<◌, ◌≤◌, ◌≡◌, Bool, true, false, cond, not, ◌&&◌, List, [], ◌∷◌, ◌++◌, ◌≢◌, ◌↔◌, eqb, length}
+use Rattle.std.proofs.Common.{sym, ap, ◌∙◌, subst}
+use Rattle.gabi.specs.SymbolTable.{stv_default, stv_hidden}
+use Rattle.gabi.specs.Visibility.{combined}
+use Rattle.gabi.specs.Resolution as Resolution
+use Rattle.link.specs.declared.SymbolId.{SymbolId}
+use Rattle.link.specs.declared.SectionId.{SectionId}
+use Rattle.link.specs.Bounds.{not_lent}
+use Rattle.link.specs.Said.{number_in}
+use Rattle.symbol.specs.Row.{symbol_at}
+use Rattle.symbol.specs.RowLaws.{symbol_of}
+use Rattle.symbols.specs.declared.Found.TheVariants.{Row}
+use Rattle.symbols.specs.declared.SectionSymbol.TheVariants as Section
+use Rattle.symbols.specs.New.{new_of}
+use Rattle.symbols.specs.Lookup.{not_found}
+use Rattle.shared_objects.specs.declared.Answer.TheVariants.{NotNeeded}
+use Rattle.shared_objects.specs.Load as Shared
+use Rattle.archive_index.specs.Index.{count_of, offset_of, name_of}
+use Rattle.archive_laws.specs.Rounds as Rounds
+use Rattle.archive_laws.specs.Runs.{Run, start_run}
+use Rattle.archive_laws.proofs.PassList.{is_in, without, first_seen, offered, Over, among_in}
+use Rattle.gc_sections.specs.declared.EntryPoint.{EntryPoint}
+use Rattle.gc_sections.specs.declared.Answer.TheVariants.{Dropped}
+use Rattle.gc_laws.proofs.Terms as CollectionLaws
+use Rattle.gc_laws.specs.Reached as Roots
+use Rattle.merge_stages.specs.Stages as Stages
+use Rattle.symbol_laws.specs.Rank.{first_by_rank}
+use Rattle.symbol_laws.specs.Hidden.{is_hidden, some_hidden}
+use Rattle.symbol_laws.specs.Standing.{SameButHidden, hidden_by}
+use Rattle.symbol_laws.specs.Proof.Rows.{row_at}
+use Rattle.symbol_laws.specs.ObjectWords.{sections_in, program, loaded_as}
+use Rattle.symbol_laws.specs.Agreement as Agreement
+use Rattle.symbol_laws.specs.History.{Entry, opened, rows}
+use Rattle.merge_laws.specs.Calls.{Linked, linked}
+use Rattle.merge_laws.specs.Origin.{from_objects}
+use Rattle.merge_laws.specs.MergeWords.{named_by, is_removed}
+use Rattle.link_laws.specs.Calls.{Call, remove, get, get_global, section_symbol, merge, load, archive_start, archive_next, collect, library_in, lists_in, call_left, refusal_by, call_refusal, call_number, call_next, run_calls, RemovesNothing, earlier}
+use Rattle.link_laws.specs.Leaves.{by_elements}
+use Rattle.link_laws.proofs.Elements as Elements
+use Rattle.link_laws.specs.CallContracts.{Exit, Meets}
+use Rattle.link_laws.proofs.Kept.{signatures}
+use Rattle.link_laws.proofs.Profile.{calls-profile}
+use Rattle.link_laws.specs.Walks.{next_in, with_walk, walk_after, tables_at, joined}
+use Rattle.link_laws.proofs.Walks.{walk_is}
+use Rattle.link_laws.proofs.WalkIn as WalkIn
+use Rattle.link_laws.specs.SectionSymbols.{SectionRow, LocalSection, LastOf}
+use Rattle.link_laws.proofs.Growth.{Turn, Quiet, run_turns}
+use Rattle.link_laws.proofs.NeededIn.{NeededIn}
+use Rattle.link_laws.specs.Words.{id_of, lookup, undefined, strong, ties, adds, tied}
+use Rattle.link_laws.proofs.Words.{ties-seen, tied-seen}
+use Rattle.link_laws.specs.Rules as Rules
+use Rattle.link_laws.specs.CallRules.{rules}
+use Rattle.link_laws.proofs.ExactTerms as ExactTerms
+use Rattle.link_laws.proofs.ExactLinks.{lent_as}
+use Rattle.link_laws.proofs.NewExactly.{new_rules}
+use Rattle.link_laws.proofs.BuiltSections.{SparesAll}
+use Rattle.link_laws.proofs.ObjectSections as ObjectSections
+use Rattle.link_laws.proofs.ObjectSections.{section_id}
+use Rattle.link_laws.proofs.GivenRows.{AllStand}
+use Rattle.link_laws.proofs.Contents.{FromCalls}
+use Rattle.link_laws.proofs.EntryNames.{AllBear}
+use Rattle.link_laws.proofs.OwnEntries.{entry_of, AllFrom, entries_of}
+use Rattle.link_laws.proofs.Terms as Terms
+
+-- ---- 1. answers and refusals
+
+-- "exactly where document 01's rules in their order give it": after a new table and any calls, those that remove too, number and place are those of the
+-- first rule of the call that holds (CallRules.antt), and it is a result just where none does
+module _ (key : ℕ) (gabi : Bool) (bytes names symbols sections inputs lists : List ℕ) (new : number_in (new_of key gabi bytes names symbols sections).said ≡ 0) (ks : List Call) (k : Call) where
+  abbrev pub on : Linked
+  on = ExactTerms.on key gabi bytes names symbols sections inputs lists new ks
+
+  pub exactly : call_refusal k on ≡ Rules.first_refusal (rules k on)
+  exactly = Terms.exactly key gabi bytes names symbols sections inputs lists new ks k
+
+  pub accepted : eqb (call_number k on) 0 ≡ not (Rules.some_holds (rules k on))
+  accepted = Terms.accepted key gabi bytes names symbols sections inputs lists new ks k
+
+-- the same where lists grew before calls (Turn, Growth.antt), and any cells are lent at the end for symbols, sections, inputs and lists (lent_as, ExactLinks.antt)
+pub exactly-any : (key : ℕ) (gabi : Bool) (bytes names symbols sections inputs lists : List ℕ) → number_in (new_of key gabi bytes names symbols sections).said ≡ 0 → (ts : List Turn)
+    (symbols' sections' inputs' lists' : List ℕ) (k : Call)
+    → let on = lent_as (run_turns ts (linked (opened (new_of key gabi bytes names symbols sections)) inputs lists)) symbols' sections' inputs' lists' in
+    call_refusal k on ≡ Rules.first_refusal (rules k on)
+exactly-any = Terms.exactly-any
+
+-- and of `Symbols::new` itself, for any lists
+pub new-exactly : (key : ℕ) (gabi : Bool) (bytes names symbols sections : List ℕ) → refusal_by (new_of key gabi bytes names symbols sections).said ≡ Rules.first_refusal (new_rules names symbols)
+new-exactly = Terms.new-exactly
+
+-- "and leaves behind what that table says": a refused call leaves everything of the link (a list of adds, with the adds before the refused one); a merge or a
+-- load what its elements before left, and a broken link
+pub left : (k : Call) (s : Linked) → by_elements k ≡ false → call_number k s ≢ 0 → call_next k s ≡ earlier k s
+left = Terms.refused-leaves
+
+pub left-merge : (o : _) (work ids : List ℕ) (s : Linked) → call_number (merge o work ids) s ≢ 0 → Elements.MergeLeft o work ids s
+left-merge = Terms.merge-leaves
+
+pub left-load : (o : _) (marks : List ℕ) (s : Linked) → call_number (load o marks) s ≢ 0 → Elements.LoadLeft o marks s
+left-load = Terms.load-leaves
+
+-- "A public call's result and every lent cell after it, refusal or not, follow from its inputs alone"
+pub one-outcome : (k : Call) (s : Linked) (x y : Exit k) → Meets k s x → Meets k s y → x ≡ y
+one-outcome = Terms.one-outcome
+
+-- ---- "Let a link be a new table and any sequence of calls that removes nothing"
+
+module _ (key : ℕ) (gabi : Bool) (bytes names symbols sections inputs lists : List ℕ) (new : number_in (new_of key gabi bytes names symbols sections).said ≡ 0) (lent : length lists ≤ not_lent) where
+  abbrev pub s0 : Linked
+  s0 = Terms.start key gabi bytes names symbols sections inputs lists new
+
+  -- a profile, "chosen when the table is made and fixed for its life": no call changes it, those that remove neither
+  pub profile : (ks : List Call) → (run_calls ks s0).table.link.gabi ≡ gabi
+  profile = Terms.profile key gabi bytes names symbols sections inputs lists new
+
+  module _ (ks : List Call) (quiet : RemovesNothing ks s0) where
+    abbrev pub end : Linked
+    end = run_calls ks s0
+
+    -- ---- 2. against the gABI
+
+    -- the content of a name (demand-3a) is that of an entry of an object or a library, or of a direct add, in document 01's words (FromCalls, Contents.antt)
+    pub contents : (b : List ℕ) (x : Entry) (xs : List Entry) → adds b ks s0 ≡ x ∷ xs → FromCalls (first_by_rank gabi x.row (rows xs)) ks s0 []
+    contents b = Terms.contents key gabi bytes names symbols sections inputs lists new ks quiet (id_of b end).0
+
+    -- and has what the gABI resolves these entries to, known places of the old profile apart (Agrees)
+    pub resolution : (b : List ℕ) (x : Entry) (xs : List Entry) → adds b ks s0 ≡ x ∷ xs → (from : AllFrom ks s0 [] (rows (x ∷ xs)))
+        → Agreement.Agrees gabi x.row (rows xs) (entry_of x.row ks s0 [] from.0) (entries_of ks s0 [] (rows xs) from.1) (row_at end.table.symbols x.id)
+        (Resolution.resolve (entries_of ks s0 [] (rows (x ∷ xs)) from))
+    resolution b x xs e from = Terms.gabi-agrees-own key gabi bytes names symbols sections inputs lists new ks quiet (id_of b end).0 x xs e from
+
+    -- in the gABI profile the row's visibility is what the gABI combines those of these entries to; a shared object's counts as default (shared_entry)
+    pub visibility : (b : List ℕ) (x : Entry) (xs : List Entry) → adds b ks s0 ≡ x ∷ xs → (from : AllFrom ks s0 [] (rows (x ∷ xs))) → gabi ≡ true
+        → combined (entries_of ks s0 [] (rows (x ∷ xs)) from) ≡ cond (is_hidden (row_at end.table.symbols x.id)) stv_hidden stv_default
+    visibility b x xs e from = Terms.gabi-visible key gabi bytes names symbols sections inputs lists new ks quiet (id_of b end).0 x xs e from
+
+    -- these are the entries of that name: its bytes are what the string table of an object or a library has for the symbol, whose name isn't missing (AllBear,
+    -- EntryNames.antt)
+    pub named : (b : List ℕ) (x : Entry) (xs : List Entry) → adds b ks s0 ≡ x ∷ xs → (from : AllFrom ks s0 [] (rows (x ∷ xs)))
+        → AllBear b (id_of b end).0 ks s0 [] (x ∷ xs) from
+    named = Terms.adds-bear key gabi bytes names symbols sections inputs lists new ks quiet
+
+    -- ---- 3. "each global name has the id of its first accepted add and the content of its first accepted strong definition, else weak definition, else add"
+
+    -- in the gABI profile "A name without a definition thus holds its first accepted strong reference, if there is one" (first_by_rank), and hidden is apart
+    pub demand-3a : (b : List ℕ) (x : Entry) (xs : List Entry) → adds b ks s0 ≡ x ∷ xs
+        → lookup b end ≡ Row (symbol_of (record { 0 = x.id }) (hidden_by gabi (rows (x ∷ xs)) (first_by_rank gabi x.row (rows xs))))
+    demand-3a b = Terms.lookup-row key gabi bytes names symbols sections inputs lists new ks quiet lent (id_of b end).0
+
+    pub content-3a : (b : List ℕ) (x : Entry) (xs : List Entry) → adds b ks s0 ≡ x ∷ xs → SameButHidden (row_at end.table.symbols x.id) (first_by_rank gabi x.row (rows xs))
+    content-3a b = Terms.content-3a key gabi bytes names symbols sections inputs lists new ks quiet (id_of b end).0
+
+    -- which "is taken from all accepted object adds", direct ones among them; a direct add of `ExternallyDefined` is never hidden (contents: FromAdd, Contents.antt)
+    pub hidden-3a : (b : List ℕ) (x : Entry) (xs : List Entry) → adds b ks s0 ≡ x ∷ xs → gabi ≡ true
+        → is_hidden (row_at end.table.symbols x.id) ≡ some_hidden (rows (from_objects (adds b ks s0)))
+    hidden-3a b = Terms.hidden-objects-3a key gabi bytes names symbols sections inputs lists new ks quiet (id_of b end).0
+
+    pub none-3a : (b : List ℕ) → adds b ks s0 ≡ [] → lookup b end ≡ not_found 23 0
+    none-3a b = Terms.lookup-none key gabi bytes names symbols sections inputs lists new ks quiet lent (id_of b end).0
+
+    -- an id that was given out has its row; one that wasn't gives 21; so does one that is removed, for ever
+    pub given : (i : SymbolId) → i.0 < end.table.link.symbols → call_left (get i) end ≡ Row (symbol_at end.table.symbols i)
+    given = Terms.get_present key gabi bytes names symbols sections inputs lists new ks quiet lent
+
+    pub absent : (i : SymbolId) → end.table.link.symbols ≤ i.0 → call_left (get i) end ≡ not_found 21 i.0
+    absent = Terms.get_absent key gabi bytes names symbols sections inputs lists new ks lent
+
+    pub removed : (i : SymbolId) → call_number (remove i) end ≡ 0 → (ls : List Call) → call_left (get i) (run_calls ls (call_next (remove i) end)) ≡ not_found 21 i.0
+    removed = Terms.get-removed key gabi bytes names symbols sections inputs lists new ks lent
+
+    -- nor is its name found again: "never forgets a global name"
+    pub removed-name : (b : List ℕ) (x : Entry) (xs : List Entry) → adds b ks s0 ≡ x ∷ xs → call_number (remove (record { 0 = x.id })) end ≡ 0 → (ls : List Call)
+        → call_left (get_global (id_of b end)) (run_calls ls (call_next (remove (record { 0 = x.id })) end)) ≡ not_found 21 (id_of b end).0
+    removed-name b = Terms.lookup-removed key gabi bytes names symbols sections inputs lists new ks quiet lent (id_of b end).0
+
+    -- a section's symbol is its last local `Section` row, and there is none where there is no such row (LocalSection, LastOf, SectionSymbols.antt: by `get`)
+    pub section-symbol : (y : SectionId) (i : SymbolId) → (call_left (section_symbol y) end ≡ Section.Symbol i) ↔ LastOf end y i
+    section-symbol = Terms.section-last key gabi bytes names symbols sections inputs lists new ks quiet lent
+
+    pub section-none : (y : SectionId) → (call_left (section_symbol y) end ≡ Section.None) ↔ ((i : SymbolId) → LocalSection end y i → ⊥)
+    section-none = Terms.section-none key gabi bytes names symbols sections inputs lists new ks quiet lent
+
+    -- "`remove` of any `Section` row drops that entry"; after that, and after any other calls, those added since count (Terms.section-newest)
+    pub section-removed : (y : SectionId) (i : SymbolId) → call_number (remove i) end ≡ 0 → SectionRow end y i → call_left (section_symbol y) (call_next (remove i) end) ≡ Section.None
+    section-removed = Terms.section-removed key gabi bytes names symbols sections inputs lists new ks lent
+
+    -- ---- as-needed: "not needed" is answered exactly to a library that isn't
+
+    pub needed : (o : Shared.Input) (marks : List ℕ) → (Shared.head_in o (library_in end marks)).number ≡ 0 → o.asneeded ≡ true
+        → ((call_left (load o marks) end).answer ≡ NotNeeded) ↔ (NeededIn s0 ks o → ⊥)
+    needed o marks h a =
+        let same = Terms.needed-in key gabi bytes names symbols sections inputs lists new ks lent o in (
+          λ e n. (Terms.not-needed-only key gabi bytes names symbols sections inputs lists new ks quiet o marks e).2 (same.1 n),
+          λ n. Terms.not-needed-all key gabi bytes names symbols sections inputs lists new ks quiet o marks h a (λ r. n (same.0 r)),
+        )
+
+    -- ---- "Let an index name m members; then its walk over such a link": the calls for the next member stand anywhere, one behind each part of kss
+
+    module _ (walk_key : ℕ) (index cells : List ℕ) (begun : call_number (archive_start walk_key index cells) end ≡ 0) where
+      abbrev pub m : ℕ
+      m = Rounds.members index (count_of index)
+
+      abbrev pub walk_by : List (List Call) → Run
+      walk_by kss = walk_after index kss (start_run walk_key index cells) end
+
+      -- "makes at most m + 1 passes"
+      pub at_most : (kss : List (List Call)) → (walk_by kss).walk.passes ≤ m + 1
+      at_most kss = (Terms.demand-3b key gabi bytes names symbols sections inputs lists new ks quiet walk_key index cells begun kss).bound
+
+      -- "each pass offers exactly the members not yet offered that the index ties to a name undefined at its start": the call behind kss and ls makes a pass,
+      -- over the link there; those behind lss make none; then it is over, since the walk is done or the next call makes another
+      module _ (kss : List (List Call)) (ls : List Call) (lss : List (List Call)) (calm : RemovesNothing (joined kss ++ ls) end) where
+        abbrev pub link : Linked
+        link = WalkIn.link_then index walk_key cells begun end kss ls lss
+
+        abbrev pub first : Run
+        first = next_in index (walk_by kss) link
+
+        abbrev pub after : Run
+        after = walk_after index lss first link
+
+        link-profile : link.table.link.gabi ≡ gabi
+        link-profile = calls-profile ls (run_calls (joined kss) end) ∙ calls-profile (joined kss) end ∙ profile ks
+
+        pub exactly-3b : first.walk.passes ≡ (walk_by kss).walk.passes + 1 → after.walk.passes ≡ first.walk.passes → Over walk_key index cells begun after
+            → offered index after ≡ offered index (walk_by kss) ++ without (offered index (walk_by kss)) (first_seen (tied index link))
+        exactly-3b p q o =
+            Terms.exactly-3b key gabi bytes names symbols sections inputs lists new ks quiet walk_key index cells begun kss ls lss p q o
+            ∙ ap (λ (l : List ℕ). offered index (walk_by kss) ++ without (offered index (walk_by kss)) (first_seen l))
+            (tied-seen link _ _ (WalkIn.reached_then index walk_key cells begun end _ _ (Terms.reached key gabi bytes names symbols sections inputs lists new ks quiet lent) kss ls lss calm) index)
+
+        -- a name that ties is one "undefined at its start"; in the gABI profile the walk "reads "undefined and strong" for "undefined""
+        pub ties-old : gabi ≡ false → (b : List ℕ) → ties b link ≡ undefined b link
+        ties-old old b = ap (λ (g : Bool). cond g (undefined b link && strong b link) (undefined b link)) (link-profile ∙ old)
+
+        pub ties-gabi : gabi ≡ true → (b : List ℕ) → ties b link ≡ undefined b link && strong b link
+        ties-gabi p b = ap (λ (g : Bool). cond g (undefined b link && strong b link) (undefined b link)) (link-profile ∙ p)
+
+        -- "and no name undefined at the last pass is tied to an unoffered member"
+        pub last : (walk_by kss).walk.done ≡ false → first.walk.done ≡ true → (k : ℕ) → k < count_of index → ties (name_of index (count_of index) k) link ≡ true
+            → is_in (offset_of index k) (offered index first) ≡ true
+        last d e k h u =
+            sym (among_in index k first.offers)
+            ∙ WalkIn.last-in index walk_key cells begun end kss ls lss d e k h
+            (ties-seen link _ _ (WalkIn.reached_then index walk_key cells begun end _ _ (Terms.reached key gabi bytes names symbols sections inputs lists new ks quiet lent) kss ls lss calm) (name_of index (count_of index) k)
+            ∙ u)
+
+        -- no call of a walk over such a link is refused
+        pub goes : call_number (archive_next index (walk_by kss).cells (walk_by kss).walk) link ≡ 0
+        goes =
+            subst (λ (r : Run). call_number (archive_next index r.cells r.walk) link ≡ 0) (sym (walk_is index kss (start_run walk_key index cells) end))
+            (WalkIn.next-goes index walk_key cells begun link _ _
+            (WalkIn.reached_then index walk_key cells begun end _ _ (Terms.reached key gabi bytes names symbols sections inputs lists new ks quiet lent) kss ls lss calm)
+            (tables_at kss end))
+
+      -- and of m + 1 calls the last answers "done"
+      pub ends : (kss : List (List Call)) → RemovesNothing (with_walk index kss (start_run walk_key index cells) end) end → m < length kss → (walk_by kss).walk.done ≡ true
+      ends = Terms.walk_ends key gabi bytes names symbols sections inputs lists new ks quiet walk_key index cells begun lent
+
+    -- ---- "Collection, unless refused, keeps exactly what relocations reach from the roots"
+
+    -- an object's relocations: after an accepted merge and calls whose collections reach it, a loaded program section n that no repeated group lists is built
+    -- with its name, kind, retain and read, and names the ids that the symbols of its last loaded relocation table were given, in order
+    pub relocations : (o : Stages.Object) (work ids : List ℕ) → call_number (merge o work ids) end ≡ 0 → (n : ℕ)
+        → is_removed o.headers o.entries o.contents o.image (signatures ks s0) (sections_in o.headers) n ≡ false → (ls : List Call)
+        → SparesAll ls (call_next (merge o work ids) end) (section_id o end n) → loaded_as o.headers n program ≡ true
+        → ObjectSections.ObjectSection o work ids end (run_calls ls (call_next (merge o work ids) end)) n program
+        (named_by o.headers o.contents n (sections_in o.headers))
+    relocations o work ids ok n unremoved ls spared =
+        Terms.program-built key gabi bytes names symbols sections inputs lists new ks lent o work ids ok n unremoved ls spared
+
+    -- and these ids stand for the object's symbols to the end: id 0 for a null first one; a local's row has its entry's type, its value through the object's sections, its
+    -- name, its file; any other id is the one that the symbol's name has (Stands, GivenRows.antt)
+    pub relocation-symbols : (o : Stages.Object) (work ids : List ℕ) (ok : call_number (merge o work ids) end ≡ 0) (n : ℕ)
+        → is_removed o.headers o.entries o.contents o.image (signatures ks s0) (sections_in o.headers) n ≡ false → (ls : List Call)
+        → SparesAll ls (call_next (merge o work ids) end) (section_id o end n) → (kind : ℕ) (named : List ℕ)
+        → let then = run_calls ls (call_next (merge o work ids) end) in
+        (x : ObjectSections.ObjectSection o work ids end then n kind named) → AllStand o end (signatures ks s0) then named x.given
+    relocation-symbols = Terms.symbols-stand key gabi bytes names symbols sections inputs lists new ks lent
+
+    module _ (marks : List ℕ) (entry : EntryPoint) (work : List ℕ) where
+      abbrev pub Before : ℕ → Type 0
+      Before = CollectionLaws.Before end.table.link (lists_in end marks) end.table.symbols end.table.sections entry work
+
+      abbrev pub After : ℕ → Type 0
+      After = CollectionLaws.After end.table.link (lists_in end marks) end.table.symbols end.table.sections entry work
+
+      abbrev pub Reached : ℕ → Type 0
+      Reached = Roots.Reached end.table.link (lists_in end marks) end.table.symbols end.table.sections entry
+
+      pub demand-3c : (a c : ℕ) → (call_left (collect marks entry work) end).answer ≡ Dropped a c → (y : ℕ) → After y ↔ Reached y
+      demand-3c a c e y =
+          let k = Terms.demand-3c key gabi bytes names symbols sections inputs lists new ks quiet marks entry work a c e in (k.reached y, k.kept y)
+
+  -- ---- where lists grow between the calls, as the Rust crate lends them: the profile, demand 3a
+
+  module _ (ts : List Turn) (calm : Quiet ts s0) where
+    abbrev pub grown_end : Linked
+    grown_end = Terms.grown_end key gabi bytes names symbols sections inputs lists new ts calm lent
+
+    pub grown-profile : grown_end.table.link.gabi ≡ gabi
+    grown-profile = Terms.grown-profile key gabi bytes names symbols sections inputs lists new ts calm lent
+
+    pub grown-3a : (b : List ℕ) (x : Entry) (xs : List Entry)
+        → Terms.grown_adds key gabi bytes names symbols sections inputs lists new ts calm lent (id_of b grown_end).0 ≡ x ∷ xs
+        → lookup b grown_end ≡ Row (symbol_of (record { 0 = x.id }) (hidden_by gabi (rows (x ∷ xs)) (first_by_rank gabi x.row (rows xs))))
+    grown-3a b = Terms.grown-row key gabi bytes names symbols sections inputs lists new ts calm lent (id_of b grown_end).0
+
+    pub grown-hidden : (b : List ℕ) (x : Entry) (xs : List Entry)
+        → Terms.grown_adds key gabi bytes names symbols sections inputs lists new ts calm lent (id_of b grown_end).0 ≡ x ∷ xs → gabi ≡ true
+        → is_hidden (row_at grown_end.table.symbols x.id)
+        ≡ some_hidden (rows (from_objects (Terms.grown_adds key gabi bytes names symbols sections inputs lists new ts calm lent (id_of b grown_end).0)))
+    grown-hidden b = Terms.grown-hidden key gabi bytes names symbols sections inputs lists new ts calm lent (id_of b grown_end).0

@@ -1,0 +1,125 @@
+-- A walk within a history that removes nothing: none of its calls is refused on account of the link, and it ends.
+-- Assumes nothing.
+use Rattle.std.specs.Prelude.{ℕ, suc, ◌+◌, ◌<◌, ◌≡◌, refl, true, false, List, [], ◌∷◌, ◌++◌, length}
+use Rattle.std.proofs.Common.{arith, sym, ap, subst, ◌∙◌}
+use Rattle.archive_index.specs.Index.{count_of, offset_of, name_of}
+use Rattle.archive_walk.specs.Look.{Table, tied_name}
+use Rattle.archive_walk.specs.Walk.{begun_number, start_of}
+use Rattle.archive_laws.specs.Rounds.{among, members}
+use Rattle.archive_laws.specs.Runs.{Run, step_run, history, start_run}
+use Rattle.archive_laws.specs.Walked.{Walked}
+use Rattle.archive_laws.proofs.Terms.{walked}
+use Rattle.archive_laws.proofs.PassList.{Over, offered, without, first_seen, tied_members, pass-offers}
+use Rattle.symbol_laws.specs.History.{Entry}
+use Rattle.merge_laws.specs.Calls.{Linked}
+use Rattle.link_laws.specs.Calls.{Call, archive_next, view_in, call_next, call_number, run_calls, log_calls, RemovesNothing}
+use Rattle.link_laws.proofs.Kept.{signatures, Reached, reached-within, reached-on}
+use Rattle.link_laws.specs.Walks.{next_in, with_walk, walk_after, tables_at, joined}
+use Rattle.link_laws.proofs.Walks.{next-is, walk_is}
+use Rattle.link_laws.proofs.NeverRemoved.{Whole, table-whole, next-accepted, AllWhole, walk_ends}
+
+quiet-front : (ks ls : List Call) (s : Linked) → RemovesNothing (ks ++ ls) s → RemovesNothing ks s
+quiet-front [] ls s q = tt
+quiet-front (k ∷ ks) ls s q = (q.0, quiet-front ks ls (call_next k s) q.1)
+
+quiet-back : (ks ls : List Call) (s : Linked) → RemovesNothing (ks ++ ls) s → RemovesNothing ls (run_calls ks s)
+quiet-back [] ls s q = q
+quiet-back (k ∷ ks) ls s q = quiet-back ks ls (call_next k s) q.1
+
+reached-whole : (s : Linked) (past : List Entry) (met : List (List ℕ)) → Reached s past met → Whole (view_in s.table)
+reached-whole s past met r = table-whole s.table past r.held met r.marked (reached-within s past met r)
+
+module _ (index : List ℕ) where
+  tables-whole : (kss : List (List Call)) (r : Run) (s : Linked) (past : List Entry) (met : List (List ℕ)) → RemovesNothing (with_walk index kss r s) s → Reached s past met
+      → AllWhole (tables_at kss s)
+  tables-whole [] r s past met q g = tt
+  tables-whole (ks ∷ kss) r s past met q g =
+      let t : Linked = run_calls ks s in
+      let rest : List Call = archive_next index r.cells r.walk ∷ with_walk index kss (next_in index r t) t in
+      let h = reached-on ks s past met (quiet-front ks rest s q) g in
+      (reached-whole t _ _ h, tables-whole kss (next_in index r t) t (past ++ log_calls ks s) (met ++ signatures ks s) (quiet-back ks rest s q).1 h)
+
+  tables-long : (kss : List (List Call)) (s : Linked) → length (tables_at kss s) ≡ length kss
+  tables-long [] s = refl
+  tables-long (ks ∷ kss) s = ap suc (tables-long kss (run_calls ks s))
+
+  module _ (key : ℕ) (cells : List ℕ) (begun : begun_number (start_of key index cells).started.begun ≡ 0) (s : Linked) where
+    -- the walk that a history makes is the walk over the tables at its calls
+    pub walked-in : (kss : List (List Call)) → Walked index (count_of index) (tables_at kss s) (walk_after index kss (start_run key index cells) s)
+    walked-in kss =
+        subst (Walked index (count_of index) (tables_at kss s)) (sym (walk_is index kss (start_run key index cells) s)) (walked key index cells begun (tables_at kss s))
+
+    -- one pass of it: the call behind the parts kss and the calls ks makes it, those behind the parts lss make none, and then it is over
+    module _ (kss : List (List Call)) (ks : List Call) (lss : List (List Call)) where
+      abbrev pub run_before : Run
+      run_before = walk_after index kss (start_run key index cells) s
+
+      abbrev pub link_then : Linked
+      link_then = run_calls ks (run_calls (joined kss) s)
+
+      abbrev pub run_then : Run
+      run_then = next_in index run_before link_then
+
+      abbrev pub run_after : Run
+      run_after = walk_after index lss run_then link_then
+
+      same_after : run_after ≡ history index (tables_at lss link_then) (step_run index (view_in link_then.table) (history index (tables_at kss s) (start_run key index cells)))
+      same_after =
+          walk_is index lss run_then link_then
+          ∙ ap (history index (tables_at lss link_then))
+          (next-is index run_before link_then ∙ ap (step_run index (view_in link_then.table)) (walk_is index kss (start_run key index cells) s))
+
+      same_then : run_then ≡ step_run index (view_in link_then.table) (history index (tables_at kss s) (start_run key index cells))
+      same_then = next-is index run_before link_then ∙ ap (step_run index (view_in link_then.table)) (walk_is index kss (start_run key index cells) s)
+
+      pub pass-in : run_then.walk.passes ≡ run_before.walk.passes + 1 → run_after.walk.passes ≡ run_then.walk.passes → Over key index cells begun run_after
+          → offered index run_after ≡ offered index run_before ++ without (offered index run_before) (first_seen (tied_members index (view_in link_then.table)))
+      pass-in p q o =
+          let t : Table = view_in link_then.table in
+          let ts : List Table = tables_at kss s in
+          let us : List Table = tables_at lss link_then in
+          let b : run_before ≡ history index ts (start_run key index cells) = walk_is index kss (start_run key index cells) s in
+          subst (λ (r : Run). offered index r ≡ offered index run_before ++ without (offered index run_before) (first_seen (tied_members index t))) (sym same_after)
+          (subst
+          (λ (r : Run). offered index (history index us (step_run index t (history index ts (start_run key index cells)))) ≡ offered index r ++ without (offered index r) (first_seen (tied_members index t)))
+          (sym b)
+          (pass-offers key index cells begun ts t us
+          (ap (λ (r : Run). r.walk.passes) (sym same_then) ∙ p ∙ ap (λ (r : Run). r.walk.passes + 1) b)
+          (ap (λ (r : Run). r.walk.passes) (sym same_after) ∙ q ∙ ap (λ (r : Run). r.walk.passes) same_then)
+          (subst (Over key index cells begun) same_after o)))
+
+      -- the call that ends the walk: no entry whose name ties there is of a member that wasn't offered
+      pub last-in : run_before.walk.done ≡ false → run_then.walk.done ≡ true → (k : ℕ) → k < count_of index
+          → tied_name (view_in link_then.table) (name_of index (count_of index) k) ≡ true → among index k run_then.offers ≡ true
+      last-in d e k h u =
+          let t : Table = view_in link_then.table in
+          let b : run_before ≡ history index (tables_at kss s) (start_run key index cells) = walk_is index kss (start_run key index cells) s in
+          subst (λ (r : Run). among index k r.offers ≡ true) (sym same_then)
+          ((walked key index cells begun (tables_at kss s)).last t (ap (λ (r : Run). r.walk.done) (sym b) ∙ d) (ap (λ (r : Run). r.walk.done) (sym same_then) ∙ e) k h u)
+
+    module _ (past : List Entry) (met : List (List ℕ)) (g : Reached s past met) where
+      -- a call over the link reached, whatever tables the walk's calls before were lent
+      -- the link of a pass, where nothing was removed
+      pub reached_then : (kss : List (List Call)) (ks : List Call) (lss : List (List Call)) → RemovesNothing (joined kss ++ ks) s
+          → let p = past ++ log_calls (joined kss) s in
+          let m = met ++ signatures (joined kss) s in
+          let t = run_calls (joined kss) s in
+          Reached (link_then kss ks lss) (p ++ log_calls ks t) (m ++ signatures ks t)
+      reached_then kss ks lss q =
+          reached-on ks (run_calls (joined kss) s) _ _ (quiet-back (joined kss) ks s q) (reached-on (joined kss) s past met (quiet-front (joined kss) ks s q) g)
+
+      pub next-goes : (ts : List Table) → call_number (archive_next index (history index ts (start_run key index cells)).cells (history index ts (start_run key index cells)).walk) s ≡ 0
+      next-goes ts =
+          let r : Run = history index ts (start_run key index cells) in
+          next-accepted (view_in s.table) (reached-whole s past met g) index r.cells r.walk (walked key index cells begun ts).fits
+
+      pub goes_in : (kss : List (List Call))
+          → call_number (archive_next index (walk_after index kss (start_run key index cells) s).cells (walk_after index kss (start_run key index cells) s).walk) s ≡ 0
+      goes_in kss =
+          subst (λ (r : Run). call_number (archive_next index r.cells r.walk) s ≡ 0) (sym (walk_is index kss (start_run key index cells) s)) (next-goes (tables_at kss s))
+
+      pub walk-done : (kss : List (List Call)) → RemovesNothing (with_walk index kss (start_run key index cells) s) s → members index (count_of index) < length kss
+          → (walk_after index kss (start_run key index cells) s).walk.done ≡ true
+      walk-done kss q h =
+          walk_ends index (offset_of index) (name_of index (count_of index)) (count_of index) (tables_at kss s) (walk_after index kss (start_run key index cells) s) (walked-in kss)
+          (tables-whole kss (start_run key index cells) s past met q g) (omega (arith, tables-long kss s))

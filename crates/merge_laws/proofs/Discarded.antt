@@ -1,0 +1,144 @@
+-- A section that a repeated group lists: its mark stands until the end of the merge, so it isn't built, and no symbol is defined there.
+-- Assumes nothing.
+use Prim.Native.Nat.{ℕ, ◌+◌, ◌*◌, ◌/◌, ◌<◌}
+use Rattle.std.proofs.Common.{arith, zero-add, sym, ap, ◌∙◌, get_or-set_same, get_or-set_other}
+use Rattle.std.specs.Prelude.{◌≡◌, Bool, true, false, List, ◌∷◌, ◌++◌, ◌≢◌, eqb, ltb, get_or, length}
+use Rattle.std.proofs.Math.Path.{refl}
+use Rattle.std.proofs.lemmas.Bool.{false≢true}
+use Rattle.std.proofs.Math.ListN.{get_or-eq_default}
+use borrow.Author.Tests.{eqb-true, eqb-false, ltb-true, ltb-false, lt-ltb}
+use Rattle.cells.specs.Proof.Split.{by-test}
+use Rattle.gabi.specs.StringTable.{among}
+use Rattle.gabi.specs.Groups as Gabi
+use Rattle.strings.specs.Lookup.{Looked}
+use Rattle.elf_object.specs.Rows.{rows_in, field, first_at, is_loaded, mark_at}
+use Rattle.section_groups.specs.declared.Plan.{Plan}
+use Rattle.section_groups.specs.Group as Group
+use Rattle.section_groups.specs.Group.{shape_of, signature_of, plan_of, mark_group_of, mark_removed_of, admit_of, decided_of, group_named, signed_of, shaped_of, group_of, group_section_of, groups_of}
+use Rattle.section_groups.specs.Filter.{section_after}
+use Rattle.merge_symbols.specs.Plan.{filtered_at}
+use Rattle.merge_build.specs.Build as Build
+use Rattle.merge_build.specs.Build.{built_from, section_of}
+use Rattle.merge_stages.specs.Stages.{All, Object}
+use Rattle.merge_elf.specs.Merge.{head_in, ended_as, finished_of, merge_of}
+use Rattle.merge_laws.proofs.Loop.{loop, loop-later}
+use Rattle.merge_laws.specs.MergeSteps.{group_first}
+use Rattle.merge_laws.proofs.GroupStage.{number_of}
+use Rattle.merge_laws.proofs.GroupStageLemmas.{groups-loop}
+use Rattle.merge_laws.specs.Whole.{table_in}
+use Rattle.merge_laws.proofs.Stops.{reserved, object, prepared, grouped, marked, builder, groups_to, number, sections-stop, sections-pass, groups-stop}
+use Rattle.merge_laws.specs.Marked.{Marked}
+use Rattle.merge_laws.proofs.GroupMarks.{kept_new, group-removes}
+use Rattle.merge_laws.proofs.FirstKept.{reader, signature, listed, met_to, to-marked}
+
+-- ---- no later group takes a mark back
+
+-- a marked section's cell is lent
+marked-lent : (work : List ℕ) (m : ℕ) → mark_at work m ≡ 2 → m * 8 + 1 < length work
+marked-lent work m e =
+    by-test (ltb (m * 8 + 1) (length work)) (λ a. ltb-true _ _ a)
+    (λ a. let z : mark_at work m ≡ 0 = get_or-eq_default work 0 {n = m * 8 + 1} (ltb-false _ _ a) in absurd (omega (arith, e, z)))
+
+group-stays : (work : List ℕ) (n m : ℕ) → mark_at work m ≡ 2 → mark_at (mark_group_of work n) m ≡ 2
+unfolding mark_group_of
+group-stays work n m e =
+    by-test (eqb (mark_at work n) 2) (λ a. rw a e)
+    (λ a. rw a (get_or-set_other work (n * 8 + 1) (m * 8 + 1) 1 0 (λ q. eqb-false _ _ a (other (omega arith))) ∙ e))
+  where
+    other : m ≡ n → mark_at work n ≡ 2
+    other q = ap (mark_at work) (sym q) ∙ e
+
+removed-stays : (work : List ℕ) (b : Bool) (k m : ℕ) → mark_at work m ≡ 2 → mark_at (mark_removed_of work b k) m ≡ 2
+unfolding mark_removed_of
+removed-stays work false k m e = e
+removed-stays work true k m e =
+    by-test (eqb m k)
+    (λ a. let q : m ≡ k = eqb-true _ _ a in rw (← q) (get_or-set_same work (m * 8 + 1) 2 0 (marked-lent work m e)))
+    (λ a. let u : m ≢ k = eqb-false _ _ a in get_or-set_other work (k * 8 + 1) (m * 8 + 1) 2 0 (λ q. u (omega arith)) ∙ e)
+
+mark-stays : (o : Group.Object) (m : ℕ) (s : Group.Step) (n : ℕ) → mark_at s.work m ≡ 2 → mark_at (group_section_of o s n).work m ≡ 2
+unfolding group_section_of group_of shaped_of signed_of group_named decided_of admit_of
+mark-stays o m s n e =
+    let x : Looked = signature_of o.headers o.entries o.image o.table n in
+    let k : ℕ = get_or o.contents (first_at o.headers n) 0 in
+    let p : Plan = plan_of s.stage.link s.bytes s.names (length s.work / 8) x.name k in
+    by-test (is_loaded o.headers n 7)
+    (λ a.
+    by-test (eqb (shape_of o.headers o.entries o.table n) 0)
+    (λ b.
+    by-test x.found
+    (λ c.
+    by-test (eqb p.number 0) (λ d. rw (a, b, c, d) (removed-stays (mark_group_of s.work n) p.repeated k m (group-stays s.work n m e)))
+    (λ d. rw (a, b, c, d) e))
+    (λ c. rw (a, b, c) e))
+    (λ b. rw (a, b) e))
+    (λ a. rw a e)
+
+module _ (o : Object) (a : All) where
+  -- ---- what becomes of section m of the object, behind its groups
+
+  pub record Discarded (m : ℕ) : Type 0 where
+    -- filter, symbols and build read this mark
+    pub mark : mark_at (marked o a).work m ≡ 2
+    -- nothing is built from it: its name isn't read, and no row is written for it
+    pub unbuilt : (s : Build.State) (kind : ℕ) → section_of (builder o a) s m kind ≡ s
+    -- "Non-local symbols there become undefined": so they reach the add
+    pub undefined : (i : ℕ) → field (object o a).entries i 4 ≡ m → m < 0xff00 → (filtered_at (object o a).entries (marked o a).work i).section ≡ 0
+
+  discarded-by : (m : ℕ) → mark_at (marked o a).work m ≡ 2 → Discarded m
+  unfolding section_of built_from section_after
+  discarded-by m e =
+      record {
+        mark = e;
+        unbuilt = λ s kind. by-test (is_loaded o.headers m kind) (λ l. rw (l, e)) (λ l. rw l);
+        undefined = λ i f h. rw (f, lt-ltb m 0xff00 h, e);
+      }
+
+  module _ (met : List (List ℕ)) (known : Marked (table_in a) met) where
+    -- of the accepted groups of a merge one that the gABI doesn't keep
+    pub repeated-discarded : (grouped o a).stage.number ≡ 0 → (n : ℕ) → n < rows_in o.headers → is_loaded (reader o a).headers n 7 ≡ true → (later : List (List ℕ))
+        → Gabi.kept (met_to o a met n ++ signature o a n ∷ later) (length (met_to o a met n)) ≡ false → Discarded (listed o a n)
+    unfolding groups_of
+    repeated-discarded z n h g later k =
+        discarded-by (listed o a n)
+        (rw whole
+        (loop-later number_of next (λ (s : Group.Step). mark_at s.work (listed o a n) ≡ 2) (λ s i e. mark-stays (reader o a) (listed o a n) s i e) (rows_in o.headers) 0 n first refl
+        (ap number_of (sym whole) ∙ z) h (λ c d. rw (zero-add n) (rw (← upto) (here (step d))))))
+      where
+        next : Group.Step → ℕ → Group.Step
+        next = group_section_of (reader o a)
+
+        first : Group.Step
+        first = group_first (prepared o a)
+
+        whole : grouped o a ≡ loop number_of next (rows_in o.headers) 0 first
+        whole = groups-loop (reader o a) (rows_in o.headers) 0 first
+
+        upto : groups_to o a n ≡ loop number_of next n 0 first
+        upto = groups-loop (reader o a) n 0 first
+
+        again : among (signature o a n) (met_to o a met n) ≡ true
+        again = by-test (among (signature o a n) (met_to o a met n)) (λ t. t) (λ t. absurd (false≢true (sym k ∙ kept_new (met_to o a met n) (signature o a n) later ∙ rw t)))
+
+        step : number_of (next (loop number_of next n 0 first) (0 + n)) ≡ 0 → number_of (next (groups_to o a n) n) ≡ 0
+        step d = ap (λ (s : Group.Step). number_of (next s n)) upto ∙ ap (λ (j : ℕ). number_of (next (loop number_of next n 0 first) j)) (sym (zero-add n)) ∙ d
+
+        here : number_of (next (groups_to o a n) n) ≡ 0 → mark_at (next (groups_to o a n) n).work (listed o a n) ≡ 2
+        here d = group-removes a.symbols (reserved o a).sections (reader o a) (groups_to o a n) (met_to o a met n) (to-marked o a met known n) n g d again
+
+  -- an accepted merge passes its groups
+  pub groups-pass : number o a ≡ 0 → (grouped o a).stage.number ≡ 0
+  groups-pass z =
+      by-test (eqb (grouped o a).stage.number 0) (λ b. eqb-true _ _ b)
+      (λ b.
+      by-test (eqb (reserved o a).reserved.number 0)
+      (λ c. absurd (eqb-false _ _ b (sym (ap (λ (x : All). x.stage.number) (sections-pass o a (eqb-true _ _ c) ∙ groups-stop o a (eqb-false _ _ b))) ∙ z)))
+      (λ c. absurd (eqb-false _ _ c (sym (ap (λ (x : All). x.stage.number) (sections-stop o a (eqb-false _ _ c))) ∙ z))))
+
+  pub merge-passes : (merge_of o a).said.number ≡ 0 → ((head_in o a).number ≡ 0) × (number o a ≡ 0)
+  unfolding merge_of finished_of ended_as
+  merge-passes z =
+      by-test (eqb (head_in o a).number 0)
+      (λ b.
+      by-test (eqb (number o a) 0) (λ c. (eqb-true _ _ b, eqb-true _ _ c)) (λ c. absurd (eqb-false _ _ c (rw (b, c) at z))))
+      (λ b. absurd (eqb-false _ _ b (rw b at z)))

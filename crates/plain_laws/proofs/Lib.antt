@@ -1,0 +1,5 @@
+pub mod Terms
+pub mod Examples
+pub mod Visits
+pub mod Agrees
+pub mod AgreesLemmas

@@ -1,0 +1,159 @@
+-- The statements of the terms of acceptance about the symbol table. Their proofs stand in the other files.
+-- Assumes nothing.
+use Rattle.std.specs.Prelude.{ℕ, ◌<◌, ◌≡◌, Bool, true, false, List, [], ◌∷◌, ◌++◌, ◌≢◌}
+use Rattle.std.proofs.Common.{sym, ap, ◌∙◌, subst}
+use Rattle.link.specs.Said.{number_in, value_in}
+use Rattle.gabi.specs.SymbolTable.{Sym}
+use Rattle.gabi.specs.Visibility.{combined}
+use Rattle.gabi.specs.Resolution.{duplicate, resolve}
+use Rattle.symbol.specs.RowLaws.{symbol_of}
+use Rattle.symbol.specs.declared.Row.{Row}
+use Rattle.symbol.specs.Row.{field, scope_refused, value_refused}
+use Rattle.symbol_resolution.specs.Holder.{global_at}
+use Rattle.symbol_resolution.specs.Apply.{Table}
+use Rattle.symbols.specs.declared.Found.TheVariants as Fd
+use Rattle.symbols.specs.New.{new_of}
+use Rattle.symbols.specs.Lookup.{not_found, get_global_of}
+use Rattle.upcoming_symbol.specs.declared.UpcomingSymbol.{UpcomingSymbol}
+use Rattle.symbols.specs.Add.{add_of}
+use Rattle.symbol_laws.specs.Rank.{first_by_rank}
+use Rattle.symbol_laws.specs.Proof.Rows.{row_at}
+use Rattle.symbol_laws.specs.History.{State, opened, Entry, only, rows, Part, put_of, run_parts, log_parts, Call, add, intern, call_next, call_number, run_calls, log_calls, Removes, RemovesNothing}
+use Rattle.symbol_laws.proofs.Held.{Inv}
+use Rattle.symbol_laws.proofs.Start.{new-inv}
+use Rattle.symbol_laws.proofs.Calls.{call-refused, parts-keep, calls-keep}
+use Rattle.symbol_laws.specs.Hidden.{is_hidden, some_hidden, attribute}
+use Rattle.symbol_laws.specs.Standing.{hidden_by, SameButHidden}
+use Rattle.symbol_laws.proofs.Profile as Profile
+use Rattle.symbol_laws.specs.Demand as Demand
+use Rattle.symbol_laws.proofs.Demand as DemandLaws
+use Rattle.symbol_laws.proofs.Within as Within
+use Rattle.symbol_laws.proofs.BelowLemmas.{inv-below}
+use Rattle.symbol_laws.specs.Writes as Writes
+use Rattle.symbol_laws.proofs.WritesLemmas as WritesLaws
+use Rattle.symbol_laws.specs.Gabi.{Means, AllMean, sym_of_row, syms_of}
+use Rattle.symbol_laws.proofs.Gabi.{combined-rows, means-own, all-mean-own}
+use Rattle.symbol_laws.specs.Agreement as Agreement
+use Rattle.symbol_laws.proofs.Agreement as AgreementLaws
+use Rattle.symbol_laws.proofs.Duplicate as Duplicate
+
+-- of the calls only a removal removes, so adds and interns of every kind may stand in a sequence that removes nothing
+pub add-removes-nothing : (conversion : List ℕ) (u : UpcomingSymbol) (s : State) → Removes (add conversion u) s → ⊥
+add-removes-nothing conversion u s r = r
+
+pub intern-removes-nothing : (x : List ℕ) (s : State) → Removes (intern x) s → ⊥
+intern-removes-nothing x s r = r
+
+-- "Let a link be a new table", in either profile
+module _ (key : ℕ) (gabi : Bool) (bytes names symbols sections : List ℕ) (new : number_in (new_of key gabi bytes names symbols sections).said ≡ 0) where
+  abbrev pub start : State
+  start = opened (new_of key gabi bytes names symbols sections)
+
+  -- for names issued and rows added one by one, as every call does
+  pub rows-3a : (ps : List Part) (n : ℕ) (x : Entry) (xs : List Entry) → only n (log_parts ps start) ≡ x ∷ xs → Demand.Resolved gabi (run_parts ps start) n x xs
+  rows-3a ps n x xs e =
+      subst (λ (g : Bool). Demand.Resolved g (run_parts ps start) n x xs)
+      (Profile.parts-profile ps start ∙ Profile.new-profile key gabi bytes names symbols sections new)
+      (DemandLaws.resolved _ _ (parts-keep ps start [] (new-inv key gabi bytes names symbols sections new)) n x xs e)
+
+  -- "and any sequence of calls that removes nothing"
+  module _ (ks : List Call) (quiet : RemovesNothing ks start) where
+    abbrev pub end : State
+    end = run_calls ks start
+
+    -- a name's accepted adds, "local adds set aside"
+    abbrev pub adds : ℕ → List Entry
+    adds n = only n (log_calls ks start)
+
+    kept : Inv end (log_calls ks start)
+    kept = calls-keep ks start [] quiet (new-inv key gabi bytes names symbols sections new)
+
+    within : Within.Within end.link end.names
+    within = Within.calls-within ks start quiet (Within.new-within key gabi bytes names symbols sections new)
+
+    -- no call changes the profile
+    pub profile : end.link.gabi ≡ gabi
+    profile = Profile.calls-profile ks start ∙ Profile.new-profile key gabi bytes names symbols sections new
+
+    -- "each global name has the id of its first accepted add and the content of its first accepted strong definition, else weak
+    -- definition, else add"; in the old profile that is the whole row, in gABI's hidden is apart from it
+    pub demand-3a : (n : ℕ) (x : Entry) (xs : List Entry) → adds n ≡ x ∷ xs → Demand.Resolved gabi end n x xs
+    demand-3a n x xs e = subst (λ (g : Bool). Demand.Resolved g end n x xs) profile (DemandLaws.resolved end _ kept n x xs e)
+
+    -- the row apart from hidden, in both
+    pub content-3a : (n : ℕ) (x : Entry) (xs : List Entry) → adds n ≡ x ∷ xs → SameButHidden (row_at end.symbols x.id) (first_by_rank gabi x.row (rows xs))
+    content-3a n x xs e = DemandLaws.content-apart end n x xs gabi (demand-3a n x xs e)
+
+    -- hidden in the gABI profile
+    pub hidden-3a : (n : ℕ) (x : Entry) (xs : List Entry) → adds n ≡ x ∷ xs → gabi ≡ true → is_hidden (row_at end.symbols x.id) ≡ some_hidden (rows (x ∷ xs))
+    hidden-3a n x xs e g = DemandLaws.hidden-gabi end n x xs (subst (λ (g : Bool). Demand.Resolved g end n x xs) g (demand-3a n x xs e))
+
+    -- what a lookup by the name then answers
+    pub lookup-row : (n : ℕ) (x : Entry) (xs : List Entry) → adds n ≡ x ∷ xs
+        → get_global_of end.link end.names end.symbols (record { 0 = n }) ≡ Fd.Row (symbol_of (record { 0 = x.id }) (hidden_by gabi (rows (x ∷ xs)) (first_by_rank gabi x.row (rows xs))))
+    lookup-row n x xs e =
+        Within.lookup-row end _ kept within n x xs e
+        ∙ ap (λ (g : Bool). Fd.Row (symbol_of (record { 0 = x.id }) (hidden_by g (rows (x ∷ xs)) (first_by_rank g x.row (rows xs))))) profile
+
+    -- a name without accepted global add has no row, issued or not
+    pub no_row : (n : ℕ) → adds n ≡ [] → n < end.link.names → global_at end.names n ≡ 0
+    no_row n e i = DemandLaws.no_row end _ kept n e i
+
+    pub lookup-none : (n : ℕ) → adds n ≡ [] → get_global_of end.link end.names end.symbols (record { 0 = n }) ≡ not_found 23 0
+    lookup-none = Within.lookup-none end _ kept within
+
+    -- "Rows past the count are never written": by one more call, accepted or refused, a removal too
+    pub past-the-count : (k : Call) → Writes.Untouched end (call_next k end)
+    past-the-count k = WritesLaws.call-past end (inv-below end _ kept) k
+
+    -- an id once given to a name stays its own
+    pub ids-stay : (ls : List Call) → RemovesNothing ls end → (n : ℕ) → n < end.link.names → global_at end.names n ≢ 0
+        → Writes.Bears (run_calls ls end) n (global_at end.names n)
+    ids-stay ls q n i z = WritesLaws.stays end (run_calls ls end) _ _ kept (calls-keep ls end _ q kept) n i z
+
+    -- ---- demand 2: agreement with the gABI
+
+    -- whichever symbols the rows mean
+    pub gabi-agrees-any : (n : ℕ) (x : Entry) (xs : List Entry) → adds n ≡ x ∷ xs → (s : Sym) (ss : List Sym) → AllMean (rows (x ∷ xs)) (s ∷ ss)
+        → Agreement.Agrees gabi x.row (rows xs) s ss (row_at end.symbols x.id) (resolve (s ∷ ss))
+    gabi-agrees-any n x xs e s ss m =
+        subst (λ (g : Bool). Agreement.Agrees g x.row (rows xs) s ss (row_at end.symbols x.id) (resolve (s ∷ ss))) profile
+        (AgreementLaws.accepted end _ kept n x xs e s ss m)
+
+    -- of the symbols that are accepted under a name the gABI resolves to the one that the row has; undefined where it has none
+    pub gabi-agrees : (n : ℕ) (x : Entry) (xs : List Entry) → adds n ≡ x ∷ xs
+        → Agreement.Agrees gabi x.row (rows xs) (sym_of_row x.row) (syms_of (rows xs)) (row_at end.symbols x.id) (resolve (syms_of (rows (x ∷ xs))))
+    gabi-agrees n x xs e = gabi-agrees-any n x xs e _ _ (all-mean-own (rows (x ∷ xs)))
+
+    -- and in the gABI profile the row's visibility is the one that the gABI gives to that symbol
+    pub gabi-visible : (n : ℕ) (x : Entry) (xs : List Entry) → adds n ≡ x ∷ xs → gabi ≡ true → attribute (is_hidden (row_at end.symbols x.id)) ≡ combined (syms_of (rows (x ∷ xs)))
+    gabi-visible n x xs e g = ap attribute (hidden-3a n x xs e g) ∙ sym (combined-rows (rows (x ∷ xs)))
+
+    -- a further add is refused with 17 exactly where the gABI sees a duplicate
+    module _ (r : Row) (x : Entry) (xs : List Entry) (e : adds r.name.0 ≡ x ∷ xs) (global : r.visibility ≢ 0) (passes : scope_refused r ≡ false)
+        (valued : value_refused r ≡ false) where
+      abbrev own : AllMean (rows (x ∷ xs)) (syms_of (rows (x ∷ xs)))
+      own = all-mean-own (rows (x ∷ xs))
+
+      pub duplicate-refused : resolve (syms_of (rows (x ∷ xs)) ++ (sym_of_row r ∷ [])) ≡ duplicate → number_in (put_of end r).said ≡ 17
+      duplicate-refused = Duplicate.duplicate-refused end _ kept r x xs e global passes valued _ _ own _ (means-own r)
+
+      pub refused-duplicate : number_in (put_of end r).said ≡ 17 → resolve (syms_of (rows (x ∷ xs)) ++ (sym_of_row r ∷ [])) ≡ duplicate
+      refused-duplicate = Duplicate.refused-duplicate end _ kept r x xs e global passes valued _ _ own _ (means-own r)
+
+      -- whichever symbols the rows mean
+      module _ (s : Sym) (ss : List Sym) (m : AllMean (rows (x ∷ xs)) (s ∷ ss)) (g : Sym) (mine : Means r g) where
+        pub duplicate-refused-any : resolve ((s ∷ ss) ++ (g ∷ [])) ≡ duplicate → number_in (put_of end r).said ≡ 17
+        duplicate-refused-any = Duplicate.duplicate-refused end _ kept r x xs e global passes valued s ss m g mine
+
+        pub refused-duplicate-any : number_in (put_of end r).said ≡ 17 → resolve ((s ∷ ss) ++ (g ∷ [])) ≡ duplicate
+        refused-duplicate-any = Duplicate.refused-duplicate end _ kept r x xs e global passes valued s ss m g mine
+
+-- "leaves behind what that table says": every refusal of these calls leaves all
+pub refusals-leave-all : (k : Call) (s : State) → call_number k s ≢ 0 → call_next k s ≡ s
+refusals-leave-all = call-refused
+
+-- an add writes no symbol row but the one whose id it answers
+pub one-row : (t : Table) (conversion : List ℕ) (u : UpcomingSymbol) (j f : ℕ) → f < 8 → j ≢ value_in (add_of t conversion u).said
+    → field (add_of t conversion u).table.symbols j f ≡ field t.symbols j f
+one-row = WritesLaws.add-one-row

@@ -1,0 +1,9 @@
+use Rattle.std.proofs.Common.{rules}
+use Rattle.text.specs.Proof.Ways.{run-forward, field-part}
+use Rattle.text.proofs.fields.field.Goals as goal
+
+pub overflow_sub-end : goal.overflow_sub-end
+overflow_sub-end c = search run-forward
+
+pub returns : goal.returns
+returns c = search (rules, field-part)
