@@ -3,14 +3,13 @@
 // file these are the cells of an object's symbol row (elf_object).
 #![tactic(auto)]
 
-ghost use Rattle.std.specs.Prelude.{◌≡◌};
-ghost use Rattle.link.specs.Judge.{refused};
+ghost use Rattle.std.specs.Prelude.{◌≡◌, ◌≢◌, IfErr};
 ghost use Rattle.symbol_resolution.specs.Apply.{table_before};
 ghost use Rattle.add_list.specs.AddList.{item_at, items_of, turn_of, adds_of};
-ghost use Rattle.add_list.specs.Contract.{listed_at, noted, noted_as, list_exit, ListMeets, listed_after, listed_before};
+ghost use Rattle.add_list.specs.Contract.{list_exit, ListMeets, listed_after, turn_before, turn_after};
 
-use link::{Interned, Link, Refusal};
-use symbols::{Answer, Outcome, Symbols};
+use link::{Interned, Refusal};
+use symbols::Symbols;
 use upcoming_symbol::UpcomingSymbol;
 
 pub const ROW_CELLS: usize = 8;
@@ -19,31 +18,13 @@ const NAME: usize = 0;
 
 const FILE: usize = 7;
 
-// The table, and the first refusal with its add's position. Number 0: every add is accepted, and the position is their number.
+// The table, the first refusal (number 0: none), and how many adds before it were accepted.
+// Kept: a refusal and no Result, since its number and place are what the caller is told beside the position, of a list that is accepted too.
 #[derive(Clone, Copy)]
 pub struct Listed {
     pub table: Symbols,
     pub refusal: Refusal,
     pub position: usize,
-}
-
-fn listed_at(l: Link, refusal: Refusal, position: usize) -> Listed
-    ensures { result ≡ listed_at l refusal position }
-{
-    Listed {
-        table: Symbols { link: l },
-        refusal: refusal,
-        position: position,
-    }
-}
-
-fn refusal(number: u64) -> Refusal
-    ensures { result ≡ refused number 0 }
-{
-    Refusal {
-        number: number,
-        place: 0,
-    }
 }
 
 fn item_at(adds: &[u64], k: usize) -> UpcomingSymbol
@@ -56,25 +37,10 @@ fn item_at(adds: &[u64], k: usize) -> UpcomingSymbol
     }
 }
 
-// An accepted add's id goes to its cell; a refused one leaves all cells.
-fn note(o: Outcome, ids: &mut [u64], k: usize) -> Listed
-    ensures { noted ids.new result ≡ noted_as o.answer o.table ids.old k }
-{
-    let table = o.table;
-    let l = table.link;
-    let a = o.answer;
-    match a {
-        Answer::Symbol { id } => {
-            cells::put(ids, k, id.0 as u64);
-            listed_at(l, refusal(0), k)
-        }
-        Answer::Refused { refusal: r } => listed_at(l, r, k),
-    }
-}
-
-// The add at position k, to the table that the adds before it left.
+// The add at position k, to the table that the adds before it left. An accepted add's id goes to its cell; a refused one leaves all cells.
+#[tactic(auto, unfolding(crate::specs::AddList::turn_of))]
 fn turn(
-    s: Listed,
+    table: &mut Symbols,
     names: &mut [u64],
     symbols: &mut [u64],
     sections: &mut [u64],
@@ -82,23 +48,27 @@ fn turn(
     adds: &[u64],
     ids: &mut [u64],
     k: usize,
-) -> Listed
-    ensures { listed_after names symbols sections ids result
-        ≡ turn_of conversion.now (item_at adds.now k) (listed_before names symbols sections ids s) k }
+) -> Result<(), Refusal>
+    ensures left { turn_after names symbols sections ids table.new result k
+        ≡ turn_of conversion.now (item_at adds.now k) (turn_before names symbols sections ids table.old) k }
+    ensures number { IfErr result (λ r. r.number ≢ 0) }
 {
-    let o = symbols::add(
-        s.table,
+    let added = symbols::add(
+        *table,
         names,
         symbols,
         sections,
         conversion,
         item_at(adds, k),
     );
-    note(o, ids, k)
+    *table = added.table;
+    let id = added.answer?;
+    cells::put(ids, k, id.0 as u64);
+    Ok(())
 }
 
 fn add_rows(
-    s: Listed,
+    mut table: Symbols,
     names: &mut [u64],
     symbols: &mut [u64],
     sections: &mut [u64],
@@ -107,21 +77,25 @@ fn add_rows(
     ids: &mut [u64],
 ) -> Listed
     ensures { listed_after names symbols sections ids result
-        ≡ adds_of conversion.now (items_of adds.now) (listed_before names symbols sections ids s) 0 }
+        ≡ adds_of conversion.now (items_of adds.now) (turn_before names symbols sections ids table) 0 }
 {
     let rows = adds.len() / ROW_CELLS;
-    let mut u = s;
-    let mut k = 0;
-    while k < rows {
-        u = turn(u, names, symbols, sections, conversion, adds, ids, k);
-        let r = u.refusal;
-        if r.number != 0 {
-            return u;
+    for k in 0..rows {
+        if let Err(refusal) = turn(
+            &mut table, names, symbols, sections, conversion, adds, ids, k,
+        ) {
+            return Listed {
+                table,
+                refusal,
+                position: k,
+            };
         }
-        k += 1;
     }
-    let table = u.table;
-    listed_at(table.link, refusal(0), k)
+    Listed {
+        table,
+        refusal: Refusal::new(0, 0),
+        position: rows,
+    }
 }
 
 pub fn add_list(
@@ -135,13 +109,19 @@ pub fn add_list(
 ) -> Listed
     ensures { ListMeets (table_before names symbols sections table.link) conversion.now adds.now ids.old (list_exit names symbols sections ids result) }
 {
-    let l = table.link;
-    if l.broken {
-        return listed_at(l, refusal(22), 0);
+    if table.link.broken {
+        return Listed {
+            table,
+            refusal: Refusal::new(22, 0),
+            position: 0,
+        };
     }
     if ids.len() < adds.len() / ROW_CELLS {
-        return listed_at(l, refusal(2), 0);
+        return Listed {
+            table,
+            refusal: Refusal::new(2, 0),
+            position: 0,
+        };
     }
-    let s = listed_at(l, refusal(0), 0);
-    add_rows(s, names, symbols, sections, conversion, adds, ids)
+    add_rows(table, names, symbols, sections, conversion, adds, ids)
 }

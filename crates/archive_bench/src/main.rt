@@ -3,9 +3,36 @@
 // when each of them is asked for, and the most that a question takes.
 #![tactic(auto)]
 
+use archive_index::Rows;
 use archive_walk::Walk;
+use std::alloc::{AllocError, Global};
+use std::iter::successors;
+use std::{fmt, io};
 
-const ENTRIES: usize = 4096;
+const ENTRIES: u16 = 4096;
+
+// ---- steps
+
+#[derive(Clone, Copy, Default)]
+struct Tally {
+    steps: usize,
+    most: usize,
+}
+
+impl Tally {
+    fn add(&mut self, steps: usize, most: usize) {
+        self.steps = self.steps.wrapping_add(steps);
+        self.most = self.most.max(most);
+    }
+}
+
+impl fmt::Display for Tally {
+    fn fmt<W: fmt::Write>(&self, f: &mut fmt::Formatter<W>) -> fmt::Result {
+        write!(f, "{} steps, at most {}", self.steps, self.most)
+    }
+}
+
+// ---- an index
 
 #[derive(Clone, Copy)]
 enum Kind {
@@ -19,201 +46,164 @@ enum Kind {
     EqualMembers,
 }
 
-#[derive(Clone, Copy)]
-struct Tally {
-    steps: u64,
-    most: u64,
-}
-
-fn with(t: Tally, steps: u64, most: u64) -> Tally {
-    let sum = std::num::wrapping_add_u64(t.steps, steps);
-    if t.most < most {
-        return Tally {
-            steps: sum,
-            most: most,
-        };
-    }
-    Tally {
-        steps: sum,
-        most: t.most,
-    }
-}
-
-fn nothing() -> Tally {
-    Tally { steps: 0, most: 0 }
-}
-
-// ---- an index
-
-fn offset_of(kind: Kind, k: usize) -> usize {
-    match kind {
-        Kind::Multiples => k % 4096 * 4096,
-        Kind::HighBits => k % 4096 * 0x10_0000,
-        Kind::OneName => 68,
-        Kind::EqualMembers => 68 + k % 4096 / 16 * 1000,
-    }
-}
-
-// Entries with the same number bear the same name.
-fn name_number(kind: Kind, k: usize) -> usize {
-    match kind {
-        Kind::Multiples => k,
-        Kind::HighBits => k,
-        Kind::OneName => {
-            if k == 0 {
-                return 0;
-            }
-            1
+impl Kind {
+    fn offset(self, k: u16) -> u32 {
+        let k = u32::from(k % ENTRIES);
+        match self {
+            Kind::Multiples => k * 4096,
+            Kind::HighBits => k * 0x10_0000,
+            Kind::OneName => 68,
+            Kind::EqualMembers => 68 + k / 16 * 1000,
         }
-        Kind::EqualMembers => k % 16,
     }
-}
 
-fn put(index: &mut [u8], i: usize, v: usize) {
-    if i < index.len() {
-        index[i] = (v % 256) as u8;
+    // Entries with the same number bear the same name.
+    fn name_number(self, k: u16) -> u16 {
+        match self {
+            Kind::Multiples | Kind::HighBits => k,
+            Kind::OneName => k.min(1),
+            Kind::EqualMembers => k % 16,
+        }
     }
-}
 
-fn put_word(index: &mut [u8], k: usize, v: usize) {
-    let at = k % 8192 * 4;
-    put(index, at, v / 16777216);
-    put(index, at + 1, v / 65536);
-    put(index, at + 2, v / 256);
-    put(index, at + 3, v);
+    // The count of entries, their offsets, their names.
+    fn index(self, alloc: Global) -> Result<Vec<u8>, AllocError> {
+        let mut index = Vec::new(alloc);
+        index.extend_from_slice(&u32::from(ENTRIES).to_be_bytes())?;
+        for k in 0..ENTRIES {
+            index.extend_from_slice(&self.offset(k).to_be_bytes())?;
+        }
+        for k in 0..ENTRIES {
+            index.extend_from_slice(&name(self.name_number(k)))?;
+        }
+        Ok(index)
+    }
 }
 
 // Four letters and the zero byte.
-fn put_name(index: &mut [u8], k: usize, n: usize) {
-    let at = 4 + 4 * ENTRIES + k % 8192 * 5;
-    put(index, at, 97 + n / 4096 % 16);
-    put(index, at + 1, 97 + n / 256 % 16);
-    put(index, at + 2, 97 + n / 16 % 16);
-    put(index, at + 3, 97 + n % 16);
-    put(index, at + 4, 0);
+fn name(n: u16) -> [u8; 5] {
+    let letter = |digit: u16| b'a' + (digit % 16) as u8;
+    [
+        letter(n / 4096),
+        letter(n / 256),
+        letter(n / 16),
+        letter(n),
+        0,
+    ]
 }
 
-fn put_entry(index: &mut [u8], kind: Kind, k: usize) {
-    put_word(index, k % 4096 + 1, offset_of(kind, k));
-    put_name(index, k, name_number(kind, k));
+// ---- an archive
+
+// An index, and its rows of cells.
+#[derive(Drop)]
+struct Archive {
+    index: Vec<u8>,
+    cells: Vec<u64>,
 }
 
-fn make(index: &mut [u8], kind: Kind) {
-    put_word(index, 0, ENTRIES);
-    let mut k = 0;
-    while k < ENTRIES {
-        put_entry(index, kind, k);
-        k += 1;
+impl Archive {
+    fn new(alloc: Global, kind: Kind) -> Result<Archive, AllocError> {
+        Ok(Archive {
+            index: kind.index(alloc)?,
+            cells: vec![in alloc; 0; usize::from(ENTRIES) * archive_index::ROW_WIDTH]?,
+        })
     }
-}
 
-// ---- the tree of members
+    // The entry that a cell names: 0 stands for none.
+    fn entry_in(&self, entry: usize, cell: usize) -> Option<usize> {
+        (cells::row_get(&self.cells, entry, cell) as usize).checked_sub(1)
+    }
 
-// How many entries are met on the way down to the member at the offset.
-fn depth(index: &[u8], cells: &[u64], o: u64) -> u64 {
-    let mut at = 0;
-    let mut key = o;
-    let mut n: u64 = 0;
-    while n < 65536 {
-        n += 1;
-        if archive_index::offset(index, at) == o {
-            return n;
+    // How many entries are met on the way down the tree to the member at the offset.
+    fn depth(&self, offset: u64) -> usize {
+        let next = |(entry, key): &(usize, u64)| {
+            if archive_index::offset(&self.index, *entry) == offset {
+                return None;
+            }
+            let child = archive_index::EVEN + (*key % 2) as usize;
+            Some((self.entry_in(*entry, child)?, *key / 2))
+        };
+        successors(Some((0, offset)), next).take(65_536).count()
+    }
+
+    fn members(&mut self) -> Tally {
+        let _ = archive_index::open(&self.index, &mut self.cells);
+        let mut tally = Tally::default();
+        for k in 0..usize::from(ENTRIES) {
+            let depth = self.depth(archive_index::offset(&self.index, k));
+            tally.add(depth, depth);
         }
-        let child = cells::row_get(cells, at, 2 + key as usize % 2) as usize;
-        if child == 0 {
-            return n;
+        tally
+    }
+
+    // How many names stand in the chain with that head.
+    fn chain_length(&self, head: usize) -> usize {
+        let first = self.entry_in(head, archive_index::HEAD);
+        let next = |entry: &usize| self.entry_in(*entry, archive_index::LINK);
+        successors(first, next).take(65_536).count()
+    }
+
+    // The first name of a chain takes a step, the second two, and so on.
+    fn names(&mut self, key: usize) -> Tally {
+        let started = Walk::start(key, &self.index, &mut self.cells);
+        let walk = started.unwrap_or(Walk::none());
+        let mut rows = Rows {
+            index: &self.index,
+            cells: &mut self.cells,
+        };
+        for k in 0..usize::from(ENTRIES) {
+            walk.note(&mut rows, k);
         }
-        at = child - 1;
-        key = key / 2;
-    }
-    n
-}
-
-fn depths(index: &[u8], cells: &[u64]) -> Tally {
-    let mut t = nothing();
-    let mut k = 0;
-    while k < ENTRIES {
-        let n = depth(index, cells, archive_index::offset(index, k));
-        t = with(t, n, n);
-        k += 1;
-    }
-    t
-}
-
-// ---- the chains of names
-
-fn note_all(w: Walk, index: &[u8], cells: &mut [u64]) {
-    let mut k = 0;
-    while k < ENTRIES {
-        archive_walk::note(w, index, cells, k);
-        k += 1;
-    }
-}
-
-// The first name of a chain takes a step, the second two, and so on.
-fn chain(cells: &[u64], head: usize, t: Tally) -> Tally {
-    let mut at = head;
-    let mut steps: u64 = 0;
-    let mut length: u64 = 0;
-    while length < 65536 {
-        if at == 0 {
-            return with(t, steps, length);
+        let mut tally = Tally::default();
+        for head in 0..usize::from(ENTRIES) {
+            let length = self.chain_length(head);
+            tally.add((1..=length).fold(0, usize::wrapping_add), length);
         }
-        length += 1;
-        steps = std::num::wrapping_add_u64(steps, length);
-        at = cells::row_get(cells, at - 1, 2) as usize;
+        tally
     }
-    with(t, steps, length)
-}
-
-fn chains(cells: &[u64]) -> Tally {
-    let mut t = nothing();
-    let mut b = 0;
-    while b < ENTRIES {
-        t = chain(cells, cells::row_get(cells, b, 3) as usize, t);
-        b += 1;
-    }
-    t
 }
 
 // ---- what is printed
 
-fn print(what: &[u8], t: Tally) {
-    io::write_all(1, what);
-    io::print_decimal(1, t.steps);
-    io::write_all(1, b" steps, at most ");
-    io::print_decimal(1, t.most);
+struct Case {
+    what: &'static str,
+    kind: Kind,
+    key: usize,
 }
 
-fn members(index: &[u8], cells: &mut [u64]) {
-    archive_index::open(index, cells);
-    print(b": members ", depths(index, cells));
-}
+const CASES: [Case; 5] = [
+    Case {
+        what: "multiples of the count",
+        kind: Kind::Multiples,
+        key: 0,
+    },
+    Case {
+        what: "high bits",
+        kind: Kind::HighBits,
+        key: 0,
+    },
+    Case {
+        what: "one name",
+        kind: Kind::OneName,
+        key: 0,
+    },
+    Case {
+        what: "equal members",
+        kind: Kind::EqualMembers,
+        key: 0,
+    },
+    Case {
+        what: "equal members, another key",
+        kind: Kind::EqualMembers,
+        key: 12345,
+    },
+];
 
-fn names(key: usize, index: &[u8], cells: &mut [u64]) {
-    let s = archive_walk::start(key, index, cells);
-    note_all(s.walk, index, cells);
-    print(b"; names ", chains(cells));
-}
-
-fn run(kind: Kind, key: usize, index: &mut [u8], cells: &mut [u64]) {
-    make(index, kind);
-    members(index, cells);
-    names(key, index, cells);
-}
-
-fn measure(what: &[u8], kind: Kind, key: usize) {
-    let mut cells = [0u64; 32768];
-    let mut index = [0u8; 40960];
-    io::write_all(1, what);
-    run(kind, key, &mut index, &mut cells);
-    io::write_all(1, b"\n");
-}
-
-fn main() {
-    measure(b"multiples of the count", Kind::Multiples, 0);
-    measure(b"high bits", Kind::HighBits, 0);
-    measure(b"one name", Kind::OneName, 0);
-    measure(b"equal members", Kind::EqualMembers, 0);
-    measure(b"equal members, another key", Kind::EqualMembers, 12345);
+fn main(rt: HostRuntime) -> io::Result<()> {
+    for case in &CASES {
+        let mut archive = Archive::new(rt.alloc(), case.kind)?;
+        print!(rt; "{}: members {}", case.what, archive.members())?;
+        println!(rt; "; names {}", archive.names(case.key))?;
+    }
+    Ok(())
 }

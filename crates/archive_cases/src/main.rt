@@ -1,279 +1,142 @@
 // Small cases of archives with their answers: the start over odd indexes, the order of offers, a pass that meets a removed name, and admission.
 #![tactic(auto)]
 
-use archive_walk::{Begun, Offer, Walk};
-use link::{Interned, Link, Refusal, SymbolId};
-use object_requirement::Admission;
-use symbol::SttFile;
-use symbols::Symbols;
-use upcoming_symbol::{ElfSymbol, UpcomingSymbol};
+use archive_index::Rows;
+use archive_walk::{Offer, Table, Walk};
+use link::{Link, Refusal, SymbolId};
+use owned_table::{OwnedTable, Room};
+use std::io;
+use upcoming_symbol::ElfSymbol;
 
-// The descriptor of standard output.
-const STANDARD_OUTPUT: i32 = 1;
-
-fn space() {
-    io::write_all(STANDARD_OUTPUT, b" ");
-}
-
-fn line() {
-    io::write_all(STANDARD_OUTPUT, b"\n");
-}
-
-fn print_refusal(r: Refusal) {
-    io::write_all(STANDARD_OUTPUT, b"refused ");
-    io::print_decimal(STANDARD_OUTPUT, r.number);
-    space();
-    io::print_decimal(STANDARD_OUTPUT, r.place);
-    line();
-}
-
-fn print_passes(what: &[u8], passes: usize) {
-    io::write_all(STANDARD_OUTPUT, what);
-    io::print_decimal(STANDARD_OUTPUT, passes as u64);
-    line();
-}
-
-fn print_offer(offer: Offer) {
-    match offer {
-        Offer::Member {
-            offset,
-            entry: _,
-            passes,
-        } => {
-            io::write_all(STANDARD_OUTPUT, b"member ");
-            io::print_decimal(STANDARD_OUTPUT, offset);
-            print_passes(b" pass ", passes);
-        }
-        Offer::Done { passes } => print_passes(b"done ", passes),
-        Offer::Refused { refusal } => print_refusal(refusal),
-    }
-}
-
-// ---- tables
-
-fn reference() -> ElfSymbol {
-    ElfSymbol {
-        binding: 1,
-        visibility: 0,
-        kind: 0,
-        section: 0,
-        value: 0,
-    }
-}
-
-fn refer_named(
-    l: Link,
-    names: &mut [u64],
-    symbols: &mut [u64],
-    sections: &mut [u64],
-    name: Interned,
-) -> Link {
-    let none = [0u64; 1];
-    let upcoming = UpcomingSymbol::Elf {
-        elf: reference(),
-        name: name,
-        file: SttFile::None,
-    };
-    let table = Symbols { link: l };
-    let o = symbols::add(table, names, symbols, sections, &none, upcoming);
-    let after = o.table;
-    after.link
-}
-
-// A strong reference to the name.
-fn refer(
-    l: Link,
-    bytes: &mut [u8],
-    names: &mut [u64],
-    symbols: &mut [u64],
-    sections: &mut [u64],
-    x: &[u8],
-) -> Link {
-    let o = interner::intern(l, bytes, names, x);
-    let named = o.link;
-    let answer = o.answer;
-    match answer {
-        interner::Answer::Name { id } => refer_named(named, names, symbols, sections, id),
-        interner::Answer::Refused { refusal } => {
-            print_refusal(refusal);
-            named
-        }
-    }
-}
-
-fn removed(l: Link, symbols: &mut [u64], sections: &mut [u64], id: usize) -> Link {
-    let table = Symbols { link: l };
-    let o = symbols::remove(table, symbols, sections, SymbolId(id));
-    let after = o.table;
-    after.link
-}
-
-fn empty(bytes: &mut [u8], names: &mut [u64], symbols: &mut [u64], sections: &mut [u64]) -> Link {
-    let o = Symbols::new(0, false, bytes, names, symbols, sections);
-    let table = o.table;
-    table.link
-}
-
-fn refer_two(
-    l: Link,
-    bytes: &mut [u8],
-    names: &mut [u64],
-    symbols: &mut [u64],
-    sections: &mut [u64],
-) -> Link {
-    let l1 = refer(l, bytes, names, symbols, sections, b"b");
-    refer(l1, bytes, names, symbols, sections, b"c")
-}
-
-fn refer_removed(
-    l: Link,
-    bytes: &mut [u8],
-    names: &mut [u64],
-    symbols: &mut [u64],
-    sections: &mut [u64],
-) -> Link {
-    let l1 = refer(l, bytes, names, symbols, sections, b"d");
-    removed(l1, symbols, sections, 3)
-}
-
-fn refer_all(
-    l: Link,
-    bytes: &mut [u8],
-    names: &mut [u64],
-    symbols: &mut [u64],
-    sections: &mut [u64],
-) -> Link {
-    let l2 = refer_two(l, bytes, names, symbols, sections);
-    refer_removed(l2, bytes, names, symbols, sections)
-}
-
-// b and c are undefined, d was removed.
-fn table(bytes: &mut [u8], names: &mut [u64], symbols: &mut [u64], sections: &mut [u64]) -> Link {
-    let l = empty(bytes, names, symbols, sections);
-    refer_all(l, bytes, names, symbols, sections)
-}
-
-// ---- the start
-
-fn start(index: &[u8], cells: &mut [u64]) -> Walk {
-    let s = archive_walk::start(0, index, cells);
-    let begun = s.begun;
-    match begun {
-        Begun::Ready { entries } => print_passes(b"ready, entries ", entries),
-        Begun::Refused { refusal } => print_refusal(refusal),
-    }
-    s.walk
-}
-
-fn next(
-    w: Walk,
-    index: &[u8],
-    cells: &mut [u64],
-    l: Link,
-    bytes: &[u8],
-    names: &[u64],
-    symbols: &[u64],
-) -> Walk {
-    let m = archive_walk::next(w, index, cells, l, bytes, names, symbols);
-    let offer = m.offer;
-    print_offer(offer);
-    m.walk
-}
+// Cells for five entries.
+const CELLS: usize = 40;
 
 // No byte; three; a count of 2 with one offset; a count of 2 with a last name that doesn't end.
-fn cut_short(cells: &mut [u64]) {
-    start(b"", cells);
-    start(b"\0\0\0", cells);
-    start(b"\0\0\0\x02\0\0\0\x0a", cells);
-    start(b"\0\0\0\x02\0\0\0\x0a\0\0\0\x14a\0b", cells);
+const CUT_SHORT: [&[u8]; 4] = [
+    b"",
+    b"\0\0\0",
+    b"\0\0\0\x02\0\0\0\x0a",
+    b"\0\0\0\x02\0\0\0\x0a\0\0\0\x14a\0b",
+];
+
+// a to 10, b to 20, c to 10.
+const TIED: &[u8] = b"\0\0\0\x03\0\0\0\x0a\0\0\0\x14\0\0\0\x0aa\0b\0c\0";
+
+fn print_refusal(rt: &impl Print, refusal: Refusal) -> io::Result<()> {
+    println!(rt; "refused {} {}", refusal.number, refusal.place)
 }
 
-// No entry: the first pass is the last.
-fn no_entries(cells: &mut [u64], l: Link, bytes: &[u8], names: &[u64], symbols: &[u64]) {
-    let index = b"\0\0\0\0";
-    let w = start(index, cells);
-    next(w, index, cells, l, bytes, names, symbols);
+// ---- the table
+
+// The empty name and three others, the null symbol and three others.
+const ROOM: Room = Room {
+    names: 4,
+    bytes: 16,
+    symbols: 4,
+    sections: 1,
+};
+
+// A strong reference.
+const REFERENCE: ElfSymbol = ElfSymbol {
+    binding: 1,
+    visibility: 0,
+    kind: 0,
+    section: 0,
+    value: 0,
+};
+
+// ---- walks
+
+// The last index that was opened, the cells that the walks are lent, whatever they held before, and the last walk.
+#[derive(Drop)]
+struct Archive {
+    index: &'static [u8],
+    cells: [u64; CELLS],
+    walk: Walk,
 }
 
-// ---- the order of offers
-
-fn twice_more(
-    w: Walk,
-    index: &[u8],
-    cells: &mut [u64],
-    l: Link,
-    bytes: &[u8],
-    names: &[u64],
-    symbols: &[u64],
-) {
-    let w1 = next(w, index, cells, l, bytes, names, symbols);
-    next(w1, index, cells, l, bytes, names, symbols);
-}
-
-// a to 10, b to 20, c to 10, with b and c undefined: 20 goes first.
-fn first_tied(cells: &mut [u64], l: Link, bytes: &[u8], names: &[u64], symbols: &[u64]) {
-    let index = b"\0\0\0\x03\0\0\0\x0a\0\0\0\x14\0\0\0\x0aa\0b\0c\0";
-    let w = start(index, cells);
-    let w1 = next(w, index, cells, l, bytes, names, symbols);
-    twice_more(w1, index, cells, l, bytes, names, symbols);
-}
-
-// ---- a removed name
-
-fn same_cells(a: &[u64], b: &[u64], n: usize) -> bool {
-    for i in 0..n {
-        if cells::get(a, i) != cells::get(b, i) {
-            return false;
+impl Archive {
+    fn new() -> Archive {
+        Archive {
+            index: b"",
+            cells: [7; CELLS],
+            walk: Walk::none(),
         }
     }
-    true
-}
 
-fn copy_cells(from: &[u64], to: &mut [u64], n: usize) {
-    for i in 0..n {
-        cells::put(to, i, cells::get(from, i));
+    fn start(&mut self, rt: &impl Print, index: &'static [u8]) -> io::Result<()> {
+        let started = Walk::start(0, index, &mut self.cells);
+        self.index = index;
+        self.walk = started.unwrap_or(Walk::none());
+        match started {
+            Ok(walk) => println!(rt; "ready, entries {}", walk.entries),
+            Err(refusal) => print_refusal(rt, refusal),
+        }
     }
-}
 
-// Entry 1's name is undefined, entry 3's was removed: the pass isn't made.
-fn removed_name(
-    cells: &mut [u64],
-    before: &mut [u64],
-    l: Link,
-    bytes: &[u8],
-    names: &[u64],
-    symbols: &[u64],
-) {
-    let index = b"\0\0\0\x04\0\0\0\x0a\0\0\0\x14\0\0\0\x1e\0\0\0\x28a\0b\0e\0d\0";
-    let w = start(index, cells);
-    copy_cells(cells, before, 32);
-    let w1 = next(w, index, cells, l, bytes, names, symbols);
-    print_passes(b"passes ", w1.passes);
-    if same_cells(cells, before, 32) {
-        io::write_all(STANDARD_OUTPUT, b"cells as they were\n");
+    fn next(&mut self, rt: &impl Print, table: &OwnedTable) -> io::Result<()> {
+        let mut rows = Rows {
+            index: self.index,
+            cells: &mut self.cells,
+        };
+        let lent = Table {
+            link: table.table.link,
+            bytes: &table.bytes,
+            names: &table.names,
+            symbols: &table.symbols,
+        };
+        match self.walk.next(&mut rows, lent) {
+            Ok(
+                Offer::Member {
+                    offset,
+                    entry: _,
+                    passes,
+                },
+            ) => println!(rt; "member {offset} pass {passes}"),
+            Ok(Offer::Done { passes }) => println!(rt; "done {passes}"),
+            Err(refusal) => print_refusal(rt, refusal),
+        }
+    }
+
+    // Where there is no entry, the first pass is the last.
+    fn no_entries(&mut self, rt: &impl Print, table: &OwnedTable) -> io::Result<()> {
+        self.start(rt, b"\0\0\0\0")?;
+        self.next(rt, table)
+    }
+
+    // Entry 1's name is undefined, entry 3's was removed: the pass isn't made.
+    fn removed_name(&mut self, rt: &impl Print, table: &OwnedTable) -> io::Result<()> {
+        self.start(
+            rt,
+            b"\0\0\0\x04\0\0\0\x0a\0\0\0\x14\0\0\0\x1e\0\0\0\x28a\0b\0e\0d\0",
+        )?;
+        let before = self.cells;
+        self.next(rt, table)?;
+        println!(rt; "passes {}", self.walk.passes)?;
+        if self.cells == before {
+            println!(rt; "cells as they were")?;
+        }
+        Ok(())
+    }
+
+    // b and c are undefined: 20 goes first.
+    fn tied(&mut self, rt: &impl Print, table: &OwnedTable) -> io::Result<()> {
+        self.start(rt, TIED)?;
+        for _ in 0..3 {
+            self.next(rt, table)?;
+        }
+        Ok(())
     }
 }
 
 // ---- admission
 
-fn print_admission(what: &[u8], a: Admission) {
-    io::write_all(STANDARD_OUTPUT, what);
-    match a {
-        Admission::Yes => {
-            io::write_all(STANDARD_OUTPUT, b"yes\n");
-        }
-        Admission::No => {
-            io::write_all(STANDARD_OUTPUT, b"no\n");
-        }
-        Admission::Refused { refusal } => print_refusal(refusal),
-    }
-}
-
-// An object of a symbol table of that kind and its string table, both with these flags, with one symbol. Entry 1 asks for b.
-fn admit(
-    what: &[u8],
-    l: Link,
-    cells: &[u64],
+// An object of a symbol table of that kind and its string table, both with these flags, with one symbol, for the member that an entry offered. Entry 1
+// asks for b, by which the member at 20 was offered.
+#[derive(Clone, Copy)]
+struct Asked {
+    what: &'static str,
+    gabi: bool,
     table: u64,
     strings: u64,
     flags: u64,
@@ -281,135 +144,207 @@ fn admit(
     binding: u64,
     section: u64,
     entry: usize,
-) {
-    let index = b"\0\0\0\x03\0\0\0\x0a\0\0\0\x14\0\0\0\x0aa\0b\0c\0";
-    let headers = [
-        0, 0, 0, 0, 0, 0, 0, 0, table, 0, flags, 2, 0, 0, 1, 0, strings, 0, flags, 0, 0, 0, 5, 0,
-    ];
-    let entries = [name, binding, 0, 0, section, 0, 0, 0];
-    let contents = [0u64; 1];
-    let w = Walk {
-        key: 0,
-        entries: 3,
-        length: index.len(),
-        passes: 1,
-        queued: 2,
-        offered: 1,
-        done: false,
-    };
-    let a = object_requirement::matches(
-        l,
-        &headers,
-        &entries,
-        &contents,
-        b"\0b\0z\0",
-        w,
-        index,
-        cells,
-        entry,
-    );
-    print_admission(what, a);
+    cells: usize,
 }
 
-// The member at 20 was offered by entry 1, for b.
-fn admissions(l: Link, cells: &[u64]) {
-    admit(b"strong definition: ", l, cells, 3, 4, 0, 1, 1, 1, 1);
-    admit(b"weak definition: ", l, cells, 3, 4, 0, 1, 2, 1, 1);
-    admit(b"local definition: ", l, cells, 3, 4, 0, 1, 0, 1, 1);
-    admit(b"strong reference: ", l, cells, 3, 4, 0, 1, 1, 0, 1);
-    admit(b"another name: ", l, cells, 3, 4, 0, 3, 1, 1, 1);
-    admit(b"missing name: ", l, cells, 3, 4, 0, 9, 1, 1, 1);
-    admit(b"excluded sections: ", l, cells, 3, 4, 1, 1, 1, 1, 1);
-    admit(b"dynamic symbol table: ", l, cells, 10, 4, 0, 1, 1, 1, 1);
-    admit(b"names in no string table: ", l, cells, 3, 1, 0, 1, 1, 1, 1);
-    admit(b"binding 3: ", l, cells, 3, 4, 0, 1, 3, 1, 1);
-    admit(b"binding 16: ", l, cells, 3, 4, 0, 1, 16, 1, 1);
-    admit(
-        b"an entry that isn't there: ",
-        l,
-        cells,
-        3,
-        4,
-        0,
-        1,
-        1,
-        1,
-        3,
-    );
-    admit(
-        b"cells cut short: ",
-        l,
-        cells::part_of(cells, 0, 16),
-        3,
-        4,
-        0,
-        1,
-        1,
-        1,
-        1,
-    );
+const STRONG: Asked = Asked {
+    what: "strong definition",
+    gabi: false,
+    table: 3,
+    strings: 4,
+    flags: 0,
+    name: 1,
+    binding: 1,
+    section: 1,
+    entry: 1,
+    cells: CELLS,
+};
+
+const GABI: Asked = Asked {
+    what: "gABI, strong definition",
+    gabi: true,
+    ..STRONG
+};
+
+// In the gABI's profile "a weak or global definition, and nothing else, admits one."
+const ADMISSIONS: [Asked; 19] = [
+    STRONG,
+    Asked {
+        what: "weak definition",
+        binding: 2,
+        ..STRONG
+    },
+    Asked {
+        what: "local definition",
+        binding: 0,
+        ..STRONG
+    },
+    Asked {
+        what: "strong reference",
+        section: 0,
+        ..STRONG
+    },
+    Asked {
+        what: "another name",
+        name: 3,
+        ..STRONG
+    },
+    Asked {
+        what: "missing name",
+        name: 9,
+        ..STRONG
+    },
+    Asked {
+        what: "excluded sections",
+        flags: 1,
+        ..STRONG
+    },
+    Asked {
+        what: "dynamic symbol table",
+        table: 10,
+        ..STRONG
+    },
+    Asked {
+        what: "names in no string table",
+        strings: 1,
+        ..STRONG
+    },
+    Asked {
+        what: "binding 3",
+        binding: 3,
+        ..STRONG
+    },
+    Asked {
+        what: "binding 16",
+        binding: 16,
+        ..STRONG
+    },
+    Asked {
+        what: "an entry that isn't there",
+        entry: 3,
+        ..STRONG
+    },
+    Asked {
+        what: "cells cut short",
+        cells: 16,
+        ..STRONG
+    },
+    GABI,
+    Asked {
+        what: "gABI, weak definition",
+        binding: 2,
+        ..GABI
+    },
+    Asked {
+        what: "gABI, local definition",
+        binding: 0,
+        ..GABI
+    },
+    Asked {
+        what: "gABI, strong reference",
+        section: 0,
+        ..GABI
+    },
+    Asked {
+        what: "gABI, weak reference",
+        binding: 2,
+        section: 0,
+        ..GABI
+    },
+    Asked {
+        what: "gABI, another name",
+        name: 3,
+        ..GABI
+    },
+];
+
+impl Asked {
+    fn admit(&self, link: Link, cells: &[u64]) -> Result<bool, Refusal> {
+        let headers = [
+            0,
+            0,
+            0,
+            0,
+            0,
+            0,
+            0,
+            0, // the null section
+            self.table,
+            0,
+            self.flags,
+            2,
+            0,
+            0,
+            1,
+            0, //
+            self.strings,
+            0,
+            self.flags,
+            0,
+            0,
+            0,
+            5,
+            0,
+        ];
+        let entries = [self.name, self.binding, 0, 0, self.section, 0, 0, 0];
+        let walk = Walk {
+            key: 0,
+            entries: 3,
+            length: TIED.len(),
+            passes: 1,
+            queued: 2,
+            offered: 1,
+            done: false,
+        };
+        object_requirement::matches(
+            Link {
+                gabi: self.gabi,
+                ..link
+            },
+            &headers,
+            &entries,
+            &[0],
+            b"\0b\0z\0",
+            walk,
+            TIED,
+            cells::part_of(cells, 0, self.cells),
+            self.entry,
+        )
+    }
 }
 
-// The same link in the gABI's profile.
-fn by_gabi(l: Link) -> Link {
-    let mut m = l;
-    m.gabi = true;
-    m
+fn admissions(rt: &impl Print, link: Link, cells: &[u64]) -> io::Result<()> {
+    for asked in &ADMISSIONS {
+        print!(rt; "{}: ", asked.what)?;
+        match asked.admit(link, cells) {
+            Ok(true) => println!(rt; "yes")?,
+            Ok(false) => println!(rt; "no")?,
+            Err(refusal) => print_refusal(rt, refusal)?,
+        }
+    }
+    Ok(())
 }
 
-// "A weak or global definition, and nothing else, admits one."
-fn gabi_admissions(l: Link, cells: &[u64]) {
-    admit(b"gABI, strong definition: ", l, cells, 3, 4, 0, 1, 1, 1, 1);
-    admit(b"gABI, weak definition: ", l, cells, 3, 4, 0, 1, 2, 1, 1);
-    admit(b"gABI, local definition: ", l, cells, 3, 4, 0, 1, 0, 1, 1);
-    admit(b"gABI, strong reference: ", l, cells, 3, 4, 0, 1, 1, 0, 1);
-    admit(b"gABI, weak reference: ", l, cells, 3, 4, 0, 1, 2, 0, 1);
-    admit(b"gABI, another name: ", l, cells, 3, 4, 0, 3, 1, 1, 1);
+// b and c are undefined, d was removed.
+fn referred<R: Print + AllocGlobal>(rt: &R) -> io::Result<OwnedTable> {
+    let mut table = OwnedTable::new(rt.alloc(), ROOM)?;
+    for name in [b"b", b"c", b"d"] {
+        if let Err(refusal) = table.add_elf(&[0], name, REFERENCE) {
+            print_refusal(rt, refusal)?;
+        }
+    }
+    let _ = table.remove(SymbolId(3));
+    Ok(table)
 }
 
-// ---- all of them
-
-fn over_table(
-    cells: &mut [u64],
-    before: &mut [u64],
-    l: Link,
-    bytes: &[u8],
-    names: &[u64],
-    symbols: &[u64],
-) {
-    removed_name(cells, before, l, bytes, names, symbols);
-    first_tied(cells, l, bytes, names, symbols);
-    admissions(l, cells);
-    gabi_admissions(by_gabi(l), cells);
-}
-
-fn run(
-    cells: &mut [u64],
-    before: &mut [u64],
-    bytes: &mut [u8],
-    names: &mut [u64],
-    symbols: &mut [u64],
-    sections: &mut [u64],
-) {
-    let l = table(bytes, names, symbols, sections);
-    cut_short(cells);
-    no_entries(cells, l, bytes, names, symbols);
-    over_table(cells, before, l, bytes, names, symbols);
-}
-
-fn main() {
-    let mut cells = [7u64; 40];
-    let mut before = [0u64; 40];
-    let mut bytes = [0u8; 16];
-    let mut names = [0u64; 36];
-    let mut symbols = [0u64; 32];
-    let mut sections = [0u64; 9];
-    run(
-        &mut cells,
-        &mut before,
-        &mut bytes,
-        &mut names,
-        &mut symbols,
-        &mut sections,
-    );
+fn main(rt: HostRuntime) -> io::Result<()> {
+    let table = referred(&rt)?;
+    let mut archive = Archive::new();
+    for index in CUT_SHORT {
+        archive.start(&rt, index)?;
+    }
+    archive.no_entries(&rt, &table)?;
+    archive.removed_name(&rt, &table)?;
+    archive.tied(&rt, &table)?;
+    admissions(&rt, table.table.link, &archive.cells)
 }

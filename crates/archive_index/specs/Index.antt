@@ -1,6 +1,6 @@
 -- Document 01, "Archives": "The index is the System V one: a big-endian 32-bit count, that many 32-bit member offsets, as many zero-ended names."
 -- Assumes nothing.
-use Rattle.std.specs.Prelude.{ℕ, zero, suc, ◌+◌, ◌*◌, cond, List, eqb, get_or, length}
+use Rattle.std.specs.Prelude.{ℕ, zero, suc, ◌+◌, ◌*◌, cond, List, Option, Some, None, eqb, get_or, length}
 use Rattle.gabi.specs.StringTable.{ended, name_at}
 
 -- the bytes of a number of 32 bits
@@ -20,6 +20,10 @@ offset_of s k = word_at s (word_bytes + word_bytes * k)
 -- the place after the name at place p and its zero byte; 0 where it is cut short
 unfoldable pub after_of : List ℕ → ℕ → ℕ
 after_of s p = cond (ended s p) (p + length (name_at s p) + 1) 0
+
+-- that place, unless the name is cut short
+unfoldable pub after_in : List ℕ → ℕ → Option ℕ
+after_in s p = cond (ended s p) (Some (p + length (name_at s p) + 1)) None
 
 -- where the names start, after c offsets
 abbrev pub names_at : ℕ → ℕ

@@ -1,4 +1,5 @@
 pub mod Index
 pub mod Rows
 pub mod Open
+pub mod Contract
 pub mod Proof

@@ -1,11 +1,19 @@
 -- The start over an index: 20, 1, 2, then the rows. Nothing is written by a refusal.
 -- Assumes nothing.
-use Rattle.std.specs.Prelude.{ℕ, ◌-◌, ◌/◌, cond, List, eqb, ltb, length}
+use Rattle.std.specs.Prelude.{ℕ, ◌-◌, ◌/◌, cond, List, Result, Ok, Err, eqb, ltb, length}
 use Rattle.link.specs.Bounds.{lesser}
 use Rattle.link.specs.Judge.{refused}
-use Rattle.archive_index.specs.declared.Opened.{Opened}
+use Rattle.link.specs.declared.Refusal.{Refusal}
 use Rattle.archive_index.specs.Index.{count_of, names_at, cut_of, word_bytes}
 use Rattle.archive_index.specs.Rows.{rows_of, rows_in}
+
+-- number 0: the rows are made; else there are no entries
+pub record Opened : Type 0 where
+  pub entries : ℕ
+  pub refusal : Refusal
+
+abbrev pub answer_in : Opened → Result ℕ Refusal
+answer_in o = cond (eqb o.refusal.number 0) (Ok o.entries) (Err o.refusal)
 
 pub record Left : Type 0 where
   pub cells : List ℕ
@@ -30,6 +38,10 @@ open_rows_of s l c p = cond (ltb (rows_in l) c) (refused_as l 2 0) (left (rows_o
 
 unfoldable pub open_names_of : List ℕ → List ℕ → ℕ → ℕ → Left
 open_names_of s l c p = cond (ltb (cut_of s p c 0) c) (refused_as l 1 (cut_of s p c 0)) (open_rows_of s l c p)
+
+-- of c entries the first whose name is cut short is x
+abbrev pub names_judged : ℕ → ℕ → Result Unit Refusal
+names_judged x c = cond (ltb x c) (Err (refused 1 x)) (Ok tt)
 
 -- "index entries to 65,535"
 abbrev pub entry_bound : ℕ

@@ -3,8 +3,8 @@
 use Rattle.std.specs.Prelude.{ℕ, zero, suc, ◌+◌, ◌*◌, ◌-◌, ◌/◌, ◌%◌, cond, List, [], ◌∷◌, eqb, get_or, set, length}
 use Rattle.cells.specs.Rows.{put_row}
 use Rattle.byte_slices.specs.Bytes.{part}
-use Rattle.archive_index.specs.declared.Spot.{Spot}
-use Rattle.archive_index.specs.declared.Spot.TheVariants.{Known, Free}
+use Rattle.archive_index.specs.declared.opening.Spot.{Spot}
+use Rattle.archive_index.specs.declared.opening.Spot.TheVariants.{Known, Free}
 use Rattle.archive_index.specs.Index.{offset_of, after_of}
 
 -- ---- the cells of a row

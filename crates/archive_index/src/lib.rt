@@ -2,12 +2,11 @@
 #![tactic(auto)]
 
 ghost use Rattle.std.specs.Prelude.{◌≡◌, ◌+◌, ◌*◌, ◌<◌, get_or, length};
-ghost use Rattle.archive_index.specs.Index.{word_at, count_of, offset_of, after_of};
-ghost use Rattle.archive_index.specs.Rows.{stored_name, no_heads};
+ghost use Rattle.archive_index.specs.Index.{word_at, count_of, offset_of, after_in};
+ghost use Rattle.archive_index.specs.Rows.{stored_name, rows_in, field_at, no_heads};
 
 mod opening;
 
-use link::Refusal;
 pub use opening::open;
 
 // The bytes of a number of the index.
@@ -44,67 +43,35 @@ pub const PASS: usize = 6;
 
 pub const QUEUE: usize = 7;
 
-// Number 0: the rows are made. Else there are no entries, and nothing was written.
-#[derive(Clone, Copy)]
-pub struct Opened {
-    pub entries: usize,
-    pub refusal: Refusal,
-}
-
-// Where the search for an entry's member ends in the tree of members: at the member's representative, or at the empty cell of a child.
-#[derive(Clone, Copy)]
-pub enum Spot {
-    Known { entry: usize },
-    Free { parent: usize, field: usize },
-}
-
-fn wide(x: u8) -> u64
-    ensures value { result ≡ x }
-    ensures small { result < 256 }
-{
-    x as u64
-}
+// ---- the index
 
 // A byte, and 0 past the end.
-fn byte(s: &[u8], i: usize) -> u64
-    ensures { (result ≡ get_or s.now i 0) × (result < 256) }
+fn byte(s: &[u8], i: usize) -> u8
+    ensures { result ≡ get_or s.now i 0 }
 {
-    if i < s.len() { wide(s[i]) } else { 0 }
+    s.get(i).copied().unwrap_or(0)
 }
 
-// Four bytes that lie in the index, which are read at once.
-fn whole_word(index: &[u8], at: usize) -> u64
-    requires { at + 3 < length index.now }
-    ensures { result ≡ word_at index.now at }
-{
-    wide(index[at]) * 16777216
-        + wide(index[at + 1]) * 65536
-        + wide(index[at + 2]) * 256
-        + wide(index[at + 3])
-}
-
-fn cut_word(index: &[u8], at: usize) -> u64
-    requires { at < 0xfffffffffffffffd }
-    ensures { result ≡ word_at index.now at }
-{
-    let a = byte(index, at);
-    let b = byte(index, at + 1);
-    let c = byte(index, at + 2);
-    let d = byte(index, at + 3);
-    a * 16777216 + b * 65536 + c * 256 + d
-}
-
+// A big-endian number; four bytes that lie in the index are read at once.
 fn word(index: &[u8], at: usize) -> u64
     requires { at < 0xfffffffffffffffd }
     ensures { result ≡ word_at index.now at }
 {
     if at + 3 < index.len() {
-        return whole_word(index, at);
+        let whole = [index[at], index[at + 1], index[at + 2], index[at + 3]];
+        return u32::from_be_bytes(whole) as u64;
     }
-    cut_word(index, at)
+    let cut = [
+        byte(index, at),
+        byte(index, at + 1),
+        byte(index, at + 2),
+        byte(index, at + 3),
+    ];
+    u32::from_be_bytes(cut) as u64
 }
 
 // The number of entries that the index says.
+#[tactic(auto, unfolding(crate::specs::Index::count_of))]
 pub fn count(index: &[u8]) -> usize
     ensures { result ≡ count_of index.now }
 {
@@ -112,6 +79,7 @@ pub fn count(index: &[u8]) -> usize
 }
 
 // Entry k's member offset.
+#[tactic(auto, unfolding(crate::specs::Index::offset_of))]
 pub fn offset(index: &[u8], k: usize) -> u64
     ensures { result ≡ offset_of index.now k }
 {
@@ -121,37 +89,81 @@ pub fn offset(index: &[u8], k: usize) -> u64
     0
 }
 
-// The place after the name at this one and its zero byte; 0 where it is cut short.
-pub fn after_name(index: &[u8], at: usize) -> usize
-    ensures { result ≡ after_of index.now at }
+// The place after the name at this one and its zero byte, unless it is cut short.
+pub fn after_name(index: &[u8], at: usize) -> Option<usize>
+    ensures { result ≡ after_in index.now at }
 {
-    let mut found = false;
-    let name = strings::ended(index, at, &mut found);
-    if found {
-        return at + name.len() + 1;
-    }
-    0
+    let name = strings::ended(index, at)?;
+    Some(at + name.len() + 1)
 }
 
-// Entry k's name, as that very part of the index: read by its row, whatever the cells hold.
+// ---- the entries
+
+// An index as it is read: its bytes, and the row of each entry.
+#[derive(Clone, Copy)]
+pub struct Entries<'i, 'c> {
+    pub index: &'i [u8],
+    pub cells: &'c [u64],
+}
+
+impl<'i> Entries<'i, '_> {
+    // How many rows are lent.
+    pub fn rows(self) -> usize
+        ensures value { result ≡ rows_in self.entry.cells.now }
+        ensures bound { result < 0x2000000000000000 }
+    {
+        self.cells.len() / ROW_WIDTH
+    }
+
+    // A cell of entry k's row.
+    pub fn field(self, k: usize, f: usize) -> u64
+        ensures { result ≡ field_at self.entry.cells.now k f }
+    {
+        cells::row_get(self.cells, k, f)
+    }
+
+    // Entry k's name, as that very part of the index: read by its row, whatever the cells hold.
+    pub fn name(self, k: usize) -> &'i [u8]
+        ensures result_value { result.now ≡ stored_name self.entry.index.now self.entry.cells.now k }
+        ensures place { result.ref_ptr.0 ≡ self.entry.index.ref_ptr.0 }
+    {
+        let start = self.field(k, START);
+        let len = self.field(k, LENGTH);
+        byte_slices::part_of(self.index, start as usize, len as usize)
+    }
+}
+
+// An index as it is opened and walked: its bytes, and the rows, which are written.
+#[derive(Drop)]
+pub struct Rows<'a> {
+    pub index: &'a [u8],
+    pub cells: &'a mut [u64],
+}
+
+impl Rows<'_> {
+    pub fn read(&self) -> Entries<'_, '_>
+        ensures { (result.index.now ≡ self.now.index.now) × (result.cells.now ≡ self.now.cells.now) }
+    {
+        Entries {
+            index: self.index,
+            cells: self.cells,
+        }
+    }
+}
+
 pub fn name<'a>(index: &'a [u8], cells: &[u64], k: usize) -> &'a [u8]
     ensures result_value { result.now ≡ stored_name index.now cells.now k }
     ensures place { result.ref_ptr.0 ≡ index.entry.ref_ptr.0 }
 {
-    let start = cells::row_get(cells, k, START);
-    let len = cells::row_get(cells, k, LENGTH);
-    byte_slices::part_of(index, start as usize, len as usize)
+    Entries { index, cells }.name(k)
 }
 
-// ---- an entry's row
-
 // No chain of names has an entry.
+#[tactic(auto, unfolding(crate::specs::Rows::no_heads))]
 pub fn clear_heads(cells: &mut [u64], entries: usize)
     ensures { cells.new ≡ no_heads entries cells.old }
 {
-    let mut k = 0;
-    while k < entries {
+    for k in 0..entries {
         cells::row_put(cells, k, HEAD, 0);
-        k += 1;
     }
 }

@@ -1,13 +1,13 @@
 -- A walk of an earlier call used again, or one with any counts: the rows keep the names, members and chains that the start and the passes gave them, so
 -- that every search ends where it has to. (Which members are queued follows the counts that are handed in.)
 -- Assumes nothing.
+use Rattle.archive_walk.specs.declared.Offer.TheVariants.{Done, Member}
 use Prim.Native.Nat.{ℕ, zero, suc, ◌+◌, ◌*◌, ◌<◌}
 use Rattle.std.proofs.Common.{arith, inl, inr}
-use Rattle.std.specs.Prelude.{◌≡◌, refl, Bool, true, false, cond, List, eqb, ltb, set}
+use Rattle.std.specs.Prelude.{◌≡◌, refl, Bool, true, false, cond, List, eqb, ltb, set, Ok}
 use Rattle.archive_index.specs.Index.{offset_of}
 use Rattle.archive_index.specs.Rows.{member_at, pass_at, queue_at, stored_name}
 use Rattle.archive_walk.specs.declared.Walk.{Walk}
-use Rattle.archive_walk.specs.declared.Offer.TheVariants.{Member, Done}
 use Rattle.archive_walk.specs.Look.{Table, judge_table, tied_name}
 use Rattle.archive_walk.specs.Names.{noted_of}
 use Rattle.archive_walk.specs.Walk.{step_of, step_moved, refused_move, handed_out, ended, offer_of, Queue, queue_of, marked, enqueue, tie_of, tie_all, removed_of, passed, make_of, search_of, pass_of, walk_fits, go_of, next_of}
@@ -57,7 +57,7 @@ module _ (key : ℕ) (s : List ℕ) (keys : ℕ → ℕ) (named : ℕ → List �
       d : ℕ
       d = queue_at l w.offered
 
-      go : (b : Bool) → Good (cond b (step_of l (handed_out w) (Member (offset_of s d) d w.passes)) (step_of l (ended w) (Done w.passes))).cells
+      go : (b : Bool) → Good (cond b (step_of l (handed_out w) (Ok (Member (offset_of s d) d w.passes))) (step_of l (ended w) (Ok (Done w.passes)))).cells
       go true = y
       go false = y
 
@@ -74,7 +74,7 @@ module _ (key : ℕ) (s : List ℕ) (keys : ℕ → ℕ) (named : ℕ → List �
 
       go : (d i g j x : Bool)
           → Good
-          (cond d (step_of l w (Done w.passes))
+          (cond d (step_of l w (Ok (Done w.passes)))
           (cond i
           (cond g (offer_of s l w)
           (cond j (cond x (step_moved l (refused_move w 21 (removed_of s l t w.entries 0))) (offer_of s u.cells (passed w u.queued)))

@@ -1,6 +1,7 @@
 -- Theorems over specs/Answers.antt.
 -- Assumes nothing.
-use Rattle.std.specs.Prelude.{ℕ, ◌+◌, ◌≡◌, Bool, cond, List, eqb, ltb}
+use Rattle.archive_walk.specs.declared.Offer.TheVariants.{Done, Member}
+use Rattle.std.specs.Prelude.{ℕ, ◌+◌, ◌≡◌, Bool, cond, List, eqb, ltb, Ok}
 use Rattle.std.proofs.Math.Path.{refl}
 use Rattle.std.proofs.Common.{sym}
 use Rattle.std.proofs.Math.Bool.{true, false}
@@ -8,7 +9,6 @@ use borrow.Author.Tests.{eq-eqb}
 use Rattle.archive_index.specs.Index.{offset_of}
 use Rattle.archive_index.specs.Rows.{queue_at}
 use Rattle.archive_walk.specs.declared.Walk.{Walk}
-use Rattle.archive_walk.specs.declared.Offer.TheVariants.{Member, Done}
 use Rattle.archive_walk.specs.Look.{Table, judge_table}
 use Rattle.archive_walk.specs.Walk.{Step, step_of, step_moved, refused_move, handed_out, ended, offer_of, Queue, queue_of, tie_all, removed_of, passed, make_of, search_of, pass_of, walk_fits, go_of, next_of}
 use Rattle.archive_laws.specs.Answers as Base
@@ -27,8 +27,8 @@ module _ (s : List ℕ) where
       where
         go : (b : Bool)
             → Right l w
-            (cond b (step_of m (handed_out w') (Member (offset_of s (queue_at m w'.offered)) (queue_at m w'.offered) w'.passes))
-            (step_of m (ended w') (Done w'.passes)))
+            (cond b (step_of m (handed_out w') (Ok (Member (offset_of s (queue_at m w'.offered)) (queue_at m w'.offered) w'.passes)))
+            (step_of m (ended w') (Ok (Done w'.passes))))
         go true = record { passes = refl; done = refl; offset = eq-eqb (offset_of s (queue_at m w'.offered)) (offset_of s (queue_at m w'.offered)) refl; leaves-walk = λ n. absurd (n refl); leaves-cells = λ n. absurd (n refl) }
         go false = record { passes = refl; done = refl; offset = refl; leaves-walk = λ n. absurd (n refl); leaves-cells = λ n. absurd (n refl) }
 
@@ -41,7 +41,7 @@ module _ (s : List ℕ) where
 
         go : (d f g j x : Bool) → w.done ≡ d
             → Right l w
-            (cond d (step_of l w (Done w.passes))
+            (cond d (step_of l w (Ok (Done w.passes)))
             (cond f
             (cond g (offer_of s l w)
             (cond j (cond x (step_moved l (refused_move w 21 (removed_of s l t w.entries 0))) (offer_of s u.cells (passed w u.queued)))

@@ -1,10 +1,13 @@
 -- The key places names in chains, and nothing else: over the same calls two walks that differ in their keys give the same answers, whatever cells and tables
 -- are lent to them; and so does admission, over any walk that a start begins.
 -- Assumes nothing.
+use Rattle.archive_walk.specs.declared.Offer.TheVariants.{Done, Member}
+use Rattle.link.specs.declared.Refusal.{Refusal}
+use Rattle.archive_walk.specs.declared.Offer.{Offer}
 use Prim.Native.Nat.{ℕ, zero, suc, ◌+◌, ◌*◌, ◌/◌, ◌<◌, ◌≤◌}
 use Rattle.std.proofs.Math.Decide.{ℕ_discrete}
 use Rattle.std.proofs.Common.{arith, sym, ap, ◌∙◌, length-set, get_or-set_same, get_or-set_other, ltb-true, ltb-false}
-use Rattle.std.specs.Prelude.{◌≡◌, Bool, cond, eqb, ltb, get_or, length}
+use Rattle.std.specs.Prelude.{◌≡◌, Bool, cond, eqb, ltb, get_or, length, Result, Ok, Err}
 use Rattle.std.proofs.Math.Path.{refl}
 use Rattle.std.proofs.Math.Bool.{true, false}
 use mathlib.Core.List.{List, [], ◌∷◌}
@@ -13,11 +16,7 @@ use Rattle.archive_index.specs.Index.{count_of, offset_of}
 use Rattle.archive_index.specs.Rows.{required_at, member_at, pass_at, queue_at, stored_name, no_heads}
 use Rattle.archive_index.specs.Open.{open_of}
 use Rattle.archive_walk.specs.declared.Walk.{Walk}
-use Rattle.archive_walk.specs.declared.Started.{Started}
-use Rattle.archive_walk.specs.declared.Begun.TheVariants.{Ready}
-use Rattle.archive_walk.specs.declared.Begun.TheVariants as Begins
-use Rattle.archive_walk.specs.declared.Offer.{Offer}
-use Rattle.archive_walk.specs.declared.Offer.TheVariants.{Member, Done}
+use Rattle.archive_walk.specs.Walk.{Started}
 use Rattle.archive_walk.specs.Look.{Table, judge_table, tied_name}
 use Rattle.archive_walk.specs.Names.{chained, chain_at, headed_of, noted_of, required_of}
 use Rattle.archive_walk.specs.Walk.{begun_number, fresh_walk, no_walk, begun_of, start_of, Step, step_of, step_moved, refused_move, handed_out, ended, offer_of, Queue, queue_of, marked, enqueue, tie_of, tie_all, removed_of, passed, make_of, search_of, pass_of, walk_fits, go_of, next_of}
@@ -173,8 +172,8 @@ module _ (s : List ℕ) where
         d = queue_at l w.offered
 
         go : (b : Bool)
-            → Steps key (cond b (step_of l (handed_out w) (Member (offset_of s d) d w.passes)) (step_of l (ended w) (Done w.passes)))
-            (cond b (step_of m (handed_out (with_key key w)) (Member (offset_of s d) d w.passes)) (step_of m (ended (with_key key w)) (Done w.passes)))
+            → Steps key (cond b (step_of l (handed_out w) (Ok (Member (offset_of s d) d w.passes))) (step_of l (ended w) (Ok (Done w.passes))))
+            (cond b (step_of m (handed_out (with_key key w)) (Ok (Member (offset_of s d) d w.passes))) (step_of m (ended (with_key key w)) (Ok (Done w.passes))))
         go true = record { cells = e; walk = refl; offer = refl }
         go false = record { cells = e; walk = refl; offer = refl }
 
@@ -200,7 +199,7 @@ module _ (s : List ℕ) where
         w' : Walk
         w' = with_key key w
 
-        kept : (o : Offer) → Steps key (step_of l w o) (step_of m w' o)
+        kept : (o : Result Offer Refusal) → Steps key (step_of l w o) (step_of m w' o)
         kept o = record { cells = e; walk = refl; offer = refl }
 
         made : Steps key (offer_of s u.cells (passed w u.queued)) (offer_of s u'.cells (passed w' u'.queued))
@@ -211,19 +210,19 @@ module _ (s : List ℕ) where
 
         go : (d f g j x : Bool)
             → Steps key
-            (cond d (step_of l w (Done w.passes))
+            (cond d (step_of l w (Ok (Done w.passes)))
             (cond f
             (cond g (offer_of s l w)
             (cond j (cond x (step_moved l (refused_move w 21 at)) (offer_of s u.cells (passed w u.queued)))
             (step_moved l (refused_move w (judge_table t).number (judge_table t).place))))
             (step_moved l (refused_move w 1 0))))
-            (cond d (step_of m w' (Done w.passes))
+            (cond d (step_of m w' (Ok (Done w.passes)))
             (cond f
             (cond g (offer_of s m w')
             (cond j (cond x (step_moved m (refused_move w' 21 at)) (offer_of s u'.cells (passed w' u'.queued)))
             (step_moved m (refused_move w' (judge_table t).number (judge_table t).place))))
             (step_moved m (refused_move w' 1 0))))
-        go true f g j x = kept (Done w.passes)
+        go true f g j x = kept (Ok (Done w.passes))
         go false false g j x = record { cells = e; walk = refl; offer = refl }
         go false true true j x = both-offer l m w e
         go false true false false x = record { cells = e; walk = refl; offer = refl }
@@ -272,8 +271,8 @@ module _ (s : List ℕ) where
     -- a start, by whether it is accepted
     abbrev begins : ℕ → Bool → Started
     begins k b =
-        cond {A = Started} b (record { walk = fresh_walk k (open_of s l).opened.entries (length s); begun = Ready (open_of s l).opened.entries })
-        (record { walk = no_walk; begun = Begins.Refused (open_of s l).opened.refusal })
+        cond {A = Started} b (record { walk = fresh_walk k (open_of s l).opened.entries (length s); begun = Ok (open_of s l).opened.entries })
+        (record { walk = no_walk; begun = Err (open_of s l).opened.refusal })
 
     abbrev rows : List ℕ
     rows = no_heads (open_of s l).opened.entries (open_of s l).cells

@@ -9,8 +9,8 @@ use Rattle.std.specs.Prelude.{◌≡◌, List, [], ◌∷◌, eqb, get_or, set, 
 use Rattle.std.proofs.Math.Path.{refl, sym, subst}
 use Rattle.std.proofs.Math.Bool.{cond}
 use Rattle.cells.specs.Proof.Rows.{row_same, row_other}
-use Rattle.archive_index.specs.declared.Spot.{Spot}
-use Rattle.archive_index.specs.declared.Spot.TheVariants.{Known, Free}
+use Rattle.archive_index.specs.declared.opening.Spot.{Spot}
+use Rattle.archive_index.specs.declared.opening.Spot.TheVariants.{Known, Free}
 use Rattle.archive_index.specs.Index.{offset_of, after_of, names_at, place_of, cut_of}
 use Rattle.archive_index.specs.Rows.{child_at, side_of, descend, spot_of, row_of, entered, enter_of, enter_all}
 use Rattle.archive_laws.proofs.Bits.{half, Agree, half-more, agree-none, agree-back, agree_on, agree-more, agree-all, half-word}

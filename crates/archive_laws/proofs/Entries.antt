@@ -13,8 +13,8 @@ use borrow.Author.Tests.{eq-eqb, ne_eqb}
 use Rattle.gabi.specs.StringTable.{ended, name_at}
 use Rattle.gabi.proofs.StringTableLaws.{name-part}
 use Rattle.cells.specs.Proof.Rows.{length-put_row, row_same, row_other}
-use Rattle.archive_index.specs.declared.Spot.{Spot}
-use Rattle.archive_index.specs.declared.Spot.TheVariants.{Known, Free}
+use Rattle.archive_index.specs.declared.opening.Spot.{Spot}
+use Rattle.archive_index.specs.declared.opening.Spot.TheVariants.{Known, Free}
 use Rattle.archive_index.specs.Index.{offset_of, after_of, names_at, place_of, name_of, cut_of}
 use Rattle.archive_index.specs.Rows.{required_at, member_at, child_at, pass_at, stored_name, side_of, descend, spot_of, row_of, entered, enter_of, enter_all, rows_of}
 use Rattle.archive_laws.specs.Members.{Same, any_below, is_first}

@@ -1,6 +1,7 @@
 -- A call over the cells is a call of the definition.
 -- Assumes nothing.
-use Rattle.std.specs.Prelude.{ℕ, ◌+◌, ◌≤◌, ◌≡◌, Bool, cond, length}
+use Rattle.archive_walk.specs.declared.Offer.TheVariants.{Done, Member}
+use Rattle.std.specs.Prelude.{ℕ, ◌+◌, ◌≤◌, ◌≡◌, Bool, cond, length, Ok}
 use Rattle.std.proofs.Common.{add-one, arith, subst, ◌∙◌}
 use Rattle.std.proofs.Math.Path.{refl, sym, ap}
 use Rattle.std.proofs.Math.Bool.{true, false}
@@ -9,7 +10,6 @@ use Rattle.std.proofs.Math.Dec.{eqb, ltb}
 use Rattle.archive_index.specs.Index.{offset_of}
 use Rattle.archive_index.specs.Rows.{queue_at}
 use Rattle.archive_walk.specs.declared.Walk.{Walk}
-use Rattle.archive_walk.specs.declared.Offer.TheVariants.{Member, Done}
 use Rattle.archive_walk.specs.Look.{Table, judge_table}
 use Rattle.archive_walk.specs.Walk.{step_of, step_moved, refused_move, offer_of, Queue, queue_of, tie_all, removed_of, make_of, search_of, pass_of, walk_fits, go_of, next_of}
 use Rattle.archive_walk.specs.Proof.Ways.{fits_all}
@@ -115,11 +115,11 @@ module _ (key : ℕ) (s : List ℕ) (keys : ℕ → ℕ) (named : ℕ → List �
             (ran_of
             (cond w
             (cond f
-            (cond f (step_of l (walk_at n p q (o + 1) false) (Member (offset_of s (queue_at l o)) (queue_at l o) p)) (step_of l (walk_at n p q o true) (Done p)))
+            (cond f (step_of l (walk_at n p q (o + 1) false) (Ok (Member (offset_of s (queue_at l o)) (queue_at l o) p))) (step_of l (walk_at n p q o true) (Ok (Done p))))
             (cond j
             (cond x (step_moved l (refused_move (walk_at n p q o false) 21 (removed_of s l t c 0)))
-            (cond z (step_of u.cells (walk_at n (p + 1) u.queued (o + 1) false) (Member (offset_of s (queue_at u.cells o)) (queue_at u.cells o) (p + 1)))
-            (step_of u.cells (walk_at n (p + 1) u.queued o true) (Done (p + 1)))))
+            (cond z (step_of u.cells (walk_at n (p + 1) u.queued (o + 1) false) (Ok (Member (offset_of s (queue_at u.cells o)) (queue_at u.cells o) (p + 1))))
+            (step_of u.cells (walk_at n (p + 1) u.queued o true) (Ok (Done (p + 1))))))
             (step_moved l (refused_move (walk_at n p q o false) (judge_table t).number (judge_table t).place))))
             (step_moved l (refused_move (walk_at n p q o false) 1 0)))
             os)

@@ -1,17 +1,15 @@
 -- The theorem on whole walks over an archive: its start makes rows by offsets and names of the index (Entries.antt), so that KeyedWalk.antt is about it.
 -- Assumes nothing.
-use Rattle.std.specs.Prelude.{ℕ, ◌*◌, ◌/◌, ◌+◌, ◌<◌, ◌≤◌, ◌≡◌, Bool, true, false, cond, List, eqb, ltb, get_or, length}
+use Rattle.std.specs.Prelude.{ℕ, ◌*◌, ◌/◌, ◌+◌, ◌<◌, ◌≤◌, ◌≡◌, Bool, true, false, cond, List, eqb, ltb, get_or, length, Ok, Err}
 use Rattle.std.proofs.Common.{arith, ◌∙◌}
 use Rattle.std.proofs.Math.Path.{refl}
 use borrow.Author.Tests.{eqb-true, eq-eqb, ltb-false}
 use Rattle.link.specs.Bounds.{lesser}
-use Rattle.archive_index.specs.declared.Opened.{Opened}
+use Rattle.archive_index.specs.Open.{Opened}
 use Rattle.archive_index.specs.Index.{count_of, offset_of, names_at, name_of, cut_of}
 use Rattle.archive_index.specs.Rows.{required_at, pass_at, member_at, rows_of, no_heads}
 use Rattle.archive_index.specs.Open.{Left, left, opened_as, refused_as, offsets_in, open_rows_of, open_names_of, open_entries_of, open_of}
-use Rattle.archive_walk.specs.declared.Started.{Started}
-use Rattle.archive_walk.specs.declared.Begun.TheVariants.{Ready}
-use Rattle.archive_walk.specs.declared.Begun.TheVariants as Begins
+use Rattle.archive_walk.specs.Walk.{Started}
 use Rattle.archive_walk.specs.Look.{Table}
 use Rattle.archive_walk.specs.Walk.{begun_number, fresh_walk, no_walk, begun_of, start_of}
 use Rattle.archive_laws.specs.Members.{among, none, fresh}
@@ -69,7 +67,7 @@ unfolding begun_of
 opened-number key n o = go (eqb o.refusal.number 0) refl
   where
     go : (b : Bool) → eqb o.refusal.number 0 ≡ b
-        → begun_number (cond {A = Started} b (record { walk = fresh_walk key o.entries n; begun = Ready o.entries }) (record { walk = no_walk; begun = Begins.Refused o.refusal })).begun ≡ 0
+        → begun_number (cond {A = Started} b (record { walk = fresh_walk key o.entries n; begun = Ok o.entries }) (record { walk = no_walk; begun = Err o.refusal })).begun ≡ 0
         → o.refusal.number ≡ 0
     go true e z = eqb-true o.refusal.number 0 e
     go false e z = z

@@ -1,10 +1,11 @@
 -- Calls of the contracts' definitions in a row, each over its own table, and what of them the definition's rounds are.
 -- Assumes nothing.
-use Rattle.std.specs.Prelude.{ℕ, zero, suc, true, cond, List, [], ◌∷◌, eqb}
+use Rattle.archive_walk.specs.declared.Offer.TheVariants.{Done, Member}
+use Rattle.link.specs.declared.Refusal.{Refusal}
+use Rattle.archive_walk.specs.declared.Offer.{Offer}
+use Rattle.std.specs.Prelude.{ℕ, zero, suc, true, cond, List, [], ◌∷◌, eqb, Result, Ok, Err}
 use Rattle.archive_index.specs.Rows.{queue_at}
 use Rattle.archive_walk.specs.declared.Walk.{Walk}
-use Rattle.archive_walk.specs.declared.Offer.{Offer}
-use Rattle.archive_walk.specs.declared.Offer.TheVariants.{Member, Done, Refused}
 use Rattle.archive_walk.specs.Look.{Table, judge_table, removed_name, tied_name}
 use Rattle.archive_walk.specs.Walk.{Step, start_of, next_of}
 use Rattle.archive_laws.specs.Members.{any_below, View, Rounds, rounds_of}
@@ -34,10 +35,10 @@ pub record Run : Type 0 where
 abbrev pub run_of : List ℕ → Walk → List ℕ → Run
 run_of l w o = record { cells = l; walk = w; offers = o }
 
-abbrev pub answered : Offer → List ℕ → List ℕ
-answered (Member o e p) q = e ∷ q
-answered (Done p) q = q
-answered (Refused r) q = q
+abbrev pub answered : Result Offer Refusal → List ℕ → List ℕ
+answered (Ok (Member o e p)) q = e ∷ q
+answered (Ok (Done p)) q = q
+answered (Err r) q = q
 
 abbrev pub ran_of : Step → List ℕ → Run
 ran_of x o = run_of x.cells x.moved.walk (answered x.moved.offer o)

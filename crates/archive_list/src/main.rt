@@ -4,220 +4,127 @@
 // 65,536 bytes the rest isn't read.
 #![tactic(auto)]
 
-use archive_walk::{Begun, Offer, Walk};
-use link::{Interned, Link, Refusal};
+use archive_walk::{Offer, Walk};
+use link::Refusal;
+use owned_table::{OwnedTable, Room};
+use std::alloc::Global;
+use std::io::{self, Read, Write};
 use std::rt::Env;
-use symbol::SttFile;
-use symbols::Symbols;
-use upcoming_symbol::{ElfSymbol, UpcomingSymbol};
+use upcoming_symbol::ElfSymbol;
 
-// The descriptor of standard input.
-const STANDARD_INPUT: i32 = 0;
+const MOST_BYTES: u64 = 65_536;
 
-// The descriptor of standard output.
-const STANDARD_OUTPUT: i32 = 1;
+// The most bytes of the argument, and of names.
+const NAME_BYTES: usize = 4096;
 
-fn space() {
-    io::write_all(STANDARD_OUTPUT, b" ");
+const CELLS: usize = 65_536;
+
+// One name, the empty one, and their symbols.
+const ROOM: Room = Room {
+    names: 2,
+    bytes: NAME_BYTES,
+    symbols: 2,
+    sections: 1,
+};
+
+// A strong reference.
+const REFERENCE: ElfSymbol = ElfSymbol {
+    binding: 1,
+    visibility: 0,
+    kind: 0,
+    section: 0,
+    value: 0,
+};
+
+fn print_refusal(out: &mut impl Write, refusal: Refusal) -> io::Result<()> {
+    writeln!(out, "refused {} {}", refusal.number, refusal.place)
 }
 
-fn line() {
-    io::write_all(STANDARD_OUTPUT, b"\n");
+// ---- the entries and the walk
+
+// An index, the cells that its walk is lent, and the walk.
+#[derive(Drop)]
+struct Archive {
+    index: Vec<u8>,
+    cells: Vec<u64>,
+    walk: Walk,
 }
 
-fn print_refusal(r: Refusal) {
-    io::write_all(STANDARD_OUTPUT, b"refused ");
-    io::print_decimal(STANDARD_OUTPUT, r.number);
-    space();
-    io::print_decimal(STANDARD_OUTPUT, r.place);
-    line();
-}
-
-// ---- the entries
-
-fn print_entry(index: &[u8], cells: &[u64], k: usize) {
-    io::print_decimal(STANDARD_OUTPUT, k as u64);
-    space();
-    io::print_decimal(STANDARD_OUTPUT, archive_index::offset(index, k));
-    space();
-    io::write_all(STANDARD_OUTPUT, archive_index::name(index, cells, k));
-    line();
-}
-
-fn print_entries(index: &[u8], cells: &[u64], entries: usize) {
-    io::write_all(STANDARD_OUTPUT, b"entry offset name\n");
-    for k in 0..entries {
-        print_entry(index, cells, k);
+impl Archive {
+    fn print_entries(&self, out: &mut impl Write) -> io::Result<()> {
+        writeln!(out, "entry offset name")?;
+        for k in 0..self.walk.entries {
+            write!(out, "{k} {} ", archive_index::offset(&self.index, k))?;
+            out.write_all(archive_index::name(&self.index, &self.cells, k))?;
+            writeln!(out, "")?;
+        }
+        Ok(())
     }
-}
 
-// ---- the table with one undefined name
-
-// A strong reference: binding 1, section 0.
-fn refer(
-    l: Link,
-    names: &mut [u64],
-    symbols: &mut [u64],
-    sections: &mut [u64],
-    name: Interned,
-) -> Link {
-    let none = [0u64; 1];
-    let upcoming = UpcomingSymbol::Elf {
-        elf: ElfSymbol {
-            binding: 1,
-            visibility: 0,
-            kind: 0,
-            section: 0,
-            value: 0,
-        },
-        name: name,
-        file: SttFile::None,
-    };
-    let table = Symbols { link: l };
-    let o = symbols::add(table, names, symbols, sections, &none, upcoming);
-    let after = o.table;
-    after.link
-}
-
-fn undefined(
-    l: Link,
-    bytes: &mut [u8],
-    names: &mut [u64],
-    symbols: &mut [u64],
-    sections: &mut [u64],
-    x: &[u8],
-) -> Link {
-    let o = interner::intern(l, bytes, names, x);
-    let named = o.link;
-    let answer = o.answer;
-    match answer {
-        interner::Answer::Name { id } => refer(named, names, symbols, sections, id),
-        interner::Answer::Refused { refusal } => {
-            print_refusal(refusal);
-            named
+    // The next offer, which is printed.
+    fn step(&mut self, out: &mut impl Write, table: &OwnedTable) -> io::Result<()> {
+        let entries = self.walk.entries;
+        let offer = pending_archive::next(
+            &mut self.walk,
+            &self.index,
+            &mut self.cells,
+            table.table.link,
+            &table.bytes,
+            &table.names,
+            &table.symbols,
+        );
+        match offer {
+            Ok(
+                Offer::Member {
+                    offset,
+                    entry,
+                    passes,
+                },
+            ) => {
+                write!(out, "{passes} {entry} {offset} ")?;
+                out.write_all(archive_reader::entry_name(&self.index, entries, entry))?;
+                writeln!(out, "")
+            }
+            Ok(Offer::Done { passes }) => writeln!(out, "done {passes}"),
+            Err(refusal) => print_refusal(out, refusal),
         }
     }
-}
 
-// ---- the walk
-
-fn print_member(index: &[u8], entries: usize, offset: u64, entry: usize, passes: usize) {
-    io::print_decimal(STANDARD_OUTPUT, passes as u64);
-    space();
-    io::print_decimal(STANDARD_OUTPUT, entry as u64);
-    space();
-    io::print_decimal(STANDARD_OUTPUT, offset);
-    space();
-    io::write_all(
-        STANDARD_OUTPUT,
-        archive_reader::entry_name(index, entries, entry),
-    );
-    line();
-}
-
-fn print_offer(index: &[u8], entries: usize, offer: Offer) {
-    match offer {
-        Offer::Member {
-            offset,
-            entry,
-            passes,
-        } => print_member(index, entries, offset, entry, passes),
-        Offer::Done { passes } => {
-            io::write_all(STANDARD_OUTPUT, b"done ");
-            io::print_decimal(STANDARD_OUTPUT, passes as u64);
-            line();
+    // Each entry offers a member at most, and one call says "done".
+    fn print_walk(&mut self, out: &mut impl Write, table: &OwnedTable) -> io::Result<()> {
+        writeln!(out, "pass entry offset name")?;
+        for _ in 0..=self.walk.entries {
+            if self.walk.done {
+                break;
+            }
+            self.step(out, table)?;
         }
-        Offer::Refused { refusal } => print_refusal(refusal),
+        Ok(())
     }
 }
 
-// A call for the next member.
-fn step(
-    w: Walk,
-    index: &[u8],
-    cells: &mut [u64],
-    l: Link,
-    bytes: &[u8],
-    names: &[u64],
-    symbols: &[u64],
-) -> Walk {
-    let m = pending_archive::next_by_value(w, index, cells, l, bytes, names, symbols);
-    let offer = m.offer;
-    print_offer(index, w.entries, offer);
-    m.walk
-}
-
-// Each entry offers a member at most, and one call says "done".
-fn walk(
-    start: Walk,
-    index: &[u8],
-    cells: &mut [u64],
-    l: Link,
-    bytes: &[u8],
-    names: &[u64],
-    symbols: &[u64],
-) {
-    io::write_all(STANDARD_OUTPUT, b"pass entry offset name\n");
-    let mut w = start;
-    let mut left = start.entries;
-    while 0 < left {
-        if w.done {
-            return;
+fn list(alloc: Global, out: &mut impl Write, index: Vec<u8>, table: &OwnedTable) -> io::Result<()> {
+    let mut cells = vec![in alloc; 0; CELLS]?;
+    match Walk::start(0, &index, &mut cells) {
+        Ok(walk) => {
+            let mut archive = Archive { index, cells, walk };
+            archive.print_entries(out)?;
+            archive.print_walk(out, table)
         }
-        w = step(w, index, cells, l, bytes, names, symbols);
-        left -= 1;
-    }
-    if w.done {
-        return;
-    }
-    step(w, index, cells, l, bytes, names, symbols);
-}
-
-fn list(index: &[u8], cells: &mut [u64], l: Link, bytes: &[u8], names: &[u64], symbols: &[u64]) {
-    let s = archive_walk::start(0, index, cells);
-    let w = s.walk;
-    let begun = s.begun;
-    match begun {
-        Begun::Ready { entries } => {
-            print_entries(index, cells, entries);
-            walk(w, index, cells, l, bytes, names, symbols);
-        }
-        Begun::Refused { refusal } => print_refusal(refusal),
+        Err(refusal) => print_refusal(out, refusal),
     }
 }
 
-fn run(
-    index: &[u8],
-    name: &[u8],
-    cells: &mut [u64],
-    bytes: &mut [u8],
-    names: &mut [u64],
-    symbols: &mut [u64],
-    sections: &mut [u64],
-) {
-    let o = Symbols::new(0, false, bytes, names, symbols, sections);
-    let table = o.table;
-    let l = undefined(table.link, bytes, names, symbols, sections, name);
-    list(index, cells, l, bytes, names, symbols);
-}
-
-fn main(rt: HostRuntime) {
-    let mut index = io::large_buffer();
-    let n = io::read_full(STANDARD_INPUT, &mut index);
-    let mut name = io::buffer();
-    let m = rt.arg(1, &mut name).unwrap_or(0);
-    let mut cells = [0u64; 65536];
-    let mut bytes = [0u8; 4096];
-    let mut names = [0u64; 18];
-    let mut symbols = [0u64; 16];
-    let mut sections = [0u64; 9];
-    run(
-        &index[..n],
-        &name[..m],
-        &mut cells,
-        &mut bytes,
-        &mut names,
-        &mut symbols,
-        &mut sections,
-    );
+fn main(rt: HostRuntime) -> io::Result<()> {
+    let mut index = Vec::new(rt.alloc());
+    // What comes before a failed read is listed.
+    let _ = rt.stdin().take(MOST_BYTES).read_to_end(&mut index);
+    let mut argument = [0u8; NAME_BYTES];
+    let length = rt.arg(1, &mut argument).unwrap_or(0);
+    let mut out = io::writer(&rt);
+    let mut table = OwnedTable::new(rt.alloc(), ROOM)?;
+    if let Err(refusal) = table.add_elf(&[0], &argument[..length], REFERENCE) {
+        print_refusal(&mut out, refusal)?;
+    }
+    list(rt.alloc(), &mut out, index, &table)
 }

@@ -1,60 +1,16 @@
-// The archive index as a struct that holds the caller's slice and the number of entries, and gives an entry's offset and name. The functions over the
-// struct are thin; each has one of plain parameters above it.
+// The archive index as a struct that holds the caller's slice and the number of entries, and gives an entry's offset and name.
 #![tactic(auto)]
 
 ghost use Rattle.std.specs.Prelude.{◌≡◌, ◌+◌, ◌*◌, ◌≤◌, length};
 ghost use Rattle.gabi.specs.StringTable.{name_at};
 ghost use Rattle.archive_index.specs.Index.{place_of};
-ghost use Rattle.archive_reader.specs.Entry.{entry_offset, entry_name};
 ghost use Rattle.archive_reader.specs.Contract.{ReaderMeets, OffsetMeets, NameMeets};
-
-// ---- a slice and numbers
-
-// Where entry k's name starts: the names before it are passed over.
-fn place(bytes: &[u8], entries: usize, k: usize) -> usize
-    requires { 4 + 4 * entries ≤ length bytes.now }
-    ensures { result ≡ place_of bytes.now entries k }
-{
-    let mut at = archive_index::WORD_BYTES + archive_index::WORD_BYTES * entries;
-    let mut i = 0;
-    while i < k {
-        at = archive_index::after_name(bytes, at);
-        i += 1;
-    }
-    at
-}
 
 fn name_from(bytes: &[u8], at: usize) -> &[u8]
     ensures { (result.now ≡ name_at bytes.now at) × (result.ref_ptr.0 ≡ bytes.entry.ref_ptr.0) }
 {
-    let mut found = false;
-    let name = strings::ended(bytes, at, &mut found);
-    byte_slices::part_of(bytes, at, name.len())
+    strings::ended(bytes, at).unwrap_or(&bytes[..0])
 }
-
-fn offset_in(bytes: &[u8], entries: usize, k: usize) -> u64
-    ensures { result ≡ entry_offset bytes.now entries k }
-{
-    if k < entries {
-        return archive_index::offset(bytes, k);
-    }
-    0
-}
-
-fn name_in(bytes: &[u8], entries: usize, k: usize) -> &[u8]
-    ensures { (result.now ≡ entry_name bytes.now entries k) × (result.ref_ptr.0 ≡ bytes.entry.ref_ptr.0) }
-{
-    if entries <= k {
-        return &bytes[..0];
-    }
-    if bytes.len() / archive_index::WORD_BYTES <= entries {
-        return &bytes[..0];
-    }
-    let at = place(bytes, entries, k);
-    name_from(bytes, at)
-}
-
-// ---- the struct
 
 #[derive(Clone, Copy)]
 pub struct ArchiveIndex<'a> {
@@ -62,25 +18,47 @@ pub struct ArchiveIndex<'a> {
     pub entries: usize,
 }
 
-// Over the number of entries that `archive_index::open` answered.
-pub fn new<'a>(bytes: &'a [u8], entries: usize) -> ArchiveIndex<'a>
-    ensures { ReaderMeets bytes.entry entries result.bytes result.entries }
-{
-    ArchiveIndex { bytes, entries }
-}
+impl<'a> ArchiveIndex<'a> {
+    // Over the number of entries that `archive_index::open` answered.
+    pub fn new(bytes: &'a [u8], entries: usize) -> ArchiveIndex<'a>
+        ensures { ReaderMeets bytes.entry entries result.bytes result.entries }
+    {
+        ArchiveIndex { bytes, entries }
+    }
 
-// Entry k's member offset.
-pub fn offset_of<'a>(x: ArchiveIndex<'a>, k: usize) -> u64
-    ensures { OffsetMeets x.entry.bytes.now x.entry.entries k result }
-{
-    offset_in(x.bytes, x.entries, k)
-}
+    // Where entry k's name starts: the names before it are passed over.
+    fn place(self, k: usize) -> usize
+        requires { 4 + 4 * self.entries ≤ length self.bytes.now }
+        ensures { result ≡ place_of self.entry.bytes.now self.entry.entries k }
+    {
+        let mut at = archive_index::WORD_BYTES + archive_index::WORD_BYTES * self.entries;
+        for _passed in 0..k {
+            at = archive_index::after_name(self.bytes, at).unwrap_or(0);
+        }
+        at
+    }
 
-// Entry k's name, as that very part of the slice. It costs a look at the names before it; a walk, which needs every name, reads them by its rows.
-pub fn name_of<'a>(x: ArchiveIndex<'a>, k: usize) -> &'a [u8]
-    ensures { NameMeets x.entry.bytes x.entry.entries k result }
-{
-    name_in(x.bytes, x.entries, k)
+    // Entry k's member offset.
+    #[tactic(auto, unfolding(crate::specs::Entry::entry_offset))]
+    pub fn offset(self, k: usize) -> u64
+        ensures { OffsetMeets self.entry.bytes.now self.entry.entries k result }
+    {
+        if k < self.entries {
+            return archive_index::offset(self.bytes, k);
+        }
+        0
+    }
+
+    // Entry k's name, as that very part of the slice. It costs a look at the names before it; a walk, which needs every name, reads them by its rows.
+    #[tactic(auto, unfolding(crate::specs::Entry::entry_name, archive_index::specs::Index::name_of))]
+    pub fn name(self, k: usize) -> &'a [u8]
+        ensures { NameMeets self.entry.bytes self.entry.entries k result }
+    {
+        if self.entries <= k || self.bytes.len() / archive_index::WORD_BYTES <= self.entries {
+            return &self.bytes[..0];
+        }
+        name_from(self.bytes, self.place(k))
+    }
 }
 
 // ---- the same with plain parameters
@@ -88,11 +66,11 @@ pub fn name_of<'a>(x: ArchiveIndex<'a>, k: usize) -> &'a [u8]
 pub fn entry_offset(bytes: &[u8], entries: usize, k: usize) -> u64
     ensures { OffsetMeets bytes.now entries k result }
 {
-    offset_of(new(bytes, entries), k)
+    ArchiveIndex::new(bytes, entries).offset(k)
 }
 
 pub fn entry_name(bytes: &[u8], entries: usize, k: usize) -> &[u8]
     ensures { NameMeets bytes.entry entries k result }
 {
-    name_of(new(bytes, entries), k)
+    ArchiveIndex::new(bytes, entries).name(k)
 }

@@ -4,10 +4,8 @@
 use Rattle.std.specs.Prelude.{ℕ, ◌≡◌, List}
 use Rattle.cells.specs.Slice.{SliceMut}
 use Rattle.archive_walk.specs.declared.Walk.{Walk}
-use Rattle.archive_walk.specs.declared.Started.{Started}
-use Rattle.archive_walk.specs.declared.Moved.{Moved}
 use Rattle.archive_walk.specs.Look.{Table}
-use Rattle.archive_walk.specs.Walk.{start_left, start_of, step_moved, next_of}
+use Rattle.archive_walk.specs.Walk.{Started, Moved, start_left, start_of, step_moved, next_of}
 
 -- ---- `start`
 

@@ -4,11 +4,7 @@
 use Rattle.std.specs.Prelude.{ℕ, ◌%◌, ◌<◌, ◌≡◌, Bool, true, cond, List, eqb, get_or, set}
 use Rattle.symbol_resolution.specs.declared.rows.Holder.{Holder}
 use Rattle.archive_index.specs.Rows.{stored_name}
-use Rattle.archive_walk.specs.Look.{Table, name_holder, ties, tied_name}
-
--- who holds the name of entry k
-unfoldable pub entry_holder : List ℕ → List ℕ → Table → ℕ → Holder
-entry_holder s l t k = name_holder t (stored_name s l k)
+use Rattle.archive_walk.specs.Look.{Table, ties, tied_name}
 
 abbrev pub note_bytes : ℕ
 note_bytes = 4096

@@ -1,61 +1,61 @@
 -- Document 01, "Archives": the walk over an archive's members, call by call.
 -- Assumes nothing.
-use Rattle.std.specs.Prelude.{ℕ, zero, suc, ◌+◌, Bool, true, false, cond, List, [], ◌∷◌, eqb, ltb, set, length}
+use Rattle.archive_walk.specs.declared.Offer.TheVariants.{Done, Member}
+use Rattle.archive_walk.specs.declared.Offer.{Offer}
+use Rattle.link.specs.declared.Refusal.{Refusal}
+use Rattle.std.specs.Prelude.{ℕ, zero, suc, ◌+◌, Bool, true, false, cond, List, [], ◌∷◌, eqb, ltb, set, length, Result, Ok, Err}
 use Rattle.link.specs.Bounds.{not_lent}
 use Rattle.link.specs.Judge.{refused}
 use Rattle.link.specs.Said.{SaidWith}
-use Rattle.archive_index.specs.declared.Opened.{Opened}
 use Rattle.archive_index.specs.Index.{offset_of}
 use Rattle.archive_index.specs.Rows.{member_at, pass_at, queue_at, stored_name, no_heads, pass_field, queue_field, rows_in, cell_of}
-use Rattle.archive_index.specs.Open.{open_of}
+use Rattle.archive_index.specs.Open.{Opened, open_of}
 use Rattle.archive_walk.specs.Names.{noted_of}
 use Rattle.archive_walk.specs.Look.{Table, judge_table, removed_name, tied_name}
 use Rattle.archive_walk.specs.declared.Walk.{Walk}
-use Rattle.archive_walk.specs.declared.Begun.{Begun}
-use Rattle.archive_walk.specs.declared.Begun.TheVariants.{Ready}
-use Rattle.archive_walk.specs.declared.Begun.TheVariants as Begins
-use Rattle.archive_walk.specs.declared.Started.{Started}
-use Rattle.archive_walk.specs.declared.Offer.{Offer}
-use Rattle.archive_walk.specs.declared.Offer.TheVariants.{Member, Done, Refused}
-use Rattle.archive_walk.specs.declared.Moved.{Moved}
 
 -- document 01's number and place of each answer
-abbrev pub begun_number : Begun → ℕ
-begun_number (Ready n) = 0
-begun_number (Begins.Refused r) = r.number
+abbrev pub begun_number : Result ℕ Refusal → ℕ
+begun_number (Ok n) = 0
+begun_number (Err r) = r.number
 
-abbrev pub begun_place : Begun → ℕ
-begun_place (Ready n) = 0
-begun_place (Begins.Refused r) = r.place
+abbrev pub begun_place : Result ℕ Refusal → ℕ
+begun_place (Ok n) = 0
+begun_place (Err r) = r.place
 
 -- and values: how many entries the index has
-abbrev pub begun_values : Begun → List ℕ
-begun_values (Ready n) = n ∷ []
-begun_values (Begins.Refused r) = []
+abbrev pub begun_values : Result ℕ Refusal → List ℕ
+begun_values (Ok n) = n ∷ []
+begun_values (Err r) = []
 
-abbrev pub begun_said : Begun → SaidWith ℕ
+abbrev pub begun_said : Result ℕ Refusal → SaidWith ℕ
 begun_said a = record { number = begun_number a; place = begun_place a; values = begun_values a }
 
-abbrev pub number_of : Offer → ℕ
-number_of (Member o e p) = 0
-number_of (Done p) = 0
-number_of (Refused r) = r.number
+abbrev pub number_of : Result Offer Refusal → ℕ
+number_of (Ok (Member o e p)) = 0
+number_of (Ok (Done p)) = 0
+number_of (Err r) = r.number
 
-abbrev pub place_of : Offer → ℕ
-place_of (Member o e p) = 0
-place_of (Done p) = 0
-place_of (Refused r) = r.place
+abbrev pub place_of : Result Offer Refusal → ℕ
+place_of (Ok (Member o e p)) = 0
+place_of (Ok (Done p)) = 0
+place_of (Err r) = r.place
 
 -- a member's offset, the entry that queued it and the passes so far; "done" has the passes alone
-abbrev pub values_of : Offer → List ℕ
-values_of (Member o e p) = o ∷ e ∷ p ∷ []
-values_of (Done p) = p ∷ []
-values_of (Refused r) = []
+abbrev pub values_of : Result Offer Refusal → List ℕ
+values_of (Ok (Member o e p)) = o ∷ e ∷ p ∷ []
+values_of (Ok (Done p)) = p ∷ []
+values_of (Err r) = []
 
-abbrev pub offer_said : Offer → SaidWith ℕ
+abbrev pub offer_said : Result Offer Refusal → SaidWith ℕ
 offer_said a = record { number = number_of a; place = place_of a; values = values_of a }
 
 -- ---- the start
+
+-- a walk, and the answer of its start
+pub record Started : Type 0 where
+  pub walk : Walk
+  pub begun : Result ℕ Refusal
 
 pub record Start : Type 0 where
   pub cells : List ℕ
@@ -74,14 +74,24 @@ no_walk = record { key = 0; entries = 0; length = not_lent; passes = 0; queued =
 
 unfoldable pub begun_of : ℕ → ℕ → Opened → Started
 begun_of key n o =
-    cond (eqb o.refusal.number 0) (record { walk = fresh_walk key o.entries n; begun = Ready o.entries })
-    (record { walk = no_walk; begun = Begins.Refused o.refusal })
+    cond (eqb o.refusal.number 0) (record { walk = fresh_walk key o.entries n; begun = Ok o.entries })
+    (record { walk = no_walk; begun = Err o.refusal })
+
+-- what is left of an answer: the walk with its entries, or the walk that fits no index
+abbrev pub started_of : Result Walk Refusal → Started
+started_of (Ok w) = record { walk = w; begun = Ok w.entries }
+started_of (Err r) = record { walk = no_walk; begun = Err r }
 
 -- the entries' rows, with no name in a chain
 unfoldable pub start_of : ℕ → List ℕ → List ℕ → Start
 start_of key s l = start_left (no_heads (open_of s l).opened.entries (open_of s l).cells) (begun_of key (length s) (open_of s l).opened)
 
 -- ---- a call for the next member
+
+-- the walk as it is then, and the answer
+pub record Moved : Type 0 where
+  pub walk : Walk
+  pub offer : Result Offer Refusal
 
 pub record Step : Type 0 where
   pub cells : List ℕ
@@ -90,12 +100,12 @@ pub record Step : Type 0 where
 abbrev pub step_moved : List ℕ → Moved → Step
 step_moved l m = record { cells = l; moved = m }
 
-abbrev pub step_of : List ℕ → Walk → Offer → Step
+abbrev pub step_of : List ℕ → Walk → Result Offer Refusal → Step
 step_of l w o = step_moved l (record { walk = w; offer = o })
 
 -- a refusal leaves the walk and the cells as they were
 abbrev pub refused_move : Walk → ℕ → ℕ → Moved
-refused_move w number place = record { walk = w; offer = Refused (refused number place) }
+refused_move w number place = record { walk = w; offer = Err (refused number place) }
 
 -- the front of the queue goes out; "Every walk's last pass, maybe its first, offers nothing": an empty queue ends the walk
 abbrev pub handed_out : Walk → Walk
@@ -108,8 +118,8 @@ ended w = record { key = w.key; entries = w.entries; length = w.length; passes =
 unfoldable pub offer_of : List ℕ → List ℕ → Walk → Step
 offer_of s l w =
     cond (ltb w.offered w.queued)
-    (step_of l (handed_out w) (Member (offset_of s (queue_at l w.offered)) (queue_at l w.offered) w.passes))
-    (step_of l (ended w) (Done w.passes))
+    (step_of l (handed_out w) (Ok (Member (offset_of s (queue_at l w.offered)) (queue_at l w.offered) w.passes)))
+    (step_of l (ended w) (Ok (Done w.passes)))
 
 -- the cells, and how many members were queued since the start
 pub record Queue : Type 0 where
@@ -155,6 +165,10 @@ offered_from s w q = offer_of s q.cells (passed w q.queued)
 unfoldable pub make_of : List ℕ → List ℕ → Walk → Table → Step
 make_of s l w t = offered_from s w (tie_all w.key w.entries s t (w.passes + 1) w.entries 0 (queue_of l w.queued))
 
+-- of c entries the first whose name's row was removed is x
+abbrev pub search_judged : ℕ → ℕ → Result Unit Refusal
+search_judged x c = cond (ltb x c) (Err (refused 21 x)) (Ok tt)
+
 -- "A pass that meets a name whose row was removed gives 21", at the entry's position, before anything is queued
 unfoldable pub search_of : List ℕ → List ℕ → Walk → Table → ℕ → Step
 search_of s l w t x = cond (ltb x w.entries) (step_moved l (refused_move w 21 x)) (make_of s l w t)
@@ -180,5 +194,5 @@ go_of s l w t = cond (ltb w.offered w.queued) (offer_of s l w) (pass_of s l w t)
 -- "After "done" it stays done"
 unfoldable pub next_of : List ℕ → List ℕ → Walk → Table → Step
 next_of s l w t =
-    cond w.done (step_of l w (Done w.passes))
+    cond w.done (step_of l w (Ok (Done w.passes)))
     (cond (walk_fits s l w) (go_of s l w t) (step_moved l (refused_move w 1 0)))

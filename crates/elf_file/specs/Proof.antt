@@ -1,4 +1,1 @@
-pub mod Ways
-pub mod ChecksWays
-pub mod RowsWays
-pub mod ReadingWays
+pub mod LoopWays

@@ -2,7 +2,7 @@
 -- the entries of all symbol tables, then the contents of all relocation tables and groups, each in the sections' order. What is written is said
 -- here cell by cell, as the code writes it; that these are the rows one after the other is proved in elf_laws.
 -- Assumes nothing.
-use Rattle.std.specs.Prelude.{ℕ, zero, suc, ◌+◌, ◌*◌, cond, List, [], ◌∷◌, eqb, length, set}
+use Rattle.std.specs.Prelude.{ℕ, zero, suc, ◌+◌, ◌*◌, cond, List, [], ◌∷◌, eqb, length, set, Option, Some, None}
 use Rattle.cells.specs.Rows.{put_row}
 use Rattle.elf_object.specs.Rows.{row_width}
 use Rattle.elf_file.specs.declared.Header.{Header}
@@ -11,7 +11,6 @@ use Rattle.elf_file.specs.File.{header_at}
 use Rattle.elf_file.specs.Check.{file_refusal}
 use Rattle.elf_file.specs.declared.rows.Room.{Room}
 use Rattle.elf_file.specs.Rows.{entries_in, contents_in, room_of, names_of, strings_number, header_row_of}
-use Rattle.elf_file.specs.declared.reading.Reading.{Reading}
 
 -- ---- rows of headers: k of them from i on; e entries and c cells of contents stand before
 
@@ -68,6 +67,15 @@ unfoldable pub written_of : List ℕ → List ℕ → List ℕ → List ℕ → 
 written_of file names table l n e =
     all_elements_into file table (all_symbols_into file table (headers_into file names table l 0 0 0 n) n 0 n) ((n + e) * row_width) 0 n
 
+-- a refusal, or number 0 and how many rows and cells of each sort were written, and the section of the sections' names
+pub record Reading : Type 0 where
+  pub number : ℕ
+  pub place : ℕ
+  pub sections : ℕ
+  pub entries : ℕ
+  pub contents : ℕ
+  pub strings : ℕ
+
 -- the lent cells and the answer
 pub record Done : Type 0 where
   pub cells : List ℕ
@@ -80,11 +88,10 @@ abbrev pub read_as : ℕ → ℕ → ℕ → ℕ → ℕ → ℕ → Reading
 read_as number place sections entries contents strings =
     record { number = number; place = place; sections = sections; entries = entries; contents = contents; strings = strings }
 
-unfoldable pub roomed_of : List ℕ → List ℕ → List ℕ → ℕ → ℕ → Room → Done
-roomed_of file table l n s m =
-    cond m.fits
-    (done (written_of file (names_of file table s n) table l n m.entries) (read_as 0 0 n m.entries m.contents (strings_number s n)))
-    (done l (read_as 2 0 0 0 0 0))
+unfoldable pub roomed_of : List ℕ → List ℕ → List ℕ → ℕ → ℕ → Option Room → Done
+roomed_of file table l n s None = done l (read_as 2 0 0 0 0 0)
+roomed_of file table l n s (Some m) =
+    done (written_of file (names_of file table s n) table l n m.entries) (read_as 0 0 n m.entries m.contents (strings_number s n))
 
 -- "26 [..]; 27, after 26 [..]; then 2, place 0, too few lent rows; all leave everything"
 unfoldable pub read_of : List ℕ → List ℕ → Done

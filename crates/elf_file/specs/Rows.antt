@@ -1,6 +1,6 @@
 -- Request 2026-01: what of a section header stands in its row, how many rows and cells its contents need, and whether all have room.
 -- Assumes nothing.
-use Rattle.std.specs.Prelude.{ℕ, zero, suc, ◌+◌, ◌*◌, ◌-◌, ◌/◌, ◌%◌, Bool, true, false, cond, List, [], ◌∷◌, eqb, ltb, leb, get_or}
+use Rattle.std.specs.Prelude.{ℕ, zero, suc, ◌+◌, ◌*◌, ◌-◌, ◌/◌, ◌%◌, cond, List, [], ◌∷◌, eqb, ltb, leb, get_or, Option, Some, None}
 use Rattle.gabi.specs.StringTable.{name_at}
 use Rattle.byte_slices.specs.Bytes.{same}
 use Rattle.gabi.specs.File.{bytes_at, is_comdat, sht_progbits, sht_symtab, sht_strtab, sht_rela, sht_rel, sht_group, sht_count, sht_gnu_hash, shf_alloc, shf_gnu_retain, shf_exclude, sym_size, rel_size, rela_size, word_size}
@@ -33,14 +33,19 @@ unfoldable pub content_count : List ℕ → ℕ → ℕ → ℕ
 content_count table i zero = 0
 content_count table i (suc k) = contents_in (header_at table i) + content_count table (i + 1) k
 
-abbrev pub room_as : Bool → ℕ → ℕ → Room
-room_as f e c = record { fits = f; entries = e; contents = c }
+abbrev pub room_as : ℕ → ℕ → Room
+room_as e c = record { entries = e; contents = c }
+
+-- what is left of so many cells after so many rows and further cells
+unfoldable pub left_after : ℕ → ℕ → ℕ → Option ℕ
+left_after left rows cells = cond (leb (rows * row_width + cells) left) (Some (left - (rows * row_width + cells))) None
 
 -- "then 2, place 0, too few lent rows": a row for each of n headers and each entry, and a cell for each of the contents
-unfoldable pub room_of : ℕ → List ℕ → ℕ → Room
+unfoldable pub room_of : ℕ → List ℕ → ℕ → Option Room
 room_of cells table n =
-    cond (leb (n * row_width + entry_count table 0 n * row_width + content_count table 0 n) cells) (room_as true (entry_count table 0 n) (content_count table 0 n))
-    (room_as false 0 0)
+    cond (leb (n * row_width + entry_count table 0 n * row_width + content_count table 0 n) cells)
+    (Some (room_as (entry_count table 0 n) (content_count table 0 n)))
+    None
 
 -- ---- the row of a header
 

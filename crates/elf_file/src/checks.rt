@@ -1,8 +1,11 @@
 // What a file is refused with before anything of it is read into rows: 26, then 27.
 ghost use Rattle.std.specs.Prelude.{◌≡◌};
-ghost use Rattle.elf_file.specs.Check.{is_object, headers_fit, excluded, entry_size, entries_ok, section_ok, table_ok, bad_table, file_refusal};
+ghost use Rattle.link.specs.Judge.{judged};
+ghost use Rattle.elf_file.specs.Check.{is_object, headers_fit, excluded, section_ok, table_ok, bad_table, file_refusal};
+ghost use Rattle.elf_object.specs.Judge.{found_below};
+ghost use Rattle.elf_file.specs.Table.{table_of};
 
-use crate::Header;
+use crate::{Header, Table};
 use link::Refusal;
 
 // The gABI's numbers of a file that can be merged: 0x7f, E, L, F; the 64-bit class, the least byte first, an object.
@@ -14,157 +17,98 @@ const ELF_DATA_2_LSB: u64 = 1;
 
 const ET_REL: u64 = 1;
 
+#[tactic(auto, unfolding(crate::specs::Check::is_object))]
 fn is_object(file: &[u8]) -> bool
     ensures { result ≡ is_object file.now }
 {
-    if file.len() < crate::EHDR_SIZE {
-        return false;
-    }
-    if crate::word(file, 0) != ELF_MAGIC {
-        return false;
-    }
-    if crate::byte(file, crate::E_CLASS) != ELF_CLASS_64 {
-        return false;
-    }
-    if crate::byte(file, crate::E_DATA) != ELF_DATA_2_LSB {
-        return false;
-    }
-    if crate::half(file, crate::E_TYPE) == ET_REL {
-        return true;
-    }
-    false
+    file.len() >= crate::EHDR_SIZE
+        && crate::word(file, 0) == ELF_MAGIC
+        && crate::byte(file, crate::E_CLASS) == ELF_CLASS_64
+        && crate::byte(file, crate::E_DATA) == ELF_DATA_2_LSB
+        && crate::half(file, crate::E_TYPE) == ET_REL
 }
 
+// Do n headers lie in so many bytes, from there on?
+#[tactic(auto, unfolding(crate::specs::Check::headers_fit))]
 fn headers_fit(len: usize, shoff: u64, n: u64) -> bool
     ensures { result ≡ headers_fit len shoff n }
 {
     if shoff == 0 {
         return true;
     }
-    if (len as u64) < shoff {
-        return false;
+    match (len as u64).checked_sub(shoff) {
+        Some(left) => left >= crate::SHDR_BYTES && left / crate::SHDR_BYTES >= n,
+        None => false,
     }
-    let left = len as u64 - shoff;
-    if left < crate::SHDR_BYTES {
-        return false;
-    }
-    if left / crate::SHDR_BYTES < n {
-        return false;
-    }
-    true
 }
 
-pub fn excluded(h: Header) -> bool
-    ensures { result ≡ excluded h }
-{
-    if h.flags / crate::SHF_EXCLUDE % 2 == 1 {
-        return true;
+impl Header {
+    #[tactic(auto, unfolding(crate::specs::Check::excluded))]
+    pub fn is_excluded(self) -> bool
+        ensures { result ≡ excluded self }
+    {
+        self.flags / crate::SHF_EXCLUDE % 2 == 1
     }
-    false
+
+    // The table that is read of the section, if it is one and isn't excluded.
+    #[tactic(auto, unfolding(crate::specs::Table::table_of))]
+    pub fn table(self) -> Option<Table>
+        ensures { result ≡ table_of self }
+    {
+        if self.is_excluded() {
+            None
+        } else {
+            Table::of_type(self.kind)
+        }
+    }
+
+    // Does the table, if it is one, lie in a file of that many bytes, with whole entries?
+    #[tactic(auto, unfolding(crate::specs::Check::section_ok, crate::specs::Table::table_of, crate::specs::Table::typed, crate::specs::Check::entry_size))]
+    fn fits(self, len: usize) -> bool
+        ensures { result ≡ section_ok len self }
+    {
+        let Some(table) = self.table() else {
+            return true;
+        };
+        match (len as u64).checked_sub(self.offset) {
+            Some(left) => self.size <= left && table.has_whole_entries(self.size),
+            None => false,
+        }
+    }
 }
 
-fn entry_size(kind: u64) -> u64
-    ensures { result ≡ entry_size kind }
-{
-    if kind == crate::SHT_SYMTAB {
-        return crate::SYM_BYTES;
-    }
-    if kind == crate::SHT_RELA {
-        return crate::RELA_BYTES;
-    }
-    if kind == crate::SHT_REL {
-        return crate::REL_BYTES;
-    }
-    if kind == crate::SHT_GROUP {
-        return crate::WORD_BYTES;
-    }
-    if kind == crate::SHT_STRTAB {
-        return 1;
-    }
-    0
-}
-
-fn entries_ok(kind: u64, size: u64, entry: u64) -> bool
-    requires { entry ≡ 0 → ⊥ }
-    ensures { result ≡ entries_ok kind size entry }
-{
-    if size % entry != 0 {
-        return false;
-    }
-    if kind != crate::SHT_GROUP {
-        return true;
-    }
-    if size == 0 {
-        return false;
-    }
-    true
-}
-
-fn section_ok(len: usize, h: Header) -> bool
-    ensures { result ≡ section_ok len h }
-{
-    if excluded(h) {
-        return true;
-    }
-    let entry = entry_size(h.kind);
-    if entry == 0 {
-        return true;
-    }
-    if (len as u64) < h.offset {
-        return false;
-    }
-    if len as u64 - h.offset < h.size {
-        return false;
-    }
-    entries_ok(h.kind, h.size, entry)
-}
-
+#[tactic(auto, unfolding(crate::specs::Check::table_ok))]
 fn table_ok(len: usize, table: &[u8], i: usize) -> bool
     ensures { result ≡ table_ok len table.now i }
 {
-    section_ok(len, crate::header_at(table, i))
+    Header::at(table, i).fits(len)
 }
 
-// The first table that isn't right; n where all are.
-fn bad_table(len: usize, table: &[u8], n: usize) -> usize
-    ensures { result ≡ bad_table len table.now n }
+// The first table that isn't right.
+fn bad_table(len: usize, table: &[u8], n: usize) -> Option<usize>
+    ensures { result ≡ found_below n (bad_table len table.now n) }
 {
-    let mut i = 0;
-    while i < n {
-        if table_ok(len, table, i) {
-            i += 1;
-        } else {
-            return i;
+    for i in 0..n {
+        if !table_ok(len, table, i) {
+            return Some(i);
         }
     }
-    i
+    None
 }
 
-pub fn refusal(file: &[u8]) -> Refusal
-    ensures { result ≡ file_refusal file.now }
+#[tactic(auto, unfolding(crate::specs::Check::file_refusal, link::specs::Judge::judged))]
+pub fn judge(file: &[u8]) -> Result<(), Refusal>
+    ensures { result ≡ judged (file_refusal file.now) }
 {
-    if is_object(file) {
-        let n = crate::section_count(file);
-        if headers_fit(file.len(), crate::xword(file, crate::E_SHOFF), n) {
-            let bad = bad_table(file.len(), crate::header_table(file), n as usize);
-            if bad < n as usize {
-                return Refusal {
-                    number: 27,
-                    place: bad as u64,
-                };
-            }
-            return Refusal {
-                number: 0,
-                place: 0,
-            };
-        }
-        return Refusal {
-            number: 27,
-            place: 0,
-        };
+    if !is_object(file) {
+        return Err(Refusal::new(26, 0));
     }
-    Refusal {
-        number: 26,
-        place: 0,
+    let n = crate::section_count(file);
+    if !headers_fit(file.len(), crate::xword(file, crate::E_SHOFF), n) {
+        return Err(Refusal::new(27, 0));
+    }
+    match bad_table(file.len(), crate::header_table(file), n as usize) {
+        Some(bad) => Err(Refusal::new(27, bad)),
+        None => Ok(()),
     }
 }

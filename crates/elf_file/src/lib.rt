@@ -3,14 +3,17 @@
 #![tactic(auto)]
 
 ghost use Rattle.std.specs.Prelude.{◌≡◌, ◌*◌, ◌+◌, ◌<◌};
-ghost use Rattle.gabi.specs.File.{byte_at, half_at, word_at, xword_at, header_bytes_at, first_header, section_count, header_table, name_section, symbol_at, rel_at, r_sym, member_at};
+ghost use Rattle.gabi.specs.File.{byte_at, half_at, word_at, xword_at, first_header, section_count, header_table, name_section, r_sym, member_at};
+ghost use Rattle.byte_slices.specs.Bytes.{part};
 ghost use Rattle.elf_file.specs.File.{header_of, header_at};
 
 mod checks;
 mod reading;
 mod rows;
+mod table;
 
-pub use reading::{Reading, read};
+pub use reading::{Written, read};
+pub use table::Table;
 
 // A section header: sh_name, sh_type, and so on.
 #[derive(Clone, Copy)]
@@ -56,7 +59,7 @@ const SH_LINK: usize = 40;
 
 const SH_INFO: usize = 44;
 
-const SYM_SIZE: usize = 24;
+pub const SYM_SIZE: usize = 24;
 
 pub const ST_NAME: usize = 0;
 
@@ -68,7 +71,9 @@ pub const ST_SHNDX: usize = 6;
 
 pub const ST_VALUE: usize = 8;
 
-const REL_SIZE: usize = 16;
+pub const REL_SIZE: usize = 16;
+
+pub const RELA_SIZE: usize = 24;
 
 const R_INFO: usize = 8;
 
@@ -100,8 +105,6 @@ pub const SHT_REL: u64 = 9;
 
 pub const SHT_GROUP: u64 = 17;
 
-pub const SHT_COUNT: u64 = 18;
-
 pub const SHT_GNU_HASH: u64 = 0x6fff_fff6;
 
 pub const SHF_ALLOC: u64 = 2;
@@ -111,18 +114,21 @@ pub const SHF_GNU_RETAIN: u64 = 0x20_0000;
 pub const SHF_EXCLUDE: u64 = 0x8000_0000;
 
 // ---- numbers
+#[tactic(auto, unfolding(byte_slices::specs::Bytes::word_at))]
 pub fn byte(x: &[u8], i: usize) -> u64
     ensures { result ≡ byte_at x.now i }
 {
     (byte_slices::word_at(x, i) % 0x100) as u64
 }
 
+#[tactic(auto, unfolding(byte_slices::specs::Bytes::word_at, gabi::specs::File::half_at))]
 pub fn half(x: &[u8], i: usize) -> u64
     ensures { result ≡ half_at x.now i }
 {
     (byte_slices::word_at(x, i) % 0x1_0000) as u64
 }
 
+#[tactic(auto, unfolding(byte_slices::specs::Bytes::word_at, gabi::specs::File::word_at))]
 pub fn word(x: &[u8], i: usize) -> u64
     ensures value { result ≡ word_at x.now i }
     ensures small { result < 0x100000000 }
@@ -130,6 +136,7 @@ pub fn word(x: &[u8], i: usize) -> u64
     byte_slices::word_at(x, i) as u64
 }
 
+#[tactic(auto, unfolding(gabi::specs::File::xword_at, gabi::specs::File::word_at))]
 pub fn xword(x: &[u8], i: usize) -> u64
     ensures { result ≡ xword_at x.now i }
 {
@@ -139,35 +146,19 @@ pub fn xword(x: &[u8], i: usize) -> u64
     word(x, i) + word(x, i + WORD_SIZE) * 0x1_0000_0000
 }
 
-// ---- entries of a table; none lies past 2^63 bytes
+// ---- entries of a table
 
-pub fn entry_64(table: &[u8], i: usize) -> &[u8]
-    ensures { result.now ≡ header_bytes_at table.now i }
+// Entry i of a table whose entries have SIZE bytes each.
+pub fn entry<const SIZE: usize>(table: &[u8], i: usize) -> &[u8]
+    ensures { result.now ≡ part table.now (i * SIZE) SIZE }
 {
-    if i < 0x0200_0000_0000_0000 {
-        return byte_slices::part_of(table, i * SHDR_SIZE, SHDR_SIZE);
+    match i.checked_mul(SIZE) {
+        Some(start) => byte_slices::part_of(table, start, SIZE),
+        None => &table[..0],
     }
-    &table[..0]
 }
 
-pub fn entry_24(table: &[u8], i: usize) -> &[u8]
-    ensures { result.now ≡ symbol_at table.now i }
-{
-    if i < 0x0800_0000_0000_0000 {
-        return byte_slices::part_of(table, i * SYM_SIZE, SYM_SIZE);
-    }
-    &table[..0]
-}
-
-pub fn entry_16(table: &[u8], i: usize) -> &[u8]
-    ensures { result.now ≡ rel_at table.now i }
-{
-    if i < 0x0800_0000_0000_0000 {
-        return byte_slices::part_of(table, i * REL_SIZE, REL_SIZE);
-    }
-    &table[..0]
-}
-
+#[tactic(auto, unfolding(gabi::specs::File::member_at, gabi::specs::File::word_at))]
 pub fn member(table: &[u8], i: usize) -> u64
     ensures { result ≡ member_at table.now i }
 {
@@ -177,6 +168,7 @@ pub fn member(table: &[u8], i: usize) -> u64
     0
 }
 
+#[tactic(auto, unfolding(gabi::specs::File::r_sym))]
 pub fn r_sym(e: &[u8]) -> u64
     ensures { result ≡ r_sym e.now }
 {
@@ -185,36 +177,41 @@ pub fn r_sym(e: &[u8]) -> u64
 
 // ---- section headers
 
-pub fn header_of(e: &[u8]) -> Header
-    ensures { result ≡ header_of e.now }
-{
-    Header {
-        name: word(e, SH_NAME),
-        kind: word(e, SH_TYPE),
-        flags: xword(e, SH_FLAGS),
-        offset: xword(e, SH_OFFSET),
-        size: xword(e, SH_SIZE),
-        link: word(e, SH_LINK),
-        info: word(e, SH_INFO),
+impl Header {
+    // From the header's bytes.
+    #[tactic(auto, unfolding(crate::specs::File::header_of))]
+    pub fn of(bytes: &[u8]) -> Header
+        ensures { result ≡ header_of bytes.now }
+    {
+        Header {
+            name: word(bytes, SH_NAME),
+            kind: word(bytes, SH_TYPE),
+            flags: xword(bytes, SH_FLAGS),
+            offset: xword(bytes, SH_OFFSET),
+            size: xword(bytes, SH_SIZE),
+            link: word(bytes, SH_LINK),
+            info: word(bytes, SH_INFO),
+        }
+    }
+
+    // Header i of the section header table.
+    #[tactic(auto, unfolding(crate::specs::File::header_at))]
+    pub fn at(table: &[u8], i: usize) -> Header
+        ensures { result ≡ header_at table.now i }
+    {
+        Header::of(entry::<SHDR_SIZE>(table, i))
+    }
+
+    fn first(file: &[u8]) -> Header
+        ensures { result ≡ header_of (first_header file.now) }
+    {
+        let shoff = xword(file, E_SHOFF);
+        Header::of(byte_slices::part_of(file, shoff as usize, SHDR_SIZE))
     }
 }
 
-pub fn header_at(table: &[u8], i: usize) -> Header
-    ensures { result ≡ header_at table.now i }
-{
-    let e = entry_64(table, i);
-    header_of(e)
-}
-
-fn first_header(file: &[u8]) -> Header
-    ensures { result ≡ header_of (first_header file.now) }
-{
-    let shoff = xword(file, E_SHOFF);
-    let e = byte_slices::part_of(file, shoff as usize, SHDR_SIZE);
-    header_of(e)
-}
-
 // How many sections the file says it has.
+#[tactic(auto, unfolding(gabi::specs::File::section_count, crate::specs::File::header_of))]
 pub fn section_count(file: &[u8]) -> u64
     ensures { result ≡ section_count file.now }
 {
@@ -224,25 +221,25 @@ pub fn section_count(file: &[u8]) -> u64
     }
     let shnum = half(file, E_SHNUM);
     if shnum == 0 {
-        let first = first_header(file);
-        return first.size;
+        return Header::first(file).size;
     }
     shnum
 }
 
 // The section with the sections' names; 0 for none.
+#[tactic(auto, unfolding(gabi::specs::File::name_section, crate::specs::File::header_of))]
 pub fn name_section(file: &[u8]) -> u64
     ensures { result ≡ name_section file.now }
 {
     let shstrndx = half(file, E_SHSTRNDX);
     if shstrndx == SHN_XINDEX {
-        let first = first_header(file);
-        return first.link;
+        return Header::first(file).link;
     }
     shstrndx
 }
 
 // The section headers, as far as they are there.
+#[tactic(auto, unfolding(gabi::specs::File::header_table))]
 pub fn header_table(file: &[u8]) -> &[u8]
     ensures { result.now ≡ header_table file.now }
 {

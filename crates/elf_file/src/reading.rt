@@ -2,58 +2,113 @@
 ghost use Rattle.std.specs.Prelude.{◌≡◌, ◌+◌, ◌*◌, ◌≤◌, length};
 ghost use Rattle.elf_object.specs.Rows.{row_width};
 ghost use Rattle.cells.specs.Rows.{put_row};
-ghost use Rattle.elf_file.specs.Rows.{entry_count, content_count, room_of, header_row_of};
-ghost use Rattle.elf_file.specs.Read.{headers_into, symbol_row, symbols_into, all_symbols_into, element_at, elements_into, all_elements_into, written_of, done, read_as, roomed_of};
+ghost use Rattle.elf_file.specs.Rows.{entry_count, content_count, header_row_of};
+ghost use Rattle.elf_file.specs.Read.{headers_into, symbol_row, symbols_into, all_symbols_into, element_at, elements_into, all_elements_into, written_of};
+ghost use Rattle.elf_file.specs.Table.{type_of};
 ghost use Rattle.elf_file.specs.Contract.{ReadMeets};
 
-use crate::Header;
-use crate::rows::Room;
+use crate::{Header, Table};
+use link::Refusal;
 
-// A refusal, or number 0 and how many rows and cells of each sort were written, and the section of the sections' names.
-#[derive(Clone, Copy)]
-pub struct Reading {
-    pub number: u64,
-    pub place: u64,
+// How many rows and cells of each sort were written, and the section of the sections' names.
+#[derive(Clone, Copy, Debug, PartialEq, Eq)]
+pub struct Written {
     pub sections: u64,
     pub entries: u64,
     pub contents: u64,
     pub strings: u64,
 }
 
-// The sums of what the headers need are below 2^60, as all of it fits into the lent cells.
-
-// ---- headers
-
-fn header_row(file: &[u8], names: &[u8], rows: &mut [u64], i: usize, h: Header, e: u64, c: u64)
-    ensures { rows.new ≡ put_row rows.old i (header_row_of file.now names.now h e c) }
-{
-    let kind = crate::rows::named_kind(names, h);
-    let flags = crate::rows::flags_of(file, h);
-    let first = crate::rows::first_of(h, e, c);
-    let count = crate::rows::count_of(h);
-    cells::row_store(
-        rows, i, kind, h.name, flags, h.link, h.info, first, count, 0,
-    );
+// A file that is an object: its bytes, its section headers, as far as they are there, and how many it has.
+#[derive(Clone, Copy)]
+struct ObjectFile<'a> {
+    bytes: &'a [u8],
+    table: &'a [u8],
+    sections: usize,
 }
 
-fn headers(file: &[u8], names: &[u8], table: &[u8], rows: &mut [u64], n: usize)
-    requires { entry_count table.now 0 n + content_count table.now 0 n ≤ 0x1000000000000000 }
-    ensures { rows.new ≡ headers_into file.now names.now table.now rows.old 0 0 0 n }
-{
-    let mut e = 0;
-    let mut c = 0;
-    let mut i = 0;
-    while i < n {
-        let h = crate::header_at(table, i);
-        header_row(file, names, rows, i, h, e, c);
-        e += crate::rows::entries_in(h);
-        c += crate::rows::contents_in(h);
-        i += 1;
+// The sums of what the headers need are below 2^60, as all of it fits into the lent cells.
+impl<'a> ObjectFile<'a> {
+    // ---- headers
+
+    #[tactic(auto, unfolding(crate::specs::Rows::header_row_of))]
+    fn header_row(self, names: &[u8], rows: &mut [u64], i: usize, h: Header, e: u64, c: u64)
+        ensures { rows.new ≡ put_row rows.old i (header_row_of self.entry.bytes.now names.now h e c) }
+    {
+        let kind = h.named_kind(names);
+        let flags = h.row_flags(self.bytes);
+        let first = h.first_row(e, c);
+        let count = h.row_count();
+        cells::row_store(
+            rows,
+            i,
+            [kind, h.name, flags, h.link, h.info, first, count, 0],
+        );
+    }
+
+    fn write_headers(self, names: &[u8], rows: &mut [u64])
+        requires { let f = self in
+            entry_count f.table.now 0 f.sections + content_count f.table.now 0 f.sections ≤ 0x1000000000000000 }
+        ensures { let f = self.entry in rows.new ≡ headers_into f.bytes.now names.now f.table.now rows.old 0 0 0 f.sections }
+    {
+        let mut e = 0;
+        let mut c = 0;
+        for i in 0..self.sections {
+            let h = Header::at(self.table, i);
+            self.header_row(names, rows, i, h, e, c);
+            e += h.entries();
+            c += h.contents();
+        }
+    }
+
+    // ---- symbols
+
+    fn write_symbols(self, rows: &mut [u64], start: usize)
+        requires n_in_bounds { let f = self in start + entry_count f.table.now 0 f.sections ≤ length rows.old }
+        requires n_bound { let f = self in start + entry_count f.table.now 0 f.sections ≤ 0x1000000000000000 }
+        ensures { let f = self.entry in rows.new ≡ all_symbols_into f.bytes.now f.table.now rows.old start 0 f.sections }
+    {
+        let mut at = start;
+        for i in 0..self.sections {
+            let h = Header::at(self.table, i);
+            let count = h.entries() as usize;
+            symbols(h.bytes(self.bytes), rows, at, count);
+            at += count;
+        }
+    }
+
+    // ---- symbols of relocations, sections of groups
+
+    fn write_contents(self, rows: &mut [u64], start: usize)
+        requires n_in_bounds { let f = self in start + content_count f.table.now 0 f.sections ≤ length rows.old }
+        requires n_bound { let f = self in start + content_count f.table.now 0 f.sections ≤ 0x1000000000000000 }
+        ensures { let f = self.entry in rows.new ≡ all_elements_into f.bytes.now f.table.now rows.old start 0 f.sections }
+    {
+        let mut at = start;
+        for i in 0..self.sections {
+            let h = Header::at(self.table, i);
+            let count = h.contents() as usize;
+            elements(h.kind, h.bytes(self.bytes), rows, at, count);
+            at += count;
+        }
+    }
+
+    // ---- all of it, with that many entries
+
+    #[tactic(auto, unfolding(crate::specs::Read::written_of))]
+    fn write(self, names: &[u8], rows: &mut [u64], entries: usize)
+        requires n_in_bounds { let f = self in
+            f.sections * row_width + entries * row_width + content_count f.table.now 0 f.sections ≤ length rows.old }
+        requires entries_value { let f = self in entries ≡ entry_count f.table.now 0 f.sections }
+        ensures { let f = self.entry in rows.new ≡ written_of f.bytes.now names.now f.table.now rows.old f.sections entries }
+    {
+        self.write_headers(names, rows);
+        self.write_symbols(rows, self.sections);
+        self.write_contents(rows, (self.sections + entries) * elf_object::ROW_WIDTH);
     }
 }
 
-// ---- symbols
-
+#[tactic(auto, unfolding(crate::specs::Read::symbol_row))]
 fn symbol_row(entry: &[u8], rows: &mut [u64], i: usize)
     ensures { rows.new ≡ put_row rows.old i (symbol_row entry.now) }
 {
@@ -65,14 +120,7 @@ fn symbol_row(entry: &[u8], rows: &mut [u64], i: usize)
     cells::row_store(
         rows,
         i,
-        name,
-        info / 16,
-        info % 16,
-        other % 4,
-        section,
-        value,
-        0,
-        0,
+        [name, info / 16, info % 16, other % 4, section, value, 0, 0],
     );
 }
 
@@ -80,128 +128,55 @@ fn symbols(bytes: &[u8], rows: &mut [u64], at: usize, count: usize)
     requires { at + count ≤ length rows.old }
     ensures { rows.new ≡ symbols_into bytes.now rows.old at 0 count }
 {
-    let mut j = 0;
-    while j < count {
-        symbol_row(crate::entry_24(bytes, j), rows, at + j);
-        j += 1;
+    for j in 0..count {
+        symbol_row(crate::entry::<{ crate::SYM_SIZE }>(bytes, j), rows, at + j);
     }
 }
 
-fn all_symbols(file: &[u8], table: &[u8], rows: &mut [u64], start: usize, n: usize)
-    requires n_in_bounds { start + entry_count table.now 0 n ≤ length rows.old }
-    requires n_bound { start + entry_count table.now 0 n ≤ 0x1000000000000000 }
-    ensures { rows.new ≡ all_symbols_into file.now table.now rows.old start 0 n }
-{
-    let mut at = start;
-    let mut i = 0;
-    while i < n {
-        let h = crate::header_at(table, i);
-        let count = crate::rows::entries_in(h) as usize;
-        let bytes = byte_slices::part_of(file, h.offset as usize, h.size as usize);
-        symbols(bytes, rows, at, count);
-        at += count;
-        i += 1;
-    }
-}
-
-// ---- symbols of relocations, sections of groups
-
+// Kept: the sh_type itself and no Table, so that a section with no contents needs no case.
+#[tactic(auto, unfolding(crate::specs::Read::element_at))]
 fn element(kind: u64, bytes: &[u8], j: usize) -> u64
     ensures { result ≡ element_at kind bytes.now j }
 {
-    if kind == crate::SHT_GROUP {
-        return crate::member(bytes, j);
+    match kind {
+        crate::SHT_GROUP => crate::member(bytes, j),
+        crate::SHT_REL => crate::r_sym(crate::entry::<{ crate::REL_SIZE }>(bytes, j)),
+        _ => crate::r_sym(crate::entry::<{ crate::RELA_SIZE }>(bytes, j)),
     }
-    if kind == crate::SHT_REL {
-        return crate::r_sym(crate::entry_16(bytes, j));
-    }
-    crate::r_sym(crate::entry_24(bytes, j))
 }
 
 fn elements(kind: u64, bytes: &[u8], rows: &mut [u64], at: usize, count: usize)
     requires { at + count ≤ length rows.old }
     ensures { rows.new ≡ elements_into kind bytes.now rows.old at 0 count }
 {
-    let mut j = 0;
-    while j < count {
-        let x = element(kind, bytes, j);
-        cells::put(rows, at + j, x);
-        j += 1;
-    }
-}
-
-fn all_elements(file: &[u8], table: &[u8], rows: &mut [u64], start: usize, n: usize)
-    requires n_in_bounds { start + content_count table.now 0 n ≤ length rows.old }
-    requires n_bound { start + content_count table.now 0 n ≤ 0x1000000000000000 }
-    ensures { rows.new ≡ all_elements_into file.now table.now rows.old start 0 n }
-{
-    let mut at = start;
-    let mut i = 0;
-    while i < n {
-        let h = crate::header_at(table, i);
-        let count = crate::rows::contents_in(h) as usize;
-        let bytes = byte_slices::part_of(file, h.offset as usize, h.size as usize);
-        elements(h.kind, bytes, rows, at, count);
-        at += count;
-        i += 1;
+    for j in 0..count {
+        rows[at + j] = element(kind, bytes, j);
     }
 }
 
 // ---- the file
 
-fn write(file: &[u8], names: &[u8], table: &[u8], rows: &mut [u64], n: usize, entries: usize)
-    requires n_in_bounds { n * row_width + entries * row_width + content_count table.now 0 n ≤ length rows.old }
-    requires entries_value { entries ≡ entry_count table.now 0 n }
-    ensures { rows.new ≡ written_of file.now names.now table.now rows.old n entries }
-{
-    headers(file, names, table, rows, n);
-    all_symbols(file, table, rows, n, n);
-    all_elements(file, table, rows, (n + entries) * elf_object::ROW_WIDTH, n);
-}
-
-fn stopped(number: u64, place: u64) -> Reading
-    ensures { result ≡ read_as number place 0 0 0 0 }
-{
-    Reading {
-        number: number,
-        place: place,
-        sections: 0,
-        entries: 0,
-        contents: 0,
-        strings: 0,
-    }
-}
-
-fn roomed(file: &[u8], table: &[u8], rows: &mut [u64], n: usize, s: u64, m: Room) -> Reading
-    requires { m ≡ room_of (length rows.old) table.now n }
-    ensures { done rows.new result ≡ roomed_of file.now table.now rows.old n s m }
-{
-    if m.fits {
-        let names = crate::rows::names_of(file, table, s, n);
-        write(file, names, table, rows, n, m.entries as usize);
-        return Reading {
-            number: 0,
-            place: 0,
-            sections: n as u64,
-            entries: m.entries,
-            contents: m.contents,
-            strings: crate::rows::strings_number(s, n as u64),
-        };
-    }
-    stopped(2, 0)
-}
-
-// 26, 27, 2: all lent cells are left.
-pub fn read(file: &[u8], rows: &mut [u64]) -> Reading
+// The file's rows; 26, 27, 2 leave all lent cells.
+#[tactic(auto, unfolding(crate::specs::Read::read_of, crate::specs::Read::roomed_of, crate::specs::Rows::room_of, link::specs::Judge::judged))]
+pub fn read(file: &[u8], rows: &mut [u64]) -> Result<Written, Refusal>
     ensures { ReadMeets file.now rows.old rows.new result }
 {
-    let r = crate::checks::refusal(file);
-    if r.number != 0 {
-        return stopped(r.number, r.place);
-    }
-    let table = crate::header_table(file);
-    let n = crate::section_count(file) as usize;
-    let s = crate::name_section(file);
-    let m = crate::rows::room_for(rows.len(), table, n);
-    roomed(file, table, rows, n, s, m)
+    crate::checks::judge(file)?;
+    let object = ObjectFile {
+        bytes: file,
+        table: crate::header_table(file),
+        sections: crate::section_count(file) as usize,
+    };
+    let strings = crate::name_section(file);
+    let Some(room) = crate::rows::room_for(rows.len(), object.table, object.sections) else {
+        return Err(Refusal::new(2, 0));
+    };
+    let names = crate::rows::names_of(file, object.table, strings, object.sections);
+    object.write(names, rows, room.entries as usize);
+    Ok(Written {
+        sections: object.sections as u64,
+        entries: room.entries,
+        contents: room.contents,
+        strings: crate::rows::strings_number(strings, object.sections as u64),
+    })
 }

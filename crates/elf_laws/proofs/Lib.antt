@@ -1,3 +1,4 @@
+pub mod NameWays
 pub mod Names
 pub mod Terms
 pub mod Examples

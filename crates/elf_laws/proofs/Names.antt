@@ -19,8 +19,7 @@ use Rattle.gabi.specs.File.{section_count, header_table, name_section}
 use Rattle.elf_file.specs.File.{header_at}
 use Rattle.elf_file.specs.Check.{excluded}
 use Rattle.elf_file.specs.Rows.{entry_count, content_count, kinds, kind_of, eh_frame_hdr, named_kind, names_of, strings_number, flags_of, first_row_of, count_of, header_row_of}
-use Rattle.elf_file.specs.Proof.ChecksWays.{excluded-yes, excluded-no}
-use Rattle.elf_file.specs.Proof.RowsWays.{number-none, number_is, number_past, names-none, names_in, names-past, strings-none, strings-part, strings-other}
+use Rattle.elf_laws.proofs.NameWays.{excluded-yes, excluded-no, number-none, number_is, number_past, names-none, names_in, names-past, strings-none, strings-part, strings-other}
 use Rattle.elf_laws.specs.Object.{headers_from, rows_of}
 use Rattle.elf_laws.proofs.Written.{length-headers}
 use Rattle.elf_laws.proofs.Rows.{header_row}

@@ -1,6 +1,6 @@
 -- Request 2026-01: the reader answers exactly the rows of the file, or refuses and leaves everything.
 -- Assumes nothing.
-use Rattle.std.specs.Prelude.{ℕ, ◌+◌, ◌*◌, ◌<◌, ◌≤◌, ◌≡◌, List, ◌++◌, eqb, leb, take}
+use Rattle.std.specs.Prelude.{ℕ, ◌+◌, ◌*◌, ◌<◌, ◌≤◌, ◌≡◌, List, ◌++◌, eqb, leb, take, Result}
 use native.Mathlib.Omega.{arith}
 use Rattle.std.proofs.Common.{zero-add, sym, ◌∙◌, append_assoc, take_at, drop_at}
 use Rattle.std.proofs.Math.Path.{refl, ap}
@@ -12,8 +12,9 @@ use Rattle.byte_slices.specs.Proof.Ways.{apart}
 use Rattle.gabi.specs.File.{section_count, header_table, name_section}
 use Rattle.elf_file.specs.Check.{file_refusal}
 use Rattle.elf_file.specs.Rows.{entry_count, content_count, room_of, names_of}
-use Rattle.elf_file.specs.declared.reading.Reading.{Reading}
-use Rattle.elf_file.specs.Contract.{ReadMeets}
+use Rattle.link.specs.declared.Refusal.{Refusal}
+use Rattle.elf_file.specs.declared.reading.Written.{Written}
+use Rattle.elf_file.specs.Contract.{Exit, ReadMeets}
 use Rattle.elf_file.specs.Read.{written_of, Done, done, read_as, roomed_of, read_of}
 use Rattle.elf_laws.specs.Object.{headers_from, all_symbols_from, all_elements_from, rows_of, cells_of, laid}
 use Rattle.elf_laws.proofs.Written.{all-written, length-headers, length-all-symbols, length-all-elements}
@@ -76,8 +77,8 @@ module _ (file l : List ℕ) where
       (λ a. ap (λ (d : Done). d.cells) (read-refused (λ e. absurd (apart (sym a ∙ eq-eqb _ _ e)))))
 
 -- its contract admits no second outcome
-pub one-outcome : (file l a b : List ℕ) (r q : Reading) → ReadMeets file l a r → ReadMeets file l b q → (a ≡ b) × (r ≡ q)
-one-outcome file l a b r q e f = let h = e ∙ sym f in (ap (λ (d : Done). d.cells) h, ap (λ (d : Done). d.answer) h)
+pub one-outcome : (file l a b : List ℕ) (r q : Result Written Refusal) → ReadMeets file l a r → ReadMeets file l b q → (a ≡ b) × (r ≡ q)
+one-outcome file l a b r q e f = let h = e ∙ sym f in (ap (λ (d : Exit). d.cells) h, ap (λ (d : Exit). d.answer) h)
 
 -- what a caller hands to a merge: `&rows[..a]`, `&rows[a..b]`, `&rows[b..]`, cut by the answer's numbers
 module _ (file l : List ℕ) where

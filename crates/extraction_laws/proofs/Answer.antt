@@ -1,7 +1,8 @@
 -- What admission answers, over every walk: the answer of `matches` itself, yes or no, against the gABI's extraction; exact, in the old profile with
 -- the two known places as terms of their own, in the gABI's without them.
 -- Assumes nothing.
-use Rattle.std.specs.Prelude.{ℕ, ◌+◌, ◌/◌, ◌<◌, ◌≤◌, ◌≡◌, Bool, true, false, not, ◌&&◌, ◌||◌, ltb, length}
+use Rattle.link.specs.declared.Refusal.{Refusal}
+use Rattle.std.specs.Prelude.{ℕ, ◌+◌, ◌/◌, ◌<◌, ◌≤◌, ◌≡◌, Bool, true, false, not, ◌&&◌, ◌||◌, ltb, length, Result, Ok}
 use Rattle.std.proofs.Common.{arith, sym, ◌∙◌, subst, eq-eqb, lt-ltb, le-ltb}
 use Rattle.std.proofs.Math.Path.{refl, ap}
 use mathlib.Core.List.{List, [], ◌∷◌, ◌++◌}
@@ -20,8 +21,6 @@ use Rattle.archive_laws.specs.ByKey.{in_index, queue_in, Pass, Walked}
 use Rattle.archive_laws.proofs.Steps.{Fine}
 use Rattle.archive_laws.proofs.KeyedWalk.{walked_by, fine-after}
 use Rattle.elf_object.specs.Judge.{judge_of}
-use Rattle.object_requirement.specs.declared.Admission.{Admission}
-use Rattle.object_requirement.specs.declared.Admission.TheVariants.{Yes, No}
 use Rattle.object_requirement.specs.Matches.{admission, offered_in, matches_of, has_global_symbol}
 use Rattle.extraction_laws.proofs.Some.{some_same}
 use Rattle.extraction_laws.specs.Member.{admitting, member_of}
@@ -31,9 +30,9 @@ use Rattle.extraction_laws.proofs.Taken.{lists, taken_in, taken, taken-either, t
 use Rattle.extraction_laws.proofs.Chosen as Chosen
 
 -- the two answers
-abbrev pub says : Bool → Admission
-says true = Yes
-says false = No
+abbrev pub says : Bool → Result Bool Refusal
+says true = Ok true
+says false = Ok false
 
 -- ---- the known places, each a term
 
@@ -187,12 +186,12 @@ module _ (key : ℕ) (s : List ℕ) (keys : ℕ → ℕ) (named : ℕ → List �
     answer-is = answered after (subst (Fine key s keys named c) (history-snoc s ts t start) (fine-after key s keys named c start fine begins (ts ++ (t ∷ [])))) (λ x. refl)
 
     -- a member that is let in was queued by the pass
-    pub let-in-queued : matches_of link headers entries contents file s after.cells after.walk e ≡ Yes → among keys e (queue_in after) ≡ true
+    pub let-in-queued : matches_of link headers entries contents file s after.cells after.walk e ≡ Ok true → among keys e (queue_in after) ≡ true
     let-in-queued y =
         Chosen.queued link.gabi s keys named c t before after pass e low new headers entries file listed-own
         (ap (taken_in link.gabi (tied_name t)) (member_is headers entries file) ∙ yes answer (sym says-answer ∙ y))
       where
-        yes : (b : Bool) → says b ≡ Yes → b ≡ true
+        yes : (b : Bool) → says b ≡ Ok true → b ≡ true
         yes true q = refl
         yes false q = let z : ◌≡◌ {A = ℕ} 0 1 = cc in absurd (omega arith)
 

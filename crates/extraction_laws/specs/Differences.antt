@@ -2,7 +2,8 @@
 -- profile (document 02, 2026-02) the same inputs, on which both agree throughout. Computed from the contracts' definitions: a walk over an index
 -- that ties b to one member, and admission of that member's rows.
 -- Assumes nothing.
-use Rattle.std.specs.Prelude.{ℕ, ◌≡◌, Bool, true, false, List, [], ◌∷◌, replicate}
+use Rattle.link.specs.declared.Refusal.{Refusal}
+use Rattle.std.specs.Prelude.{ℕ, ◌≡◌, Bool, true, false, List, [], ◌∷◌, replicate, Result, Ok}
 use Rattle.gabi.specs.StringTable as Strings
 use Rattle.gabi.specs.Archive.{wants, extracts}
 use Rattle.link.specs.Counts.{no_names, with_names, with_symbols, with_profile}
@@ -13,8 +14,6 @@ use Rattle.symbol_laws.specs.Gabi.{sym_of}
 use Rattle.symbol_laws.proofs.Differences.{elf}
 use Rattle.archive_walk.specs.Look.{Table, table_of}
 use Rattle.archive_laws.specs.Runs.{Run, history, start_run}
-use Rattle.object_requirement.specs.declared.Admission.{Admission}
-use Rattle.object_requirement.specs.declared.Admission.TheVariants.{Yes, No}
 use Rattle.object_requirement.specs.Matches as Admits
 use Rattle.extraction_laws.specs.Member.{member_of}
 
@@ -61,9 +60,9 @@ pub record Case : Type 0 where
   pub section : ℕ
   pub extracted : Bool
   pub offers : List ℕ
-  pub admitted : Admission
+  pub admitted : Result Bool Refusal
 
-abbrev case_of : Table → ℕ → List (List ℕ) → ℕ → ℕ → Bool → List ℕ → Admission → Case
+abbrev case_of : Table → ℕ → List (List ℕ) → ℕ → ℕ → Bool → List ℕ → Result Bool Refusal → Case
 case_of t r w d s x o a = record { table = t; reference = r; wanted = w; binding = d; section = s; extracted = x; offers = o; admitted = a }
 
 -- the member is offered, by entry 0
@@ -82,34 +81,34 @@ Right c =
 
 -- strong reference, strong definition: both take the member
 abbrev pub agreeing : Bool → Case
-agreeing gabi = case_of (strongly gabi) 1 (b ∷ []) 1 1 true offered Yes
+agreeing gabi = case_of (strongly gabi) 1 (b ∷ []) 1 1 true offered (Ok true)
 
 -- "Weak references pull members"
 abbrev pub weak_reference : Case
-weak_reference = case_of (weakly false) 2 [] 1 1 false offered Yes
+weak_reference = case_of (weakly false) 2 [] 1 1 false offered (Ok true)
 
 -- "a weak definition doesn't admit one"
 abbrev pub weak_definition : Case
-weak_definition = case_of (strongly false) 1 (b ∷ []) 2 1 true offered No
+weak_definition = case_of (strongly false) 1 (b ∷ []) 2 1 true offered (Ok false)
 
 -- "some symbol of binding 1, defined or not": a member that only refers to b, by an index that ties b to it all the same
 abbrev pub member_refers : Case
-member_refers = case_of (strongly false) 1 (b ∷ []) 1 0 false offered Yes
+member_refers = case_of (strongly false) 1 (b ∷ []) 1 0 false offered (Ok true)
 
 -- the gABI's profile: "a weak reference ties no member"
 abbrev pub weak_ties_none : Case
-weak_ties_none = case_of (weakly true) 2 [] 1 1 false [] No
+weak_ties_none = case_of (weakly true) 2 [] 1 1 false [] (Ok false)
 
 -- "a weak or global definition, and nothing else, admits one": a weak one; then a member that the index lies about, as it only refers to b, or has
 -- a local b
 abbrev pub weak_admits : Case
-weak_admits = case_of (strongly true) 1 (b ∷ []) 2 1 true offered Yes
+weak_admits = case_of (strongly true) 1 (b ∷ []) 2 1 true offered (Ok true)
 
 abbrev pub reference_admits_not : Case
-reference_admits_not = case_of (strongly true) 1 (b ∷ []) 1 0 false offered No
+reference_admits_not = case_of (strongly true) 1 (b ∷ []) 1 0 false offered (Ok false)
 
 abbrev pub local_admits_not : Case
-local_admits_not = case_of (strongly true) 1 (b ∷ []) 0 1 false offered No
+local_admits_not = case_of (strongly true) 1 (b ∷ []) 0 1 false offered (Ok false)
 
 pub data All : List Case → Type 0 where
   none : All []

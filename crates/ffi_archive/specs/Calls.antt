@@ -1,14 +1,11 @@
 -- What the calls return, and every lent cell after them.
 -- Assumes nothing.
-use Rattle.std.specs.Prelude.{ℕ, Bool, cond, List, ltb, length}
-use Rattle.archive_walk.specs.declared.Begun.{Begun}
-use Rattle.archive_walk.specs.declared.Begun.TheVariants as Begins
+use Rattle.archive_walk.specs.declared.Offer.TheVariants.{Member, Done}
 use Rattle.archive_walk.specs.declared.Offer.{Offer}
-use Rattle.archive_walk.specs.declared.Offer.TheVariants as Offers
+use Rattle.link.specs.declared.Refusal.{Refusal}
+use Rattle.std.specs.Prelude.{ℕ, Bool, cond, List, ltb, length, Result, Ok, Err, true, false}
 use Rattle.archive_walk.specs.Look.{table_of}
 use Rattle.archive_walk.specs.Walk.{Start, start_of, Step, next_of}
-use Rattle.object_requirement.specs.declared.Admission.{Admission}
-use Rattle.object_requirement.specs.declared.Admission.TheVariants as Admits
 use Rattle.object_requirement.specs.Matches.{matches_of}
 use Rattle.ffi_cells.specs.declared.header.Reply.{Reply}
 use Rattle.ffi_cells.specs.Header.{is_short, link_in, result_of, refusal_of, refused_of, Told, told, answer_of}
@@ -17,20 +14,20 @@ use Rattle.ffi_archive.specs.Cells.{walk_in, walk_out}
 
 -- ---- answers
 
-abbrev pub begun_reply : Begun → Reply
-begun_reply (Begins.Ready entries) = result_of entries 0 0 0
-begun_reply (Begins.Refused r) = refused_of r
+abbrev pub begun_reply : Result ℕ Refusal → Reply
+begun_reply (Ok entries) = result_of entries 0 0 0
+begun_reply (Err r) = refused_of r
 
 -- 1, the member's offset, the entry that queued it; the passes
-abbrev pub offered_reply : Offer → Reply
-offered_reply (Offers.Member offset entry passes) = result_of 1 offset entry passes
-offered_reply (Offers.Done passes) = result_of 0 0 0 passes
-offered_reply (Offers.Refused r) = refused_of r
+abbrev pub offered_reply : Result Offer Refusal → Reply
+offered_reply (Ok (Member offset entry passes)) = result_of 1 offset entry passes
+offered_reply (Ok (Done passes)) = result_of 0 0 0 passes
+offered_reply (Err r) = refused_of r
 
-abbrev pub admitted_reply : Admission → Reply
-admitted_reply Admits.Yes = result_of 1 0 0 0
-admitted_reply Admits.No = result_of 0 0 0 0
-admitted_reply (Admits.Refused r) = refused_of r
+abbrev pub admitted_reply : Result Bool Refusal → Reply
+admitted_reply (Ok true) = result_of 1 0 0 0
+admitted_reply (Ok false) = result_of 0 0 0 0
+admitted_reply (Err r) = refused_of r
 
 -- ---- the calls
 

@@ -3,14 +3,15 @@
 #![tactic(auto)]
 
 ghost use Rattle.std.specs.Prelude.{◌≡◌};
+ghost use Rattle.archive_walk.specs.Walk.{started_of};
 ghost use Rattle.ffi_cells.specs.Contract.{told_exit};
 ghost use Rattle.ffi_archive.specs.Cells.{walk_in, index_out, counts_out, walk_out};
 ghost use Rattle.ffi_archive.specs.Calls.{begun_reply, offered_reply, admitted_reply, start_fit, next_fit, walk_after};
 ghost use Rattle.ffi_archive.specs.Contract.{walk_exit, StartMeets, NextMeets, MatchesMeets};
 
-use archive_walk::{Begun, Offer, Walk};
+use archive_walk::{Offer, Walk};
 use ffi_cells::Reply;
-use object_requirement::Admission;
+use link::Refusal;
 
 // ---- a walk
 
@@ -54,36 +55,38 @@ pub fn put_walk(walk: &mut [u64], w: Walk)
 
 // ---- answers
 
-fn begun(a: Begun) -> Reply
-    ensures { result ≡ begun_reply a }
+fn begun(a: Result<Walk, Refusal>) -> Reply
+    ensures { result ≡ begun_reply (started_of a).begun }
 {
     match a {
-        Begun::Ready { entries } => ffi_cells::result(entries as u64, 0, 0, 0),
-        Begun::Refused { refusal } => ffi_cells::refused(refusal),
+        Ok(walk) => ffi_cells::result(walk.entries as u64, 0, 0, 0),
+        Err(refusal) => ffi_cells::refused(refusal),
     }
 }
 
-fn offered(a: Offer) -> Reply
+fn offered(a: Result<Offer, Refusal>) -> Reply
     ensures { result ≡ offered_reply a }
 {
     match a {
-        Offer::Member {
-            offset,
-            entry,
-            passes,
-        } => ffi_cells::result(1, offset, entry as u64, passes as u64),
-        Offer::Done { passes } => ffi_cells::result(0, 0, 0, passes as u64),
-        Offer::Refused { refusal } => ffi_cells::refused(refusal),
+        Ok(
+            Offer::Member {
+                offset,
+                entry,
+                passes,
+            },
+        ) => ffi_cells::result(1, offset, entry as u64, passes as u64),
+        Ok(Offer::Done { passes }) => ffi_cells::result(0, 0, 0, passes as u64),
+        Err(refusal) => ffi_cells::refused(refusal),
     }
 }
 
-fn admitted(a: Admission) -> Reply
+fn admitted(a: Result<bool, Refusal>) -> Reply
     ensures { result ≡ admitted_reply a }
 {
     match a {
-        Admission::Yes => ffi_cells::result(1, 0, 0, 0),
-        Admission::No => ffi_cells::result(0, 0, 0, 0),
-        Admission::Refused { refusal } => ffi_cells::refused(refusal),
+        Ok(true) => ffi_cells::result(1, 0, 0, 0),
+        Ok(false) => ffi_cells::result(0, 0, 0, 0),
+        Err(refusal) => ffi_cells::refused(refusal),
     }
 }
 
@@ -98,11 +101,9 @@ fn start_fit(
 ) -> u64
     ensures { walk_after result header walk rows ≡ start_fit header.old walk.old key index.now rows.old }
 {
-    let s = archive_walk::start(key, index, rows);
-    let w = s.walk;
-    let a = s.begun;
-    put_walk(walk, w);
-    ffi_cells::answer(header, begun(a))
+    let started = Walk::start(key, index, rows);
+    put_walk(walk, started.unwrap_or(Walk::none()));
+    ffi_cells::answer(header, begun(started))
 }
 
 // The value is the number of entries; the link isn't looked at. The key may be any number.
@@ -137,12 +138,10 @@ fn next_fit(
         ≡ next_fit header.old walk.old index.now rows.old bytes.now names.now symbols.now }
 {
     let l = ffi_cells::link_in(header);
-    let w = walk_in(walk);
-    let m = archive_walk::next(w, index, rows, l, bytes, names, symbols);
-    let moved = m.walk;
-    let a = m.offer;
+    let mut moved = walk_in(walk);
+    let offer = pending_archive::next(&mut moved, index, rows, l, bytes, names, symbols);
     put_walk(walk, moved);
-    ffi_cells::answer(header, offered(a))
+    ffi_cells::answer(header, offered(offer))
 }
 
 // The values are 1 for a member, its offset, the entry that queued it and the passes made; 0, 0, 0 and the passes where the walk is done.

@@ -74,7 +74,11 @@ fn put_reply(header: &mut [u64], broken: u64, key: u64, r: Reply)
     ensures { header.new ≡ reply_in header.old broken key r }
 {
     cells::row_store(
-        header, 1, broken, r.number, r.place, r.first, r.second, r.third, r.fourth, key,
+        header,
+        1,
+        [
+            broken, r.number, r.place, r.first, r.second, r.third, r.fourth, key,
+        ],
     );
 }
 
@@ -94,14 +98,16 @@ fn put_counts(header: &mut [u64], l: Link)
     cells::row_store(
         header,
         0,
-        l.names as u64,
-        l.bytes as u64,
-        l.symbols as u64,
-        l.sections as u64,
-        l.inputs as u64,
-        l.lists as u64,
-        l.chains as u64,
-        l.slots as u64,
+        [
+            l.names as u64,
+            l.bytes as u64,
+            l.symbols as u64,
+            l.sections as u64,
+            l.inputs as u64,
+            l.lists as u64,
+            l.chains as u64,
+            l.slots as u64,
+        ],
     );
 }
 

@@ -59,14 +59,16 @@ fn put_row(out: &mut [u64], id: SymbolId, row: Row)
     cells::row_store(
         out,
         0,
-        id.0 as u64,
-        1,
-        name.0 as u64,
-        row.kind,
-        row.file,
-        row.visibility,
-        v.kind,
-        v.a,
+        [
+            id.0 as u64,
+            1,
+            name.0 as u64,
+            row.kind,
+            row.file,
+            row.visibility,
+            v.kind,
+            v.a,
+        ],
     );
     cells::put(out, 8, v.b);
 }

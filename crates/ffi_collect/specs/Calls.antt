@@ -1,8 +1,7 @@
 -- What a collection returns, and every lent cell after it.
 -- Assumes nothing.
-use Rattle.std.specs.Prelude.{ℕ, Bool, cond, List}
-use Rattle.gc_sections.specs.declared.EntryPoint.{EntryPoint}
-use Rattle.gc_sections.specs.declared.EntryPoint.TheVariants as Entry
+use Rattle.link.specs.declared.SymbolId.{SymbolId}
+use Rattle.std.specs.Prelude.{ℕ, Bool, cond, List, Option, None, Some}
 use Rattle.gc_sections.specs.Run.{Said, Left, Lists, run_of}
 use Rattle.plain_collector.specs.Run.{plain_of}
 use Rattle.ffi_cells.specs.declared.header.Reply.{Reply}
@@ -12,8 +11,8 @@ abbrev pub collected_reply : Said → Reply
 collected_reply s =
     record { number = s.number; place = s.place; first = s.sections; second = s.symbols; third = 0; fourth = 0 }
 
-unfoldable pub entry_of : Bool → ℕ → EntryPoint
-entry_of entered entry = cond entered (Entry.Symbol (record { 0 = entry })) Entry.None
+unfoldable pub entry_of : Bool → ℕ → Option SymbolId
+entry_of entered entry = cond entered (Some (record { 0 = entry })) None
 
 pub record RunLeft : Type 0 where
   pub told : Told
@@ -27,8 +26,8 @@ run_left t s x w = record { told = t; symbols = s; sections = x; work = w }
 abbrev pub run_told : List ℕ → Left → RunLeft
 run_told h w = run_left (tell_of h w.link (collected_reply w.said)) w.symbols w.sections w.work
 
-unfoldable pub run_call : List ℕ → Lists → List ℕ → List ℕ → EntryPoint → List ℕ → RunLeft
+unfoldable pub run_call : List ℕ → Lists → List ℕ → List ℕ → Option SymbolId → List ℕ → RunLeft
 run_call h lists s x entry w = cond (is_short h) (run_left (told 1 h) s x w) (run_told h (run_of (link_in h) lists s x entry w))
 
-unfoldable pub plain_call : List ℕ → Lists → List ℕ → List ℕ → EntryPoint → List ℕ → RunLeft
+unfoldable pub plain_call : List ℕ → Lists → List ℕ → List ℕ → Option SymbolId → List ℕ → RunLeft
 plain_call h lists s x entry w = cond (is_short h) (run_left (told 1 h) s x w) (run_told h (plain_of (link_in h) lists s x entry w))

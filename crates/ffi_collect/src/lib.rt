@@ -8,29 +8,27 @@ ghost use Rattle.ffi_collect.specs.Calls.{collected_reply, entry_of};
 ghost use Rattle.ffi_collect.specs.Contract.{run_exit, RunMeets, PlainMeets};
 
 use ffi_cells::Reply;
-use gc_sections::{Answer, EntryPoint};
-use link::SymbolId;
+use gc_sections::Dropped;
+use link::{Refusal, SymbolId};
 
-fn collected(a: Answer) -> Reply
+fn collected(a: Result<Dropped, Refusal>) -> Reply
     ensures { result ≡ collected_reply (said_of a) }
 {
     match a {
-        Answer::Dropped { sections, symbols } => {
+        Ok(Dropped { sections, symbols }) => {
             ffi_cells::result(sections as u64, symbols as u64, 0, 0)
         }
-        Answer::Refused { refusal } => ffi_cells::refused(refusal),
+        Err(refusal) => ffi_cells::refused(refusal),
     }
 }
 
-fn entry_of(entered: bool, entry: usize) -> EntryPoint
+fn entry_of(entered: bool, entry: usize) -> Option<SymbolId>
     ensures { result ≡ entry_of entered entry }
 {
     if entered {
-        return EntryPoint::Symbol {
-            id: SymbolId(entry),
-        };
+        return Some(SymbolId(entry));
     }
-    EntryPoint::None
+    None
 }
 
 // The entry symbol is `entry`, if one is given (`entered`). The values are how many sections were dropped, and how many symbols removed with them.

@@ -1,6 +1,11 @@
 -- Theorems over specs/Replies.antt.
 -- Assumes nothing.
-use Rattle.std.specs.Prelude.{ℕ, zero, suc, ◌+◌, ◌*◌, ◌<◌, ◌≤◌, Bool, List, [], ◌∷◌, ◌≢◌, eqb, ltb, get_or, take, drop, length}
+use Rattle.archive_walk.specs.declared.Offer.TheVariants.{Member, Done}
+use Rattle.archive_walk.specs.declared.Offer.{Offer}
+use Rattle.link.specs.declared.Refusal.{Refusal}
+use Rattle.symbol.specs.declared.Symbol.{Symbol}
+use Rattle.link.specs.declared.SymbolId.{SymbolId}
+use Rattle.std.specs.Prelude.{ℕ, zero, suc, ◌+◌, ◌*◌, ◌<◌, ◌≤◌, Bool, List, [], ◌∷◌, ◌≢◌, eqb, ltb, get_or, take, drop, length, Option, Result, None, Some, Ok, Err, true, false}
 use Rattle.std.proofs.Common.{arith, le_refl, sym, ap, ◌∙◌, drop_of_length-le}
 use Rattle.std.proofs.Math.Path.{◌≡◌, refl}
 use Rattle.std.proofs.Math.Bool.{true, false}
@@ -16,18 +21,8 @@ use Rattle.link.specs.Judge.{judge_of}
 use Rattle.byte_slices.specs.Bytes.{part}
 use Rattle.interner.specs.Names.{store_of, name_at}
 use Rattle.interner.specs.Calls.{Resolved, lent, resolve_of}
-use Rattle.symbols.specs.declared.Found.{Found}
-use Rattle.symbols.specs.declared.Found.TheVariants as Fd
-use Rattle.symbols.specs.declared.SectionSymbol.{SectionSymbol}
-use Rattle.symbols.specs.declared.SectionSymbol.TheVariants as Sym
 use Rattle.symbols.specs.Lookup as Lookup
-use Rattle.archive_walk.specs.declared.Begun.{Begun}
-use Rattle.archive_walk.specs.declared.Begun.TheVariants as Begins
-use Rattle.archive_walk.specs.declared.Offer.{Offer}
-use Rattle.archive_walk.specs.declared.Offer.TheVariants as Offers
 use Rattle.archive_walk.specs.Walk.{begun_said, offer_said}
-use Rattle.object_requirement.specs.declared.Admission.{Admission}
-use Rattle.object_requirement.specs.declared.Admission.TheVariants as Admits
 use Rattle.object_requirement.specs.Matches as Matches
 use Rattle.ffi_cells.specs.declared.header.Reply.{Reply}
 use Rattle.ffi_cells.specs.Header.{is_set, flag_of, is_short, link_with, link_in, refusal_of, reply_in, counts_in, profile_in, header_of, tell_of, answer_of}
@@ -38,28 +33,28 @@ use Rattle.ffi_laws.specs.Replies.{Holds, Replies, offer_cells, some_id, symbols
 
 -- ---- the replies
 
-pub found-reply : (h out : List ℕ) (f : Found)
+pub found-reply : (h out : List ℕ) (f : Result Symbol Refusal)
     → found_of h out f ≡ found_left (answer_of h (refusal_of (Lookup.said f).number (Lookup.said f).place)) (symbols_out out (Lookup.said f).values)
-found-reply h out (Fd.Row s) = refl
-found-reply h out (Fd.Refused r) = refl
+found-reply h out (Ok s) = refl
+found-reply h out (Err r) = refl
 
-pub section-symbol-reply : (x : SectionSymbol) → Replies (section_symbol_reply x) (Lookup.section_symbol_said x).number (Lookup.section_symbol_said x).place (some_id (Lookup.section_symbol_said x).values)
-section-symbol-reply Sym.None = record { number_is = refl; place_is = refl; values-are = refl }
-section-symbol-reply (Sym.Symbol id) = record { number_is = refl; place_is = refl; values-are = refl }
+pub section-symbol-reply : (x : Option SymbolId) → Replies (section_symbol_reply x) (Lookup.section_symbol_said x).number (Lookup.section_symbol_said x).place (some_id (Lookup.section_symbol_said x).values)
+section-symbol-reply None = record { number_is = refl; place_is = refl; values-are = refl }
+section-symbol-reply (Some id) = record { number_is = refl; place_is = refl; values-are = refl }
 
-pub begun-reply : (x : Begun) → Replies (begun_reply x) (begun_said x).number (begun_said x).place (begun_said x).values
-begun-reply (Begins.Ready n) = record { number_is = refl; place_is = refl; values-are = refl }
-begun-reply (Begins.Refused r) = record { number_is = refl; place_is = refl; values-are = refl }
+pub begun-reply : (x : Result ℕ Refusal) → Replies (begun_reply x) (begun_said x).number (begun_said x).place (begun_said x).values
+begun-reply (Ok n) = record { number_is = refl; place_is = refl; values-are = refl }
+begun-reply (Err r) = record { number_is = refl; place_is = refl; values-are = refl }
 
-pub offer-reply : (x : Offer) → Replies (offered_reply x) (offer_said x).number (offer_said x).place (offer_cells (offer_said x).values)
-offer-reply (Offers.Member o e p) = record { number_is = refl; place_is = refl; values-are = refl }
-offer-reply (Offers.Done p) = record { number_is = refl; place_is = refl; values-are = refl }
-offer-reply (Offers.Refused r) = record { number_is = refl; place_is = refl; values-are = refl }
+pub offer-reply : (x : Result Offer Refusal) → Replies (offered_reply x) (offer_said x).number (offer_said x).place (offer_cells (offer_said x).values)
+offer-reply (Ok (Member o e p)) = record { number_is = refl; place_is = refl; values-are = refl }
+offer-reply (Ok (Done p)) = record { number_is = refl; place_is = refl; values-are = refl }
+offer-reply (Err r) = record { number_is = refl; place_is = refl; values-are = refl }
 
-pub admission-reply : (x : Admission) → Replies (admitted_reply x) (Matches.said x).number (Matches.said x).place (Matches.said x).values
-admission-reply Admits.Yes = record { number_is = refl; place_is = refl; values-are = refl }
-admission-reply Admits.No = record { number_is = refl; place_is = refl; values-are = refl }
-admission-reply (Admits.Refused r) = record { number_is = refl; place_is = refl; values-are = refl }
+pub admission-reply : (x : Result Bool Refusal) → Replies (admitted_reply x) (Matches.said x).number (Matches.said x).place (Matches.said x).values
+admission-reply (Ok true) = record { number_is = refl; place_is = refl; values-are = refl }
+admission-reply (Ok false) = record { number_is = refl; place_is = refl; values-are = refl }
+admission-reply (Err r) = record { number_is = refl; place_is = refl; values-are = refl }
 
 -- `resolve`: number and place; the part of the lent bytes that the reply tells is the name
 take_own : (k : ℕ) (l : List ℕ) → take (length (take k l)) l ≡ take k l

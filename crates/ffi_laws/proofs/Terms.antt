@@ -2,13 +2,13 @@
 -- number that it returns, its header and every cell lent to be written. The contracts are the predicates that stand in the `ensures` of `ffi`; two
 -- exits that meet one are equal.
 -- Assumes nothing.
-use Rattle.std.specs.Prelude.{ℕ, ◌≡◌, List}
+use Rattle.link.specs.declared.SymbolId.{SymbolId}
+use Rattle.std.specs.Prelude.{ℕ, ◌≡◌, List, Option}
 use Rattle.std.proofs.Common.{sym, ap, ◌∙◌}
 use denote.Triple.Both.{Both}
 use Rattle.section_groups.specs.Group as Group
 use Rattle.merge_stages.specs.Stages as Stages
 use Rattle.shared_objects.specs.Load.{Input}
-use Rattle.gc_sections.specs.declared.EntryPoint.{EntryPoint}
 use Rattle.gc_sections.specs.Run.{Lists}
 use Rattle.ffi_cells.specs.Header.{Told, told}
 use Rattle.ffi_cells.specs.Contract.{ToldExit}
@@ -139,11 +139,11 @@ module _ (h walk : List ℕ) (x y : Archive.WalkExit) where
   next-one-outcome index rows bytes names symbols e f = walk-one (ArchiveCalls.next_call h walk index rows bytes names symbols) x y e f
 
 -- a collection
-pub run-one-outcome : (h : List ℕ) (c : Lists) (symbols sections : List ℕ) (entry : EntryPoint) (work : List ℕ) (x y : Collect.RunExit) → Collect.RunMeets h c symbols sections entry work x
+pub run-one-outcome : (h : List ℕ) (c : Lists) (symbols sections : List ℕ) (entry : Option SymbolId) (work : List ℕ) (x y : Collect.RunExit) → Collect.RunMeets h c symbols sections entry work x
     → Collect.RunMeets h c symbols sections entry work y → x ≡ y
 run-one-outcome h c symbols sections entry work x y e f = ap {B = Collect.RunExit} (λ (o : CollectCalls.RunLeft). record { number = o.told.number; header = o.told.header; symbols = o.symbols; sections = o.sections; work = o.work }) (e ∙ sym f)
 
 -- a plain collection
-pub plain-one-outcome : (h : List ℕ) (c : Lists) (symbols sections : List ℕ) (entry : EntryPoint) (work : List ℕ) (x y : Collect.RunExit) → Collect.PlainMeets h c symbols sections entry work x
+pub plain-one-outcome : (h : List ℕ) (c : Lists) (symbols sections : List ℕ) (entry : Option SymbolId) (work : List ℕ) (x y : Collect.RunExit) → Collect.PlainMeets h c symbols sections entry work x
     → Collect.PlainMeets h c symbols sections entry work y → x ≡ y
 plain-one-outcome h c symbols sections entry work x y e f = ap {B = Collect.RunExit} (λ (o : CollectCalls.RunLeft). record { number = o.told.number; header = o.told.header; symbols = o.symbols; sections = o.sections; work = o.work }) (e ∙ sym f)

@@ -10,12 +10,12 @@ use ffi_cells::Reply;
 use link::Refusal;
 use symbols::Symbols;
 
-fn reply(r: Refusal, position: usize) -> Reply
-    ensures { result ≡ reply_of r position }
+fn reply(refusal: Refusal, position: usize) -> Reply
+    ensures { result ≡ reply_of refusal position }
 {
     Reply {
-        number: r.number,
-        place: r.place,
+        number: refusal.number,
+        place: refusal.place,
         first: position as u64,
         second: 0,
         third: 0,
@@ -48,8 +48,5 @@ pub fn add_list(
         adds,
         ids,
     );
-    let table = o.table;
-    let grown = table.link;
-    let refusal = o.refusal;
-    ffi_cells::tell(header, grown, reply(refusal, o.position))
+    ffi_cells::tell(header, o.table.link, reply(o.refusal, o.position))
 }

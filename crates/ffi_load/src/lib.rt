@@ -9,15 +9,16 @@ ghost use Rattle.ffi_cells.specs.Contract.{told_exit};
 ghost use Rattle.ffi_load.specs.Contract.{link_rows, LoadMeets};
 
 use ffi_cells::Reply;
-use shared_objects::Answer;
+use link::Refusal;
+use shared_objects::Load;
 
-fn loaded(a: Answer) -> Reply
+fn loaded(a: Result<Load, Refusal>) -> Reply
     ensures { result ≡ saying (said_of a) }
 {
     match a {
-        Answer::Loaded => ffi_cells::result(1, 0, 0, 0),
-        Answer::NotNeeded => ffi_cells::result(0, 0, 0, 0),
-        Answer::Refused { refusal } => ffi_cells::refused(refusal),
+        Ok(Load::Loaded) => ffi_cells::result(1, 0, 0, 0),
+        Ok(Load::NotNeeded) => ffi_cells::result(0, 0, 0, 0),
+        Err(refusal) => ffi_cells::refused(refusal),
     }
 }
 

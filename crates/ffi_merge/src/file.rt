@@ -11,11 +11,17 @@ pub fn read_file(answer: &mut [u64], rows: &mut [u64], file: &[u8]) -> u64
     if answer.len() < 8 {
         return 1;
     }
-    let r = elf_file::read(file, rows);
-    cells::row_store(
-        answer, 0, r.place, r.sections, r.entries, r.contents, r.strings, 0, 0, 0,
-    );
-    r.number
+    match elf_file::read(file, rows) {
+        Ok(w) => {
+            let row = [0, w.sections, w.entries, w.contents, w.strings, 0, 0, 0];
+            cells::row_store(answer, 0, row);
+            0
+        }
+        Err(refusal) => {
+            cells::row_store(answer, 0, [refusal.place, 0, 0, 0, 0, 0, 0, 0]);
+            refusal.number
+        }
+    }
 }
 
 pub fn merge_file(
@@ -37,10 +43,8 @@ pub fn merge_file(
         return 1;
     }
     let l = ffi_cells::link_in(header);
-    let o = merge_file::merge_file(
+    let merge = merge_file::merge_file(
         l, bytes, names, symbols, sections, inputs, lists, work, ids, rows, file,
     );
-    let left = o.link;
-    let a = o.answer;
-    ffi_cells::tell(header, left, crate::merged(a))
+    ffi_cells::tell(header, merge.link, crate::replied(merge.answer))
 }

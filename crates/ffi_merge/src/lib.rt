@@ -3,8 +3,7 @@
 #![tactic(auto)]
 
 ghost use Rattle.std.specs.Prelude.{◌≡◌};
-ghost use Rattle.section_groups.specs.AddGroup as AddGroup;
-ghost use Rattle.merge_elf.specs.Merge as Merge;
+ghost use Rattle.link.specs.Judge.{refusal_in};
 ghost use Rattle.ffi_cells.specs.Header.{refused_of};
 ghost use Rattle.ffi_cells.specs.Contract.{told_exit};
 ghost use Rattle.ffi_merge.specs.Contract.{group_exit, group_object, GroupMeets, link_rows, merge_object, MergeMeets};
@@ -13,13 +12,14 @@ mod file;
 
 use ffi_cells::Reply;
 pub use file::{merge_file, read_file};
+use link::Refusal;
 
-fn grouped(a: section_groups::Answer) -> Reply
-    ensures { result ≡ refused_of (AddGroup.refusal_of a) }
+pub fn replied(a: Result<(), Refusal>) -> Reply
+    ensures { result ≡ refused_of (refusal_in a) }
 {
     match a {
-        section_groups::Answer::Added => ffi_cells::result(0, 0, 0, 0),
-        section_groups::Answer::Refused { refusal } => ffi_cells::refused(refusal),
+        Ok(()) => ffi_cells::result(0, 0, 0, 0),
+        Err(refusal) => ffi_cells::refused(refusal),
     }
 }
 
@@ -42,21 +42,10 @@ pub fn add_group(
         return 1;
     }
     let l = ffi_cells::link_in(header);
-    let o = section_groups::add_group(
+    let group = section_groups::add_group(
         l, bytes, names, work, headers, entries, contents, image, t, n,
     );
-    let left = o.link;
-    let a = o.answer;
-    ffi_cells::tell(header, left, grouped(a))
-}
-
-pub fn merged(a: merge_elf::Answer) -> Reply
-    ensures { result ≡ refused_of (Merge.refusal_of a) }
-{
-    match a {
-        merge_elf::Answer::Merged => ffi_cells::result(0, 0, 0, 0),
-        merge_elf::Answer::Refused { refusal } => ffi_cells::refused(refusal),
-    }
+    ffi_cells::tell(header, group.link, replied(group.answer))
 }
 
 pub fn merge_elf(
@@ -81,11 +70,9 @@ pub fn merge_elf(
         return 1;
     }
     let l = ffi_cells::link_in(header);
-    let o = merge_elf::merge_elf(
+    let merge = merge_elf::merge_elf(
         l, bytes, names, symbols, sections, inputs, lists, work, ids, headers, entries, contents,
         image, shstrndx,
     );
-    let left = o.link;
-    let a = o.answer;
-    ffi_cells::tell(header, left, merged(a))
+    ffi_cells::tell(header, merge.link, replied(merge.answer))
 }

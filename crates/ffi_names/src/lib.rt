@@ -2,25 +2,25 @@
 // read or written.
 #![tactic(auto)]
 
-ghost use Rattle.std.specs.Prelude.{◌≡◌, get_or, ◌*◌, ◌+◌};
-ghost use Rattle.link.specs.Bounds.{lesser};
+ghost use Rattle.std.specs.Prelude.{◌≡◌, ◌≢◌, length, IfErr};
 ghost use Rattle.interner.specs.Names.{store_of};
 ghost use Rattle.interner.specs.Calls.{said, lent_of};
+ghost use Rattle.interner.specs.Lent.{resolved_in};
 ghost use Rattle.ffi_cells.specs.Header.{saying};
 ghost use Rattle.ffi_cells.specs.Contract.{told_exit};
 ghost use Rattle.ffi_names.specs.Calls.{first_byte, part_reply, found_reply, find_reply};
 ghost use Rattle.ffi_names.specs.Contract.{intern_exit, InternMeets, ResolveMeets, FindMeets};
 
 use ffi_cells::Reply;
-use interner::Answer;
-use link::{Interned, Lent, Link};
+use interner::Names;
+use link::{Interned, Lent, Link, Refusal};
 
-fn interned(a: Answer) -> Reply
+fn interned(a: Result<Interned, Refusal>) -> Reply
     ensures { result ≡ saying (said a) }
 {
     match a {
-        Answer::Name { id } => ffi_cells::result(id.0 as u64, 0, 0, 0),
-        Answer::Refused { refusal } => ffi_cells::refused(refusal),
+        Ok(id) => ffi_cells::result(id.0 as u64, 0, 0, 0),
+        Err(refusal) => ffi_cells::refused(refusal),
     }
 }
 
@@ -39,23 +39,24 @@ pub fn intern(header: &mut [u64], bytes: &mut [u8], names: &mut [u64], name: &[u
 }
 
 // Where a name starts in so many bytes, whatever its row holds.
+#[tactic(auto, unfolding(crate::specs::Calls::first_byte, link::specs::Bounds::lesser))]
 fn first_of(names: &[u64], id: usize, bytes: usize) -> u64
     ensures { result ≡ first_byte names.now id bytes }
 {
-    let start = cells::row_get(names, id, 0) as usize;
-    if start < bytes {
-        return start as u64;
-    }
-    bytes as u64
+    let start = cells::row_get(names, id, 0);
+    start.min(bytes as u64)
 }
 
-fn part_reply(names: &[u64], id: usize, bytes: usize, len: usize, number: u64, place: u64) -> Reply
-    ensures { result ≡ part_reply names.now id bytes len number place }
+// Where the name starts in the bytes, and its length.
+#[tactic(auto, unfolding(crate::specs::Calls::part_reply))]
+fn part_reply(names: &[u64], id: usize, bytes: usize, name: Result<&[u8], Refusal>) -> Reply
+    requires { IfErr name (λ r. r.number ≢ 0) }
+    ensures { let w = resolved_in name.entry in result ≡ part_reply names.now id bytes (length w.name) w.refusal.number w.refusal.place }
 {
-    if number == 0 {
-        return ffi_cells::result(first_of(names, id, bytes), len as u64, 0, 0);
+    match name {
+        Ok(name) => ffi_cells::result(first_of(names, id, bytes), name.len() as u64, 0, 0),
+        Err(refusal) => ffi_cells::refused(refusal),
     }
-    ffi_cells::refusal(number, place)
 }
 
 // The values are where the name starts in the bytes, and its length.
@@ -66,10 +67,12 @@ pub fn resolve(header: &mut [u64], bytes: &[u8], names: &[u64], id: usize) -> u6
         return 1;
     }
     let l = ffi_cells::link_in(header);
-    let mut number = 0;
-    let mut place = 0;
-    let name = interner::resolve(l, bytes, names, Interned(id), &mut number, &mut place);
-    let r = part_reply(names, id, bytes.len(), name.len(), number, place);
+    let lent = Names {
+        link: l,
+        bytes,
+        cells: names,
+    };
+    let r = part_reply(names, id, bytes.len(), lent.resolve(Interned(id)));
     ffi_cells::answer(header, r)
 }
 
@@ -86,22 +89,24 @@ fn lent_names(l: Link, bytes: usize, names: usize) -> Lent
     }
 }
 
+#[tactic(auto, unfolding(crate::specs::Calls::found_reply))]
 fn found_reply(id: usize, count: usize) -> Reply
     ensures { result ≡ found_reply id count }
 {
     if id < count {
-        return ffi_cells::result(1, id as u64, 0, 0);
+        ffi_cells::result(1, id as u64, 0, 0)
+    } else {
+        ffi_cells::result(0, 0, 0, 0)
     }
-    ffi_cells::result(0, 0, 0, 0)
 }
 
 // A lookup: a broken link is accepted.
+#[tactic(auto, unfolding(crate::specs::Calls::find_reply, link::specs::Judge::judged))]
 fn find_reply(l: Link, bytes: &[u8], names: &[u64], name: &[u8]) -> Reply
     ensures { result ≡ find_reply (store_of bytes.now names.now l) name.now }
 {
-    let head = link::judge(l, lent_names(l, bytes.len(), names.len()));
-    if head.number != 0 {
-        return ffi_cells::refused(head);
+    if let Err(refusal) = l.judge(lent_names(l, bytes.len(), names.len())) {
+        return ffi_cells::refused(refusal);
     }
     let id = interner::find(l, bytes, names, name);
     found_reply(id.0, l.names)

@@ -13,17 +13,17 @@ ghost use Rattle.ffi_symbols.specs.Contract.{new_exit, NewMeets, add_exit, AddMe
 mod lookup;
 
 use ffi_cells::Reply;
-use link::SymbolId;
+use link::{Refusal, SymbolId};
 pub use lookup::{get, get_global, section_symbol_id};
-use symbols::{Answer, Symbols};
+use symbols::Symbols;
 use upcoming_symbol::UpcomingSymbol;
 
-fn added(a: Answer) -> Reply
+fn added(a: Result<SymbolId, Refusal>) -> Reply
     ensures { result ≡ saying (said a) }
 {
     match a {
-        Answer::Symbol { id } => ffi_cells::result(id.0 as u64, 0, 0, 0),
-        Answer::Refused { refusal } => ffi_cells::refused(refusal),
+        Ok(id) => ffi_cells::result(id.0 as u64, 0, 0, 0),
+        Err(refusal) => ffi_cells::refused(refusal),
     }
 }
 

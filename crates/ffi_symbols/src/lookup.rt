@@ -7,19 +7,20 @@ ghost use Rattle.ffi_symbols.specs.LookupCalls.{found_of, section_symbol_reply, 
 ghost use Rattle.ffi_symbols.specs.LookupContract.{found_exit, GetMeets, GetGlobalMeets, SectionSymbolMeets};
 
 use ffi_cells::Reply;
-use link::{Interned, SectionId, SymbolId};
-use symbols::{Found, SectionSymbol, Symbols};
+use link::{Interned, Refusal, SectionId, SymbolId};
+use symbol::Symbol;
+use symbols::Symbols;
 
 // A symbol that was found goes out; there are no values.
-fn found(header: &mut [u64], out: &mut [u64], a: Found) -> u64
+fn found(header: &mut [u64], out: &mut [u64], a: Result<Symbol, Refusal>) -> u64
     ensures { found_after result header out ≡ found_of header.old out.old a }
 {
     match a {
-        Found::Row { symbol } => {
+        Ok(symbol) => {
             ffi_cells::put_symbol(out, symbol);
             ffi_cells::answer(header, ffi_cells::result(0, 0, 0, 0))
         }
-        Found::Refused { refusal } => ffi_cells::answer(header, ffi_cells::refused(refusal)),
+        Err(refusal) => ffi_cells::answer(header, ffi_cells::refused(refusal)),
     }
 }
 
@@ -57,12 +58,12 @@ pub fn get_global(
     found(header, out, a)
 }
 
-fn section_symbol(a: SectionSymbol) -> Reply
+fn section_symbol(a: Option<SymbolId>) -> Reply
     ensures { result ≡ section_symbol_reply a }
 {
     match a {
-        SectionSymbol::None => ffi_cells::result(0, 0, 0, 0),
-        SectionSymbol::Symbol { id } => ffi_cells::result(1, id.0 as u64, 0, 0),
+        None => ffi_cells::result(0, 0, 0, 0),
+        Some(id) => ffi_cells::result(1, id.0 as u64, 0, 0),
     }
 }
 

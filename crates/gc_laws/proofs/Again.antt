@@ -1,16 +1,14 @@
 -- A second collection with the same roots drops nothing.
 -- Assumes nothing.
-use Rattle.std.specs.Prelude.{ℕ, ◌+◌, ◌<◌, ◌≡◌, Bool, true, false, List, get_or, length}
+use Rattle.link.specs.declared.SymbolId.{SymbolId}
+use Rattle.std.specs.Prelude.{ℕ, ◌+◌, ◌<◌, ◌≡◌, Bool, true, false, List, get_or, length, Option, Some, Ok}
 use Rattle.std.proofs.Common.{arith, sym, ◌∙◌}
 use Rattle.cells.specs.Proof.Split.{by-test}
 use Rattle.byte_slices.specs.Proof.Ways.{apart}
 use Rattle.link.specs.declared.Link.{Link}
 use Rattle.sections.specs.Rows.{field, first_at, is_built}
-use Rattle.gc_sections.specs.declared.EntryPoint.{EntryPoint}
-use Rattle.gc_sections.specs.declared.Answer.TheVariants.{Dropped}
-use Rattle.gc_sections.specs.declared.Lead.TheVariants.{Section}
 use Rattle.gc_sections.specs.Roots.{symbol_id, section_id, lead_of, readable, name_is, rooted, is_root}
-use Rattle.gc_sections.specs.Run.{Left, Lists, judged, run_of}
+use Rattle.gc_sections.specs.Run.{Left, Lists, judged, run_of, dropped}
 use Rattle.gc_laws.specs.Reached.{Leads, Reached, marked, entered, root, step}
 use Rattle.gc_laws.proofs.Own.{built-own, own-built, leads-own, own-leads, root-own, own_root}
 use Rattle.gc_laws.proofs.Walk.{built-below}
@@ -18,7 +16,7 @@ use Rattle.gc_laws.proofs.Paint.{picked_none, paint-none, length-painted}
 use Rattle.gc_laws.specs.Proof.Swept.{state_cell, symbol_cell, freed}
 use Rattle.gc_laws.proofs.Collected as C
 
-module _ (l : Link) (x : Lists) (symbols sections : List ℕ) (entry : EntryPoint) (work : List ℕ) (ok : (judged l x symbols sections work).number ≡ 0)
+module _ (l : Link) (x : Lists) (symbols sections : List ℕ) (entry : Option SymbolId) (work : List ℕ) (ok : (judged l x symbols sections work).number ≡ 0)
     (whole : (y : ℕ) → Reached l x symbols sections entry y → is_built sections l.sections y ≡ true) where
   abbrev n : ℕ
   n = l.sections
@@ -117,7 +115,7 @@ module _ (l : Link) (x : Lists) (symbols sections : List ℕ) (entry : EntryPoin
     nobody : (i : ℕ) → goes i ≡ false
     nobody i = by-test (goes i) (λ t. absurd (never (C.goes-no l x r.symbols r.sections entry cells again whole' i t))) (λ t. t)
       where
-        never : (y : ℕ) × (lead_of r.symbols l.symbols (symbol_id i) ≡ Section (section_id y)) × (D y ≡ true) → ⊥
+        never : (y : ℕ) × (lead_of r.symbols l.symbols (symbol_id i) ≡ Some (section_id y)) × (D y ≡ true) → ⊥
         never k = apart (sym (nothing k.0) ∙ k.2)
 
     abbrev frees : ℕ → Bool
@@ -130,7 +128,7 @@ module _ (l : Link) (x : Lists) (symbols sections : List ℕ) (entry : EntryPoin
     abbrev r' : Left
     r' = run_of l x r.symbols r.sections entry cells
 
-    pub drops-nothing : (r'.answer ≡ Dropped 0 0) × (r'.symbols ≡ r.symbols) × (r'.sections ≡ r.sections)
+    pub drops-nothing : (r'.answer ≡ Ok (dropped 0 0)) × (r'.symbols ≡ r.symbols) × (r'.sections ≡ r.sections)
     unfolding C.result
     drops-nothing =
         rw (C.run-result l x r.symbols r.sections entry cells again whole') (

@@ -1,9 +1,11 @@
 -- Theorems over specs/Proof/BySection.antt.
 -- Assumes nothing.
+use Rattle.link.specs.declared.SectionId.{SectionId}
+use Rattle.link.specs.declared.SymbolId.{SymbolId}
 use Prim.Native.Nat.{ℕ, zero, suc, ◌+◌, ◌*◌, ◌<◌, ◌≤◌}
 use Rattle.std.proofs.Math.Decide.{ℕ_discrete}
 use Rattle.std.proofs.Common.{arith, subst, ◌∙◌, length-set}
-use Rattle.std.specs.Prelude.{◌≡◌, List, eqb, ltb, set, length}
+use Rattle.std.specs.Prelude.{◌≡◌, List, eqb, ltb, set, length, Option, None, Some}
 use Rattle.std.proofs.Math.Path.{refl, sym, ap}
 use Rattle.std.proofs.Math.Bool.{Bool, true, false, cond}
 use borrow.Author.Tests.{eq-eqb, ne_eqb, lt-ltb, le-ltb, ltb-true, ltb-false, lt-leb}
@@ -14,9 +16,6 @@ use Rattle.link.specs.Bounds.{section_slots}
 use Rattle.symbol.specs.Row as Symbol
 use Rattle.symbols.specs.Remove.{rows_of}
 use Rattle.sections.specs.Rows.{is_built}
-use Rattle.gc_sections.specs.declared.Lead.{Lead}
-use Rattle.gc_sections.specs.declared.Lead.TheVariants.{Nowhere, Section}
-use Rattle.gc_sections.specs.declared.EntryPoint.{EntryPoint}
 use Rattle.gc_sections.specs.Each.{each}
 use Rattle.gc_sections.specs.Roots.{symbol_id, section_id, lead_of}
 use Rattle.gc_sections.specs.Sweep.{dropped_now}
@@ -38,9 +37,9 @@ module _ (symbols : List ℕ) (count cells : ℕ) where
   unfolding gone
   gone_same p q f i = go (lead_of symbols count (symbol_id i))
     where
-      go : (k : Lead) → taken p k ≡ taken q k
-      go Nowhere = refl
-      go (Section x) = f x.0
+      go : (k : Option SectionId) → taken p k ≡ taken q k
+      go None = refl
+      go (Some x) = f x.0
 
   pub freed-same : (p q : ℕ → Bool) → ((y : ℕ) → p y ≡ q y) → (i : ℕ) → freed p symbols count cells i ≡ freed q symbols count cells i
   unfolding freed
@@ -50,9 +49,9 @@ module _ (symbols : List ℕ) (count cells : ℕ) where
   unfolding gone
   gone-none p f i = go (lead_of symbols count (symbol_id i))
     where
-      go : (k : Lead) → taken p k ≡ false
-      go Nowhere = refl
-      go (Section x) = f x.0
+      go : (k : Option SectionId) → taken p k ≡ false
+      go None = refl
+      go (Some x) = f x.0
 
   freed-none : (p : ℕ → Bool) → ((y : ℕ) → p y ≡ false) → (i : ℕ) → freed p symbols count cells i ≡ false
   unfolding freed
@@ -62,9 +61,9 @@ module _ (symbols : List ℕ) (count cells : ℕ) where
   unfolding gone
   gone-either p q i = go (lead_of symbols count (symbol_id i))
     where
-      go : (k : Lead) → taken (either p q) k ≡ cond (taken p k) true (taken q k)
-      go Nowhere = refl
-      go (Section x) = refl
+      go : (k : Option SectionId) → taken (either p q) k ≡ cond (taken p k) true (taken q k)
+      go None = refl
+      go (Some x) = refl
 
   freed-either : (p q : ℕ → Bool) (i : ℕ) → freed (either p q) symbols count cells i ≡ either (freed p symbols count cells) (freed q symbols count cells) i
   unfolding freed
@@ -133,15 +132,15 @@ module _ (l : Link) (symbols sections : List ℕ) (p : ℕ → Bool) (fit : l.se
   lead-same m i e =
       rw (field-same m i 0 (omega arith) (λ z. e), later-field m i 5 (omega arith) (omega arith), later-field m i 6 (omega arith) (omega arith))
 
-  goes-where : (m i : ℕ) → goes m i ≡ true → (y : ℕ) × (lead_of symbols k (symbol_id i) ≡ Section (section_id y)) × (up_to m y ≡ true)
+  goes-where : (m i : ℕ) → goes m i ≡ true → (y : ℕ) × (lead_of symbols k (symbol_id i) ≡ Some (section_id y)) × (up_to m y ≡ true)
   unfolding gone
   goes-where m i e = go (lead_of symbols k (symbol_id i)) refl e
     where
-      go : (v : Lead) → lead_of symbols k (symbol_id i) ≡ v → taken (up_to m) v ≡ true → (y : ℕ) × (lead_of symbols k (symbol_id i) ≡ Section (section_id y)) × (up_to m y ≡ true)
-      go Nowhere d f = absurd (apart f)
-      go (Section x) d f = (x.0, d, f)
+      go : (v : Option SectionId) → lead_of symbols k (symbol_id i) ≡ v → taken (up_to m) v ≡ true → (y : ℕ) × (lead_of symbols k (symbol_id i) ≡ Some (section_id y)) × (up_to m y ≡ true)
+      go None d f = absurd (apart f)
+      go (Some x) d f = (x.0, d, f)
 
-  lead-gone : (m i : ℕ) → goes m i ≡ true → lead_of (symbols_at m) k (symbol_id i) ≡ Nowhere
+  lead-gone : (m i : ℕ) → goes m i ≡ true → lead_of (symbols_at m) k (symbol_id i) ≡ None
   unfolding lead_of
   lead-gone m i e =
       let q = goes-where m i e in
@@ -264,7 +263,7 @@ module _ (l : Link) (symbols sections : List ℕ) (p : ℕ → Bool) (fit : l.se
 
 -- ---- the call
 
-module _ (l : Link) (x : Lists) (symbols sections : List ℕ) (entry : EntryPoint) (work : List ℕ) (ok : (judged l x symbols sections work).number ≡ 0)
+module _ (l : Link) (x : Lists) (symbols sections : List ℕ) (entry : Option SymbolId) (work : List ℕ) (ok : (judged l x symbols sections work).number ≡ 0)
     (whole : (y : ℕ) → Reached l x symbols sections entry y → is_built sections l.sections y ≡ true) where
   abbrev r : Left
   r = run_of l x symbols sections entry work

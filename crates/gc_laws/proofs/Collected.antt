@@ -1,6 +1,7 @@
 -- Demand 3: "Collection, unless refused, keeps exactly what relocations reach from the roots." And where it is refused, what goes, what stays.
 -- Assumes nothing.
-use Rattle.std.specs.Prelude.{ℕ, ◌+◌, ◌*◌, ◌<◌, ◌≤◌, ◌≡◌, Bool, List, ltb, leb, length}
+use Rattle.link.specs.declared.SymbolId.{SymbolId}
+use Rattle.std.specs.Prelude.{ℕ, ◌+◌, ◌*◌, ◌<◌, ◌≤◌, ◌≡◌, Bool, List, ltb, leb, length, Option, None, Some, Ok, Err}
 use native.Mathlib.Omega.{arith}
 use Rattle.std.proofs.Math.Nat.{zero-add}
 use Rattle.std.proofs.Math.Path.{refl, sym, ap, subst}
@@ -18,17 +19,11 @@ use Rattle.link.specs.Bounds.{section_slots}
 use Rattle.link.specs.Judge.{refused}
 use Rattle.symbol.specs.Row as Symbol
 use Rattle.sections.specs.Rows.{field, state_at, is_built}
-use Rattle.gc_sections.specs.declared.Lead.{Lead}
-use Rattle.gc_sections.specs.declared.Lead.TheVariants as Leading
-use Rattle.gc_sections.specs.declared.Unbuilt.{Unbuilt}
-use Rattle.gc_sections.specs.declared.Unbuilt.TheVariants.{None, Lowest}
-use Rattle.gc_sections.specs.declared.EntryPoint.{EntryPoint}
-use Rattle.gc_sections.specs.declared.Answer.TheVariants.{Dropped, Refused}
 use Rattle.gc_sections.specs.Each.{each}
 use Rattle.gc_sections.specs.Roots.{symbol_id, section_id, value_lead, lead_of}
 use Rattle.gc_sections.specs.Reach.{Walk, walked}
 use Rattle.gc_sections.specs.Sweep.{Purged, dropped_now}
-use Rattle.gc_sections.specs.Run.{Left, left, Lists, number_of, place_of, judged, purge_of, sweep_of, finish_of, finished, collect_of, run_of}
+use Rattle.gc_sections.specs.Run.{Left, left, Lists, number_of, place_of, judged, purge_of, sweep_of, finish_of, finished, collect_of, run_of, dropped}
 use Rattle.gc_laws.specs.Reached.{Reached}
 use Rattle.gc_laws.proofs.Walk.{built-below}
 use Rattle.gc_laws.proofs.Exact.{Exact, exact, elsewhere, lead-below}
@@ -38,7 +33,7 @@ use Rattle.gc_laws.specs.Proof.Swept.{state_cell, itself, doomed, taken, gone, t
 use Rattle.gc_laws.proofs.Swept.{swept-is, purged-is}
 use Rattle.gc_laws.proofs.Head.{sections-fit, slots-fit, symbols-fit, work-fits, run_is}
 
-pub differ : (a b : ℕ) (q : Refusal) → Dropped a b ≡ Refused q → ⊥
+pub differ : (a b : ℕ) (q : Refusal) → Ok (dropped a b) ≡ Err q → ⊥
 differ a b q e = let z : ◌≡◌ {A = ℕ} 0 1 = cc in omega arith
 
 pub built-state : (sections : List ℕ) (n y : ℕ) → is_built sections n y ≡ true → state_at sections y ≡ 2
@@ -51,7 +46,7 @@ pub state-built : (sections : List ℕ) (n y : ℕ) → y < n → state_at secti
 unfolding is_built
 state-built sections n y h e = rw (lt-leb _ _ h, eq-eqb _ _ e)
 
-module _ (l : Link) (x : Lists) (symbols sections : List ℕ) (entry : EntryPoint) (work : List ℕ) where
+module _ (l : Link) (x : Lists) (symbols sections : List ℕ) (entry : Option SymbolId) (work : List ℕ) where
   abbrev n : ℕ
   n = l.sections
 
@@ -65,7 +60,7 @@ module _ (l : Link) (x : Lists) (symbols sections : List ℕ) (entry : EntryPoin
   Unready y = is_built sections n y ≡ false
 
   abbrev Lies : ℕ → ℕ → Type 0
-  Lies i y = lead_of symbols l.symbols (symbol_id i) ≡ Leading.Section (section_id y)
+  Lies i y = lead_of symbols l.symbols (symbol_id i) ≡ Some (section_id y)
 
   abbrev w : Walk
   w = walked l x.bytes x.names symbols sections x.lists x.marks entry work
@@ -80,19 +75,19 @@ module _ (l : Link) (x : Lists) (symbols sections : List ℕ) (entry : EntryPoin
   link_stays =
       by-test (eqb (judged l x symbols sections work).number 0) (λ t. rw t (go w.visitor.unbuilt)) (λ t. rw t)
     where
-      go : (u : Unbuilt) → (finish_of l symbols sections w.work u).link ≡ l
+      go : (u : Option SectionId) → (finish_of l symbols sections w.work u).link ≡ l
       go None = refl
-      go (Lowest id) = refl
+      go (Some id) = refl
 
   pub refused-leaves : (number_of r.answer ≡ 0 → ⊥) → (r.symbols ≡ symbols) × (r.sections ≡ sections)
   unfolding run_of collect_of finished sweep_of purge_of
   refused-leaves ne =
       by-test (eqb (judged l x symbols sections work).number 0) (λ t. rw t (go w.visitor.unbuilt (rw t at ne))) (λ t. rw t (refl, refl))
     where
-      go : (u : Unbuilt) → (number_of (finish_of l symbols sections w.work u).answer ≡ 0 → ⊥)
+      go : (u : Option SectionId) → (number_of (finish_of l symbols sections w.work u).answer ≡ 0 → ⊥)
           → ((finish_of l symbols sections w.work u).symbols ≡ symbols) × ((finish_of l symbols sections w.work u).sections ≡ sections)
       go None k = absurd (k refl)
-      go (Lowest id) k = (refl, refl)
+      go (Some id) k = (refl, refl)
 
   module _ (ok : (judged l x symbols sections work).number ≡ 0) where
     pub found : Exact l x symbols sections entry w
@@ -100,32 +95,32 @@ module _ (l : Link) (x : Lists) (symbols sections : List ℕ) (entry : EntryPoin
 
     -- ---- refused with 21: where something that is reached isn't built, at the lowest
 
-    swept-answer : (k : Refusal) → (sweep_of l symbols sections w.work).answer ≡ Refused k → ⊥
+    swept-answer : (k : Refusal) → (sweep_of l symbols sections w.work).answer ≡ Err k → ⊥
     unfolding sweep_of purge_of
     swept-answer k e = differ _ _ k e
 
-    pub refused-lowest : (k : ℕ) → r.answer ≡ Refused (refused 21 k) → R k × Unready k × ((y : ℕ) → R y → Unready y → k ≤ y)
+    pub refused-lowest : (k : ℕ) → r.answer ≡ Err (refused 21 k) → R k × Unready k × ((y : ℕ) → R y → Unready y → k ≤ y)
     refused-lowest k e = go w.visitor.unbuilt refl (ap (λ (t : Left). t.answer) (sym (run_is l x symbols sections work ok entry)) ∙ e)
       where
-        least : (id : SectionId) → w.visitor.unbuilt ≡ Lowest id → (y : ℕ) → R y → Unready y → id.0 ≤ y
+        least : (id : SectionId) → w.visitor.unbuilt ≡ Some id → (y : ℕ) → R y → Unready y → id.0 ≤ y
         least id d y q u =
             let f = (found.all y q).low u in
-            let s : Lowest id ≡ Lowest f.0 = sym d ∙ f.1 in
+            let s : Some id ≡ Some f.0 = sym d ∙ f.1 in
             let same : id ≡ f.0 = cc in
             omega (arith, f.2, ap (λ (m : SectionId). m.0) same)
 
-        go : (u : Unbuilt) → w.visitor.unbuilt ≡ u → (finish_of l symbols sections w.work u).answer ≡ Refused (refused 21 k)
+        go : (u : Option SectionId) → w.visitor.unbuilt ≡ u → (finish_of l symbols sections w.work u).answer ≡ Err (refused 21 k)
             → R k × Unready k × ((y : ℕ) → R y → Unready y → k ≤ y)
         go None d f = absurd (swept-answer (refused 21 k) f)
-        go (Lowest id) d f =
+        go (Some id) d f =
             let s : id.0 ≡ k = ap place_of f in
             let g = found.good.lowest id d in
             (subst R s g.0, subst Unready s g.1, (λ y q u. omega (arith, least id d y q u)))
 
-    pub unbuilt-refused : (y : ℕ) → R y → Unready y → (k : ℕ) × (r.answer ≡ Refused (refused 21 k))
+    pub unbuilt-refused : (y : ℕ) → R y → Unready y → (k : ℕ) × (r.answer ≡ Err (refused 21 k))
     unbuilt-refused y q u =
         let f = (found.all y q).low u in
-        (f.0.0, ap (λ (t : Left). t.answer) (run_is l x symbols sections work ok entry) ∙ ap (λ (v : Unbuilt). (finish_of l symbols sections w.work v).answer) f.1)
+        (f.0.0, ap (λ (t : Left). t.answer) (run_is l x symbols sections work ok entry) ∙ ap (λ (v : Option SectionId). (finish_of l symbols sections w.work v).answer) f.1)
 
     -- ---- otherwise
 
@@ -133,9 +128,9 @@ module _ (l : Link) (x : Lists) (symbols sections : List ℕ) (entry : EntryPoin
       no-unbuilt : w.visitor.unbuilt ≡ None
       no-unbuilt = go w.visitor.unbuilt refl
         where
-          go : (u : Unbuilt) → w.visitor.unbuilt ≡ u → u ≡ None
+          go : (u : Option SectionId) → w.visitor.unbuilt ≡ u → u ≡ None
           go None d = refl
-          go (Lowest id) d = let g = found.good.lowest id d in absurd (apart (sym g.1 ∙ whole id.0 g.0))
+          go (Some id) d = let g = found.good.lowest id d in absurd (apart (sym g.1 ∙ whole id.0 g.0))
 
       abbrev pub D : ℕ → Bool
       D = doomed n sections w.work
@@ -158,7 +153,7 @@ module _ (l : Link) (x : Lists) (symbols sections : List ℕ) (entry : EntryPoin
       unfoldable pub result : Left
       result =
           left (each (paint goes state_cell 2) l.symbols 0 symbols) (each (paint frees (symbol_cell symbols cells) 0) l.symbols 0 sections₁) work₁ l
-          (Dropped (0 + picked D n 0) (0 + picked goes l.symbols 0))
+          (Ok (dropped (0 + picked D n 0) (0 + picked goes l.symbols 0)))
 
       pub room : cells ≤ section_slots (length sections)
       room = slots-fit l x symbols sections work ok
@@ -167,13 +162,13 @@ module _ (l : Link) (x : Lists) (symbols sections : List ℕ) (entry : EntryPoin
       unfolding sweep_of purge_of result
       run-result =
           run_is l x symbols sections work ok entry
-          ∙ ap (λ (u : Unbuilt). finish_of l symbols sections w.work u) no-unbuilt
+          ∙ ap (λ (u : Option SectionId). finish_of l symbols sections w.work u) no-unbuilt
           ∙ ap (purge_of l symbols) (swept-is n sections w.work)
-          ∙ ap (λ (p : Purged). left p.rows.symbols p.rows.sections work₁ l (Dropped (0 + picked D n 0) p.count))
+          ∙ ap (λ (p : Purged). left p.rows.symbols p.rows.sections work₁ l (Ok (dropped (0 + picked D n 0) p.count)))
           (purged-is l work₁ symbols sections₁ (rw (length-painted D state_cell 3 n 0 sections) room))
 
       -- the answer counts both
-      pub answer-counts : r.answer ≡ Dropped (picked D n 0) (picked goes l.symbols 0)
+      pub answer-counts : r.answer ≡ Ok (dropped (picked D n 0) (picked goes l.symbols 0))
       unfolding result
       answer-counts = rw run-result (rw (zero-add (picked D n 0), zero-add (picked goes l.symbols 0)))
 
@@ -268,9 +263,9 @@ module _ (l : Link) (x : Lists) (symbols sections : List ℕ) (entry : EntryPoin
       unfolding gone
       goes-no i e = go (lead_of symbols l.symbols (symbol_id i)) refl e
         where
-          go : (k : Lead) → lead_of symbols l.symbols (symbol_id i) ≡ k → taken (λ (y : ℕ). dropped_now work₁ n y) k ≡ true → (y : ℕ) × (Lies i y) × (D y ≡ true)
-          go Leading.Nowhere d f = absurd (apart f)
-          go (Leading.Section id) d f = (id.0, d, sym (now-doomed id.0) ∙ f)
+          go : (k : Option SectionId) → lead_of symbols l.symbols (symbol_id i) ≡ k → taken (λ (y : ℕ). dropped_now work₁ n y) k ≡ true → (y : ℕ) × (Lies i y) × (D y ≡ true)
+          go None d f = absurd (apart f)
+          go (Some id) d f = (id.0, d, sym (now-doomed id.0) ∙ f)
 
       -- a symbol in a section that is dropped is removed
       pub symbol-removed : (i y : ℕ) → Lies i y → Built y → (R y → ⊥) → Symbol.state_at r.symbols i ≡ 2
@@ -305,22 +300,22 @@ module _ (l : Link) (x : Lists) (symbols sections : List ℕ) (entry : EntryPoin
       unfolding lead_of
       lead-same i e = rw (row_same i 0 (omega arith) e, row_same i 5 (omega arith) e, row_same i 6 (omega arith) e)
 
-      pub lead-gone : (i : ℕ) → goes i ≡ true → lead_of r.symbols l.symbols (symbol_id i) ≡ Leading.Nowhere
+      pub lead-gone : (i : ℕ) → goes i ≡ true → lead_of r.symbols l.symbols (symbol_id i) ≡ None
       unfolding lead_of
       lead-gone i e =
           let q = goes-no i e in
           let d = doomed-no q.0 q.2 in
           rw (lt-leb _ _ (lead-below symbols l.symbols i q.0 q.1), eq-eqb _ _ (symbol-removed i q.0 q.1 d.0 d.1))
 
-      pub lead-back : (i y : ℕ) → lead_of r.symbols l.symbols (symbol_id i) ≡ Leading.Section (section_id y) → Lies i y
+      pub lead-back : (i y : ℕ) → lead_of r.symbols l.symbols (symbol_id i) ≡ Some (section_id y) → Lies i y
       lead-back i y m = by-test (goes i) (λ t. absurd (elsewhere (section_id y) (sym (lead-gone i t) ∙ m))) (λ t. sym (lead-same i t) ∙ m)
 
-      pub lead-on : (i y : ℕ) → Lies i y → R y → lead_of r.symbols l.symbols (symbol_id i) ≡ Leading.Section (section_id y)
+      pub lead-on : (i y : ℕ) → Lies i y → R y → lead_of r.symbols l.symbols (symbol_id i) ≡ Some (section_id y)
       lead-on i y m q = by-test (goes i) (λ t. absurd (never (goes-no i t))) (λ t. lead-same i t ∙ m)
         where
           never : (z : ℕ) × (Lies i z) × (D z ≡ true) → ⊥
           never k =
-              let e : Leading.Section (section_id y) ≡ Leading.Section (section_id k.0) = sym m ∙ k.1 in
+              let e : Some (section_id y) ≡ Some (section_id k.0) = sym m ∙ k.1 in
               let s : section_id y ≡ section_id k.0 = cc in
               (doomed-no k.0 k.2).1 (subst R (ap (λ (v : SectionId). v.0) s) q)
 
@@ -333,12 +328,12 @@ module _ (l : Link) (x : Lists) (symbols sections : List ℕ) (entry : EntryPoin
           (λ t. by-test (eqb (Symbol.field symbols i 0) 2) (λ u. absurd (elsewhere (section_id y) (rw (t, u) at m)))
           (λ u. go (eqb (Symbol.field symbols i 5) 2) (eqb (Symbol.field symbols i 5) 3) (eqb (Symbol.field symbols i 5) 4) (rw (t, u) at m)))
         where
-          at : Leading.Section (section_id (Symbol.field symbols i 6)) ≡ Leading.Section (section_id y) → Symbol.field symbols i 6 ≡ y
+          at : Some (section_id (Symbol.field symbols i 6)) ≡ Some (section_id y) → Symbol.field symbols i 6 ≡ y
           at e = let s : section_id (Symbol.field symbols i 6) ≡ section_id y = cc in ap (λ (v : SectionId). v.0) s
 
           go : (a b c : Bool)
-              → cond a (Leading.Section (section_id (Symbol.field symbols i 6))) (cond b (Leading.Section (section_id (Symbol.field symbols i 6))) (cond c (Leading.Section (section_id (Symbol.field symbols i 6))) Leading.Nowhere))
-              ≡ Leading.Section (section_id y) → Symbol.field symbols i 6 ≡ y
+              → cond a (Some (section_id (Symbol.field symbols i 6))) (cond b (Some (section_id (Symbol.field symbols i 6))) (cond c (Some (section_id (Symbol.field symbols i 6))) None))
+              ≡ Some (section_id y) → Symbol.field symbols i 6 ≡ y
           go true b c e = at e
           go false true c e = at e
           go false false true e = at e

@@ -1,10 +1,11 @@
 -- The walk finds exactly what is reached: each stage of it, then the whole.
 -- Assumes nothing.
+use Rattle.link.specs.declared.SymbolId.{SymbolId}
 use Prim.Native.Nat.{ℕ, zero, suc, ◌+◌, ◌-◌, ◌<◌, ◌≤◌}
 use Rattle.std.proofs.Math.Decide.{ℕ_discrete}
 use Rattle.std.proofs.Common.{not-suc-le-zero, subst, ◌∙◌}
 use native.Mathlib.Omega.{arith}
-use Rattle.std.specs.Prelude.{◌≡◌, Bool, cond, List, leb, length}
+use Rattle.std.specs.Prelude.{◌≡◌, Bool, cond, List, leb, length, Option, None, Some}
 use Rattle.std.proofs.Math.Path.{refl, sym, ap}
 use Rattle.std.proofs.Math.Logic.{inl}
 use Rattle.std.proofs.Math.Bool.{true, false}
@@ -16,11 +17,6 @@ use Rattle.byte_slices.specs.Proof.Ways.{apart}
 use Rattle.link.specs.declared.Link.{Link}
 use Rattle.link.specs.declared.SectionId.{SectionId}
 use Rattle.sections.specs.Rows.{first_at, count_at, is_built}
-use Rattle.gc_sections.specs.declared.Lead.{Lead}
-use Rattle.gc_sections.specs.declared.Lead.TheVariants as Leading
-use Rattle.gc_sections.specs.declared.Unbuilt.TheVariants.{None, Lowest}
-use Rattle.gc_sections.specs.declared.EntryPoint.{EntryPoint}
-use Rattle.gc_sections.specs.declared.EntryPoint.TheVariants as Entry
 use Rattle.gc_sections.specs.Each.{each}
 use Rattle.gc_sections.specs.Roots.{symbol_id, section_id, lead_of, is_root}
 use Rattle.gc_sections.specs.Reach.{Walk, save_of, reach_lead, add_of, root_symbol, root_section, entry_of, end_of, relocation, relocations, follow, visit, clear_cell, start_of, roots_of, process_of, walked}
@@ -30,10 +26,10 @@ use Rattle.gc_laws.proofs.Own.{built-own, own-built, leads-own, own-leads, root-
 use Rattle.gc_laws.proofs.Marks.{marks-le, marks-none, cleared, length-cleared}
 use Rattle.gc_laws.proofs.Walk.{Good, Ext, Seen, Steps, none, ext_refl, ext_trans, ext-seen, save-step, reach_step, each-steps, built-below}
 
-pub elsewhere : (id : SectionId) → Leading.Nowhere ≡ Leading.Section id → ⊥
+pub elsewhere : (id : SectionId) → None ≡ Some id → ⊥
 elsewhere id e = let z : ◌≡◌ {A = ℕ} 0 1 = cc in omega arith
 
-pub lead-below : (symbols : List ℕ) (count i y : ℕ) → lead_of symbols count (symbol_id i) ≡ Leading.Section (section_id y) → i < count
+pub lead-below : (symbols : List ℕ) (count i y : ℕ) → lead_of symbols count (symbol_id i) ≡ Some (section_id y) → i < count
 unfolding lead_of
 lead-below symbols count i y e = by-test (leb count i) (λ t. absurd (elsewhere (section_id y) (rw t at e))) (λ t. leb-false _ _ t)
 
@@ -69,7 +65,7 @@ module _ (lists first count : ℕ) where
       past : lists ≤ first → ⊥
       past h = omega arith
 
-module _ (l : Link) (x : Lists) (symbols sections : List ℕ) (entry : EntryPoint) where
+module _ (l : Link) (x : Lists) (symbols sections : List ℕ) (entry : Option SymbolId) where
   abbrev n : ℕ
   n = l.sections
 
@@ -77,7 +73,7 @@ module _ (l : Link) (x : Lists) (symbols sections : List ℕ) (entry : EntryPoin
   R = Reached l x symbols sections entry
 
   abbrev Lies : ℕ → ℕ → Type 0
-  Lies i y = lead_of symbols l.symbols (symbol_id i) ≡ Leading.Section (section_id y)
+  Lies i y = lead_of symbols l.symbols (symbol_id i) ≡ Some (section_id y)
 
   abbrev Fine : Walk → Type 0
   Fine s = Good sections n R s
@@ -92,11 +88,11 @@ module _ (l : Link) (x : Lists) (symbols sections : List ℕ) (entry : EntryPoin
   unfolding add_of
   add_step i s g p = go (lead_of symbols l.symbols (symbol_id i)) refl
     where
-      go : (k : Lead) → lead_of symbols l.symbols (symbol_id i) ≡ k → Met s (λ y. Lies i y) (reach_lead sections n k s)
-      go Leading.Nowhere e = none sections n R s (λ y. Lies i y) g (λ y m. absurd (elsewhere (section_id y) (sym e ∙ m)))
-      go (Leading.Section id) e =
+      go : (k : Option SectionId) → lead_of symbols l.symbols (symbol_id i) ≡ k → Met s (λ y. Lies i y) (reach_lead sections n k s)
+      go None e = none sections n R s (λ y. Lies i y) g (λ y m. absurd (elsewhere (section_id y) (sym e ∙ m)))
+      go (Some id) e =
           narrow (reach_step sections n R s id.0 g (p id.0 e))
-          (λ y m. let d : Leading.Section (section_id y) ≡ Leading.Section id = sym m ∙ e in let f : section_id y ≡ id = cc in ap (λ (k : SectionId). k.0) f)
+          (λ y m. let d : Some (section_id y) ≡ Some id = sym m ∙ e in let f : section_id y ≡ id = cc in ap (λ (k : SectionId). k.0) f)
 
   -- ---- roots
 
@@ -121,22 +117,22 @@ module _ (l : Link) (x : Lists) (symbols sections : List ℕ) (entry : EntryPoin
           none sections n R s (λ y. (y ≡ i) × (is_root x.bytes x.names sections n i ≡ true)) g (λ y m. absurd (apart (sym e ∙ m.1)))
 
   abbrev Entered : ℕ → Type 0
-  Entered y = (i : ℕ) × (entry ≡ Entry.Symbol (symbol_id i)) × Lies i y
+  Entered y = (i : ℕ) × (entry ≡ Some (symbol_id i)) × Lies i y
 
-  entry-step : (e : EntryPoint) (s : Walk) → entry ≡ e → Fine s → Met s Entered (entry_of l symbols sections e s)
-  entry-step Entry.None s d g = none sections n R s Entered g (λ y m. absurd (never m.0 (sym d ∙ m.1)))
+  entry-step : (e : Option SymbolId) (s : Walk) → entry ≡ e → Fine s → Met s Entered (entry_of l symbols sections e s)
+  entry-step None s d g = none sections n R s Entered g (λ y m. absurd (never m.0 (sym d ∙ m.1)))
     where
-      never : (i : ℕ) → Entry.None ≡ Entry.Symbol (symbol_id i) → ⊥
+      never : (i : ℕ) → None ≡ Some (symbol_id i) → ⊥
       never i e = let z : ◌≡◌ {A = ℕ} 0 1 = cc in omega arith
-  entry-step (Entry.Symbol id) s d g =
+  entry-step (Some id) s d g =
       narrow (add_step id.0 s g (λ y m. entered id.0 d (leads-own l x symbols sections id.0 y m)))
-      (λ y m. let f : Entry.Symbol (symbol_id m.0) ≡ Entry.Symbol id = sym m.1 ∙ d in let k : symbol_id m.0 ≡ id = cc in rw (← k) m.2)
+      (λ y m. let f : Some (symbol_id m.0) ≡ Some id = sym m.1 ∙ d in let k : symbol_id m.0 ≡ id = cc in rw (← k) m.2)
 
   record Rooted (s t : Walk) : Type 0 where
     good : Fine t
     by-mark : (i y : ℕ) → (get_or x.marks i 0 ≡ 0 → ⊥) → Lies i y → Seen sections n t y
     by-root : (y : ℕ) → is_root x.bytes x.names sections n y ≡ true → Seen sections n t y
-    by-entry : (i y : ℕ) → entry ≡ Entry.Symbol (symbol_id i) → Lies i y → Seen sections n t y
+    by-entry : (i y : ℕ) → entry ≡ Some (symbol_id i) → Lies i y → Seen sections n t y
 
   roots-step : (s : Walk) → Fine s → Rooted s (roots_of l x.bytes x.names symbols sections x.marks entry s)
   unfolding roots_of
@@ -248,7 +244,7 @@ module _ (l : Link) (x : Lists) (symbols sections : List ℕ) (entry : EntryPoin
       never : {v : ℕ} → v ≡ 0 → v ≡ 1 → ⊥
       never a b = omega arith
 
-      nobody : (id : SectionId) → None ≡ Lowest id → ⊥
+      nobody : (id : SectionId) → None ≡ Some id → ⊥
       nobody id e = let z : ◌≡◌ {A = ℕ} 0 1 = cc in omega arith
 
   -- what is marked or noted is reached, and all that is reached is marked or noted

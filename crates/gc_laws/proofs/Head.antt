@@ -1,6 +1,7 @@
 -- What a call that passes its head has: as many rows, marks and work cells as it needs.
 -- Assumes nothing.
-use Rattle.std.specs.Prelude.{ℕ, ◌+◌, ◌*◌, ◌/◌, ◌<◌, ◌≤◌, ◌≡◌, refl, cond, List, eqb, ltb, length}
+use Rattle.link.specs.declared.SymbolId.{SymbolId}
+use Rattle.std.specs.Prelude.{ℕ, ◌+◌, ◌*◌, ◌/◌, ◌<◌, ◌≤◌, ◌≡◌, refl, cond, List, eqb, ltb, length, Option}
 use Rattle.std.proofs.Common.{arith}
 use borrow.Author.Tests.{eq-eqb, eqb-false, ltb-true, ltb-false}
 use Rattle.cells.specs.Proof.Split.{by-test}
@@ -8,7 +9,6 @@ use Rattle.link.specs.declared.Link.{Link}
 use Rattle.link.specs.declared.Lent.{Lent}
 use Rattle.link.specs.Bounds.{lesser, section_slots}
 use Rattle.link.specs.Judge.{refused, change_of}
-use Rattle.gc_sections.specs.declared.EntryPoint.{EntryPoint}
 use Rattle.gc_sections.specs.Reach.{Walk, walked}
 use Rattle.gc_sections.specs.Run.{Lists, lent_of, judge_cells, judge_of, judged, finish_of, finished, collect_of, run_of}
 use Rattle.gc_sections.specs.Proof.RunWays.{never, counts-lent}
@@ -50,7 +50,7 @@ module _ (l : Link) (x : Lists) (symbols sections work : List ℕ) (ok : (judged
   pub work-fits : l.sections + l.sections ≤ length work
   work-fits = omega (arith, (cells-enough l (length x.marks) (length work) (cells-pass l lent (length x.marks) (length work) ok)).1)
 
-  module _ (entry : EntryPoint) where
+  module _ (entry : Option SymbolId) where
     abbrev w : Walk
     w = walked l x.bytes x.names symbols sections x.lists x.marks entry work
 

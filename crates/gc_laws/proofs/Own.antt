@@ -1,6 +1,6 @@
 -- The tests of the collection say what Reached.antt says in its own words.
 -- Assumes nothing.
-use Rattle.std.specs.Prelude.{ℕ, ◌≡◌, Bool, List, eqb, leb}
+use Rattle.std.specs.Prelude.{ℕ, ◌≡◌, Bool, List, eqb, leb, None, Some}
 use Rattle.std.proofs.Common.{arith, ◌∙◌}
 use Rattle.std.proofs.Math.Path.{refl, ap}
 use Rattle.std.proofs.Math.Bool.{true, false, cond}
@@ -12,13 +12,12 @@ use Rattle.link.specs.declared.SectionId.{SectionId}
 use Rattle.interner.specs.Names.{name_at}
 use Rattle.symbol.specs.Row as Symbol
 use Rattle.sections.specs.Rows.{field, state_at, name_id_at, retain_at, read_at, is_built}
-use Rattle.gc_sections.specs.declared.Lead.TheVariants as Leading
 use Rattle.gc_sections.specs.Roots.{symbol_id, section_id, value_lead, lead_of, eh_frame, readable, name_is, rooted, is_root}
 use Rattle.gc_sections.specs.Run.{Lists}
 use Rattle.gc_laws.specs.Reached as Own
 use Rattle.gc_laws.specs.Reached.{Built, Leads, InSection, IsRoot, bytes_of}
 
-nowhere : (id : SectionId) → Leading.Nowhere ≡ Leading.Section id → ⊥
+nowhere : (id : SectionId) → None ≡ Some id → ⊥
 nowhere id e = let z : ◌≡◌ {A = ℕ} 0 1 = cc in omega arith
 
 module _ (l : Link) (x : Lists) (symbols sections : List ℕ) where
@@ -38,10 +37,10 @@ module _ (l : Link) (x : Lists) (symbols sections : List ℕ) where
 
   -- ---- where a symbol leads
 
-  same-section : (a y : ℕ) → Leading.Section (section_id a) ≡ Leading.Section (section_id y) → a ≡ y
+  same-section : (a y : ℕ) → Some (section_id a) ≡ Some (section_id y) → a ≡ y
   same-section a y e = let s : section_id a ≡ section_id y = cc in ap (λ (v : SectionId). v.0) s
 
-  value-own : (kind a y : ℕ) → value_lead kind a ≡ Leading.Section (section_id y) → InSection kind × (a ≡ y)
+  value-own : (kind a y : ℕ) → value_lead kind a ≡ Some (section_id y) → InSection kind × (a ≡ y)
   unfolding value_lead
   value-own kind a y e =
       by-test (eqb kind 2) (λ t. (Own.section (eqb-true _ _ t), same-section a y (rw t at e)))
@@ -51,13 +50,13 @@ module _ (l : Link) (x : Lists) (symbols sections : List ℕ) where
       by-test (eqb kind 4) (λ v. (Own.address (eqb-true _ _ v), same-section a y (rw (t, u, v) at e)))
       (λ v. absurd (nowhere (section_id y) (rw (t, u, v) at e)))))
 
-  own_value : (kind a : ℕ) → InSection kind → value_lead kind a ≡ Leading.Section (section_id a)
+  own_value : (kind a : ℕ) → InSection kind → value_lead kind a ≡ Some (section_id a)
   unfolding value_lead
   own_value kind a (Own.section e) = rw (eq-eqb _ _ e)
   own_value kind a (Own.relative e) = rw e
   own_value kind a (Own.address e) = rw e
 
-  pub leads-own : (i y : ℕ) → lead_of symbols l.symbols (symbol_id i) ≡ Leading.Section (section_id y) → Leads l x symbols sections i y
+  pub leads-own : (i y : ℕ) → lead_of symbols l.symbols (symbol_id i) ≡ Some (section_id y) → Leads l x symbols sections i y
   unfolding lead_of
   leads-own i y e =
       by-test (leb l.symbols i) (λ t. absurd (nowhere (section_id y) (rw t at e)))
@@ -67,11 +66,11 @@ module _ (l : Link) (x : Lists) (symbols sections : List ℕ) where
       let q = value-own (Symbol.field symbols i 5) (Symbol.field symbols i 6) y (rw (t, u) at e) in
       record { issued = leb-false _ _ t; present = eqb-false _ _ u; valued = q.0; lies = q.1 }))
 
-  pub own-leads : (i y : ℕ) → Leads l x symbols sections i y → lead_of symbols l.symbols (symbol_id i) ≡ Leading.Section (section_id y)
+  pub own-leads : (i y : ℕ) → Leads l x symbols sections i y → lead_of symbols l.symbols (symbol_id i) ≡ Some (section_id y)
   unfolding lead_of
   own-leads i y m =
       rw (lt-leb _ _ m.issued, ne_eqb _ _ m.present)
-      (own_value (Symbol.field symbols i 5) (Symbol.field symbols i 6) m.valued ∙ ap (λ (v : ℕ). Leading.Section (section_id v)) m.lies)
+      (own_value (Symbol.field symbols i 5) (Symbol.field symbols i 6) m.valued ∙ ap (λ (v : ℕ). Some (section_id v)) m.lies)
 
   -- ---- the sections that are roots
 

@@ -1,10 +1,11 @@
 -- Theorems over specs/Proof/Swept.antt.
 -- Assumes nothing.
+use Rattle.link.specs.declared.SectionId.{SectionId}
 use Prim.Native.Nat.{ℕ, zero, suc, ◌+◌, ◌*◌, ◌<◌, ◌≤◌}
 use native.Mathlib.Omega.{arith}
 use Rattle.std.proofs.Common.{add-zero, sym, ◌∙◌, get_or-set_other, le-ltb}
 use Rattle.std.proofs.Math.Path.{◌≡◌, refl, ap}
-use Rattle.std.specs.Prelude.{Bool, List, eqb, ltb, leb, get_or, set}
+use Rattle.std.specs.Prelude.{Bool, List, eqb, ltb, leb, get_or, set, Option, None, Some}
 use Rattle.std.proofs.Math.Bool.{true, false, cond}
 use Rattle.std.proofs.Math.ListN.{length, length-set}
 use Rattle.std.proofs.Math.Seq.{set_out}
@@ -16,8 +17,6 @@ use Rattle.symbol_resolution.specs.Decide.{section_cell}
 use Rattle.symbol_resolution.specs.Apply.{set_section_symbol}
 use Rattle.symbols.specs.Remove.{Rows, rows_of, drop_section, remove_row_of}
 use Rattle.sections.specs.Rows.{is_built}
-use Rattle.gc_sections.specs.declared.Lead.{Lead}
-use Rattle.gc_sections.specs.declared.Lead.TheVariants.{Nowhere, Section}
 use Rattle.gc_sections.specs.Each.{each}
 use Rattle.gc_sections.specs.Roots.{symbol_id, lead_of}
 use Rattle.gc_sections.specs.Sweep.{Swept, swept_of, Purged, purged_of, drop_unreached, dropped_now, purge_lead, purge_symbol, sweep_sections, purge_symbols}
@@ -98,13 +97,13 @@ module _ (l : Link) (symbols : List ℕ) (p : ℕ → Bool) where
   unfolding lead_of
   lead-same i s a = rw (a.field i 0 (omega arith) (omega arith), a.field i 5 (omega arith) (omega arith), a.field i 6 (omega arith) (omega arith))
 
-  lead-there : (i : ℕ) (x : _) → lead_of symbols l.symbols (symbol_id i) ≡ Section x → eqb (Symbol.field symbols i 0) 2 ≡ false
+  lead-there : (i : ℕ) (x : _) → lead_of symbols l.symbols (symbol_id i) ≡ Some x → eqb (Symbol.field symbols i 0) 2 ≡ false
   unfolding lead_of
   lead-there i x e =
       by-test (leb l.symbols i) (λ t. absurd (elsewhere (rw t at e)))
       (λ t. by-test (eqb (Symbol.field symbols i 0) 2) (λ u. absurd (elsewhere (rw (t, u) at e))) (λ u. u))
     where
-      elsewhere : Nowhere ≡ Section x → ⊥
+      elsewhere : None ≡ Some x → ⊥
       elsewhere d = let z : ◌≡◌ {A = ℕ} 0 1 = cc in omega arith
 
   abbrev row_turned : ℕ → Bool → Purged → Purged
@@ -127,16 +126,16 @@ module _ (l : Link) (symbols : List ℕ) (p : ℕ → Bool) where
       go true false = set_out s.rows.sections (length s.rows.sections) 0 (omega arith)
       go false c = refl
 
-  row-gone : (i : ℕ) (s : Purged) (x : _) → Rest i s → lead_of symbols l.symbols (symbol_id i) ≡ Section x
+  row-gone : (i : ℕ) (s : Purged) (x : _) → Rest i s → lead_of symbols l.symbols (symbol_id i) ≡ Some x
       → purged_of (remove_row_of l s.rows (symbol_id i)) (s.count + 1) ≡ row_turned i true s
   unfolding remove_row_of
   row-gone i s x a e =
       rw (a.field i 0 (omega arith) (omega arith), lead-there i x e, a.field i 5 (omega arith) (omega arith), a.field i 6 (omega arith) (omega arith), section-freed i s a)
 
-  lead-turn : (i : ℕ) (s : Purged) → Rest i s → (k : Lead) → lead_of symbols l.symbols (symbol_id i) ≡ k
+  lead-turn : (i : ℕ) (s : Purged) → Rest i s → (k : Option SectionId) → lead_of symbols l.symbols (symbol_id i) ≡ k
       → cond (taken p k) (purged_of (remove_row_of l s.rows (symbol_id i)) (s.count + 1)) s ≡ row_turned i (taken p k) s
-  lead-turn i s a Nowhere e = ap (λ (m : ℕ). purged_of s.rows m) (sym (add-zero s.count))
-  lead-turn i s a (Section x) e = go (p x.0)
+  lead-turn i s a None e = ap (λ (m : ℕ). purged_of s.rows m) (sym (add-zero s.count))
+  lead-turn i s a (Some x) e = go (p x.0)
     where
       go : (b : Bool) → cond b (purged_of (remove_row_of l s.rows (symbol_id i)) (s.count + 1)) s ≡ row_turned i b s
       go true = row-gone i s x a e
@@ -210,9 +209,9 @@ module _ (l : Link) (work symbols : List ℕ) where
   unfolding purge_symbol purge_if
   purge-now i s = go (lead_of s.rows.symbols l.symbols (symbol_id i))
     where
-      go : (k : Lead) → purge_lead l work i k s ≡ cond (taken now k) (purged_of (remove_row_of l s.rows (symbol_id i)) (s.count + 1)) s
-      go Nowhere = refl
-      go (Section x) = refl
+      go : (k : Option SectionId) → purge_lead l work i k s ≡ cond (taken now k) (purged_of (remove_row_of l s.rows (symbol_id i)) (s.count + 1)) s
+      go None = refl
+      go (Some x) = refl
 
   pub purged-is : (sections : List ℕ) → l.slots ≤ section_slots (length sections)
       → purge_symbols l work (rows_of symbols sections)

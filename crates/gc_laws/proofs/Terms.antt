@@ -1,6 +1,7 @@
 -- Theorems over specs/Terms.antt.
 -- Assumes nothing.
-use Rattle.std.specs.Prelude.{ℕ, ◌+◌, ◌*◌, ◌/◌, ◌<◌, ◌≤◌, ◌≡◌, true, false, List, eqb, ltb, get_or}
+use Rattle.link.specs.declared.SymbolId.{SymbolId}
+use Rattle.std.specs.Prelude.{ℕ, ◌+◌, ◌*◌, ◌/◌, ◌<◌, ◌≤◌, ◌≡◌, true, false, List, eqb, ltb, get_or, Option, Some, Ok, Err}
 use Rattle.std.proofs.Common.{arith, sym, ◌∙◌, eqb-true}
 use Rattle.std.proofs.Math.Path.{ap}
 use Rattle.cells.specs.Proof.Split.{by-test}
@@ -12,11 +13,8 @@ use Rattle.link.specs.Proof.Passed.{judge-gives}
 use Rattle.symbol.specs.Row as Symbol
 use Rattle.symbol.specs.Layout.{removed_state}
 use Rattle.sections.specs.Rows.{field, state_at, is_built, dropped_state}
-use Rattle.gc_sections.specs.declared.EntryPoint.{EntryPoint}
-use Rattle.gc_sections.specs.declared.Lead.TheVariants as Leading
-use Rattle.gc_sections.specs.declared.Answer.TheVariants.{Dropped, Refused}
 use Rattle.gc_sections.specs.Roots.{symbol_id, section_id, lead_of}
-use Rattle.gc_sections.specs.Run.{Left, Lists, number_of, judge_cells, judge_of, judged, run_of}
+use Rattle.gc_sections.specs.Run.{Left, Lists, number_of, judge_cells, judge_of, judged, run_of, dropped}
 use Rattle.gc_laws.specs.Reached.{Built, Leads, Reached}
 use Rattle.gc_laws.proofs.Own.{built-own, own-built, leads-own, own-leads}
 use Rattle.gc_laws.proofs.Collected as C
@@ -36,7 +34,7 @@ judge-head : (l : Link) (n : Lent) (marks work : ℕ) → Head (judge_of l n mar
 unfolding judge_of
 judge-head l n marks work = pick Head (eqb (change_of l n).number 0) _ _ (λ t. cells-head l marks work) (λ t. change-head l n)
 
-module _ (l : Link) (x : Lists) (symbols sections : List ℕ) (entry : EntryPoint) (work : List ℕ) where
+module _ (l : Link) (x : Lists) (symbols sections : List ℕ) (entry : Option SymbolId) (work : List ℕ) where
   abbrev n : ℕ
   n = l.sections
 
@@ -51,14 +49,14 @@ module _ (l : Link) (x : Lists) (symbols sections : List ℕ) (entry : EntryPoin
   Passed = (judged l x symbols sections work).number ≡ 0
 
   -- what is refused at the head has the head's answer
-  pub head : (P : Type 0) → (Passed → P) → (r.answer ≡ Refused (judged l x symbols sections work) → P) → P
+  pub head : (P : Type 0) → (Passed → P) → (r.answer ≡ Err (judged l x symbols sections work) → P) → P
   unfolding run_of
   head P f g = by-test (eqb (judged l x symbols sections work).number 0) (λ t. f (eqb-true _ _ t)) (λ t. g (rw t))
 
-  pub accepted-passed : (a b : ℕ) → r.answer ≡ Dropped a b → Passed
+  pub accepted-passed : (a b : ℕ) → r.answer ≡ Ok (dropped a b) → Passed
   accepted-passed a b e = head Passed (λ p. p) (λ q. absurd (C.differ a b (judged l x symbols sections work) (sym e ∙ q)))
 
-  pub refused-passed : (k : ℕ) → r.answer ≡ Refused (refused 21 k) → Passed
+  pub refused-passed : (k : ℕ) → r.answer ≡ Err (refused 21 k) → Passed
   refused-passed k e = head Passed (λ p. p) (λ q. absurd (judge-head l _ _ _ (ap number_of (sym q ∙ e))))
 
   -- built before the call, and after it; each in its own words
@@ -74,7 +72,7 @@ module _ (l : Link) (x : Lists) (symbols sections : List ℕ) (entry : EntryPoin
   built-not : (y : ℕ) → is_built sections n y ≡ false → Before y → ⊥
   built-not y e b = apart (sym e ∙ own-built l x symbols sections y b)
 
-  pub accepted-whole : (a b : ℕ) → r.answer ≡ Dropped a b → (y : ℕ) → R y → is_built sections n y ≡ true
+  pub accepted-whole : (a b : ℕ) → r.answer ≡ Ok (dropped a b) → (y : ℕ) → R y → is_built sections n y ≡ true
   accepted-whole a b e y q =
       by-test (is_built sections n y) (λ t. t)
       (λ t. let f = C.unbuilt-refused l x symbols sections entry work (accepted-passed a b e) y q t in absurd (C.differ a b (refused 21 f.0) (sym e ∙ f.1)))
@@ -86,7 +84,7 @@ module _ (l : Link) (x : Lists) (symbols sections : List ℕ) (entry : EntryPoin
     pub built : (y : ℕ) → R y → Before y
     pub dropped : (y : ℕ) → Before y → (R y → ⊥) → state_at r.sections y ≡ dropped_state
 
-  pub keeps : (a b : ℕ) → r.answer ≡ Dropped a b → Kept
+  pub keeps : (a b : ℕ) → r.answer ≡ Ok (dropped a b) → Kept
   keeps a b e =
       let ok = accepted-passed a b e in
       let whole = accepted-whole a b e in
@@ -124,13 +122,13 @@ module _ (l : Link) (x : Lists) (symbols sections : List ℕ) (entry : EntryPoin
   abbrev of_own : (y : ℕ) → Before y → is_built sections n y ≡ true
   of_own = own-built l x symbols sections
 
-  abbrev lead : (i y : ℕ) → lead_of symbols l.symbols (symbol_id i) ≡ Leading.Section (section_id y) → Lies i y
+  abbrev lead : (i y : ℕ) → lead_of symbols l.symbols (symbol_id i) ≡ Some (section_id y) → Lies i y
   lead = leads-own l x symbols sections
 
-  abbrev of_lead : (i y : ℕ) → Lies i y → lead_of symbols l.symbols (symbol_id i) ≡ Leading.Section (section_id y)
+  abbrev of_lead : (i y : ℕ) → Lies i y → lead_of symbols l.symbols (symbol_id i) ≡ Some (section_id y)
   of_lead = own-leads l x symbols sections
 
-  pub removes : (a b : ℕ) → r.answer ≡ Dropped a b → Removed
+  pub removes : (a b : ℕ) → r.answer ≡ Ok (dropped a b) → Removed
   removes a b e =
       let ok = accepted-passed a b e in
       let whole = accepted-whole a b e in
@@ -149,15 +147,15 @@ module _ (l : Link) (x : Lists) (symbols sections : List ℕ) (entry : EntryPoin
     pub unbuilt : Before k → ⊥
     pub least : (y : ℕ) → R y → (Before y → ⊥) → k ≤ y
 
-  pub refuses : (k : ℕ) → r.answer ≡ Refused (refused 21 k) → Lowest k
+  pub refuses : (k : ℕ) → r.answer ≡ Err (refused 21 k) → Lowest k
   refuses k e =
       let f = C.refused-lowest l x symbols sections entry work (refused-passed k e) k e in
       record { reached = f.0; unbuilt = built-not k f.1; least = λ y q u. f.2 y q (unbuilt y u) }
 
   -- a call that passes its head is refused where there is such a section, and only there
-  pub passes : Passed → (y : ℕ) → R y → (Before y → ⊥) → (k : ℕ) × (r.answer ≡ Refused (refused 21 k))
+  pub passes : Passed → (y : ℕ) → R y → (Before y → ⊥) → (k : ℕ) × (r.answer ≡ Err (refused 21 k))
   passes ok y q u = C.unbuilt-refused l x symbols sections entry work ok y q (unbuilt y u)
 
-  pub accepts : Passed → ((y : ℕ) → R y → Before y) → (a b : ℕ) × (r.answer ≡ Dropped a b)
+  pub accepts : Passed → ((y : ℕ) → R y → Before y) → (a b : ℕ) × (r.answer ≡ Ok (dropped a b))
   unfolding C.result
   accepts ok whole = (_, _, ap (λ (t : Left). t.answer) (C.run-result l x symbols sections entry work ok (λ y q. of_own y (whole y q))))

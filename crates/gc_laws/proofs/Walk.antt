@@ -3,7 +3,7 @@
 use Prim.Native.Nat.{ℕ, zero, suc, ◌+◌, ◌<◌, ◌≤◌}
 use Rattle.std.proofs.Math.Decide.{ℕ_discrete}
 use native.Mathlib.Omega.{arith}
-use Rattle.std.specs.Prelude.{◌≡◌, ◌⊎◌, Bool, cond, List, leb, get_or, set, length}
+use Rattle.std.specs.Prelude.{◌≡◌, ◌⊎◌, Bool, cond, List, leb, get_or, set, length, Option, None, Some}
 use Rattle.std.proofs.Math.Path.{refl}
 use Rattle.std.proofs.Common.{sym, ap, subst, ◌∙◌, inr, ⊎_elim, length-set, get_or-set_same, get_or-set_other}
 use Rattle.std.proofs.Math.Bool.{true, false}
@@ -13,8 +13,6 @@ use Rattle.cells.specs.Proof.Split.{by-test}
 use Rattle.byte_slices.specs.Proof.Ways.{apart}
 use Rattle.link.specs.declared.SectionId.{SectionId}
 use Rattle.sections.specs.Rows.{is_built}
-use Rattle.gc_sections.specs.declared.Unbuilt.{Unbuilt}
-use Rattle.gc_sections.specs.declared.Unbuilt.TheVariants.{None, Lowest}
 use Rattle.gc_sections.specs.Each.{each}
 use Rattle.gc_sections.specs.Roots.{section_id}
 use Rattle.gc_sections.specs.Reach.{Walk, walk_of, visitor_of, queue, save_of, lower_of, reach_of}
@@ -28,30 +26,30 @@ built-below sections n y e = by-test (leb n y) (λ t. absurd (apart (rw t at e))
 -- ---- the lowest of two
 
 module _ (id : SectionId) where
-  pub lowered : (u : Unbuilt) (Q : ℕ → Type 0) → ((k : SectionId) → u ≡ Lowest k → Q k.0) → Q id.0 → (k : SectionId) → lower_of u id ≡ Lowest k → Q k.0
+  pub lowered : (u : Option SectionId) (Q : ℕ → Type 0) → ((k : SectionId) → u ≡ Some k → Q k.0) → Q id.0 → (k : SectionId) → lower_of u id ≡ Some k → Q k.0
   lowered None Q f q k e = let z : id ≡ k = cc in subst (λ (m : SectionId). Q m.0) z q
-  lowered (Lowest j) Q f q k e = go (ltb id.0 j.0) e
+  lowered (Some j) Q f q k e = go (ltb id.0 j.0) e
     where
-      go : (b : Bool) → cond b (Lowest id) (Lowest j) ≡ Lowest k → Q k.0
+      go : (b : Bool) → cond b (Some id) (Some j) ≡ Some k → Q k.0
       go true d = let z : id ≡ k = cc in subst (λ (m : SectionId). Q m.0) z q
       go false d = f k d
 
-  pub lower-new : (u : Unbuilt) → (k : SectionId) × (lower_of u id ≡ Lowest k) × (k.0 ≤ id.0)
+  pub lower-new : (u : Option SectionId) → (k : SectionId) × (lower_of u id ≡ Some k) × (k.0 ≤ id.0)
   lower-new None = (id, refl, omega arith)
-  lower-new (Lowest j) = go (ltb id.0 j.0) refl
+  lower-new (Some j) = go (ltb id.0 j.0) refl
     where
-      go : (b : Bool) → ltb id.0 j.0 ≡ b → (k : SectionId) × (cond b (Lowest id) (Lowest j) ≡ Lowest k) × (k.0 ≤ id.0)
+      go : (b : Bool) → ltb id.0 j.0 ≡ b → (k : SectionId) × (cond b (Some id) (Some j) ≡ Some k) × (k.0 ≤ id.0)
       go true t = (id, refl, omega arith)
       go false t = (j, refl, ltb-false _ _ t)
 
-  pub lower-old : (u : Unbuilt) (j : SectionId) → u ≡ Lowest j → (k : SectionId) × (lower_of u id ≡ Lowest k) × (k.0 ≤ j.0)
+  pub lower-old : (u : Option SectionId) (j : SectionId) → u ≡ Some j → (k : SectionId) × (lower_of u id ≡ Some k) × (k.0 ≤ j.0)
   lower-old None j e = absurd (let z : ◌≡◌ {A = ℕ} 0 1 = cc in omega arith)
-  lower-old (Lowest i) j e = go (ltb id.0 i.0) refl
+  lower-old (Some i) j e = go (ltb id.0 i.0) refl
     where
       same : i.0 ≡ j.0
       same = let z : i ≡ j = cc in ap (λ (m : SectionId). m.0) z
 
-      go : (b : Bool) → ltb id.0 i.0 ≡ b → (k : SectionId) × (cond b (Lowest id) (Lowest i) ≡ Lowest k) × (k.0 ≤ j.0)
+      go : (b : Bool) → ltb id.0 i.0 ≡ b → (k : SectionId) × (cond b (Some id) (Some i) ≡ Some k) × (k.0 ≤ j.0)
       go true t = (id, refl, omega (arith, ltb-true id.0 i.0 t, same))
       go false t = (i, refl, omega (arith, same))
 
@@ -62,7 +60,7 @@ Marked s y = get_or s.work y 0 ≡ 1
 
 -- a section that isn't built, y or a lower one, was noted
 abbrev pub Low : Walk → ℕ → Type 0
-Low s y = (id : SectionId) × (s.visitor.unbuilt ≡ Lowest id) × (id.0 ≤ y)
+Low s y = (id : SectionId) × (s.visitor.unbuilt ≡ Some id) × (id.0 ≤ y)
 
 module _ (sections : List ℕ) (n : ℕ) where
   abbrev Built : ℕ → Type 0
@@ -78,7 +76,7 @@ module _ (sections : List ℕ) (n : ℕ) where
     pub sound : (y : ℕ) → y < n → Marked s y → P y × Built y
     pub listed : (y : ℕ) → y < n → Marked s y → (k : ℕ) × (k < s.visitor.queued) × (get_or s.work (n + k) 0 ≡ y)
     pub queued : (k : ℕ) → k < s.visitor.queued → (get_or s.work (n + k) 0 < n) × Marked s (get_or s.work (n + k) 0)
-    pub lowest : (id : SectionId) → s.visitor.unbuilt ≡ Lowest id → P id.0 × Unready id.0
+    pub lowest : (id : SectionId) → s.visitor.unbuilt ≡ Some id → P id.0 × Unready id.0
 
   -- a later walk
   pub record Ext (s t : Walk) : Type 0 where

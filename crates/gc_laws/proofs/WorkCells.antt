@@ -1,6 +1,7 @@
 -- What the lent work cells held before a call doesn't matter: nothing is read there before the call wrote it.
 -- Assumes nothing.
-use Rattle.std.specs.Prelude.{ℕ, zero, suc, ◌+◌, ◌≡◌, refl, Bool, true, List}
+use Rattle.link.specs.declared.SymbolId.{SymbolId}
+use Rattle.std.specs.Prelude.{ℕ, zero, suc, ◌+◌, ◌≡◌, refl, Bool, true, List, Option, Err}
 use Rattle.std.proofs.Common.{arith, sym, ◌∙◌}
 use Rattle.std.proofs.Math.Path.{ap}
 use Rattle.cells.specs.Proof.Split.{by-test}
@@ -8,8 +9,6 @@ use Rattle.byte_slices.specs.Proof.Ways.{apart}
 use Rattle.link.specs.declared.Link.{Link}
 use Rattle.link.specs.Judge.{refused}
 use Rattle.sections.specs.Rows.{is_built}
-use Rattle.gc_sections.specs.declared.EntryPoint.{EntryPoint}
-use Rattle.gc_sections.specs.declared.Answer.TheVariants.{Refused}
 use Rattle.gc_sections.specs.Each.{each}
 use Rattle.gc_sections.specs.Sweep.{dropped_now}
 use Rattle.gc_sections.specs.Run.{Left, Lists, judged, run_of}
@@ -25,7 +24,7 @@ unfolding picked
 picked_same p q f zero i = refl
 picked_same p q f (suc k) i = rw (f i, picked_same p q f k (i + 1))
 
-module _ (l : Link) (x : Lists) (symbols sections : List ℕ) (entry : EntryPoint) (work other : List ℕ) (ok : (judged l x symbols sections work).number ≡ 0)
+module _ (l : Link) (x : Lists) (symbols sections : List ℕ) (entry : Option SymbolId) (work other : List ℕ) (ok : (judged l x symbols sections work).number ≡ 0)
     (okay : (judged l x symbols sections other).number ≡ 0) where
   abbrev R : ℕ → Type 0
   R = Reached l x symbols sections entry
@@ -37,13 +36,13 @@ module _ (l : Link) (x : Lists) (symbols sections : List ℕ) (entry : EntryPoin
   s = run_of l x symbols sections entry other
 
   -- refused at the same place
-  pub same-refusal : (k : ℕ) → r.answer ≡ Refused (refused 21 k) → s.answer ≡ Refused (refused 21 k)
+  pub same-refusal : (k : ℕ) → r.answer ≡ Err (refused 21 k) → s.answer ≡ Err (refused 21 k)
   same-refusal k e =
       let a = C.refused-lowest l x symbols sections entry work ok k e in
       let f = C.unbuilt-refused l x symbols sections entry other okay k a.0 a.1 in
       let b = C.refused-lowest l x symbols sections entry other okay f.0 f.1 in
       let same : f.0 ≡ k = omega (arith, a.2 f.0 b.0 b.1, b.2 k a.0 a.1) in
-      f.1 ∙ ap (λ (m : ℕ). Refused (refused 21 m)) same
+      f.1 ∙ ap (λ (m : ℕ). Err (refused 21 m)) same
 
   module _ (whole : (y : ℕ) → R y → is_built sections l.sections y ≡ true) where
     abbrev D : ℕ → Bool

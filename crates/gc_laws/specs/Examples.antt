@@ -1,15 +1,14 @@
 -- Worked examples of document 01 and of the reading of it, computed from the contract's definition.
 -- Assumes nothing.
-use Rattle.std.specs.Prelude.{ℕ, zero, suc, ◌+◌, ◌≡◌, List, [], ◌∷◌, ◌++◌, replicate}
+use Rattle.link.specs.declared.Refusal.{Refusal}
+use Rattle.gc_sections.specs.declared.Dropped.{Dropped}
+use Rattle.std.specs.Prelude.{ℕ, zero, suc, ◌+◌, ◌≡◌, List, [], ◌∷◌, ◌++◌, replicate, Result, None, Ok, Err}
 use Rattle.link.specs.declared.Link.{Link}
 use Rattle.link.specs.Judge as Link
 use Rattle.link.specs.Counts.{no_names, with_names, with_symbols, with_sections, with_lists, with_slots}
 use Rattle.sections.specs.Rows.{state_at, built_state, program, section_cells, reserved_cells}
 use Rattle.symbol.specs.Row as Symbol
-use Rattle.gc_sections.specs.declared.EntryPoint.TheVariants as Entry
-use Rattle.gc_sections.specs.declared.Answer.{Answer}
-use Rattle.gc_sections.specs.declared.Answer.TheVariants.{Dropped, Refused}
-use Rattle.gc_sections.specs.Run.{Left, Lists, lists_of, run_of}
+use Rattle.gc_sections.specs.Run.{Left, Lists, lists_of, run_of, dropped}
 
 -- counts: one name of no bytes; so many symbols, sections and list cells
 abbrev pub counts : ℕ → ℕ → ℕ → Link
@@ -39,12 +38,12 @@ pub record Example : Type 0 where
   pub symbols : List ℕ
   pub sections : List ℕ
   pub work : List ℕ
-  pub answer : Answer
+  pub answer : Result Dropped Refusal
   pub section_states : List ℕ
   pub symbol_states : List ℕ
 
 abbrev pub collected : Example → Left
-collected e = run_of e.link e.lists e.symbols e.sections Entry.None e.work
+collected e = run_of e.link e.lists e.symbols e.sections None e.work
 
 abbrev pub states_from : (List ℕ → ℕ → ℕ) → List ℕ → ℕ → ℕ → List ℕ
 states_from state rows i zero = []
@@ -64,7 +63,7 @@ p12 =
       symbols = null ++ (in_section 0 ++ in_section 1);
       sections = section 1 0 ++ (section 1 1 ++ (1 ∷ 2 ∷ []));
       work = 9 ∷ 9 ∷ 9 ∷ 9 ∷ [];
-      answer = Dropped 2 2;
+      answer = Ok (dropped 2 2);
       section_states = 3 ∷ 3 ∷ [];
       symbol_states = 1 ∷ 2 ∷ 2 ∷ [];
     }
@@ -78,7 +77,7 @@ short_marks =
       symbols = null ++ (null ++ (null ++ null));
       sections = [];
       work = [];
-      answer = Refused (Link.refused 1 3);
+      answer = Err (Link.refused 1 3);
       section_states = [];
       symbol_states = 1 ∷ 1 ∷ 1 ∷ 1 ∷ [];
     }
@@ -92,7 +91,7 @@ two_unbuilt =
       symbols = null ++ (in_section 70000 ++ in_section 2);
       sections = reserved ++ (reserved ++ (reserved ++ (0 ∷ 0 ∷ 0 ∷ [])));
       work = replicate {A = ℕ} 6 9;
-      answer = Refused (Link.refused 21 2);
+      answer = Err (Link.refused 21 2);
       section_states = 1 ∷ 1 ∷ 1 ∷ [];
       symbol_states = 1 ∷ 1 ∷ 1 ∷ [];
     }
@@ -106,7 +105,7 @@ unreadable =
       symbols = null ++ (in_section 0 ++ (in_section 1 ++ (in_section 2 ++ in_section 3)));
       sections = section 1 0 ++ (section 1 1 ++ (section 0 2 ++ (section 1 3 ++ (1 ∷ 2 ∷ 3 ∷ 4 ∷ []))));
       work = replicate {A = ℕ} 8 9;
-      answer = Dropped 2 2;
+      answer = Ok (dropped 2 2);
       section_states = 3 ∷ 3 ∷ 2 ∷ 2 ∷ [];
       symbol_states = 1 ∷ 2 ∷ 2 ∷ 1 ∷ 1 ∷ [];
     }

@@ -1,15 +1,14 @@
 -- What relocations reach from the roots, with no word of how that is found out: none of the tests of the collection itself stands here.
 -- Assumes nothing.
+use Rattle.link.specs.declared.SymbolId.{SymbolId}
 use Prim.Native.Char.{code}
-use Rattle.std.specs.Prelude.{ℕ, zero, suc, ◌+◌, ◌<◌, ◌≡◌, List, [], ◌∷◌, ◌≢◌, get_or}
+use Rattle.std.specs.Prelude.{ℕ, zero, suc, ◌+◌, ◌<◌, ◌≡◌, List, [], ◌∷◌, ◌≢◌, get_or, Option, Some}
 use Prim.Native.String.{String, len, char_at}
 use Rattle.link.specs.declared.Link.{Link}
 use Rattle.interner.specs.Names.{name_at}
 use Rattle.symbol.specs.Layout.{removed_state, section_kind, relative_kind, address_kind}
 use Rattle.symbol.specs.Row as Symbol
 use Rattle.sections.specs.Rows.{state_at, name_id_at, kind_at, retain_at, read_at, first_at, count_at, built_state, program, uninitialized}
-use Rattle.gc_sections.specs.declared.EntryPoint.{EntryPoint}
-use Rattle.gc_sections.specs.declared.EntryPoint.TheVariants.{Symbol}
 use Rattle.gc_sections.specs.Roots.{value_kind_at, value_section_at}
 use Rattle.gc_sections.specs.Run.{Lists}
 
@@ -54,10 +53,10 @@ module _ (l : Link) (x : Lists) (symbols sections : List ℕ) where
     unreadable : read_at sections y ≡ 0 → IsRoot y
     other_kind : kind_at sections y ≢ program → kind_at sections y ≢ uninitialized → IsRoot y
 
-  module _ (entry : EntryPoint) where
+  module _ (entry : Option SymbolId) where
     -- "Roots: symbols marked by the caller, the entry symbol", and those sections, if they are built; from these on by relocations
     pub data Reached : ℕ → Type 0 where
       marked : (i : ℕ) {y : ℕ} → get_or x.marks i 0 ≢ 0 → Leads i y → Reached y
-      entered : (i : ℕ) {y : ℕ} → entry ≡ Symbol (record { 0 = i }) → Leads i y → Reached y
+      entered : (i : ℕ) {y : ℕ} → entry ≡ Some (record { 0 = i }) → Leads i y → Reached y
       root : {y : ℕ} → Built y → IsRoot y → Reached y
       step : {y z : ℕ} → Reached y → Built y → Names y z → Reached z

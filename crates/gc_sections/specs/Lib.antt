@@ -1,5 +1,7 @@
 pub mod Each
 pub mod Roots
+pub mod Graph
+pub mod Tables
 pub mod Reach
 pub mod Sweep
 pub mod Run

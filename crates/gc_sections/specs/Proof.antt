@@ -1,3 +1,3 @@
 pub mod EachWays
-pub mod ReachWays
 pub mod RunWays
+pub mod TablesWays

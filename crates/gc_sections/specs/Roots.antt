@@ -1,7 +1,7 @@
 -- Where a symbol leads, and which sections are roots by themselves: "retained sections, `.eh_frame`, and everything but readable program or
 -- uninitialized sections".
 -- Assumes nothing.
-use Rattle.std.specs.Prelude.{ℕ, Bool, true, false, cond, List, [], ◌∷◌, eqb, leb}
+use Rattle.std.specs.Prelude.{ℕ, Bool, true, false, cond, List, [], ◌∷◌, eqb, leb, Option, None, Some}
 use Rattle.byte_slices.specs.Bytes.{same}
 use Rattle.link.specs.declared.SymbolId.{SymbolId}
 use Rattle.link.specs.declared.SectionId.{SectionId}
@@ -9,8 +9,6 @@ use Rattle.interner.specs.Names.{name_at}
 use Rattle.symbol.specs.Layout.{kind_cell, first_cell, removed_state, section_kind, relative_kind, address_kind}
 use Rattle.symbol.specs.Row as Symbol
 use Rattle.sections.specs.Rows.{name_id_at, kind_at, retain_at, read_at, is_built, program, uninitialized}
-use Rattle.gc_sections.specs.declared.Lead.{Lead}
-use Rattle.gc_sections.specs.declared.Lead.TheVariants.{Nowhere, Section}
 
 abbrev pub symbol_id : ℕ → SymbolId
 symbol_id i = record { 0 = i }
@@ -26,16 +24,16 @@ abbrev pub value_section_at : List ℕ → ℕ → ℕ
 value_section_at symbols i = Symbol.field symbols i first_cell
 
 -- a section, relative to one, or an address in one: the value lies in section a
-unfoldable pub value_lead : ℕ → ℕ → Lead
+unfoldable pub value_lead : ℕ → ℕ → Option SectionId
 value_lead kind a =
-    cond (eqb kind section_kind) (Section (section_id a))
-    (cond (eqb kind relative_kind) (Section (section_id a)) (cond (eqb kind address_kind) (Section (section_id a)) Nowhere))
+    cond (eqb kind section_kind) (Some (section_id a))
+    (cond (eqb kind relative_kind) (Some (section_id a)) (cond (eqb kind address_kind) (Some (section_id a)) None))
 
 -- "Symbols removed or absent lead nowhere"
-unfoldable pub lead_of : List ℕ → ℕ → SymbolId → Lead
+unfoldable pub lead_of : List ℕ → ℕ → SymbolId → Option SectionId
 lead_of symbols count id =
-    cond (leb count id.0) Nowhere
-    (cond (eqb (Symbol.state_at symbols id.0) removed_state) Nowhere (value_lead (value_kind_at symbols id.0) (value_section_at symbols id.0)))
+    cond (leb count id.0) None
+    (cond (eqb (Symbol.state_at symbols id.0) removed_state) None (value_lead (value_kind_at symbols id.0) (value_section_at symbols id.0)))
 
 -- `.eh_frame`
 abbrev pub eh_frame : List ℕ

@@ -1,6 +1,9 @@
 -- Collection: 22, 1, 2; what is reached; 21 at the lowest section that is reached but not built; else the sweep.
 -- Assumes nothing.
-use Rattle.std.specs.Prelude.{ℕ, ◌/◌, cond, List, eqb, ltb, length}
+use Rattle.gc_sections.specs.declared.Dropped.{Dropped}
+use Rattle.link.specs.declared.SectionId.{SectionId}
+use Rattle.link.specs.declared.SymbolId.{SymbolId}
+use Rattle.std.specs.Prelude.{ℕ, ◌/◌, cond, List, eqb, ltb, length, Option, Result, None, Some, Ok, Err}
 use Rattle.link.specs.declared.Link.{Link}
 use Rattle.link.specs.declared.Lent.{Lent}
 use Rattle.link.specs.declared.Refusal.{Refusal}
@@ -9,32 +12,30 @@ use Rattle.link.specs.Counts.{lent_rows}
 use Rattle.link.specs.Judge.{refused, none, change_of}
 use Rattle.symbols.specs.Remove.{rows_of}
 use Rattle.cells.specs.Slice.{Slice, SliceMut}
-use Rattle.gc_sections.specs.declared.Unbuilt.{Unbuilt}
-use Rattle.gc_sections.specs.declared.Unbuilt.TheVariants.{None, Lowest}
-use Rattle.gc_sections.specs.declared.EntryPoint.{EntryPoint}
-use Rattle.gc_sections.specs.declared.Answer.{Answer}
-use Rattle.gc_sections.specs.declared.Answer.TheVariants.{Dropped, Refused}
 use Rattle.gc_sections.specs.declared.Outcome.{Outcome}
 use Rattle.gc_sections.specs.Reach.{Walk, walked}
 use Rattle.gc_sections.specs.Sweep.{Swept, Purged, sweep_sections, purge_symbols}
 
--- document 01's number and place of each case
-abbrev pub number_of : Answer → ℕ
-number_of (Dropped sections symbols) = 0
-number_of (Refused r) = r.number
+abbrev pub dropped : ℕ → ℕ → Dropped
+dropped sections symbols = record { sections = sections; symbols = symbols }
 
-abbrev pub place_of : Answer → ℕ
-place_of (Dropped sections symbols) = 0
-place_of (Refused r) = r.place
+-- document 01's number and place of each case
+abbrev pub number_of : Result Dropped Refusal → ℕ
+number_of (Ok d) = 0
+number_of (Err r) = r.number
+
+abbrev pub place_of : Result Dropped Refusal → ℕ
+place_of (Ok d) = 0
+place_of (Err r) = r.place
 
 -- its values: how many sections were dropped, and how many symbols were removed with them
-abbrev pub sections_in : Answer → ℕ
-sections_in (Dropped sections symbols) = sections
-sections_in (Refused r) = 0
+abbrev pub sections_in : Result Dropped Refusal → ℕ
+sections_in (Ok d) = d.sections
+sections_in (Err r) = 0
 
-abbrev pub symbols_in : Answer → ℕ
-symbols_in (Dropped sections symbols) = symbols
-symbols_in (Refused r) = 0
+abbrev pub symbols_in : Result Dropped Refusal → ℕ
+symbols_in (Ok d) = d.symbols
+symbols_in (Err r) = 0
 
 pub record Said : Type 0 where
   pub number : ℕ
@@ -42,7 +43,7 @@ pub record Said : Type 0 where
   pub sections : ℕ
   pub symbols : ℕ
 
-abbrev pub said_of : Answer → Said
+abbrev pub said_of : Result Dropped Refusal → Said
 said_of a = record { number = number_of a; place = place_of a; sections = sections_in a; symbols = symbols_in a }
 
 -- every lent cell that a collection may write, the counts, the answer and what it says
@@ -51,10 +52,10 @@ pub record Left : Type 0 where
   pub sections : List ℕ
   pub work : List ℕ
   pub link : Link
-  pub answer : Answer
+  pub answer : Result Dropped Refusal
   pub said : Said
 
-abbrev pub left : List ℕ → List ℕ → List ℕ → Link → Answer → Left
+abbrev pub left : List ℕ → List ℕ → List ℕ → Link → Result Dropped Refusal → Left
 left symbols sections work l a =
     record { symbols = symbols; sections = sections; work = work; link = l; answer = a; said = said_of a }
 
@@ -100,7 +101,7 @@ judge_of l lent marks work =
 -- ---- the end
 
 abbrev pub purged : Link → Swept → Purged → Left
-purged l s p = left p.rows.symbols p.rows.sections s.work l (Dropped s.count p.count)
+purged l s p = left p.rows.symbols p.rows.sections s.work l (Ok (dropped s.count p.count))
 
 unfoldable pub purge_of : Link → List ℕ → Swept → Left
 purge_of l symbols s = purged l s (purge_symbols l s.work (rows_of symbols s.sections))
@@ -109,16 +110,16 @@ unfoldable pub sweep_of : Link → List ℕ → List ℕ → List ℕ → Left
 sweep_of l symbols sections work = purge_of l symbols (sweep_sections l.sections sections work)
 
 -- "Of sections reached but not built, the lowest gives 21"
-abbrev pub finish_of : Link → List ℕ → List ℕ → List ℕ → Unbuilt → Left
+abbrev pub finish_of : Link → List ℕ → List ℕ → List ℕ → Option SectionId → Left
 finish_of l symbols sections work None = sweep_of l symbols sections work
-finish_of l symbols sections work (Lowest id) = left symbols sections work l (Refused (refused 21 id.0))
+finish_of l symbols sections work (Some id) = left symbols sections work l (Err (refused 21 id.0))
 
 unfoldable pub finished : Link → List ℕ → List ℕ → Walk → Left
 finished l symbols sections s = finish_of l symbols sections s.work s.visitor.unbuilt
 
 -- ---- the call
 
-unfoldable pub collect_of : Link → Lists → List ℕ → List ℕ → EntryPoint → List ℕ → Left
+unfoldable pub collect_of : Link → Lists → List ℕ → List ℕ → Option SymbolId → List ℕ → Left
 collect_of l x symbols sections entry work =
     finished l symbols sections (walked l x.bytes x.names symbols sections x.lists x.marks entry work)
 
@@ -126,7 +127,7 @@ abbrev pub judged : Link → Lists → List ℕ → List ℕ → List ℕ → Re
 judged l x symbols sections work =
     judge_of l (lent_of (length x.bytes) (length x.names) (length symbols) (length sections) (length x.lists)) (length x.marks) (length work)
 
-unfoldable pub run_of : Link → Lists → List ℕ → List ℕ → EntryPoint → List ℕ → Left
+unfoldable pub run_of : Link → Lists → List ℕ → List ℕ → Option SymbolId → List ℕ → Left
 run_of l x symbols sections entry work =
     cond (eqb (judged l x symbols sections work).number 0) (collect_of l x symbols sections entry work)
-    (left symbols sections work l (Refused (judged l x symbols sections work)))
+    (left symbols sections work l (Err (judged l x symbols sections work)))

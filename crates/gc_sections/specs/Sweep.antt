@@ -1,12 +1,11 @@
 -- What was not reached goes: "Dropped sections go by ascending id, their symbols' rows with them".
 -- Assumes nothing.
-use Rattle.std.specs.Prelude.{ℕ, ◌+◌, Bool, true, false, cond, List, eqb, ltb, get_or, set}
+use Rattle.link.specs.declared.SectionId.{SectionId}
+use Rattle.std.specs.Prelude.{ℕ, ◌+◌, Bool, true, false, cond, List, eqb, ltb, get_or, set, Option, None, Some}
 use Rattle.link.specs.declared.Link.{Link}
 use Rattle.symbols.specs.Remove.{Rows, remove_row_of}
 use Rattle.sections.specs.Rows.{dropped_of, is_built}
 use Rattle.cells.specs.Slice.{SliceMut}
-use Rattle.gc_sections.specs.declared.Lead.{Lead}
-use Rattle.gc_sections.specs.declared.Lead.TheVariants.{Nowhere, Section}
 use Rattle.gc_sections.specs.Each.{each}
 use Rattle.gc_sections.specs.Roots.{symbol_id, section_id, lead_of}
 
@@ -30,6 +29,10 @@ swept_after sections work count = swept_of sections.exit.now work.exit.now count
 abbrev pub dropped_mark : ℕ
 dropped_mark = 2
 
+-- is it built, and was it not reached?
+abbrev pub unreached : ℕ → List ℕ → List ℕ → ℕ → Bool
+unreached n sections work i = cond (is_built sections n i) (cond (eqb (get_or work i 0) 0) true false) false
+
 -- a section that is built and was not reached is dropped
 unfoldable pub drop_unreached : ℕ → ℕ → Swept → Swept
 drop_unreached n i s =
@@ -47,9 +50,14 @@ pub record Purged : Type 0 where
 abbrev pub purged_of : Rows → ℕ → Purged
 purged_of rows count = record { rows = rows; count = count }
 
-abbrev pub purge_lead : Link → List ℕ → ℕ → Lead → Purged → Purged
-purge_lead l work i Nowhere s = s
-purge_lead l work i (Section x) s = cond (dropped_now work l.sections x.0) (purged_of (remove_row_of l s.rows (symbol_id i)) (s.count + 1)) s
+-- was the section that a symbol leads to dropped?
+abbrev pub falls : List ℕ → ℕ → Option SectionId → Bool
+falls work n None = false
+falls work n (Some x) = dropped_now work n x.0
+
+abbrev pub purge_lead : Link → List ℕ → ℕ → Option SectionId → Purged → Purged
+purge_lead l work i None s = s
+purge_lead l work i (Some x) s = cond (dropped_now work l.sections x.0) (purged_of (remove_row_of l s.rows (symbol_id i)) (s.count + 1)) s
 
 -- a symbol in a section that this call dropped is removed
 unfoldable pub purge_symbol : Link → List ℕ → ℕ → Purged → Purged

@@ -4,176 +4,133 @@
 #![tactic(auto)]
 
 use link::Link;
+use std::alloc::{AllocError, Global};
+use std::io;
+use std::iter::successors;
 
-#[derive(Clone, Copy)]
-struct Tally {
-    compared: u64,
-    longest: u64,
-}
+const NAME_BYTES: usize = 12;
 
-fn digit(n: usize) -> u8 {
-    (n % 10) as u8 + b'0'
-}
-
-// Twelve bytes that differ for each number below a million.
-fn spelled(n: usize) -> [u8; 12] {
-    [
-        b's',
-        b'y',
-        b'm',
-        b'b',
-        b'o',
-        b'l',
-        digit(n / 100000),
-        digit(n / 10000),
-        digit(n / 1000),
-        digit(n / 100),
-        digit(n / 10),
-        digit(n),
-    ]
-}
-
+// The prime and the point of the hash under the key 0.
 const PRIME: usize = 0x1_ffff_fff7;
 
 const POINT: usize = 0x9e3_779b;
 
-fn byte(w: usize) -> u8 {
-    (w % 256) as u8
+// ---- names
+
+#[derive(Clone, Copy)]
+enum Names {
+    Counted,
+    Chosen,
+}
+
+impl Names {
+    fn name(self, n: u16) -> [u8; NAME_BYTES] {
+        match self {
+            Names::Counted => counted(n),
+            Names::Chosen => chosen(n),
+        }
+    }
+}
+
+// Twelve bytes that differ for each number.
+fn counted(n: u16) -> [u8; NAME_BYTES] {
+    let mut name = *b"symbol000000";
+    let mut left = n;
+    for digit in name[6..].iter_mut().rev() {
+        *digit = b'0' + (left % 10) as u8;
+        left /= 10;
+    }
+    name
 }
 
 // Twelve bytes whose last word makes the hash's polynomial 0 at the point of the key 0, where that word is below 2^32: for about half of the
 // numbers.
-fn chosen(n: usize) -> [u8; 12] {
-    let m = n % 65536;
-    let before = ((0x626d_797f * POINT) % PRIME + m) * POINT % PRIME;
-    let w = PRIME - before;
-    [
-        b's',
-        b'y',
-        b'm',
-        b'b',
-        byte(m),
-        byte(m / 256),
-        0,
-        0,
-        byte(w),
-        byte(w / 256),
-        byte(w / 65536),
-        byte(w / 16777216),
-    ]
+fn chosen(n: u16) -> [u8; NAME_BYTES] {
+    let before = ((0x626d_797f * POINT) % PRIME + usize::from(n)) * POINT % PRIME;
+    let [n0, n1] = n.to_le_bytes();
+    let [w0, w1, w2, w3, ..] = (PRIME - before).to_le_bytes();
+    [b's', b'y', b'm', b'b', n0, n1, 0, 0, w0, w1, w2, w3]
 }
 
-fn name(n: usize, choose: bool) -> [u8; 12] {
-    if choose {
-        return chosen(n);
-    }
-    spelled(n)
+// ---- the interner
+
+#[derive(Clone, Copy, Default)]
+struct Tally {
+    compared: usize,
+    longest: usize,
 }
 
-fn issue(l: Link, bytes: &mut [u8], names: &mut [u64], n: usize, choose: bool) -> Link {
-    let x = name(n, choose);
-    let o = interner::intern(l, bytes, names, &x);
-    o.link
+// A link, and the cells that its names are lent.
+#[derive(Drop)]
+struct Interner {
+    link: Link,
+    bytes: Vec<u8>,
+    names: Vec<u64>,
 }
 
-fn fill(l: Link, bytes: &mut [u8], names: &mut [u64], count: usize, choose: bool) -> Link {
-    let mut now = l;
-    let mut i = 0;
-    while i < count {
-        now = issue(now, bytes, names, i, choose);
-        i += 1;
-    }
-    now
-}
-
-// Adds the names of one chain: the first takes one comparison, the second two, and so on.
-fn chain(names: &[u64], head: usize, t: Tally) -> Tally {
-    let mut at = cells::get(names, head) as usize;
-    let mut compared = t.compared;
-    let mut length: u64 = 0;
-    while length < 65536 {
-        if at == 0 {
-            return longer(compared, length, t.longest);
-        }
-        length += 1;
-        compared = std::num::wrapping_add_u64(compared, length);
-        at = cells::row_get(names, at - 1, 2) as usize;
-    }
-    longer(compared, length, t.longest)
-}
-
-fn longer(compared: u64, length: u64, longest: u64) -> Tally {
-    if longest < length {
-        return Tally {
-            compared: compared,
-            longest: length,
+impl Interner {
+    // With as many rows as names: one for each, and one for the empty name.
+    fn filled(alloc: Global, key: usize, names: Names, count: u16) -> Result<Interner, AllocError> {
+        let rows = usize::from(count) + 1;
+        let mut interner = Interner {
+            link: link::no_names(key, rows),
+            bytes: vec![in alloc; 0; rows * NAME_BYTES]?,
+            names: vec![in alloc; 0; rows * link::NAME_CELLS]?,
         };
-    }
-    Tally {
-        compared: compared,
-        longest: longest,
-    }
-}
-
-fn chains(names: &[u64]) -> Tally {
-    let mut t = Tally {
-        compared: 0,
-        longest: 0,
-    };
-    let mut head = link::name_rows(names.len()) * 8;
-    while head < names.len() {
-        t = chain(names, head, t);
-        head += 1;
-    }
-    t
-}
-
-fn print(issued: usize, t: Tally) {
-    io::print_decimal(1, issued as u64);
-    io::write_all(1, b" names: ");
-    io::print_decimal(1, t.compared);
-    io::write_all(1, b" compared, at most ");
-    io::print_decimal(1, t.longest);
-    io::write_all(1, b" in a search\n");
-}
-
-fn run(key: usize, bytes: &mut [u8], names: &mut [u64], count: usize, choose: bool) {
-    let o = interner::new(key, bytes, names);
-    let l = fill(o.link, bytes, names, count, choose);
-    print(l.names, chains(names));
-}
-
-// With as many rows as names: one for each, and one for the empty name.
-fn measure(key: usize, bytes: &mut [u8], names: &mut [u64], count: usize, choose: bool) {
-    if count < 65536 {
-        let end = (count + 1) * 9;
-        if end <= names.len() {
-            run(key, bytes, &mut names[..end], count, choose);
+        interner.link = interner::new(key, &mut interner.bytes, &mut interner.names).link;
+        for n in 0..count {
+            interner.intern(&names.name(n));
         }
+        Ok(interner)
+    }
+
+    fn intern(&mut self, name: &[u8]) {
+        let issued = interner::intern(self.link, &mut self.bytes, &mut self.names, name);
+        self.link = issued.link;
+    }
+
+    // How many names stand in the chain of the head.
+    // Kept: archive_bench counts and adds up its chains alike; a library of these lines would be longer than they are.
+    fn chain_length(&self, head: u64) -> usize {
+        let next = |row: &usize| {
+            let next = cells::row_get(&self.names, *row, interner::NEXT) as usize;
+            next.checked_sub(1)
+        };
+        let first = (head as usize).checked_sub(1);
+        successors(first, next).take(65_536).count()
+    }
+
+    // The first name of a chain takes one comparison, the second two, and so on.
+    fn tally(&self) -> Tally {
+        let rows = link::name_rows(self.names.len());
+        let mut tally = Tally::default();
+        for head in self.names.iter().skip(rows * interner::ROW_WIDTH) {
+            let length = self.chain_length(*head);
+            tally.compared = (1..=length).fold(tally.compared, usize::wrapping_add);
+            tally.longest = tally.longest.max(length);
+        }
+        tally
     }
 }
 
-fn counted(bytes: &mut [u8], names: &mut [u64]) {
-    measure(0, bytes, names, 4096, false);
-    measure(0, bytes, names, 16384, false);
-    measure(0, bytes, names, 65535, false);
+// ---- what is printed
+
+fn measure<R: Print + AllocGlobal>(rt: &R, key: usize, names: Names, count: u16) -> io::Result<()> {
+    let interner = Interner::filled(rt.alloc(), key, names, count)?;
+    let Tally { compared, longest } = interner.tally();
+    println!(rt;
+        "{} names: {compared} compared, at most {longest} in a search",
+        interner.link.names
+    )
 }
 
-// The key that they were chosen for, then two others.
-fn against_a_key(bytes: &mut [u8], names: &mut [u64]) {
-    io::write_all(1, b"chosen for the key 0, under it and under two others:\n");
-    measure(0, bytes, names, 4096, true);
-    measure(1, bytes, names, 4096, true);
-    measure(0x5bd_1e99, bytes, names, 4096, true);
-}
-
-fn report(bytes: &mut [u8], names: &mut [u64]) {
-    counted(bytes, names);
-    against_a_key(bytes, names);
-}
-
-fn main() {
-    let mut names = [0u64; 589824];
-    let mut bytes = [0u8; 786432];
-    report(&mut bytes, &mut names);
+fn main(rt: HostRuntime) -> io::Result<()> {
+    for count in [4096, 16384, 65535] {
+        measure(&rt, 0, Names::Counted, count)?;
+    }
+    println!(rt; "chosen for the key 0, under it and under two others:")?;
+    for key in [0, 1, 0x5bd_1e99] {
+        measure(&rt, key, Names::Chosen, 4096)?;
+    }
+    Ok(())
 }

@@ -13,7 +13,7 @@ use Rattle.strings.specs.Lookup.{Looked}
 use Rattle.interner.specs.Names.{Store, store_of, fits_of, keep_of}
 use Rattle.interner_laws.proofs.Interns.{id_of}
 use Rattle.elf_object.specs.Rows.{name_offset_at, name_in}
-use Rattle.merge_build.specs.declared.Plan.{Plan}
+use Rattle.merge_build.specs.Build.{Plan}
 use Rattle.merge_build.specs.Relocations.{table_for, limit_of, relocations_of, symbols_ok}
 use Rattle.merge_build.specs.Build as Build
 use Rattle.merge_build.specs.Build.{Object, State, state_of, LinkState, link_state, row_state, lists_fit, plan_with, plan_of, build_row_of, row_built, kept_of, commit_of, tabled_of, section_named, built_from, linked, looked_of, section_of, build_from, build_of}

@@ -16,7 +16,7 @@ use Rattle.interner_laws.proofs.Find.{find-low}
 use Rattle.interner_laws.proofs.Interns.{id_of, keeps}
 use Rattle.symbol_laws.proofs.Issue.{room-free}
 use Rattle.elf_object.specs.Rows.{is_loaded, first_at}
-use Rattle.section_groups.specs.declared.Plan.{Plan}
+use Rattle.section_groups.specs.Group.{Plan}
 use Rattle.section_groups.specs.Group as Group
 use Rattle.section_groups.specs.Group.{Object, State, state_of, Step, step_of, repeated_of, plan_with, plan_of, admitted, admit_of, decided_of, group_named, signature_of, signed_of, shape_of, shaped_of, group_of, group_section_of, groups_from, groups_of}
 use Rattle.section_groups.specs.AddGroup as AddGroup

@@ -1,7 +1,9 @@
 -- The plain collection under another key: the same answer and the same cells.
 -- Assumes nothing.
+use Rattle.link.specs.declared.SectionId.{SectionId}
+use Rattle.link.specs.declared.SymbolId.{SymbolId}
 use Prim.Native.Nat.{ℕ, zero, suc, ◌-◌, ◌<◌}
-use Rattle.std.specs.Prelude.{◌≡◌, true, List, eqb}
+use Rattle.std.specs.Prelude.{◌≡◌, true, List, eqb, Option, None, Some}
 use Rattle.std.proofs.Math.Path.{refl, ap}
 use Rattle.std.proofs.Common.{◌∙◌, eqb-true}
 use Rattle.cells.specs.Proof.Split.{by-test}
@@ -9,11 +11,6 @@ use Rattle.link.specs.declared.Link.{Link}
 use Rattle.link.specs.declared.Refusal.{Refusal}
 use Rattle.interner.specs.Names.{Store}
 use Rattle.sections.specs.Rows.{first_at, count_at, is_built, name_id_at}
-use Rattle.gc_sections.specs.declared.EntryPoint.{EntryPoint}
-use Rattle.gc_sections.specs.declared.EntryPoint.TheVariants as Entry
-use Rattle.gc_sections.specs.declared.Lead.{Lead}
-use Rattle.gc_sections.specs.declared.Lead.TheVariants.{Nowhere, Section}
-use Rattle.gc_sections.specs.declared.Unbuilt.TheVariants as Unbuilts
 use Rattle.gc_sections.specs.Each.{each}
 use Rattle.gc_sections.specs.Reach.{end_of, clear_cell}
 use Rattle.gc_sections.specs.Run as Run
@@ -26,13 +23,13 @@ use Rattle.key_laws.specs.Rekeyed.{keyed, Rekeyed}
 use Rattle.key_laws.proofs.ReadsLemmas.{collect_under, judged-built, each_same, finish-keyed, is-root-same, judged-same}
 use Rattle.key_laws.proofs.SectionCalls.{finish-named}
 
-enter-same : (sections : List ℕ) (n : ℕ) (f g : ℕ → Visited → Visited) → ((y : ℕ) (t : Visited) → f y t ≡ g y t) → (k : Lead) (s : Visited)
+enter-same : (sections : List ℕ) (n : ℕ) (f g : ℕ → Visited → Visited) → ((y : ℕ) (t : Visited) → f y t ≡ g y t) → (k : Option SectionId) (s : Visited)
     → enter_lead sections n f k s ≡ enter_lead sections n g k s
-enter-same sections n f g q Nowhere s = refl
-enter-same sections n f g q (Section id) s = rw (q id.0 _)
+enter-same sections n f g q None s = refl
+enter-same sections n f g q (Some id) s = rw (q id.0 _)
 
 module _ (k : ℕ) (l : Link) (symbols sections lists : List ℕ) where
-  visit-keyed : (depth : ℕ) (x : Lead) (s : Visited) → visit_of (keyed k l) symbols sections lists depth x s ≡ visit_of l symbols sections lists depth x s
+  visit-keyed : (depth : ℕ) (x : Option SectionId) (s : Visited) → visit_of (keyed k l) symbols sections lists depth x s ≡ visit_of l symbols sections lists depth x s
   unfolding visit_of
   visit-keyed zero x s = refl
   visit-keyed (suc depth) x s =
@@ -44,7 +41,7 @@ module _ (k : ℕ) (l : Link) (symbols sections lists : List ℕ) where
       (λ j u. visit-keyed depth (target_of l symbols lists j) u) _ _ t)
       x s
 
-  visited-keyed : (x : Lead) (s : Visited) → visited (keyed k l) symbols sections lists x s ≡ visited l symbols sections lists x s
+  visited-keyed : (x : Option SectionId) (s : Visited) → visited (keyed k l) symbols sections lists x s ≡ visited l symbols sections lists x s
   unfolding visited
   visited-keyed x s = visit-keyed (unvisited l.sections s.work) x s
 
@@ -52,9 +49,9 @@ module _ (k : ℕ) (l : Link) (symbols sections lists : List ℕ) where
   unfolding root_symbol
   symbol-keyed marks i s = visited-keyed (marked_lead symbols l.symbols marks i) s
 
-  entry-keyed : (e : EntryPoint) → entry_lead symbols (keyed k l).symbols e ≡ entry_lead symbols l.symbols e
-  entry-keyed Entry.None = refl
-  entry-keyed (Entry.Symbol id) = refl
+  entry-keyed : (e : Option SymbolId) → entry_lead symbols (keyed k l).symbols e ≡ entry_lead symbols l.symbols e
+  entry-keyed None = refl
+  entry-keyed (Some id) = refl
 
 module _ (k : ℕ) (s : Store) (n : List ℕ) (e : Rekeyed k s n) (symbols sections lists marks : List ℕ) where
   abbrev l : Link
@@ -69,13 +66,13 @@ module _ (k : ℕ) (s : Store) (n : List ℕ) (e : Rekeyed k s n) (symbols secti
     unfolding root_section
     section-same i v =
         visited-keyed k l symbols sections lists (root_lead s.bytes n sections l.sections i) v
-        ∙ ap (λ (x : Lead). visited l symbols sections lists x v) (lead-same i)
+        ∙ ap (λ (x : Option SectionId). visited l symbols sections lists x v) (lead-same i)
 
-    reached-same : (entry : EntryPoint) (work : List ℕ)
+    reached-same : (entry : Option SymbolId) (work : List ℕ)
         → reached_of (keyed k l) s.bytes n symbols sections lists marks entry work ≡ reached_of l s.bytes s.names symbols sections lists marks entry work
     unfolding reached_of
     reached-same entry work =
-        let start : Visited = visited_of (each clear_cell l.sections 0 work) Unbuilts.None in
+        let start : Visited = visited_of (each clear_cell l.sections 0 work) None in
         let a = each_same (root_symbol (keyed k l) symbols sections lists marks) (root_symbol l symbols sections lists marks) (symbol-keyed k l symbols sections lists marks) l.symbols 0 start in
         let r : Visited = each (root_symbol l symbols sections lists marks) l.symbols 0 start in
         let b = each_same (root_section (keyed k l) s.bytes n symbols sections lists) (root_section l s.bytes s.names symbols sections lists) section-same l.sections 0 r in
@@ -86,7 +83,7 @@ module _ (k : ℕ) (s : Store) (n : List ℕ) (e : Rekeyed k s n) (symbols secti
       ≡ judged_plain l (lists_of s.bytes s.names lists marks) symbols sections work
   head-same work = ap (λ (h : Refusal). judge_plain h (count_built sections l.sections)) (judged-same k s n e symbols sections lists marks work)
 
-  pub plain-same : Named l sections → (entry : EntryPoint) (work : List ℕ) → plain_of (keyed k l) (lists_of s.bytes n lists marks) symbols sections entry work
+  pub plain-same : Named l sections → (entry : Option SymbolId) (work : List ℕ) → plain_of (keyed k l) (lists_of s.bytes n lists marks) symbols sections entry work
       ≡ collect_under k (plain_of l (lists_of s.bytes s.names lists marks) symbols sections entry work)
   unfolding plain_of finished
   plain-same named entry work =
@@ -97,7 +94,7 @@ module _ (k : ℕ) (s : Store) (n : List ℕ) (e : Rekeyed k s n) (symbols secti
       (λ a. rw (a, reached-same (judged-built l x symbols sections work (judge-passed (Run.judged l x symbols sections work) (count_built sections l.sections) (eqb-true _ _ a)).0 named) entry work)
       (finish-keyed k l symbols sections v.work v.unbuilt)) (λ a. rw a))
 
-pub plain-named : (l : Link) (x : Run.Lists) (symbols sections : List ℕ) (entry : EntryPoint) (work : List ℕ) → Named l sections
+pub plain-named : (l : Link) (x : Run.Lists) (symbols sections : List ℕ) (entry : Option SymbolId) (work : List ℕ) → Named l sections
     → Named l (plain_of l x symbols sections entry work).sections
 unfolding plain_of finished
 plain-named l x symbols sections entry work h =

@@ -1,8 +1,9 @@
 -- A walk over an archive and a collection under another key of the hash: they only read names, so all that they leave is the same.
 -- Assumes nothing.
+use Rattle.link.specs.declared.SectionId.{SectionId}
 use Prim.Native.Nat.{ℕ, zero, suc, ◌+◌, ◌<◌, ◌≤◌}
 use Rattle.std.proofs.Common.{arith, ◌∙◌, eqb-true, leb-false}
-use Rattle.std.specs.Prelude.{◌≡◌, true, List, eqb, ltb, leb, length, get_or}
+use Rattle.std.specs.Prelude.{◌≡◌, true, List, eqb, ltb, leb, length, get_or, Option, None, Some}
 use Rattle.std.proofs.Math.Path.{refl, ap}
 use Rattle.std.proofs.lemmas.Bool.{false≢true, eqb-false}
 use Rattle.cells.specs.Proof.Split.{by-test}
@@ -23,12 +24,6 @@ use Rattle.archive_walk.specs.Look as Look
 use Rattle.object_requirement.specs.Matches.{matches_of}
 use Rattle.archive_walk.specs.Look.{judge_table, name_holder, was_removed, ties, removed_name, tied_name}
 use Rattle.archive_walk.specs.Walk.{Queue, queue_of, tie_of, tie_all, removed_of, make_of, search_of, pass_of, go_of, next_of}
-use Rattle.gc_sections.specs.declared.EntryPoint.{EntryPoint}
-use Rattle.gc_sections.specs.declared.EntryPoint.TheVariants as Entry
-use Rattle.gc_sections.specs.declared.Lead.{Lead}
-use Rattle.gc_sections.specs.declared.Lead.TheVariants as Leads
-use Rattle.gc_sections.specs.declared.Unbuilt.{Unbuilt}
-use Rattle.gc_sections.specs.declared.Unbuilt.TheVariants as Unbuilts
 use Rattle.gc_sections.specs.Each.{each}
 use Rattle.gc_sections.specs.Roots.{name_is, rooted, is_root, symbol_id, lead_of}
 use Rattle.gc_sections.specs.Reach as Reach
@@ -120,9 +115,9 @@ module _ (k : ℕ) (l : Link) where
   unfolding add_of
   add-keyed symbols sections id s = refl
 
-  entry-keyed : (symbols sections : List ℕ) (x : EntryPoint) (s : Reach.Walk) → entry_of (keyed k l) symbols sections x s ≡ entry_of l symbols sections x s
-  entry-keyed symbols sections Entry.None s = refl
-  entry-keyed symbols sections (Entry.Symbol id) s = add-keyed symbols sections id s
+  entry-keyed : (symbols sections : List ℕ) (x : Option SymbolId) (s : Reach.Walk) → entry_of (keyed k l) symbols sections x s ≡ entry_of l symbols sections x s
+  entry-keyed symbols sections None s = refl
+  entry-keyed symbols sections (Some id) s = add-keyed symbols sections id s
 
   relocation-keyed : (symbols sections lists : List ℕ) (j : ℕ) (s : Reach.Walk) → relocation (keyed k l) symbols sections lists j s ≡ relocation l symbols sections lists j s
   unfolding relocation
@@ -139,26 +134,26 @@ module _ (k : ℕ) (l : Link) where
   unfolding root_symbol
   root-keyed symbols sections marks i s = rw (add-keyed symbols sections (symbol_id i) s)
 
-  purge-lead-keyed : (work : List ℕ) (i : ℕ) (x : Lead) (s : Purged) → purge_lead (keyed k l) work i x s ≡ purge_lead l work i x s
-  purge-lead-keyed work i Leads.Nowhere s = refl
-  purge-lead-keyed work i (Leads.Section x) s = rw (remove-row-keyed k l s.rows (symbol_id i))
+  purge-lead-keyed : (work : List ℕ) (i : ℕ) (x : Option SectionId) (s : Purged) → purge_lead (keyed k l) work i x s ≡ purge_lead l work i x s
+  purge-lead-keyed work i None s = refl
+  purge-lead-keyed work i (Some x) s = rw (remove-row-keyed k l s.rows (symbol_id i))
 
   purge-keyed : (work : List ℕ) (rows : Rows) → purge_symbols (keyed k l) work rows ≡ purge_symbols l work rows
   unfolding purge_symbols purge_symbol
   purge-keyed work rows =
       each_same (purge_symbol (keyed k l) work) (purge_symbol l work) (λ i s. purge-lead-keyed work i (lead_of s.rows.symbols l.symbols (symbol_id i)) s) _ _ _
 
-  pub finish-keyed : (symbols sections work : List ℕ) (x : Unbuilt) → finish_of (keyed k l) symbols sections work x ≡ collect_under k (finish_of l symbols sections work x)
+  pub finish-keyed : (symbols sections work : List ℕ) (x : Option SectionId) → finish_of (keyed k l) symbols sections work x ≡ collect_under k (finish_of l symbols sections work x)
   unfolding sweep_of purge_of
-  finish-keyed symbols sections work Unbuilts.None =
+  finish-keyed symbols sections work None =
       let s : Swept = sweep_sections l.sections sections work in
       ap (Run.purged (keyed k l) s) (purge-keyed s.work (rows_of symbols s.sections))
-  finish-keyed symbols sections work (Unbuilts.Lowest id) = refl
+  finish-keyed symbols sections work (Some id) = refl
 
-  finish-link : (symbols sections work : List ℕ) (x : Unbuilt) → (finish_of l symbols sections work x).link ≡ l
+  finish-link : (symbols sections work : List ℕ) (x : Option SectionId) → (finish_of l symbols sections work x).link ≡ l
   unfolding sweep_of purge_of
-  finish-link symbols sections work Unbuilts.None = refl
-  finish-link symbols sections work (Unbuilts.Lowest id) = refl
+  finish-link symbols sections work None = refl
+  finish-link symbols sections work (Some id) = refl
 
 module _ (k : ℕ) (s : Store) (n : List ℕ) (e : Rekeyed k s n) (symbols sections lists marks : List ℕ) where
   abbrev l : Link
@@ -175,7 +170,7 @@ module _ (k : ℕ) (s : Store) (n : List ℕ) (e : Rekeyed k s n) (symbols secti
     unfolding root_section
     root-same i w = rw (is-root-same i)
 
-    walked_same : (entry : EntryPoint) (work : List ℕ)
+    walked_same : (entry : Option SymbolId) (work : List ℕ)
         → walked (keyed k l) s.bytes n symbols sections lists marks entry work ≡ walked l s.bytes s.names symbols sections lists marks entry work
     unfolding walked roots_of process_of
     walked_same entry work =
@@ -194,7 +189,7 @@ module _ (k : ℕ) (s : Store) (n : List ℕ) (e : Rekeyed k s n) (symbols secti
   judged-same work =
       rw (e.long, change-keyed k l (Run.lent_of (length s.bytes) (length s.names) (length symbols) (length sections) (length lists)))
 
-  pub collect-same : Named l sections → (entry : EntryPoint) (work : List ℕ) → run_of (keyed k l) (lists_of s.bytes n lists marks) symbols sections entry work
+  pub collect-same : Named l sections → (entry : Option SymbolId) (work : List ℕ) → run_of (keyed k l) (lists_of s.bytes n lists marks) symbols sections entry work
       ≡ collect_under k (run_of l (lists_of s.bytes s.names lists marks) symbols sections entry work)
   unfolding run_of collect_of finished
   collect-same named entry work =
@@ -203,7 +198,7 @@ module _ (k : ℕ) (s : Store) (n : List ℕ) (e : Rekeyed k s n) (symbols secti
       (by-test (eqb (Run.judged l (lists_of s.bytes s.names lists marks) symbols sections work).number 0)
       (λ a. rw (a, walked_same (judged-built l (lists_of s.bytes s.names lists marks) symbols sections work (eqb-true _ _ a) named) entry work) (finish-keyed k l symbols sections w.work w.visitor.unbuilt)) (λ a. rw a))
 
-pub collect-link : (l : Link) (x : Run.Lists) (symbols sections : List ℕ) (entry : EntryPoint) (work : List ℕ) → (run_of l x symbols sections entry work).link ≡ l
+pub collect-link : (l : Link) (x : Run.Lists) (symbols sections : List ℕ) (entry : Option SymbolId) (work : List ℕ) → (run_of l x symbols sections entry work).link ≡ l
 unfolding run_of collect_of finished
 collect-link l x symbols sections entry work =
     let w : Reach.Walk = walked l x.bytes x.names symbols sections x.lists x.marks entry work in

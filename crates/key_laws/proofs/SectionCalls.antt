@@ -1,6 +1,8 @@
 -- Merges, loads and collections leave built sections with names within the names' rows.
 -- Assumes nothing.
-use Rattle.std.specs.Prelude.{ℕ, zero, suc, ◌+◌, ◌/◌, ◌≡◌, refl, List, eqb, ltb, leb, length, get_or}
+use Rattle.link.specs.declared.SectionId.{SectionId}
+use Rattle.link.specs.declared.Interned.{Interned}
+use Rattle.std.specs.Prelude.{ℕ, zero, suc, ◌+◌, ◌/◌, ◌≡◌, refl, List, eqb, ltb, leb, length, get_or, Option, None, Some}
 use Rattle.cells.specs.Proof.Split.{by-test}
 use Rattle.link.specs.declared.Link.{Link}
 use Rattle.link.specs.declared.Lent.{Lent}
@@ -13,7 +15,6 @@ use Rattle.interner.specs.Calls as Names
 use Rattle.interner.specs.Calls.{issue_of, intern_of}
 use Rattle.interner_laws.proofs.Interns.{id_of}
 use Rattle.symbol.specs.declared.Row.{Row}
-use Rattle.symbol.specs.declared.SttFile.{SttFile}
 use Rattle.upcoming_symbol.specs.declared.UpcomingSymbol.{UpcomingSymbol}
 use Rattle.upcoming_symbol.specs.Upcoming.{row_of}
 use Rattle.upcoming_symbol.specs.Upcoming as Upcoming
@@ -25,7 +26,7 @@ use Rattle.elf_object.specs.Rows.{rows_in, first_at}
 use Rattle.sections.specs.Rows.{is_built}
 use Rattle.symbols.specs.Remove.{Rows, rows_of, remove_of}
 use Rattle.section_groups.specs.Filter.{filter_of}
-use Rattle.section_groups.specs.declared.Plan.{Plan}
+use Rattle.section_groups.specs.Group.{Plan}
 use Rattle.section_groups.specs.Group as Group
 use Rattle.section_groups.specs.Group.{plan_of, admit_of, signature_of, signed_of, shape_of, shaped_of, group_of}
 use Rattle.section_groups.specs.AddGroup as AddGroup
@@ -46,11 +47,6 @@ use Rattle.shared_objects.specs.Stages.{library_of}
 use Rattle.load_laws.proofs.Sections.{load-sections}
 use Rattle.load_laws.proofs.Stops.{want}
 use Rattle.load_laws.proofs.Unbroken.{library-count}
-use Rattle.gc_sections.specs.declared.Lead.{Lead}
-use Rattle.gc_sections.specs.declared.Lead.TheVariants as Leads
-use Rattle.gc_sections.specs.declared.EntryPoint.{EntryPoint}
-use Rattle.gc_sections.specs.declared.Unbuilt.{Unbuilt}
-use Rattle.gc_sections.specs.declared.Unbuilt.TheVariants as Unbuilts
 use Rattle.gc_sections.specs.Each.{each}
 use Rattle.gc_sections.specs.Roots.{symbol_id, lead_of}
 use Rattle.gc_sections.specs.Reach as Reach
@@ -73,7 +69,7 @@ intern-named s x rows h =
     by-test (fits_of s (id_of s x) (length x)) (λ b. rw (a, b) (named-shape s.link (keep_of s (id_of s x) x).link rows (keep_shape s (id_of s x) x) h)) (λ b. rw (a, b) h))
     (λ a. rw a h)
 
-row_named : (t : Table) (r : Row) (file : SttFile) → Named t.link t.sections → Named (add_row_of t r file).table.link (add_row_of t r file).table.sections
+row_named : (t : Table) (r : Row) (file : Option Interned) → Named t.link t.sections → Named (add_row_of t r file).table.link (add_row_of t r file).table.sections
 row_named t r file h = added-left t r file (λ (u : Table). Named u.link u.sections) h (applied-named t r (decided_of t r file) h)
 
 pub add-named : (t : Table) (conversion : List ℕ) (u : UpcomingSymbol) → Named t.link t.sections
@@ -211,24 +207,24 @@ module _ (l : Link) where
       by-test (is_built s.sections n i)
       (λ a. by-test (eqb (get_or s.work i 0) 0) (λ b. rw (a, b) (dropped-named l s.sections i h)) (λ b. rw (a, b) h)) (λ a. rw a h)
 
-  lead-named : (work : List ℕ) (i : ℕ) (x : Lead) (s : Purged) → Named l s.rows.sections → Named l (purge_lead l work i x s).rows.sections
-  lead-named work i Leads.Nowhere s h = h
-  lead-named work i (Leads.Section x) s h =
+  lead-named : (work : List ℕ) (i : ℕ) (x : Option SectionId) (s : Purged) → Named l s.rows.sections → Named l (purge_lead l work i x s).rows.sections
+  lead-named work i None s h = h
+  lead-named work i (Some x) s h =
       by-test (dropped_now work l.sections x.0) (λ a. rw a (remove-row-named l s.rows (symbol_id i) h)) (λ a. rw a h)
 
   purge-named : (work : List ℕ) (i : ℕ) (s : Purged) → Named l s.rows.sections → Named l (purge_symbol l work i s).rows.sections
   unfolding purge_symbol
   purge-named work i s h = lead-named work i (lead_of s.rows.symbols l.symbols (symbol_id i)) s h
 
-  pub finish-named : (symbols sections work : List ℕ) (x : Unbuilt) → Named l sections → Named l (finish_of l symbols sections work x).sections
+  pub finish-named : (symbols sections work : List ℕ) (x : Option SectionId) → Named l sections → Named l (finish_of l symbols sections work x).sections
   unfolding sweep_of purge_of sweep_sections purge_symbols
-  finish-named symbols sections work Unbuilts.None h =
+  finish-named symbols sections work None h =
       let s : Swept = sweep_sections l.sections sections work in
       each_holds (λ (p : Purged). Named l p.rows.sections) (purge_symbol l s.work) (purge-named s.work) l.symbols 0 (purged_of (rows_of symbols s.sections) 0)
       (each_holds (λ (p : Swept). Named l p.sections) (drop_unreached l.sections) (drop_named l.sections) l.sections 0 (swept_of sections work 0) h)
-  finish-named symbols sections work (Unbuilts.Lowest id) h = h
+  finish-named symbols sections work (Some id) h = h
 
-  pub collect-named : (x : Run.Lists) (symbols sections : List ℕ) (entry : EntryPoint) (work : List ℕ) → Named l sections
+  pub collect-named : (x : Run.Lists) (symbols sections : List ℕ) (entry : Option SymbolId) (work : List ℕ) → Named l sections
       → Named l (run_of l x symbols sections entry work).sections
   unfolding run_of collect_of finished
   collect-named x symbols sections entry work h =

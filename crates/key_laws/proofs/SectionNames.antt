@@ -28,11 +28,11 @@ use Rattle.symbols.specs.Remove.{Rows, drop_section, remove_row_of}
 use Rattle.elf_object.specs.Rows.{rows_in, field, name_offset_at, retain_at, read_at, name_in, conversion_at}
 use Rattle.merge_sections.specs.Reserve as Reserve
 use Rattle.merge_sections.specs.Reserve.{take_row_of, reserve_class_of, reserve_one_of, reserve_all_of}
-use Rattle.merge_symbols.specs.declared.plan.Planned.{Planned}
+use Rattle.merge_symbols.specs.Plan.{Planned}
 use Rattle.merge_symbols.specs.Plan.{input_of, planned_of}
 use Rattle.merge_symbols.specs.Stage as Symbols
 use Rattle.merge_symbols.specs.Stage.{accept_row, kept_of, commit_of, view, symbol_named, looked_of, symbol_of, symbols_of}
-use Rattle.merge_build.specs.declared.Plan.{Plan}
+use Rattle.merge_build.specs.Build.{Plan}
 use Rattle.merge_build.specs.Relocations.{table_for, limit_of, relocations_of, symbols_ok}
 use Rattle.merge_build.specs.Build as Build
 use Rattle.merge_build.specs.Build.{lists_fit, plan_with, plan_of, section_id_of, build_row_of, tabled_of, built_from, section_of, build_of}

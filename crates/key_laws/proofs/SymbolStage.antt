@@ -18,7 +18,7 @@ use Rattle.symbol_resolution.specs.Holder.{holder_of}
 use Rattle.symbol_resolution.specs.Decide.{decide_of, refusal_of}
 use Rattle.symbol_resolution.specs.Apply.{Table, table_of}
 use Rattle.elf_object.specs.Rows.{field, name_in}
-use Rattle.merge_symbols.specs.declared.plan.Planned.{Planned}
+use Rattle.merge_symbols.specs.Plan.{Planned}
 use Rattle.merge_symbols.specs.Plan.{View, view_of, Input, input_of, rule_of, judged_of, rowed_of, read_of, planned_of, file_after}
 use Rattle.merge_symbols.specs.Stage.{State, state_of, Object, stage_of, cell_of, refuse, accepting, accept_row, accept, kept_of, commit_of, view, symbol_named, looked_of, symbol_of, symbols_from, symbols_of}
 use Rattle.key_laws.specs.Rekeyed.{keyed, rekeyed, Rekeyed, Moved}

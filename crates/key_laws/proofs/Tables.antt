@@ -1,6 +1,6 @@
 -- Names, symbols and lookups under another key of the hash: the same answers, and tables that are alike again.
 -- Assumes nothing.
-use Rattle.std.specs.Prelude.{ℕ, ◌<◌, ◌≡◌, true, cond, List, eqb, ltb, leb, length}
+use Rattle.std.specs.Prelude.{ℕ, ◌<◌, ◌≡◌, true, cond, List, eqb, ltb, leb, length, Option, None, Some}
 use Rattle.std.proofs.Common.{arith, ◌∙◌}
 use Rattle.std.proofs.Math.Path.{refl, ap, sym}
 use Rattle.std.proofs.Math.Bool.{Bool}
@@ -20,8 +20,6 @@ use Rattle.interner.specs.Calls.{issue_of, intern_of, resolve_of}
 use Rattle.interner_laws.specs.Good.{count}
 use Rattle.interner_laws.proofs.Interns.{id_of}
 use Rattle.symbol.specs.declared.Row.{Row}
-use Rattle.symbol.specs.declared.SttFile.{SttFile}
-use Rattle.symbol.specs.declared.SttFile.TheVariants as File
 use Rattle.symbol.specs.Layout.{refuses_scope}
 use Rattle.symbol.specs.Row.{scope_refused}
 use Rattle.upcoming_symbol.specs.declared.UpcomingSymbol.{UpcomingSymbol}
@@ -136,22 +134,22 @@ module _ (k : ℕ) (b : List ℕ) (t : Table) (n : List ℕ) (e : Rekeyed k (tab
   abbrev Fine : Symbols.Left → Symbols.Left → Type 0
   Fine = Moved (add_store b) (add_under k) k
 
-  place-keyed : (name : Interned) (file : SttFile) → place_of (keyed k t.link) name file ≡ place_of t.link name file
+  place-keyed : (name : Interned) (file : Option Interned) → place_of (keyed k t.link) name file ≡ place_of t.link name file
   unfolding place_of
-  place-keyed name File.None = refl
-  place-keyed name (File.Name id) = refl
+  place-keyed name None = refl
+  place-keyed name (Some id) = refl
 
-  issued-keyed : (name : Interned) (file : SttFile) → issued_of (keyed k t.link) name file ≡ issued_of t.link name file
+  issued-keyed : (name : Interned) (file : Option Interned) → issued_of (keyed k t.link) name file ≡ issued_of t.link name file
   unfolding issued_of
-  issued-keyed name File.None = refl
-  issued-keyed name (File.Name id) = refl
+  issued-keyed name None = refl
+  issued-keyed name (Some id) = refl
 
-  decided-same : (r : Row) (file : SttFile) → decided_of (table_under k n t) r file ≡ decided_of t r file
+  decided-same : (r : Row) (file : Option Interned) → decided_of (table_under k n t) r file ≡ decided_of t r file
   unfolding decided_of direct_holder_of
   decided-same r file =
       rw (issued-keyed r.name file, holder-same k (table_store b t) n e t.symbols r.name) (decide-keyed k t.link t.symbols t.sections r _)
 
-  committed-moved : (r : Row) (file : SttFile) (d : Decision) → r.name.0 < t.link.chains → Fine (committed_of t r file d) (committed_of (table_under k n t) r file d)
+  committed-moved : (r : Row) (file : Option Interned) (d : Decision) → r.name.0 < t.link.chains → Fine (committed_of t r file d) (committed_of (table_under k n t) r file d)
   unfolding committed_of
   committed-moved r file d h =
       let a = apply-moved r d h in
@@ -163,7 +161,7 @@ module _ (k : ℕ) (b : List ℕ) (t : Table) (n : List ℕ) (e : Rekeyed k (tab
       (λ z. record { names = a.names; is = ap (λ (u : Table). Symbols.left u (accepted (Rows.id_of d t.link.symbols).0)) a.is; alike = a.alike })
       (λ z. moved (add_store b) (add_under k) k (Symbols.left t _) n e)))
 
-  row_moved : (r : Row) (file : SttFile) → r.name.0 < t.link.names → Fine (add_row_of t r file) (add_row_of (table_under k n t) r file)
+  row_moved : (r : Row) (file : Option Interned) → r.name.0 < t.link.names → Fine (add_row_of t r file) (add_row_of (table_under k n t) r file)
   unfolding add_row_of
   row_moved r file h = rw (decided-same r file) (committed-moved r file (decided_of t r file) (omega (arith, e.good.chained.rows_in)))
 
@@ -173,7 +171,7 @@ module _ (k : ℕ) (b : List ℕ) (t : Table) (n : List ℕ) (e : Rekeyed k (tab
       cond (refuses_scope v) (cond (eqb v 21) (Symbols.left u (refusing (refused 21 place))) (Symbols.left u (refusing (refused v 0))))
       (Symbols.left u (refusing (refused 21 place)))
 
-  unissued-is : (u : Table) (r : Row) (file : SttFile) → leb u.link.names r.name.0 ≡ true
+  unissued-is : (u : Table) (r : Row) (file : Option Interned) → leb u.link.names r.name.0 ≡ true
       → add_row_of u r file ≡ refused_row u r.visibility (place_of u.link r.name file)
   unfolding add_row_of decided_of direct_holder_of issued_of committed_of
   unissued-is u r file h =
@@ -196,7 +194,7 @@ module _ (k : ℕ) (b : List ℕ) (t : Table) (n : List ℕ) (e : Rekeyed k (tab
       (λ a. moved (add_store b) (add_under k) k (Symbols.left t _) n e)
 
   -- rows that differ at most in their value, which is not read under such a name
-  rows-moved : (r r' : Row) (file : SttFile) → r'.name ≡ r.name → r'.visibility ≡ r.visibility → (r.name.0 < t.link.names → r' ≡ r)
+  rows-moved : (r r' : Row) (file : Option Interned) → r'.name ≡ r.name → r'.visibility ≡ r.visibility → (r.name.0 < t.link.names → r' ≡ r)
       → Fine (add_row_of t r file) (add_row_of (table_under k n t) r' file)
   rows-moved r r' file a v same =
       by-test (leb t.link.names r.name.0)

@@ -20,10 +20,8 @@ const POINT_BOUND: usize = 0x1000_0000;
 // The point of key 0.
 const BASE_POINT: usize = 0x9e3_779b;
 
-// The bytes of a word, and the last of them.
+// The bytes of a word.
 const WORD_BYTES: usize = 4;
-
-const LAST_BYTE: usize = 3;
 
 // The same number modulo 2^33 - 9: above 2^33, nines.
 fn folded(x: usize) -> usize
@@ -50,26 +48,17 @@ fn point(key: usize, base: usize) -> usize
     ensures small { result < 0x10000000 }
 {
     let r = (key % POINT_BOUND + base) % POINT_BOUND;
-    if r == 0 {
-        return base;
-    }
-    r
-}
-
-fn wide(x: u8) -> usize
-    ensures value { result ≡ x }
-    ensures small { result < 256 }
-{
-    x as usize
+    if r == 0 { base } else { r }
 }
 
 // A word whose bytes are all there, read at once.
+#[tactic(auto, unfolding(byte_slices::specs::Bytes::word_at))]
 fn whole_word(x: &[u8], i: usize) -> usize
     requires { i + 3 < length x.now }
     ensures value { result ≡ word_at x.now i }
     ensures small { result < 0x100000000 }
 {
-    wide(x[i]) + wide(x[i + 1]) * 0x100 + wide(x[i + 2]) * 0x1_0000 + wide(x[i + 3]) * 0x100_0000
+    u32::from_le_bytes([x[i], x[i + 1], x[i + 2], x[i + 3]]) as usize
 }
 
 // The last word, of which some bytes are missing, taken in; nothing where none is left.
@@ -79,9 +68,10 @@ fn last_mixed(r: usize, h: usize, x: &[u8], i: usize) -> usize
     ensures { result ≡ last_mixed r h x.now i }
 {
     if i < x.len() {
-        return mixed(r, h, byte_slices::word_at(x, i));
+        mixed(r, h, byte_slices::word_at(x, i))
+    } else {
+        h
     }
-    h
 }
 
 // Any number is a key; its lowest 28 bits count.
@@ -91,10 +81,9 @@ pub fn hash(key: usize, x: &[u8]) -> usize
 {
     let r = point(key, BASE_POINT);
     let mut h = x.len() % HASH_BOUND;
-    let mut i = 0;
-    while LAST_BYTE < x.len() - i {
-        h = mixed(r, h, whole_word(x, i));
-        i += WORD_BYTES;
+    let words = x.len() / WORD_BYTES;
+    for k in 0..words {
+        h = mixed(r, h, whole_word(x, k * WORD_BYTES));
     }
-    folded(last_mixed(r, h, x, i)) % FOLD_BOUND / 2
+    folded(last_mixed(r, h, x, words * WORD_BYTES)) % FOLD_BOUND / 2
 }

@@ -1,86 +1,73 @@
 // The first checks of every call: 22 on a broken link, 1 for a count above what is lent.
 ghost use Rattle.std.specs.Prelude.{◌≡◌};
-ghost use Rattle.link.specs.Judge.{refused, judge_sections, judge_names, judge_lists, judge_of, change_of};
+ghost use Rattle.link.specs.Judge.{refused, judged, within, judge_sections, judge_names, judge_lists, judge_of, change_of};
 
 use crate::{Lent, Link, Refusal};
 
-fn refuse(number: u64, place: usize) -> Refusal
-    ensures { result ≡ refused number place }
-{
-    Refusal {
-        number: number,
-        place: place as u64,
+impl Refusal {
+    pub fn new(number: u64, place: usize) -> Refusal
+        ensures { result ≡ refused number place }
+    {
+        Refusal {
+            number,
+            place: place as u64,
+        }
     }
 }
 
-fn judge_sections(l: Link, rows: usize) -> Refusal
-    ensures { result ≡ judge_sections l rows }
+// A count above its bound gives 1 at the first row past it.
+#[tactic(auto, unfolding(crate::specs::Judge::judged))]
+fn within(count: usize, most: usize) -> Result<(), Refusal>
+    ensures { result ≡ judged (within count most) }
 {
-    if rows < l.slots {
-        return refuse(1, rows);
+    if most < count {
+        return Err(Refusal::new(1, most));
     }
-    let most = crate::section_rows(l.slots);
-    if most < l.sections {
-        return refuse(1, most);
-    }
-    refuse(0, 0)
+    Ok(())
 }
 
-fn judge_names(l: Link, rows: usize, bytes: usize) -> Refusal
-    ensures { result ≡ judge_names l rows bytes }
-{
-    if rows < l.chains {
-        return refuse(1, rows);
+impl Link {
+    fn judge_sections(self, rows: usize) -> Result<(), Refusal>
+        ensures { result ≡ judged (judge_sections self rows) }
+    {
+        within(self.slots, rows)?;
+        within(self.sections, crate::section_rows(self.slots))
     }
-    if l.chains < l.names {
-        return refuse(1, l.chains);
-    }
-    let most = crate::name_byte_room(bytes);
-    if most < l.bytes {
-        return refuse(1, most);
-    }
-    refuse(0, 0)
-}
 
-fn judge_lists(l: Link, inputs: usize, lists: usize) -> Refusal
-    ensures { result ≡ judge_lists l inputs lists }
-{
-    let rows = crate::input_rows(inputs);
-    if rows < l.inputs {
-        return refuse(1, rows);
+    fn judge_names(self, rows: usize, bytes: usize) -> Result<(), Refusal>
+        ensures { result ≡ judged (judge_names self rows bytes) }
+    {
+        within(self.chains, rows)?;
+        within(self.names, self.chains)?;
+        within(self.bytes, crate::name_byte_room(bytes))
     }
-    if lists < l.lists {
-        return refuse(1, lists);
-    }
-    refuse(0, 0)
-}
 
-// A count above what is lent, or above the bound, is a list over its bound, and so is a table's own row that isn't lent any more: 1 at the first
-// row past it. Sections, symbols, then the rest.
-pub fn judge(l: Link, lent: Lent) -> Refusal
-    ensures { result ≡ judge_of l lent }
-{
-    let sections = judge_sections(l, lent.sections);
-    if sections.number != 0 {
-        return sections;
+    fn judge_lists(self, inputs: usize, lists: usize) -> Result<(), Refusal>
+        ensures { result ≡ judged (judge_lists self inputs lists) }
+    {
+        within(self.inputs, crate::input_rows(inputs))?;
+        within(self.lists, lists)
     }
-    let symbols = crate::symbol_rows(lent.symbols);
-    if symbols < l.symbols {
-        return refuse(1, symbols);
-    }
-    let names = judge_names(l, lent.names, lent.bytes);
-    if names.number != 0 {
-        return names;
-    }
-    judge_lists(l, lent.inputs, lent.lists)
-}
 
-// For a changing call: 22 on a broken link comes first.
-pub fn judge_change(l: Link, lent: Lent) -> Refusal
-    ensures { result ≡ change_of l lent }
-{
-    if l.broken {
-        return refuse(22, 0);
+    // A count above what is lent, or above the bound, is a list over its bound, and so is a table's own row that isn't lent any more: 1 at the
+    // first row past it. Sections, symbols, then the rest.
+    pub fn judge(self, lent: Lent) -> Result<(), Refusal>
+        ensures { result ≡ judged (judge_of self lent) }
+    {
+        self.judge_sections(lent.sections)?;
+        within(self.symbols, crate::symbol_rows(lent.symbols))?;
+        self.judge_names(lent.names, lent.bytes)?;
+        self.judge_lists(lent.inputs, lent.lists)
     }
-    judge(l, lent)
+
+    // For a changing call: 22 on a broken link comes first.
+    #[tactic(auto, unfolding(crate::specs::Judge::judged, crate::specs::Judge::change_of))]
+    pub fn judge_change(self, lent: Lent) -> Result<(), Refusal>
+        ensures { result ≡ judged (change_of self lent) }
+    {
+        if self.broken {
+            return Err(Refusal::new(22, 0));
+        }
+        self.judge(lent)
+    }
 }

@@ -1,6 +1,7 @@
 -- A direct add as a call: 22 and 1 come before its row is judged; past them it answers as its row does.
 -- Assumes nothing.
-use Rattle.std.specs.Prelude.{ℕ, ◌/◌, refl, true, false, List, eqb, leb, length}
+use Rattle.link.specs.declared.Interned.{Interned}
+use Rattle.std.specs.Prelude.{ℕ, ◌/◌, refl, true, false, List, eqb, leb, length, Option, None}
 use Rattle.std.proofs.Common.{arith, ◌∙◌, eq-eqb}
 use Rattle.std.proofs.Math.Path.{◌≡◌, sym, ap}
 use Rattle.cells.specs.Proof.Split.{by-test}
@@ -12,8 +13,6 @@ use Rattle.link.specs.Judge as Link
 use Rattle.link.specs.Proof.Ways as Ways
 use Rattle.link.specs.Said.{number_in}
 use Rattle.symbol.specs.declared.Row.{Row}
-use Rattle.symbol.specs.declared.SttFile.{SttFile}
-use Rattle.symbol.specs.declared.SttFile.TheVariants as File
 use Rattle.symbol.specs.Row.{scope_refused}
 use Rattle.symbol_resolution.specs.declared.rows.Holder.TheVariants.{Unissued}
 use Rattle.symbol_resolution.specs.declared.rows.Decision.{Decision}
@@ -34,12 +33,12 @@ use Rattle.link_laws.proofs.NeverRemoved.{lesser-most}
 
 -- ---- the row's own number, with or without a file
 
-module _ (t : Table) (r : Row) (file : SttFile) where
-  issued-same : file_issued t.link file ≡ true → issued_of t.link r.name file ≡ issued_of t.link r.name File.None
+module _ (t : Table) (r : Row) (file : Option Interned) where
+  issued-same : file_issued t.link file ≡ true → issued_of t.link r.name file ≡ issued_of t.link r.name None
   unfolding issued_of
   issued-same e = rw e
 
-  decided-same : file_issued t.link file ≡ true → decided_of t r file ≡ decided_of t r File.None
+  decided-same : file_issued t.link file ≡ true → decided_of t r file ≡ decided_of t r None
   unfolding decided_of direct_holder_of
   decided-same e = rw (issued-same e)
 

@@ -1,6 +1,6 @@
 -- Of a direct add: the answer is that of the first rule that holds.
 -- Assumes nothing.
-use Rattle.std.specs.Prelude.{ℕ, zero, suc, ◌+◌, ◌*◌, ◌/◌, ◌<◌, ◌≤◌, ◌≡◌, Bool, true, false, cond, not, ◌&&◌, ◌||◌, List, ◌++◌, eqb, ltb, leb, get_or, length}
+use Rattle.std.specs.Prelude.{ℕ, zero, suc, ◌+◌, ◌*◌, ◌/◌, ◌<◌, ◌≤◌, ◌≡◌, Bool, true, false, cond, not, ◌&&◌, ◌||◌, List, ◌++◌, eqb, ltb, leb, get_or, length, Option, None, Some}
 use Rattle.std.proofs.Common.{arith, sym, ap, ◌∙◌}
 use Rattle.std.proofs.Math.Path.{refl}
 use Rattle.std.proofs.lemmas.Bool.{false≢true}
@@ -14,8 +14,6 @@ use Rattle.link.specs.Bounds.{lesser}
 use Rattle.link.specs.Judge.{refused, change_of}
 use Rattle.symbol.specs.declared.Words.{Words}
 use Rattle.symbol.specs.declared.Row.{Row}
-use Rattle.symbol.specs.declared.SttFile.{SttFile}
-use Rattle.symbol.specs.declared.SttFile.TheVariants as File
 use Rattle.symbol.specs.declared.SymbolValue.{SymbolValue}
 use Rattle.symbol.specs.declared.SymbolValue.TheVariants as Val
 use Rattle.symbol.specs.Codes.{words_of}
@@ -529,24 +527,24 @@ module _ (t : State) (conversion : List ℕ) where
   same-file (Elf e name file) = refl
 
 module _ (t : State) where
-  committed-is : (r : Row) (file : SttFile) (d : Decision) → refusal_by (committed_of (table t) r file d).said ≡ answered (refusal_of d) (place_of t.link r.name file) 0
+  committed-is : (r : Row) (file : Option Interned) (d : Decision) → refusal_by (committed_of (table t) r file d).said ≡ answered (refusal_of d) (place_of t.link r.name file) 0
   unfolding committed_of
   committed-is r file d =
       by-test (eqb (refusal_of d) 21) (λ e. rw (e, eqb-true (refusal_of d) 21 e))
       (λ e. rw e (by-test (eqb (refusal_of d) 0) (λ f. rw f) (λ f. rw f)))
 
   -- the file's name
-  file-issued : (file : SttFile) → file_issued t.link file ≡ not (is_unissued_file t file)
-  file-issued File.None = refl
-  file-issued (File.Name id) = rw (not-below id.0 t.link.names) (by-test (ltb id.0 t.link.names) (λ e. rw e) (λ e. rw e))
+  file-issued : (file : Option Interned) → file_issued t.link file ≡ not (is_unissued_file t file)
+  file-issued None = refl
+  file-issued (Some id) = rw (not-below id.0 t.link.names) (by-test (ltb id.0 t.link.names) (λ e. rw e) (λ e. rw e))
 
-  file-place : (name : Interned) (file : SttFile) → is_unissued_file t file ≡ true → unissued_file t.link name file ≡ file_id file
-  file-place name File.None e = absurd (false≢true e)
-  file-place name (File.Name id) e = rw (not-below id.0 t.link.names, e)
+  file-place : (name : Interned) (file : Option Interned) → is_unissued_file t file ≡ true → unissued_file t.link name file ≡ file_id file
+  file-place name None e = absurd (false≢true e)
+  file-place name (Some id) e = rw (not-below id.0 t.link.names, e)
 
-  name-place : (name : Interned) (file : SttFile) → is_unissued_file t file ≡ false → unissued_file t.link name file ≡ name.0
-  name-place name File.None e = refl
-  name-place name (File.Name id) e = rw (not-below id.0 t.link.names, e)
+  name-place : (name : Interned) (file : Option Interned) → is_unissued_file t file ≡ false → unissued_file t.link name file ≡ name.0
+  name-place name None e = refl
+  name-place name (Some id) e = rw (not-below id.0 t.link.names, e)
 
   module _ (r : Row) (a : Asked) (st : Stands r a) where
     named-exactly : (name : Interned) → name ≡ record { 0 = a.name }

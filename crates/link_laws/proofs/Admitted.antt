@@ -1,6 +1,7 @@
 -- What `matches` answers in a link, against the gABI's extraction.
 -- Assumes nothing.
-use Rattle.std.specs.Prelude.{ℕ, ◌+◌, ◌<◌, ◌≡◌, Bool, true, false, ◌||◌, List, ◌∷◌, length}
+use Rattle.link.specs.declared.Refusal.{Refusal}
+use Rattle.std.specs.Prelude.{ℕ, ◌+◌, ◌<◌, ◌≡◌, Bool, true, false, ◌||◌, List, ◌∷◌, length, Result, Ok}
 use Rattle.std.proofs.Common.{sym, ap, ◌∙◌, subst}
 use Rattle.gabi.specs.StringTable as Strings
 use Rattle.gabi.specs.Archive.{Named, extracts}
@@ -12,8 +13,6 @@ use Rattle.archive_laws.specs.Runs.{Run, step_run, history, start_run}
 use Rattle.archive_laws.specs.Walked.{in_index, queue_in}
 use Rattle.archive_laws.proofs.Terms.{start_fine, start-begins}
 use Rattle.elf_object.specs.Judge.{judge_of}
-use Rattle.object_requirement.specs.declared.Admission.{Admission}
-use Rattle.object_requirement.specs.declared.Admission.TheVariants.{Yes}
 use Rattle.symbol_laws.specs.Rank.{first_by_rank}
 use Rattle.symbol_laws.specs.History.{Entry, only, rows}
 use Rattle.symbol_laws.proofs.Held.{Inv}
@@ -30,7 +29,7 @@ use Rattle.link_laws.proofs.Ties.{OfName}
 use Rattle.link_laws.proofs.Extraction.{wanted_in, weakly_in, strongly-wanted}
 
 -- what `matches` answers about entry e of a run, for an object; of the link its profile counts
-abbrev pub answer_in : List ℕ → List ℕ → List ℕ → List ℕ → List ℕ → Run → ℕ → Linked → Admission
+abbrev pub answer_in : List ℕ → List ℕ → List ℕ → List ℕ → List ℕ → Run → ℕ → Linked → Result Bool Refusal
 answer_in headers entries contents file index r e s = call_left (matches headers entries contents file index r.cells r.walk e) s
 
 module _ (s : Linked) (past : List Entry) (inv : Inv s.table past) (key : ℕ) (index cells : List ℕ) (begun : begun_number (start_of key index cells).started.begun ≡ 0)
@@ -51,11 +50,11 @@ module _ (s : Linked) (past : List Entry) (inv : Inv s.table past) (key : ℕ) (
     pub passed : (step_run index (view_in s.table) before).walk.passes ≡ before.walk.passes + 1
     passed = subst (λ (r : Run). r.walk.passes ≡ before.walk.passes + 1) (next-is index before s) made
 
-    pub let-in-queued : (on : Linked) → answer_in headers entries contents file index after e on ≡ Yes → among index e (queue_in after) ≡ true
+    pub let-in-queued : (on : Linked) → answer_in headers entries contents file index after e on ≡ Ok true → among index e (queue_in after) ≡ true
     let-in-queued on y =
         subst (λ (r : Run). among index e (queue_in r) ≡ true) (sym (next-is index before s))
         (Answer.let-in-queued key index (offset_of index) (name_of index (count_of index)) (count_of index) (start_run key index cells) (start_fine key index cells begun) (start-begins key index cells begun) ts (view_in s.table) passed e low new headers entries contents file ranged listed on.table.link
-        (subst (λ (r : Run). answer_in headers entries contents file index r e on ≡ Yes) (next-is index before s) y))
+        (subst (λ (r : Run). answer_in headers entries contents file index r e on ≡ Ok true) (next-is index before s) y))
 
     -- asked by any link
     module _ (on : Linked) where

@@ -3,7 +3,7 @@
 use Prim.Native.Nat.{ℕ, zero, suc, ◌+◌, ◌*◌, ◌/◌, ◌<◌, ◌≤◌}
 use native.Mathlib.Omega.{arith}
 use Rattle.std.proofs.Common.{add-one, sym, ◌∙◌}
-use Rattle.std.specs.Prelude.{◌≡◌, Bool, true, ◌&&◌, ◌||◌, ltb, get_or}
+use Rattle.std.specs.Prelude.{◌≡◌, Bool, true, ◌&&◌, ◌||◌, ltb, get_or, Result}
 use Rattle.std.proofs.Math.Path.{refl, ap}
 use Rattle.std.proofs.Math.Bool.{false, cond, not}
 use Rattle.std.proofs.lemmas.Bool.{false≢true}
@@ -16,7 +16,7 @@ use Rattle.gabi.specs.StringTable.{ended, name_at}
 use Rattle.link.specs.declared.Refusal.{Refusal}
 use Rattle.link.specs.Bounds.{lesser, not_lent}
 use Rattle.link.specs.Judge.{refused}
-use Rattle.archive_index.specs.declared.Opened.{Opened}
+use Rattle.archive_index.specs.Open.{Opened}
 use Rattle.archive_index.specs.Index.{count_of, after_of, names_at, cut_of}
 use Rattle.archive_index.specs.Open as Open
 use Rattle.archive_index.specs.Open.{offsets_in, open_rows_of, open_names_of, open_entries_of, open_of}
@@ -24,7 +24,6 @@ use Rattle.archive_walk.specs.declared.Walk.{Walk}
 use Rattle.archive_walk.specs.Look.{judge_table, name_holder, removed_name}
 use Rattle.archive_walk.specs.Walk.{Step, begun_number, begun_place, begun_of, start_of, number_of, place_of, step_moved, refused_move, offer_of, removed_of, make_of, search_of, pass_of, walk_fits, go_of, next_of}
 use Rattle.elf_object.specs.Judge as Elf
-use Rattle.object_requirement.specs.declared.Admission.{Admission}
 use Rattle.object_requirement.specs.Matches as Matches
 use Rattle.object_requirement.specs.Matches.{admission, offered_in, matches_of}
 use Rattle.interner_laws.specs.Good.{Chained}
@@ -271,7 +270,7 @@ next-numbered index cells w t =
 -- ---- admission
 
 module _ (headers entries contents file index cells : List ℕ) (w : Walk) (e : ℕ) where
-  abbrev said : Admission → Refusal
+  abbrev said : Result Bool Refusal → Refusal
   said x = refused (Matches.number_of x) (Matches.place_of x)
 
   -- yes and no are results

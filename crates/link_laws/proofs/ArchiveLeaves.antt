@@ -5,13 +5,13 @@ use Rattle.std.proofs.Common.{ap, ◌∙◌}
 use Rattle.std.proofs.lemmas.Bool.{eqb-false}
 use Rattle.byte_slices.specs.Proof.Ways.{pick}
 use Rattle.link.specs.Bounds.{lesser}
-use Rattle.archive_index.specs.declared.Opened.{Opened}
+use Rattle.archive_index.specs.Open.{Opened}
 use Rattle.archive_index.specs.Index.{count_of, cut_of, names_at}
 use Rattle.archive_index.specs.Rows.{no_heads}
 use Rattle.archive_index.specs.Open as Open
 use Rattle.archive_index.specs.Open.{offsets_in, open_rows_of, open_names_of, open_entries_of, open_of}
 use Rattle.archive_walk.specs.declared.Walk.{Walk}
-use Rattle.archive_walk.specs.declared.Started.{Started}
+use Rattle.archive_walk.specs.Walk.{Started}
 use Rattle.archive_walk.specs.Look.{Table, judge_table}
 use Rattle.archive_walk.specs.Walk.{Step, begun_number, begun_of, start_of, number_of, removed_of, make_of, search_of, pass_of, walk_fits, go_of, next_of}
 use Rattle.link_laws.proofs.NeverRemoved.{offered-number}

@@ -1,21 +1,20 @@
 -- The refusals of a walk and of admission.
 -- Assumes nothing.
-use Rattle.std.specs.Prelude.{ℕ, ◌/◌, refl, Bool, true, false, List, eqb, ltb, length}
+use Rattle.std.specs.Prelude.{ℕ, ◌/◌, refl, Bool, true, false, List, eqb, ltb, length, Result}
 use Rattle.byte_slices.specs.Proof.Ways.{pick}
 use Rattle.link.specs.declared.Link.{Link}
 use Rattle.link.specs.declared.Refusal.{Refusal}
 use Rattle.link.specs.Proof.Passed.{judge-gives}
 use Rattle.elf_object.specs.Judge as Elf
-use Rattle.archive_index.specs.declared.Opened.{Opened}
+use Rattle.archive_index.specs.Open.{Opened}
 use Rattle.archive_index.specs.Index.{count_of, cut_of, names_at}
 use Rattle.archive_index.specs.Open as Open
 use Rattle.archive_index.specs.Open.{offsets_in, open_rows_of, open_names_of, open_entries_of, open_of}
 use Rattle.archive_walk.specs.declared.Walk.{Walk}
-use Rattle.archive_walk.specs.declared.Started.{Started}
+use Rattle.archive_walk.specs.Walk.{Started}
 use Rattle.archive_walk.specs.Look.{judge_table}
 use Rattle.archive_walk.specs.Look as Look
 use Rattle.archive_walk.specs.Walk.{Step, begun_number, number_of, begun_of, start_of, offer_of, removed_of, make_of, search_of, pass_of, walk_fits, go_of, next_of}
-use Rattle.object_requirement.specs.declared.Admission.{Admission}
 use Rattle.object_requirement.specs.Matches as Matches
 use Rattle.object_requirement.specs.Matches.{admission, offered_in, has_global_symbol, matches_of}
 use Rattle.archive_walk.specs.Names.{required_of}
@@ -87,7 +86,7 @@ matches-numbers link headers entries contents file s l w e =
     (λ a. pick P (offered_in s l w e) _ _ (λ b. either (has_global_symbol link.gabi headers entries file (required_of s l w e))) (λ b. refl))
     (λ a. elf-gives (λ (r : Refusal). Among (call_numbers (matches headers entries contents file s l w e)) r.number) (λ k. refl) refl headers entries (length contents) (length file))
   where
-    P : Admission → Type 0
+    P : Result Bool Refusal → Type 0
     P x = Among (call_numbers (matches headers entries contents file s l w e)) (Matches.number_of x)
 
     either : (b : Bool) → P (admission b)

@@ -1,6 +1,6 @@
 -- "changing call on a broken link": 22 at place 0, first of all.
 -- Assumes nothing.
-use Rattle.std.specs.Prelude.{ℕ, ◌≡◌, Bool, true, false, cond, List, length}
+use Rattle.std.specs.Prelude.{ℕ, ◌≡◌, Bool, true, false, cond, List, length, Option}
 use Rattle.std.proofs.Common.{ap, ◌∙◌}
 use Rattle.byte_slices.specs.Proof.Ways.{apart}
 use Rattle.link.specs.declared.Link.{Link}
@@ -25,7 +25,6 @@ use Rattle.merge_elf.specs.Merge as Merge
 use Rattle.shared_objects.specs.Head as Head
 use Rattle.shared_objects.specs.Load as Shared
 use Rattle.shared_objects.specs.Load.{load_of}
-use Rattle.gc_sections.specs.declared.EntryPoint.{EntryPoint}
 use Rattle.gc_sections.specs.Run as Collection
 use Rattle.gc_sections.specs.Run.{run_of}
 use Rattle.symbol_laws.specs.History.{store, table}
@@ -99,7 +98,7 @@ module _ (s : Linked) (b : s.table.link.broken ≡ true) where
       (change-broken l
       (Collection.lent_of (length s.table.bytes) (length s.table.names) (length s.table.symbols) (length s.table.sections) (length s.lists)) b)
 
-  collect-broken : (marks : List ℕ) (entry : EntryPoint) (work : List ℕ) → call_refusal (collect marks entry work) s ≡ refused 22 0
+  collect-broken : (marks : List ℕ) (entry : Option SymbolId) (work : List ℕ) → call_refusal (collect marks entry work) s ≡ refused 22 0
   unfolding run_of Collection.judge_of
   collect-broken marks entry work =
       simp

@@ -1,15 +1,15 @@
 -- A section that a merge built, in a history: its row and what it names stay, through all calls but a collection that doesn't reach it.
 -- Assumes nothing.
-use Rattle.std.specs.Prelude.{ℕ, ◌+◌, ◌*◌, ◌<◌, ◌≤◌, ◌≡◌, refl, List, [], ◌∷◌, ◌++◌}
+use Rattle.link.specs.declared.Refusal.{Refusal}
+use Rattle.gc_sections.specs.declared.Dropped.{Dropped}
+use Rattle.link.specs.declared.SymbolId.{SymbolId}
+use Rattle.std.specs.Prelude.{ℕ, ◌+◌, ◌*◌, ◌<◌, ◌≤◌, ◌≡◌, refl, List, [], ◌∷◌, ◌++◌, Option, Result, Ok, Err}
 use Rattle.std.proofs.Common.{arith, le_refl, le_trans, ap, ◌∙◌, subst, sym}
 use Rattle.byte_slices.specs.Bytes.{part}
 use Rattle.link.specs.Bounds.{section_rows}
 use Rattle.interner_laws.specs.Good as Good
 use Rattle.interner_laws.proofs.Histories.{issued-stays}
 use Rattle.sections.specs.Rows.{field, first_at, count_at}
-use Rattle.gc_sections.specs.declared.EntryPoint.{EntryPoint}
-use Rattle.gc_sections.specs.declared.Answer.{Answer}
-use Rattle.gc_sections.specs.declared.Answer.TheVariants.{Dropped, Refused}
 use Rattle.gc_laws.specs.Reached as Relocations
 use Rattle.gc_laws.proofs.Terms as CollectionLaws
 use Rattle.symbol_laws.specs.History as History
@@ -25,7 +25,7 @@ use Rattle.merge_laws.specs.Calls.{Linked, all_in}
 use Rattle.load_laws.proofs.Sections.{load-sections}
 use Rattle.link_laws.specs.Calls.{Call, intern, add, remove, add_group, merge, merge_file, load, collect, plain_collect, library_in, lists_in, call_left, call_next, run_calls, Drops, reads, add_list}
 use Rattle.link_laws.proofs.PlainCalls.{Compared, alike, many, compared}
-use Rattle.gc_sections.specs.Run.{Left}
+use Rattle.gc_sections.specs.Run.{Left, dropped}
 use Rattle.elf_laws.specs.Object as ElfFile
 use Rattle.link_laws.proofs.FileCall.{by-file}
 use Rattle.link_laws.proofs.CallSteps.{call_steps, Leads, made, cleared}
@@ -44,7 +44,7 @@ SectionIn t r x kind retain read ids =
     BuiltAs t.table.bytes t.table.names t.table.sections t.lists t.table.link r x kind retain read ids
 
 -- what a collection over the link reaches
-abbrev pub ReachedIn : Linked → List ℕ → EntryPoint → ℕ → Type 0
+abbrev pub ReachedIn : Linked → List ℕ → Option SymbolId → ℕ → Type 0
 ReachedIn s marks entry r = Relocations.Reached s.table.link (lists_in s marks) s.table.symbols s.table.sections entry r
 
 -- a collection that isn't refused reaches section r; other calls drop none
@@ -58,8 +58,8 @@ Spares (add_group o work n) s r = Unit {0}
 Spares (merge o work ids) s r = Unit {0}
 Spares (merge_file file cells work ids) s r = Unit {0}
 Spares (load o marks) s r = Unit {0}
-Spares (collect marks entry work) s r = (a b : ℕ) → (call_left (collect marks entry work) s).answer ≡ Dropped a b → ReachedIn s marks entry r
-Spares (plain_collect marks entry work) s r = (a b : ℕ) → (call_left (plain_collect marks entry work) s).answer ≡ Dropped a b → ReachedIn s marks entry r
+Spares (collect marks entry work) s r = (a b : ℕ) → (call_left (collect marks entry work) s).answer ≡ Ok (dropped a b) → ReachedIn s marks entry r
+Spares (plain_collect marks entry work) s r = (a b : ℕ) → (call_left (plain_collect marks entry work) s).answer ≡ Ok (dropped a b) → ReachedIn s marks entry r
 
 abbrev pub SparesAll : List Call → Linked → ℕ → Type 0
 SparesAll [] s r = Unit {0}
@@ -75,12 +75,12 @@ module _ (s : Linked) (below : Below s.table) (rows_in : s.table.link.sections �
   behind : r * 8 + f < s.table.link.slots * 8
   behind = omega (arith, rows_in, slots s.table.link.slots)
 
-  collected : (marks : List ℕ) (entry : EntryPoint) (work : List ℕ) → Spares (collect marks entry work) s r → (x : Answer) → (call_left (collect marks entry work) s).answer ≡ x
+  collected : (marks : List ℕ) (entry : Option SymbolId) (work : List ℕ) → Spares (collect marks entry work) s r → (x : Result Dropped Refusal) → (call_left (collect marks entry work) s).answer ≡ x
       → Same (collect marks entry work)
-  collected marks entry work q (Dropped a b) e =
-      (CollectionLaws.removes s.table.link (lists_in s marks) s.table.symbols s.table.sections entry work a b e).section_stays r f
-      (omega (arith, rows_in, slots s.table.link.slots)) small (λ z y. q a b e)
-  collected marks entry work q (Refused x) e =
+  collected marks entry work q (Ok d) e =
+      (CollectionLaws.removes s.table.link (lists_in s marks) s.table.symbols s.table.sections entry work d.sections d.symbols e).section_stays r f
+      (omega (arith, rows_in, slots s.table.link.slots)) small (λ z y. q d.sections d.symbols e)
+  collected marks entry work q (Err x) e =
       ap (λ (t : Linked). field t.table.sections r f) (drops-nothing marks entry work s (λ (d : Drops (call_left (collect marks entry work) s).answer). subst Drops e d))
 
   pub row-cell : (k : Call) → Spares k s r → Same k

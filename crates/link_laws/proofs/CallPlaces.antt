@@ -1,7 +1,10 @@
 -- The refusal table's column "Returned": the place that comes with a number, for each call. A merge's and a load's elements are in Elements.antt.
 -- Assumes nothing.
+use Rattle.gc_sections.specs.declared.Dropped.{Dropped}
+use Rattle.symbol.specs.declared.Symbol.{Symbol}
+use Rattle.link.specs.declared.SectionId.{SectionId}
 use Prim.Native.Nat.{ℕ, zero, suc, ◌+◌, ◌/◌, ◌<◌, ◌≤◌}
-use Rattle.std.specs.Prelude.{◌≡◌, Bool, true, not, List, ◌∷◌, ◌≢◌, eqb, ltb, leb, length}
+use Rattle.std.specs.Prelude.{◌≡◌, Bool, true, not, List, ◌∷◌, ◌≢◌, eqb, ltb, leb, length, Option, Result, None, Some, Ok, Err}
 use Rattle.std.proofs.Math.Path.{refl}
 use Rattle.std.proofs.Common.{sym, ap, ◌∙◌, subst}
 use Rattle.std.proofs.Math.Bool.{false}
@@ -26,15 +29,12 @@ use Rattle.symbol.specs.Row.{state_at}
 use Rattle.symbol_resolution.specs.declared.rows.Holder.{Holder}
 use Rattle.symbol_resolution.specs.declared.rows.Holder.TheVariants.{Unissued, Nobody, Removed, Known}
 use Rattle.symbol_resolution.specs.Holder.{holder_of}
-use Rattle.symbols.specs.declared.Found.{Found}
 use Rattle.symbols.specs.Calls.{lent_of}
 use Rattle.upcoming_symbol.specs.declared.UpcomingSymbol.{UpcomingSymbol}
 use Rattle.upcoming_symbol.specs.declared.UpcomingSymbol.TheVariants as Upcoming
 use Rattle.upcoming_symbol.specs.Judge.{in_range}
 use Rattle.upcoming_symbol.specs.Upcoming.{name_of, external_row_of, elf_row_of, row_of}
 use Rattle.symbol.specs.declared.Row.{Row}
-use Rattle.symbol.specs.declared.SttFile.{SttFile}
-use Rattle.symbol.specs.declared.SttFile.TheVariants as File
 use Rattle.symbol_resolution.specs.declared.rows.Decision.{Decision}
 use Rattle.symbol_resolution.specs.Decide.{refusal_of}
 use Rattle.symbol_resolution.specs.Apply as SymbolRows
@@ -44,13 +44,13 @@ use Rattle.symbols.specs.Add.{empty_at, file_of, file_issued, unissued_file, dec
 use Rattle.symbols.specs.Remove.{Rows, RemoveLeft, remove_of}
 use Rattle.symbols.specs.Lookup as Lookup
 use Rattle.symbols.specs.Lookup.{found_at, get_of, held_of, get_global_of}
-use Rattle.archive_index.specs.declared.Opened.{Opened}
+use Rattle.archive_index.specs.Open.{Opened}
 use Rattle.archive_index.specs.Index.{count_of, cut_of, names_at}
 use Rattle.archive_index.specs.Rows.{stored_name}
 use Rattle.archive_index.specs.Open as Open
 use Rattle.archive_index.specs.Open.{offsets_in, open_rows_of, open_names_of, open_entries_of, open_of}
 use Rattle.archive_walk.specs.declared.Walk.{Walk}
-use Rattle.archive_walk.specs.declared.Started.{Started}
+use Rattle.archive_walk.specs.Walk.{Started}
 use Rattle.archive_walk.specs.Look.{judge_table, removed_name}
 use Rattle.archive_walk.specs.Look as Look
 use Rattle.archive_walk.specs.Walk.{Step, begun_number, begun_place, number_of, place_of, begun_of, start_of, removed_of, make_of, search_of, pass_of, walk_fits, go_of, next_of}
@@ -61,14 +61,9 @@ use Rattle.section_groups.specs.Group.{group_of, group_section_of, go}
 use Rattle.section_groups.specs.AddGroup as AddGroup
 use Rattle.section_groups.specs.AddGroup.{answer_of, loaded_in, add_group_of}
 use Rattle.link.specs.declared.Stage.{Stage}
-use Rattle.gc_sections.specs.declared.EntryPoint.{EntryPoint}
-use Rattle.gc_sections.specs.declared.Answer.{Answer}
-use Rattle.gc_sections.specs.declared.Answer.TheVariants.{Dropped, Refused}
-use Rattle.gc_sections.specs.declared.Unbuilt.{Unbuilt}
-use Rattle.gc_sections.specs.declared.Unbuilt.TheVariants as Unbuilts
 use Rattle.gc_sections.specs.Reach as Reach
 use Rattle.gc_sections.specs.Run as Collection
-use Rattle.gc_sections.specs.Run.{judge_cells, judged, purge_of, sweep_of, finish_of, finished, collect_of, run_of}
+use Rattle.gc_sections.specs.Run.{judge_cells, judged, purge_of, sweep_of, finish_of, finished, collect_of, run_of, dropped}
 use Rattle.elf_object.specs.Judge.{first_bad}
 use Rattle.gc_laws.proofs.Terms as DemandLaws
 use Rattle.symbol_laws.specs.History.{State, store, table}
@@ -136,7 +131,7 @@ module _ (l : Link) (id : SymbolId) where
       pick P (leb l.symbols id.0) _ _ (λ b e. refl) (λ b. pick P (eqb (state_at symbols id.0) 2) _ _ (λ c e. refl) (λ c e. differ 0 21 refl e)))
       (λ a. judge-gives (λ (r : Refusal). r.number ≡ 21 → r.place ≡ id.0) (λ k e. differ 1 21 refl e) (λ e. differ 0 21 refl e) l _)
     where
-      P : Found → Type 0
+      P : Result Symbol Refusal → Type 0
       P f = (Lookup.refusal_of f).number ≡ 21 → (Lookup.refusal_of f).place ≡ id.0
 
 pub remove-place : (id : SymbolId) (s : Linked) → call_number (remove id) s ≡ 21 → (call_refusal (remove id) s).place ≡ id.0
@@ -160,7 +155,7 @@ module _ (l : Link) (names symbols : List ℕ) (name : Interned) where
   pub global-at : NameAt (Lookup.refusal_of (get_global_of l names symbols name))
   unfolding get_global_of
   global-at =
-      pick (λ (f : Found). NameAt (Lookup.refusal_of f)) (eqb (Link.judge_of l (lent_of (name_rows (length names)) (length symbols) l.slots)).number 0) _ _
+      pick (λ (f : Result Symbol Refusal). NameAt (Lookup.refusal_of f)) (eqb (Link.judge_of l (lent_of (name_rows (length names)) (length symbols) l.slots)).number 0) _ _
       (λ a. held_at (holder_of l names symbols name))
       (λ a. judge-gives NameAt (λ k. (λ e. differ 1 21 refl e, λ e. differ 1 23 refl e)) (λ e. differ 0 21 refl e, λ e. refl) l _)
 
@@ -177,7 +172,7 @@ judge-add-21 l n u =
     P : Refusal → Type 0
     P r = r.number ≢ 21
 
-commit-21 : (t : SymbolRows.Table) (r : Row) (file : SttFile) (d : Decision) → number_in (committed_of t r file d).said ≡ 21
+commit-21 : (t : SymbolRows.Table) (r : Row) (file : Option Interned) (d : Decision) → number_in (committed_of t r file d).said ≡ 21
     → place_in (committed_of t r file d).said ≡ Add.place_of t.link r.name file
 unfolding committed_of
 commit-21 t r file d =
@@ -210,16 +205,16 @@ add_at t conversion u =
 
 -- the name's, and its file's where only that isn't issued
 module _ (l : Link) (name : Interned) where
-  named-file : (file : SttFile) → file_issued l file ≡ true → unissued_file l name file ≡ name.0
-  named-file File.None e = refl
-  named-file (File.Name id) e = by-test (leb l.names id.0) (λ a. absurd (false≢true (rw a at e))) (λ a. rw a)
+  named-file : (file : Option Interned) → file_issued l file ≡ true → unissued_file l name file ≡ name.0
+  named-file None e = refl
+  named-file (Some id) e = by-test (leb l.names id.0) (λ a. absurd (false≢true (rw a at e))) (λ a. rw a)
 
-  place-name : (file : SttFile) → (name.0 < l.names → file_issued l file ≡ true) → Add.place_of l name file ≡ name.0
+  place-name : (file : Option Interned) → (name.0 < l.names → file_issued l file ≡ true) → Add.place_of l name file ≡ name.0
   unfolding Add.place_of
   place-name file f =
       by-test (leb l.names name.0) (λ a. rw a) (λ a. rw a (named-file file (f (leb-false _ _ a))))
 
-  place-file : (file : SttFile) (id : Interned) → name.0 < l.names → file ≡ File.Name id → l.names ≤ id.0 → Add.place_of l name file ≡ id.0
+  place-file : (file : Option Interned) (id : Interned) → name.0 < l.names → file ≡ Some id → l.names ≤ id.0 → Add.place_of l name file ≡ id.0
   unfolding Add.place_of
   place-file file id a e b = rw (e, lt-leb _ _ a, le-leb _ _ b)
 
@@ -228,7 +223,7 @@ pub add-name-place : (conversion : List ℕ) (u : UpcomingSymbol) (s : Linked) �
 add-name-place conversion u s e f = add_at (table s.table) conversion u e ∙ place-name s.table.link (name_of u) (file_of u) f
 
 pub add-file-place : (conversion : List ℕ) (u : UpcomingSymbol) (s : Linked) (id : Interned) → call_number (add conversion u) s ≡ 21
-    → (name_of u).0 < s.table.link.names → file_of u ≡ File.Name id → s.table.link.names ≤ id.0 → (call_refusal (add conversion u) s).place ≡ id.0
+    → (name_of u).0 < s.table.link.names → file_of u ≡ Some id → s.table.link.names ≤ id.0 → (call_refusal (add conversion u) s).place ≡ id.0
 add-file-place conversion u s id e a f b = add_at (table s.table) conversion u e ∙ place-file s.table.link (name_of u) (file_of u) id a f b
 
 -- ---- archives
@@ -301,7 +296,7 @@ pass-place index cells w s = pass-at index cells (view_in s.table) w
 
 -- ---- collection: 1 of the link's own, then at the first symbol without a mark; 2 at 0
 
-module _ (l : Link) (x : Collection.Lists) (symbols sections : List ℕ) (entry : EntryPoint) (work : List ℕ) where
+module _ (l : Link) (x : Collection.Lists) (symbols sections : List ℕ) (entry : Option SymbolId) (work : List ℕ) where
   abbrev lent_all : Lent
   lent_all = Collection.lent_of (length x.bytes) (length x.names) (length symbols) (length sections) (length x.lists)
 
@@ -331,9 +326,9 @@ module _ (l : Link) (x : Collection.Lists) (symbols sections : List ℕ) (entry 
       w : Reach.Walk
       w = Reach.walked l x.bytes x.names symbols sections x.lists x.marks entry work
 
-      go : (u : Unbuilt) → Short (said_by (finish_of l symbols sections w.work u))
-      go Unbuilts.None = (λ e. differ 0 1 refl e, λ e. refl)
-      go (Unbuilts.Lowest id) = (λ e. differ 21 1 refl e, λ e. differ 21 2 refl e)
+      go : (u : Option SectionId) → Short (said_by (finish_of l symbols sections w.work u))
+      go None = (λ e. differ 0 1 refl e, λ e. refl)
+      go (Some id) = (λ e. differ 21 1 refl e, λ e. differ 21 2 refl e)
 
   collect-said : (run_of l x symbols sections entry work).said ≡ Collection.said_of (run_of l x symbols sections entry work).answer
   unfolding run_of collect_of finished sweep_of purge_of
@@ -344,21 +339,21 @@ module _ (l : Link) (x : Collection.Lists) (symbols sections : List ℕ) (entry 
       w : Reach.Walk
       w = Reach.walked l x.bytes x.names symbols sections x.lists x.marks entry work
 
-      end : (u : Unbuilt) → (finish_of l symbols sections w.work u).said ≡ Collection.said_of (finish_of l symbols sections w.work u).answer
-      end Unbuilts.None = refl
-      end (Unbuilts.Lowest id) = refl
+      end : (u : Option SectionId) → (finish_of l symbols sections w.work u).said ≡ Collection.said_of (finish_of l symbols sections w.work u).answer
+      end None = refl
+      end (Some id) = refl
 
-  collect-lowest : (a : Answer) → (run_of l x symbols sections entry work).answer ≡ a → Collection.number_of a ≡ 21
+  collect-lowest : (a : Result Dropped Refusal) → (run_of l x symbols sections entry work).answer ≡ a → Collection.number_of a ≡ 21
       → DemandLaws.Lowest l x symbols sections entry work (Collection.place_of a)
-  collect-lowest (Dropped n m) e q = differ 0 21 refl q
-  collect-lowest (Refused r) e q =
-      DemandLaws.refuses l x symbols sections entry work r.place (e ∙ ap (λ (n : ℕ). Refused (refused n r.place)) q)
+  collect-lowest (Ok d) e q = differ 0 21 refl q
+  collect-lowest (Err r) e q =
+      DemandLaws.refuses l x symbols sections entry work r.place (e ∙ ap (λ (n : ℕ). Err (refused n r.place)) q)
 
 abbrev pub collect_lent : Linked → Lent
 collect_lent s =
     Collection.lent_of (length s.table.bytes) (length s.table.names) (length s.table.symbols) (length s.table.sections) (length s.lists)
 
-module _ (marks : List ℕ) (entry : EntryPoint) (work : List ℕ) (s : Linked) where
+module _ (marks : List ℕ) (entry : Option SymbolId) (work : List ℕ) (s : Linked) where
   -- "the section's for collection": the lowest that is reached but not built
   pub collect-section-place : call_number (collect marks entry work) s ≡ 21
       → DemandLaws.Lowest s.table.link (lists_in s marks) s.table.symbols s.table.sections entry work (call_refusal (collect marks entry work) s).place

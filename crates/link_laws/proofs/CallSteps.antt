@@ -18,7 +18,7 @@ use Rattle.symbols.specs.Remove.{Rows}
 use Rattle.elf_object.specs.Rows.{first_at, is_loaded}
 use Rattle.elf_object.specs.Judge as Elf
 use Rattle.section_groups.specs.Group as Group
-use Rattle.section_groups.specs.declared.Plan.{Plan}
+use Rattle.section_groups.specs.Group.{Plan}
 use Rattle.section_groups.specs.Group.{shape_of, signature_of, plan_of, admit_of, decided_of, group_named, signed_of, shaped_of, group_of, group_section_of, go}
 use Rattle.section_groups.specs.AddGroup as AddGroup
 use Rattle.section_groups.specs.AddGroup.{check_of, head_in, lent, rows_refusal, marks_refusal, answer_of, table_in, loaded_in, add_group_of}

@@ -1,6 +1,9 @@
 -- Of collection: the answer is that of the first rule that holds.
 -- Assumes nothing.
-use Rattle.std.specs.Prelude.{ℕ, zero, suc, ◌+◌, ◌/◌, ◌<◌, ◌≤◌, ◌≡◌, Bool, ◌&&◌, ◌||◌, List, [], ◌∷◌, ltb, get_or}
+use Rattle.gc_sections.specs.declared.Dropped.{Dropped}
+use Rattle.link.specs.declared.SectionId.{SectionId}
+use Rattle.link.specs.declared.SymbolId.{SymbolId}
+use Rattle.std.specs.Prelude.{ℕ, zero, suc, ◌+◌, ◌/◌, ◌<◌, ◌≤◌, ◌≡◌, Bool, ◌&&◌, ◌||◌, List, [], ◌∷◌, ltb, get_or, Option, Result, None, Some}
 use Rattle.std.proofs.Common.{arith, sym, ◌∙◌, subst}
 use Rattle.std.proofs.Math.Path.{refl, ap}
 use Rattle.std.proofs.Math.Bool.{true, false, cond, not}
@@ -13,13 +16,6 @@ use Rattle.byte_slices.specs.Bytes.{same}
 use Rattle.link.specs.declared.Refusal.{Refusal}
 use Rattle.link.specs.Judge.{refused}
 use Rattle.sections.specs.Rows as Sections
-use Rattle.gc_sections.specs.declared.Lead.{Lead}
-use Rattle.gc_sections.specs.declared.Lead.TheVariants.{Nowhere, Section}
-use Rattle.gc_sections.specs.declared.EntryPoint.{EntryPoint}
-use Rattle.gc_sections.specs.declared.EntryPoint.TheVariants as Entry
-use Rattle.gc_sections.specs.declared.Answer.{Answer}
-use Rattle.gc_sections.specs.declared.Unbuilt.{Unbuilt}
-use Rattle.gc_sections.specs.declared.Unbuilt.TheVariants as Unbuilts
 use Rattle.gc_sections.specs.Reach as Reach
 use Rattle.gc_sections.specs.Roots as Roots
 use Rattle.gc_sections.specs.Roots.{symbol_id, section_id, value_lead, lead_of, readable, name_is, rooted}
@@ -52,9 +48,9 @@ or-second : (a b : Bool) → b ≡ true → a || b ≡ true
 or-second true b e = refl
 or-second false b e = e
 
-abbrev leads_to : Lead → ℕ → Bool
-leads_to Nowhere y = false
-leads_to (Section s) y = eqb s.0 y
+abbrev leads_to : Option SectionId → ℕ → Bool
+leads_to None y = false
+leads_to (Some s) y = eqb s.0 y
 
 module _ (t : State) where
   abbrev n : ℕ
@@ -73,7 +69,7 @@ module _ (t : State) where
       (λ a. rw a))
 
   -- a symbol that is placed leads to its section
-  placed-leads : (i : ℕ) → is_placed t i ≡ true → lead_of t.symbols t.link.symbols (symbol_id i) ≡ Section (section_id (section_of t i))
+  placed-leads : (i : ℕ) → is_placed t i ≡ true → lead_of t.symbols t.link.symbols (symbol_id i) ≡ Some (section_id (section_of t i))
   unfolding lead_of value_lead
   placed-leads i e =
       let p = both (ltb i t.link.symbols && not (is_removed t i)) (eqb (cell_at t.symbols i 5) 2 || eqb (cell_at t.symbols i 5) 3 || eqb (cell_at t.symbols i 5) 4) e in
@@ -84,13 +80,13 @@ module _ (t : State) where
       by-test (eqb (cell_at t.symbols i 5) 3) (λ d. rw (c, d))
       (λ d. by-test (eqb (cell_at t.symbols i 5) 4) (λ f. rw (c, d, f)) (λ f. absurd (false≢true (rw (c, d, f) at p.1))))))
 
-  lies-leads : (i y : ℕ) → lies_in t i y ≡ true → lead_of t.symbols t.link.symbols (symbol_id i) ≡ Section (section_id y)
+  lies-leads : (i y : ℕ) → lies_in t i y ≡ true → lead_of t.symbols t.link.symbols (symbol_id i) ≡ Some (section_id y)
   lies-leads i y e =
       let p = both (is_placed t i) (eqb (section_of t i) y) e in
-      placed-leads i p.0 ∙ ap (λ (y : ℕ). Section (section_id y)) (eqb-true _ _ p.1)
+      placed-leads i p.0 ∙ ap (λ (y : ℕ). Some (section_id y)) (eqb-true _ _ p.1)
 
-  leads-lies : (i y : ℕ) → lead_of t.symbols t.link.symbols (symbol_id i) ≡ Section (section_id y) → lies_in t i y ≡ true
-  leads-lies i y e = sym (lead_is i y) ∙ ap (λ (l : Lead). leads_to l y) e ∙ eq-eqb y y refl
+  leads-lies : (i y : ℕ) → lead_of t.symbols t.link.symbols (symbol_id i) ≡ Some (section_id y) → lies_in t i y ≡ true
+  leads-lies i y e = sym (lead_is i y) ∙ ap (λ (l : Option SectionId). leads_to l y) e ∙ eq-eqb y y refl
 
   built-is : (y : ℕ) → Sections.is_built t.sections n y ≡ is_built t y
   unfolding Sections.is_built
@@ -123,7 +119,7 @@ module _ (t : State) where
 
 -- ---- reached, by rounds and by paths
 
-module _ (t : State) (lists marks : List ℕ) (entry : EntryPoint) where
+module _ (t : State) (lists marks : List ℕ) (entry : Option SymbolId) where
   abbrev lent : Lists
   lent = lists_of t.bytes t.names lists marks
 
@@ -142,9 +138,9 @@ module _ (t : State) (lists marks : List ℕ) (entry : EntryPoint) where
   abbrev names : ℕ → ℕ → Bool
   names = names_in t lists marks entry
 
-  entry-reached : (e : EntryPoint) (y : ℕ) → entry ≡ e → is_entered t e y ≡ true → R y
-  entry-reached Entry.None y q e = absurd (false≢true e)
-  entry-reached (Entry.Symbol i) y q e = entered i.0 q (in-leads i.0 y e)
+  entry-reached : (e : Option SymbolId) (y : ℕ) → entry ≡ e → is_entered t e y ≡ true → R y
+  entry-reached None y q e = absurd (false≢true e)
+  entry-reached (Some i) y q e = entered i.0 q (in-leads i.0 y e)
 
   start-reached : (y : ℕ) → is_start t lists marks entry y ≡ true → R y
   start-reached y e =
@@ -235,7 +231,7 @@ module _ (t : State) (lists marks : List ℕ) (entry : EntryPoint) where
       started (suc t.link.sections) w
       (or-first _ (is_built t w && is_root t w)
       (or-second (some (λ i. not (eqb (get_or marks i 0) 0) && lies_in t i w) 0 t.link.symbols) (is_entered t entry w)
-      (ap (λ (e : EntryPoint). is_entered t e w) e ∙ out-leads i w l)))
+      (ap (λ (e : Option SymbolId). is_entered t e w) e ∙ out-leads i w l)))
   reached-so {w} (root b e) =
       started (suc t.link.sections) w
       (or-second (some (λ i. not (eqb (get_or marks i 0) 0) && lies_in t i w) 0 t.link.symbols || is_entered t entry w) (is_built t w && is_root t w) (sym (root_is t w) ∙ own_root t.link lent t.symbols t.sections w b e))
@@ -335,7 +331,7 @@ has_some (y ∷ ys) k e = refl
 
 -- ---- the call
 
-module _ (marks : List ℕ) (entry : EntryPoint) (work : List ℕ) (s : Linked) where
+module _ (marks : List ℕ) (entry : Option SymbolId) (work : List ℕ) (s : Linked) where
   abbrev table : State
   table = s.table
 
@@ -348,7 +344,7 @@ module _ (marks : List ℕ) (entry : EntryPoint) (work : List ℕ) (s : Linked) 
   abbrev head : Refusal
   head = judged table.link given table.symbols table.sections work
 
-  abbrev answer_said : Answer → Refusal
+  abbrev answer_said : Result Dropped Refusal → Refusal
   answer_said a = refused (Run.number_of a) (Run.place_of a)
 
   said-is : after.said ≡ Run.said_of after.answer
@@ -358,10 +354,10 @@ module _ (marks : List ℕ) (entry : EntryPoint) (work : List ℕ) (s : Linked) 
       (λ e. rw e (go (Reach.walked table.link table.bytes table.names table.symbols table.sections s.lists marks entry work).visitor.unbuilt))
       (λ e. rw e)
     where
-      go : (u : Unbuilt) → (Run.finish_of table.link table.symbols table.sections (Reach.walked table.link table.bytes table.names table.symbols table.sections s.lists marks entry work).work u).said
+      go : (u : Option SectionId) → (Run.finish_of table.link table.symbols table.sections (Reach.walked table.link table.bytes table.names table.symbols table.sections s.lists marks entry work).work u).said
           ≡ Run.said_of (Run.finish_of table.link table.symbols table.sections (Reach.walked table.link table.bytes table.names table.symbols table.sections s.lists marks entry work).work u).answer
-      go Unbuilts.None = refl
-      go (Unbuilts.Lowest id) = refl
+      go None = refl
+      go (Some id) = refl
 
   pub head-exactly : head ≡ first_refusal (collect_head table s.lists marks work)
   unfolding Run.judge_of judge_cells

@@ -1,6 +1,7 @@
 -- A remove and a collection write no row past the counts, and leave the counts.
 -- Assumes nothing.
-use Rattle.std.specs.Prelude.{ℕ, ◌+◌, ◌*◌, ◌<◌, ◌≤◌, ◌≡◌, List, eqb, leb, get_or, length}
+use Rattle.link.specs.declared.SectionId.{SectionId}
+use Rattle.std.specs.Prelude.{ℕ, ◌+◌, ◌*◌, ◌<◌, ◌≤◌, ◌≡◌, List, eqb, leb, get_or, length, Option, None, Some}
 use Rattle.std.proofs.Common.{arith, sym, ap, ◌∙◌, subst, length-set, eqb-true}
 use Rattle.std.proofs.Math.Path.{refl}
 use Rattle.cells.specs.Proof.Split.{by-test}
@@ -14,9 +15,6 @@ use Rattle.symbol_resolution.specs.Decide.{section_cell}
 use Rattle.symbol_resolution.specs.Apply.{set_section_symbol}
 use Rattle.symbols.specs.Calls.{lent_of}
 use Rattle.symbols.specs.Remove.{Rows, rows_of, drop_section, remove_row_of, remove_of}
-use Rattle.gc_sections.specs.declared.EntryPoint.{EntryPoint}
-use Rattle.gc_sections.specs.declared.Unbuilt.{Unbuilt}
-use Rattle.gc_sections.specs.declared.Unbuilt.TheVariants.{None, Lowest}
 use Rattle.gc_sections.specs.Reach.{Walk, walked}
 use Rattle.gc_sections.specs.Sweep.{Swept, Purged, dropped_now, sweep_sections, purge_symbols}
 use Rattle.gc_sections.specs.Run.{Left, Lists, judged, purge_of, sweep_of, finish_of, finished, collect_of, run_of}
@@ -90,7 +88,7 @@ module _ (l : Link) (symbols sections : List ℕ) where
         sections-long = purged-long s.work s.sections r ∙ swept-long work;
       }
 
-  module _ (x : Lists) (entry : EntryPoint) (work : List ℕ) where
+  module _ (x : Lists) (entry : Option SymbolId) (work : List ℕ) where
     abbrev w : Walk
     w = walked l x.bytes x.names symbols sections x.lists x.marks entry work
 
@@ -100,11 +98,11 @@ module _ (l : Link) (symbols sections : List ℕ) where
         pick Past (eqb (judged l x symbols sections work).number 0) _ _ (λ t. go (slots-fit l x symbols sections work (eqb-true _ _ t)) w.visitor.unbuilt)
         (λ t. record { link = refl; symbols-past = λ q h. refl; sections-past = λ q h k. refl; symbols-long = refl; sections-long = refl })
       where
-        go : l.slots ≤ section_slots (length sections) → (u : Unbuilt) → Past (finish_of l symbols sections w.work u)
+        go : l.slots ≤ section_slots (length sections) → (u : Option SectionId) → Past (finish_of l symbols sections w.work u)
         go room None = sweep-past room w.work
-        go room (Lowest id) = record { link = refl; symbols-past = λ q h. refl; sections-past = λ q h k. refl; symbols-long = refl; sections-long = refl }
+        go room (Some id) = record { link = refl; symbols-past = λ q h. refl; sections-past = λ q h k. refl; symbols-long = refl; sections-long = refl }
 
-pub collect-past : (s : State) (x : Lists) (entry : EntryPoint) (work : List ℕ)
+pub collect-past : (s : State) (x : Lists) (entry : Option SymbolId) (work : List ℕ)
     → let r = run_of s.link x s.symbols s.sections entry work in
     TablePast s (with_rows s (rows_of r.symbols r.sections) r.link)
 collect-past s x entry work =

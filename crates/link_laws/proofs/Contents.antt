@@ -1,12 +1,11 @@
 -- Whence the row of a name is: the entry of an object, of a library, or of a direct add, with what that entry says of type, section, value, weak, hidden and file.
 -- Assumes nothing.
-use Rattle.std.specs.Prelude.{ℕ, ◌≡◌, refl, true, List, [], ◌∷◌, ◌++◌, eqb}
+use Rattle.std.specs.Prelude.{ℕ, ◌≡◌, refl, true, List, [], ◌∷◌, ◌++◌, eqb, None}
 use Rattle.std.proofs.Common.{sym, ap, ◌∙◌, subst, eqb-true}
 use Rattle.std.proofs.lemmas.Bool.{eqb-false}
 use Rattle.cells.specs.Proof.Split.{by-test}
 use Rattle.link.specs.Said.{number_in}
 use Rattle.symbol.specs.declared.Row.{Row}
-use Rattle.symbol.specs.declared.SttFile.TheVariants as File
 use Rattle.upcoming_symbol.specs.declared.UpcomingSymbol.{UpcomingSymbol}
 use Rattle.upcoming_symbol.specs.Upcoming.{name_of}
 use Rattle.symbols.specs.Calls as Symbols
@@ -104,7 +103,7 @@ add-logged conversion u s x e =
     by-test (eqb (number_in x.said) 0)
     (λ b.
     let z : number_in (call_left (add conversion u) s).said ≡ 0 = ap (λ (y : Symbols.Left). number_in y.said) e ∙ eqb-true _ _ b in
-    let w : number_in (add_row_of (table s.table) r File.None).said ≡ 0 = ap (λ (y : Symbols.Left). number_in y.said) (sym (add-accepted (table s.table) conversion u z)) ∙ z in
+    let w : number_in (add_row_of (table s.table) r None).said ≡ 0 = ap (λ (y : Symbols.Left). number_in y.said) (sym (add-accepted (table s.table) conversion u z)) ∙ z in
     rw (a, b) (from-add (table s.table) s.table.link.gabi conversion (empty_at s.table.names (name_of u)) u w (eqb-false _ _ a), tt))
     (λ b. rw (a, b) tt))
 

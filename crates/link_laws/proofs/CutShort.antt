@@ -14,10 +14,10 @@ use Rattle.gabi.specs.StringTable.{ended, name_at}
 use Rattle.link.specs.Bounds.{lesser}
 use Rattle.elf_object.specs.Judge.{first_bad}
 use Rattle.archive_index.specs.Index.{count_of, after_of, names_at, place_of, cut_of}
-use Rattle.archive_index.specs.declared.Opened.{Opened}
+use Rattle.archive_index.specs.Open.{Opened}
 use Rattle.archive_index.specs.Open as Open
 use Rattle.archive_index.specs.Open.{offsets_in, open_rows_of, open_names_of, open_entries_of, open_of}
-use Rattle.archive_walk.specs.declared.Started.{Started}
+use Rattle.archive_walk.specs.Walk.{Started}
 use Rattle.archive_walk.specs.Walk.{begun_number, begun_place, begun_of, start_of}
 use Rattle.merge_laws.specs.Calls.{Linked}
 use Rattle.link_laws.specs.Calls.{archive_start, call_refusal, call_number}

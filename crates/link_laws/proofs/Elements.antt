@@ -1,6 +1,7 @@
 -- What a merge or a load leaves that is refused at its head or at one of its elements, over the call itself.
 -- Assumes nothing.
-use Rattle.std.specs.Prelude.{ℕ, ◌≡◌, refl, Bool, true, false, List, ◌≢◌, eqb}
+use Rattle.shared_objects.specs.declared.Load.TheVariants.{NotNeeded}
+use Rattle.std.specs.Prelude.{ℕ, ◌≡◌, refl, Bool, true, false, List, ◌≢◌, eqb, Ok, Err}
 use Rattle.std.proofs.Common.{sym, ap, ◌∙◌, subst, eqb-true, eq-eqb}
 use Rattle.std.proofs.lemmas.Bool.{false≢true, eqb-false}
 use Rattle.cells.specs.Proof.Split.{by-test}
@@ -13,8 +14,6 @@ use Rattle.merge_symbols.specs.Plan.{place_of}
 use Rattle.merge_stages.specs.Stages as Stages
 use Rattle.merge_elf.specs.Merge as Merge
 use Rattle.merge_elf.specs.Merge.{merge_of}
-use Rattle.merge_elf.specs.declared.Answer.TheVariants as Merging
-use Rattle.shared_objects.specs.declared.Answer.TheVariants.{NotNeeded, Refused}
 use Rattle.shared_objects.specs.Stages.{Links}
 use Rattle.shared_objects.specs.Load as Shared
 use Rattle.shared_objects.specs.Load.{load_of}
@@ -47,7 +46,7 @@ module _ (o : Stages.Object) (work ids : List ℕ) (s : Linked) where
     head : (Merge.head_in o lent_to).number ≢ 0 → ByNumber.HeadLeaves o lent_to → Merges
     accepted : ByNumber.MergeLeaves o lent_to → Merges
     element : Stops.number o lent_to ≢ 0
-        → merge_of o lent_to ≡ Merge.leave (Stops.end o lent_to) (broken_of (Stops.end o lent_to).stage.link) (Merging.Refused (refused (Stops.number o lent_to) (Stops.end o lent_to).stage.place))
+        → merge_of o lent_to ≡ Merge.leave (Stops.end o lent_to) (broken_of (Stops.end o lent_to).stage.link) (Err (refused (Stops.number o lent_to) (Stops.end o lent_to).stage.place))
         → Merges
 
   pub merges : Merges
@@ -78,7 +77,7 @@ module _ (o : Stages.Object) (work ids : List ℕ) (s : Linked) where
   merge-leaves u = go merges
     where
       ended : Stages.All → Merge.Left
-      ended t = Merge.leave t (broken_of t.stage.link) (Merging.Refused (refused t.stage.number t.stage.place))
+      ended t = Merge.leave t (broken_of t.stage.link) (Err (refused t.stage.number t.stage.place))
 
       go : Merges → MergeLeft
       go (head n h) =
@@ -155,17 +154,17 @@ module _ (o : Shared.Input) (marks : List ℕ) (s : Linked) where
   abbrev stopped : Links → Shared.Left
   stopped t =
       Shared.leave_links (want o lent_load).marks t
-      (record { link = broken_of t.stage.link; answer = Refused (refused t.stage.number t.stage.place) })
+      (record { link = broken_of t.stage.link; answer = Err (refused t.stage.number t.stage.place) })
 
   -- the ways of a load
   pub data Ways : Type 0 where
-    refuses : (Shared.head_in o lent_load).number ≢ 0 → load_of o lent_load ≡ Shared.left lent_load (Refused (Shared.head_in o lent_load)) → Ways
-    unneeded : load_of o lent_load ≡ Shared.left (Shared.marked lent_load (want o lent_load).marks) NotNeeded → Ways
+    refuses : (Shared.head_in o lent_load).number ≢ 0 → load_of o lent_load ≡ Shared.left lent_load (Err (Shared.head_in o lent_load)) → Ways
+    unneeded : load_of o lent_load ≡ Shared.left (Shared.marked lent_load (want o lent_load).marks) (Ok NotNeeded) → Ways
     loads : Unbroken.Loads o lent_load → Ways
     stops : (ending o lent_load).stage.number ≢ 0 → load_of o lent_load ≡ stopped (ending o lent_load) → Ways
 
   not-wanted : (Shared.head_in o lent_load).number ≡ 0 → (want o lent_load).needed ≡ false
-      → load_of o lent_load ≡ Shared.left (Shared.marked lent_load (want o lent_load).marks) NotNeeded
+      → load_of o lent_load ≡ Shared.left (Shared.marked lent_load (want o lent_load).marks) (Ok NotNeeded)
   unfolding load_of Shared.library_named Shared.wanted_of
   not-wanted h w = rw (eq-eqb _ _ h, w)
 

@@ -1,7 +1,7 @@
 -- The ids that a merge gave the symbols of an object stand for those symbols through all calls that follow: a local's for a row with what its entry says, another's
 -- for the row of its name. So what relocations name is told by the object's own symbols.
 -- Assumes nothing.
-use Rattle.std.specs.Prelude.{ℕ, suc, ◌+◌, ◌*◌, ◌≤◌, ◌<◌, ◌≡◌, refl, Bool, true, ◌≢◌, eqb, length}
+use Rattle.std.specs.Prelude.{ℕ, suc, ◌+◌, ◌*◌, ◌≤◌, ◌<◌, ◌≡◌, refl, Bool, true, ◌≢◌, eqb, length, None, Ok}
 use Rattle.std.proofs.Common.{arith, sym, ◌∙◌, get_or-set_same}
 use Rattle.std.proofs.Math.Path.{ap, subst}
 use mathlib.Core.List.{List, [], ◌∷◌, ◌++◌}
@@ -19,7 +19,6 @@ use Rattle.interner_laws.proofs.Histories.{stays-both, issued-stays}
 use Rattle.interner_laws.proofs.Interns.{keep-issued}
 use Rattle.interner_laws.proofs.Judged as Judged
 use Rattle.symbol.specs.declared.Row.{Row}
-use Rattle.symbol.specs.declared.SttFile.TheVariants as File
 use Rattle.symbol.specs.Codes.{successor}
 use Rattle.symbol.specs.Row.{state_at, visibility_code_at, symbol_at}
 use Rattle.symbol_resolution.specs.declared.rows.Holder.TheVariants.{Removed, Known}
@@ -27,7 +26,6 @@ use Rattle.symbol_resolution.specs.declared.rows.Decision.{Decision}
 use Rattle.symbol_resolution.specs.Holder.{global_at, held_by, holder_of}
 use Rattle.symbol_resolution.specs.Decide.{refusal_of}
 use Rattle.symbol_resolution.specs.Apply.{note_name, append_of, apply_of}
-use Rattle.symbols.specs.declared.Found.TheVariants as Fd
 use Rattle.symbols.specs.Calls.{Left}
 use Rattle.symbols.specs.Add.{committed_of, add_row_of}
 use Rattle.symbols.specs.Lookup.{not_found}
@@ -80,7 +78,7 @@ use Rattle.link_laws.proofs.LocalRows.{onto-both, steps-onto, onto-stay, stay-bo
 
 -- what the name of these bytes has in a link: the row of that id, or 21 for the name and for the id, since it was removed
 pub data NameHas (b : List ℕ) (t : Linked) (id : SymbolId) : Type 0 where
-  row : lookup b t ≡ Fd.Row (symbol_at t.table.symbols id) → NameHas b t id
+  row : lookup b t ≡ Ok (symbol_at t.table.symbols id) → NameHas b t id
   gone : (n : ℕ) → lookup b t ≡ not_found 21 n → call_left (get id) t ≡ not_found 21 id.0 → NameHas b t id
 
 -- an object that is merged into s, where these signatures are met; t is a later link
@@ -128,9 +126,9 @@ module _ (s : State) (few : 1 ≤ s.link.symbols) (r : Row) where
   abbrev Both : Left → Type 0
   Both x = Rowed x × Named x
 
-  decides : (d : Decision) → decided (table s) r ≡ d → Both (committed_of (table s) r File.None d) → Both (put_of s r)
+  decides : (d : Decision) → decided (table s) r ≡ d → Both (committed_of (table s) r None d) → Both (put_of s r)
   unfolding add_row_of
-  decides d e h = subst (λ (d : Decision). Both (committed_of (table s) r File.None d)) (sym e) h
+  decides d e h = subst (λ (d : Decision). Both (committed_of (table s) r None d)) (sym e) h
 
   one_more : Free (table s) r → successor s.link.symbols ≡ s.link.symbols + 1
   unfolding successor

@@ -1,27 +1,24 @@
 -- "A collection that drops nothing removes nothing": it leaves the link as it was. So does a refused one.
 -- Assumes nothing.
+use Rattle.link.specs.declared.Refusal.{Refusal}
+use Rattle.gc_sections.specs.declared.Dropped.{Dropped}
+use Rattle.link.specs.declared.SectionId.{SectionId}
+use Rattle.link.specs.declared.SymbolId.{SymbolId}
 use Prim.Native.Nat.{ℕ, zero, suc, ◌+◌, ◌≤◌}
 use Rattle.std.proofs.Common.{arith, sym, ap, ◌∙◌, subst}
 use Rattle.std.proofs.Math.Decide.{ℕ_discrete}
-use Rattle.std.specs.Prelude.{◌≡◌, List, ◌≢◌, eqb, get_or}
+use Rattle.std.specs.Prelude.{◌≡◌, List, ◌≢◌, eqb, get_or, Option, Result, None, Some, Ok, Err}
 use Rattle.std.proofs.Math.Path.{refl}
 use Rattle.cells.specs.Proof.Split.{by-test}
 use Rattle.byte_slices.specs.Proof.Ways.{pick}
 use Rattle.link.specs.declared.Link.{Link}
 use Rattle.symbols.specs.Remove.{Rows, rows_of}
 use Rattle.sections.specs.Rows.{is_built}
-use Rattle.gc_sections.specs.declared.EntryPoint.{EntryPoint}
-use Rattle.gc_sections.specs.declared.Lead.{Lead}
-use Rattle.gc_sections.specs.declared.Lead.TheVariants.{Nowhere, Section}
-use Rattle.gc_sections.specs.declared.Unbuilt.{Unbuilt}
-use Rattle.gc_sections.specs.declared.Unbuilt.TheVariants.{None, Lowest}
 use Rattle.gc_sections.specs.Each.{each}
 use Rattle.gc_sections.specs.Roots.{symbol_id, lead_of}
 use Rattle.gc_sections.specs.Reach.{Walk, walked}
 use Rattle.gc_sections.specs.Sweep.{Swept, swept_of, Purged, purged_of, drop_unreached, dropped_now, purge_lead, purge_symbol, sweep_sections, purge_symbols}
-use Rattle.gc_sections.specs.declared.Answer.{Answer}
-use Rattle.gc_sections.specs.declared.Answer.TheVariants.{Dropped, Refused}
-use Rattle.gc_sections.specs.Run.{Left, Lists, number_of, judged, purge_of, sweep_of, finish_of, finished, collect_of, run_of}
+use Rattle.gc_sections.specs.Run.{Left, Lists, number_of, judged, purge_of, sweep_of, finish_of, finished, collect_of, run_of, dropped}
 use Rattle.symbol_laws.specs.History.{with_rows}
 use Rattle.merge_laws.specs.Calls.{Linked, linked}
 use Rattle.link_laws.specs.Calls.{Drops, collect, plain_collect, lists_in, call_left, call_next, Removes}
@@ -69,9 +66,9 @@ purge-turn : (l : Link) (work : List ℕ) (i : ℕ) (s : Purged) → Turn purged
 unfolding purge_symbol
 purge-turn l work i s = go (lead_of s.rows.symbols l.symbols (symbol_id i))
   where
-    go : (k : Lead) → Turn purged_count s (purge_lead l work i k s)
-    go Nowhere = idle refl
-    go (Section x) = pick (Turn purged_count s) (dropped_now work l.sections x.0) _ _ (λ a. counts refl) (λ a. idle refl)
+    go : (k : Option SectionId) → Turn purged_count s (purge_lead l work i k s)
+    go None = idle refl
+    go (Some x) = pick (Turn purged_count s) (dropped_now work l.sections x.0) _ _ (λ a. counts refl) (λ a. idle refl)
 
 sections-idle : (n : ℕ) (sections work : List ℕ) → (sweep_sections n sections work).count ≡ 0 → sweep_sections n sections work ≡ swept_of sections work 0
 unfolding sweep_sections
@@ -112,7 +109,7 @@ module _ (l : Link) (symbols sections : List ℕ) where
               let b : p ≡ purged_of (rows_of symbols s.sections) 0 = g (omega arith) in
               (ap (λ (p : Purged). p.rows.symbols) b, ap (λ (p : Purged). p.rows.sections) b ∙ ap (λ (s : Swept). s.sections) a, refl)
 
-  module _ (x : Lists) (entry : EntryPoint) (work : List ℕ) where
+  module _ (x : Lists) (entry : Option SymbolId) (work : List ℕ) where
     abbrev w : Walk
     w = walked l x.bytes x.names symbols sections x.lists x.marks entry work
 
@@ -121,9 +118,9 @@ module _ (l : Link) (symbols sections : List ℕ) where
     run-idle q =
         by-test (eqb (judged l x symbols sections work).number 0) (λ t. rw t (go w.visitor.unbuilt (rw t at q))) (λ t. rw t (refl, refl, refl))
       where
-        go : (u : Unbuilt) → (Drops (finish_of l symbols sections w.work u).answer → ⊥) → Same (finish_of l symbols sections w.work u)
+        go : (u : Option SectionId) → (Drops (finish_of l symbols sections w.work u).answer → ⊥) → Same (finish_of l symbols sections w.work u)
         go None q = sweep-idle w.work q
-        go (Lowest id) q = (refl, refl, refl)
+        go (Some id) q = (refl, refl, refl)
 
     -- a refused one drops nothing
     said-number : (run_of l x symbols sections entry work).said.number ≡ number_of (run_of l x symbols sections entry work).answer
@@ -131,18 +128,18 @@ module _ (l : Link) (symbols sections : List ℕ) where
     said-number =
         pick (λ (r : Left). r.said.number ≡ number_of r.answer) (eqb (judged l x symbols sections work).number 0) _ _ (λ t. go w.visitor.unbuilt) (λ t. refl)
       where
-        go : (u : Unbuilt) → (finish_of l symbols sections w.work u).said.number ≡ number_of (finish_of l symbols sections w.work u).answer
+        go : (u : Option SectionId) → (finish_of l symbols sections w.work u).said.number ≡ number_of (finish_of l symbols sections w.work u).answer
         go None = refl
-        go (Lowest id) = refl
+        go (Some id) = refl
 
     pub refused-drops : (run_of l x symbols sections entry work).said.number ≢ 0 → Drops (run_of l x symbols sections entry work).answer → ⊥
     refused-drops u = go (run_of l x symbols sections entry work).answer (λ e. u (said-number ∙ e))
       where
-        go : (a : Answer) → number_of a ≢ 0 → Drops a → ⊥
-        go (Dropped m n) z d = z refl
-        go (Refused r) z d = d
+        go : (a : Result Dropped Refusal) → number_of a ≢ 0 → Drops a → ⊥
+        go (Ok e) z d = z refl
+        go (Err r) z d = d
 
-pub drops-nothing : (marks : List ℕ) (entry : EntryPoint) (work : List ℕ) (s : Linked) → (Removes (collect marks entry work) s → ⊥)
+pub drops-nothing : (marks : List ℕ) (entry : Option SymbolId) (work : List ℕ) (s : Linked) → (Removes (collect marks entry work) s → ⊥)
     → call_next (collect marks entry work) s ≡ s
 drops-nothing marks entry work s q =
     let r : Left = run_of s.table.link (lists_in s marks) s.table.symbols s.table.sections entry work in
@@ -151,7 +148,7 @@ drops-nothing marks entry work s q =
     ∙ ap (λ (y : List ℕ). linked (with_rows s.table (rows_of s.table.symbols y) r.link) s.inputs s.lists) b
     ∙ ap (λ (l : Link). linked (with_rows s.table (rows_of s.table.symbols s.table.sections) l) s.inputs s.lists) c
 
-pub plain-drops-nothing : (marks : List ℕ) (entry : EntryPoint) (work : List ℕ) (s : Linked) → (Removes (plain_collect marks entry work) s → ⊥)
+pub plain-drops-nothing : (marks : List ℕ) (entry : Option SymbolId) (work : List ℕ) (s : Linked) → (Removes (plain_collect marks entry work) s → ⊥)
     → call_next (plain_collect marks entry work) s ≡ s
 plain-drops-nothing marks entry work s q = go (compared marks entry work s)
   where

@@ -1,7 +1,8 @@
 -- The rows of inputs: a merge takes one, of kind object, just if it is accepted; a load, of kind library, just if it is answered "loaded"; no other call
 -- takes any.
 -- Assumes nothing.
-use Rattle.std.specs.Prelude.{ℕ, ◌+◌, ◌*◌, ◌≡◌, refl, List, [], ◌∷◌, eqb, ltb, get_or, length}
+use Rattle.shared_objects.specs.declared.Load.TheVariants.{Loaded}
+use Rattle.std.specs.Prelude.{ℕ, ◌+◌, ◌*◌, ◌≡◌, refl, List, [], ◌∷◌, eqb, ltb, get_or, length, Ok, Err}
 use Rattle.std.proofs.Common.{arith, ap, subst, ◌∙◌, eqb-true, ltb-true}
 use Rattle.std.proofs.lemmas.Bool.{eqb-false}
 use Rattle.cells.specs.Proof.Split.{by-test}
@@ -18,7 +19,7 @@ use Rattle.merge_sections.specs.Reserve as Reserve
 use Rattle.section_groups.specs.Group as Group
 use Rattle.section_groups.specs.Filter.{filter_of}
 use Rattle.merge_symbols.specs.Stage as Symbols
-use Rattle.merge_build.specs.declared.Plan.{Plan}
+use Rattle.merge_build.specs.Build.{Plan}
 use Rattle.merge_build.specs.Relocations.{table_for, limit_of, relocations_of}
 use Rattle.merge_build.specs.Build.{Object, State, RowState, lists_fit, plan_of, build_row_of, kept_of, commit_of, tabled_of, section_named, built_from, looked_of, section_of, build_of}
 use Rattle.merge_build.specs.Finish.{BuildLinks, input_row_of, building, after_build, input_stage, program_stage, built_of}
@@ -26,7 +27,6 @@ use Rattle.merge_stages.specs.Stages.{SymbolLinks, Tabled, build_object, symbol_
 use Rattle.merge_stages.specs.Stages as Stages
 use Rattle.merge_elf.specs.Merge as Merge
 use Rattle.merge_elf.specs.Merge.{merge_of, finished_of}
-use Rattle.shared_objects.specs.declared.Answer.TheVariants.{Loaded, Refused}
 use Rattle.shared_objects.specs.Stages as Library
 use Rattle.shared_objects.specs.Stages.{Links, library_cells, issued_of, library_of, contents_of, list_stage, lists_of, with_name}
 use Rattle.shared_objects.specs.Load as Shared
@@ -248,19 +248,19 @@ library-took entries file needs s x =
 -- a load took a row, and then it is answered "loaded"
 pub data LoadTook (k : Link) (t : Shared.Left) : Type 0 where
   none : t.cells.link.inputs ≡ k.inputs → LoadTook k t
-  one : t.answer ≡ Loaded → t.cells.link.inputs ≡ k.inputs + 1 → LoadTook k t
+  one : t.answer ≡ Ok Loaded → t.cells.link.inputs ≡ k.inputs + 1 → LoadTook k t
 
 loaded-took : (marks : List ℕ) (k : Link) (s : Links) → Took library_kind s.stage.number k s.inputs s.stage.link → LoadTook k (Shared.leave_loaded marks s)
 unfolding Shared.ended_as
 loaded-took marks k s p = by-test (eqb s.stage.number 0) (λ z. rw z (go p)) (λ z. rw z (stops (eqb-false _ _ z) p))
   where
     go : Took library_kind s.stage.number k s.inputs s.stage.link
-        → LoadTook k (Shared.leave_links marks s (record { link = s.stage.link; answer = Loaded }))
+        → LoadTook k (Shared.leave_links marks s (record { link = s.stage.link; answer = (Ok Loaded) }))
     go (none f) = none f
     go (one z f g) = one refl f
 
     stops : (s.stage.number ≡ 0 → ⊥) → Took library_kind s.stage.number k s.inputs s.stage.link
-        → LoadTook k (Shared.leave_links marks s (record { link = broken_of s.stage.link; answer = Refused (refused s.stage.number s.stage.place) }))
+        → LoadTook k (Shared.leave_links marks s (record { link = broken_of s.stage.link; answer = Err (refused s.stage.number s.stage.place) }))
     stops e (none f) = none f
     stops e (one z f g) = absurd (e z)
 

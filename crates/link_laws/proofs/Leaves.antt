@@ -1,6 +1,8 @@
 -- Theorems over specs/Leaves.antt.
 -- Assumes nothing.
-use Rattle.std.specs.Prelude.{ℕ, ◌≡◌, true, false, List, ◌≢◌, eqb}
+use Rattle.shared_objects.specs.declared.Load.TheVariants.{NotNeeded, Loaded}
+use Rattle.shared_objects.specs.declared.Load.{Load}
+use Rattle.std.specs.Prelude.{ℕ, ◌≡◌, true, false, List, ◌≢◌, eqb, Result, Ok, Err}
 use Rattle.std.proofs.Math.Path.{refl, sym, ap}
 use Rattle.std.proofs.Common.{◌∙◌, eqb-true}
 use Rattle.std.proofs.lemmas.Bool.{eqb-false}
@@ -15,8 +17,6 @@ use Rattle.section_groups.specs.AddGroup as AddGroup
 use Rattle.section_groups.specs.AddGroup.{answer_of, loaded_in, add_group_of}
 use Rattle.merge_stages.specs.Stages as Stages
 use Rattle.merge_elf.specs.Merge as Merge
-use Rattle.shared_objects.specs.declared.Answer.{Answer}
-use Rattle.shared_objects.specs.declared.Answer.TheVariants.{Loaded, NotNeeded, Refused}
 use Rattle.shared_objects.specs.Load as Shared
 use Rattle.shared_objects.specs.Load.{load_of}
 use Rattle.symbol_laws.specs.History as History
@@ -97,7 +97,7 @@ pub load-head : (o : Shared.Input) (marks : List ℕ) (s : Linked) → (Shared.h
 load-head o marks s u = ap (λ (x : Shared.Left). linked (Loads.table_in x.cells) x.cells.inputs x.cells.lists) (Unneeded.head-leaves o (library_in s marks) u)
 
 -- "an unneeded library answers "not needed" and changes nothing"
-pub load-unneeded : (o : Shared.Input) (marks : List ℕ) (s : Linked) → (call_left (load o marks) s).answer ≡ NotNeeded → call_next (load o marks) s ≡ s
+pub load-unneeded : (o : Shared.Input) (marks : List ℕ) (s : Linked) → (call_left (load o marks) s).answer ≡ Ok NotNeeded → call_next (load o marks) s ≡ s
 load-unneeded o marks s e =
     ap (λ (a : Shared.All). linked (Loads.table_in a) a.inputs a.lists) (Unneeded.not-needed-leaves o (library_in s marks) e)
 
@@ -128,7 +128,7 @@ load-breaks o marks s h u = go (load_of o (library_in s marks)).answer refl
     said-is : number_in (load_of o (library_in s marks)).said ≡ number_in (Shared.said_of (load_of o (library_in s marks)).answer)
     said-is = load_said o (library_in s marks)
 
-    go : (x : Answer) → (load_of o (library_in s marks)).answer ≡ x → (load_of o (library_in s marks)).cells.link.broken ≡ true
-    go Loaded e = absurd (u (said-is ∙ ap (λ (a : Answer). number_in (Shared.said_of a)) e))
-    go NotNeeded e = absurd (u (said-is ∙ ap (λ (a : Answer). number_in (Shared.said_of a)) e))
-    go (Refused r) e = Unneeded.refusal-breaks o (library_in s marks) r h e
+    go : (x : Result Load Refusal) → (load_of o (library_in s marks)).answer ≡ x → (load_of o (library_in s marks)).cells.link.broken ≡ true
+    go (Ok Loaded) e = absurd (u (said-is ∙ ap (λ (a : Result Load Refusal). number_in (Shared.said_of a)) e))
+    go (Ok NotNeeded) e = absurd (u (said-is ∙ ap (λ (a : Result Load Refusal). number_in (Shared.said_of a)) e))
+    go (Err r) e = Unneeded.refusal-breaks o (library_in s marks) r h e

@@ -1,6 +1,7 @@
 -- A loaded library in a history: its row and its lists stay as they were written, and every id in them stands for its name.
 -- Assumes nothing.
-use Rattle.std.specs.Prelude.{ℕ, ◌+◌, ◌*◌, ◌<◌, ◌≤◌, ◌≡◌, refl, List, [], ◌∷◌, ◌++◌, get_or, length, drop}
+use Rattle.shared_objects.specs.declared.Load.TheVariants.{Loaded}
+use Rattle.std.specs.Prelude.{ℕ, ◌+◌, ◌*◌, ◌<◌, ◌≤◌, ◌≡◌, refl, List, [], ◌∷◌, ◌++◌, get_or, length, drop, Ok}
 use Rattle.std.proofs.Common.{arith, le_refl, le_trans, sym, ap, ◌∙◌, length-drop, length-take-le, get_or-take, get_or-drop, ext_get_or}
 use Rattle.byte_slices.specs.Bytes.{part}
 use Rattle.link.specs.Bounds.{not_lent}
@@ -8,7 +9,6 @@ use Rattle.interner_laws.specs.Good.{Issued, Stays, count, name}
 use Rattle.interner_laws.proofs.Histories.{issued-stays}
 use Rattle.elf_object.specs.Rows.{rows_in, field}
 use Rattle.shared_objects.specs.Need.{input_kind_at, dependencies_at, undefined_at}
-use Rattle.shared_objects.specs.declared.Answer.TheVariants.{Loaded}
 use Rattle.shared_objects.specs.Load as Shared
 use Rattle.shared_objects.specs.Load.{name_of}
 use Rattle.load_laws.specs.Names.{Each, undefined_names, dependency_names}
@@ -78,7 +78,7 @@ module _ (o : Shared.Input) (a : Shared.All) (t : Linked) where
     pub listed : Each (store t.table) (dependencies o a) (dependency_names o.image o.needs (length o.needs) 0)
 
 module _ (s : Linked) (met : List (List ℕ)) (g : Lasting s met) (o : Shared.Input) (marks : List ℕ)
-    (ok : (call_left (load o marks) s).answer ≡ Loaded) (ls : List Call) where
+    (ok : (call_left (load o marks) s).answer ≡ Ok Loaded) (ls : List Call) where
   abbrev a : Shared.All
   a = library_in s marks
 

@@ -1,6 +1,6 @@
 -- A list of adds is its adds one by one, up to the first that is refused: the link, the log, ids, the refusal and its position (request 2026-05).
 -- Assumes nothing.
-use Rattle.std.specs.Prelude.{ℕ, ◌+◌, ◌≡◌, refl, Bool, true, false, cond, List, [], ◌∷◌, eqb, ltb, length}
+use Rattle.std.specs.Prelude.{ℕ, ◌+◌, ◌≡◌, refl, Bool, true, false, cond, List, [], ◌∷◌, eqb, ltb, length, Option}
 use Rattle.std.proofs.Common.{sym, ◌∙◌, subst}
 use Rattle.std.proofs.Math.Path.{ap}
 use Rattle.std.proofs.lemmas.Bool.{eqb-false}
@@ -15,7 +15,6 @@ use Rattle.interner.specs.Names.{Store, keep_of}
 use Rattle.upcoming_symbol.specs.declared.UpcomingSymbol.{UpcomingSymbol}
 use Rattle.upcoming_symbol.specs.Upcoming.{name_of, row_of}
 use Rattle.symbol.specs.declared.Row.{Row}
-use Rattle.symbol.specs.declared.SttFile.{SttFile}
 use Rattle.symbol_resolution.specs.declared.rows.Decision.{Decision}
 use Rattle.symbol_resolution.specs.Decide.{refusal_of}
 use Rattle.symbol_resolution.specs.Apply.{Table}
@@ -163,7 +162,7 @@ list-gives Q P conversion step adds ids s b c z p q =
 pub keep-broken : (s : Store) (id : Interned) (x : List ℕ) → (keep_of s id x).link.broken ≡ s.link.broken
 keep-broken s id x = keeps (λ (k : Store). k.link.broken ≡ s.link.broken) s id x refl (λ h r. refl)
 
-commit-same : (t : Table) (r : Row) (file : SttFile) (d : Decision) → (committed_of t r file d).table.link.broken ≡ t.link.broken
+commit-same : (t : Table) (r : Row) (file : Option Interned) (d : Decision) → (committed_of t r file d).table.link.broken ≡ t.link.broken
 unfolding committed_of
 commit-same t r file d =
     pick P (eqb (refusal_of d) 21) _ _ (λ a. refl)

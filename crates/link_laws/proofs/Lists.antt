@@ -1,6 +1,6 @@
 -- Laws of the definitions of Lists.antt.
 -- Assumes nothing.
-use Rattle.std.specs.Prelude.{ℕ, ◌≤◌, ◌≡◌, refl, List, [], ◌∷◌, length}
+use Rattle.std.specs.Prelude.{ℕ, ◌≤◌, ◌≡◌, refl, List, [], ◌∷◌, length, None}
 use Rattle.std.proofs.Common.{ap, ◌∙◌}
 use Rattle.link.specs.declared.Link.{Link}
 use Rattle.link.specs.declared.Interned.{Interned}
@@ -8,7 +8,6 @@ use Rattle.link.specs.Bounds.{not_lent}
 use Rattle.link.specs.Counts.{with_symbols}
 use Rattle.interner.specs.Names.{Store, keep_of}
 use Rattle.symbol.specs.declared.Row.{Row}
-use Rattle.symbol.specs.declared.SttFile.TheVariants as File
 use Rattle.symbol_resolution.specs.Apply.{Table}
 use Rattle.symbols.specs.Add.{add_row_of, decided_of}
 use Rattle.symbols.specs.Proof.AddOutcomes.{added-left}
@@ -33,8 +32,8 @@ use Rattle.link_laws.specs.Lists.{ListsLeft}
 
 module _ (count : Link → ℕ) (same : (s : Store) (id : Interned) (x : List ℕ) → count (keep_of s id x).link ≡ count s.link)
     (also : (l : Link) (n : ℕ) → count (with_symbols l n) ≡ count l) where
-  pub put_count : (t : Table) (r : Row) → count (add_row_of t r File.None).table.link ≡ count t.link
-  put_count t r = added-left t r File.None (λ (u : Table). count u.link ≡ count t.link) refl (applied-count count same also t r (decided_of t r File.None))
+  pub put_count : (t : Table) (r : Row) → count (add_row_of t r None).table.link ≡ count t.link
+  put_count t r = added-left t r None (λ (u : Table). count u.link ≡ count t.link) refl (applied-count count same also t r (decided_of t r None))
 
   parts-count : (ps : List Part) (s : State) → count (run_parts ps s).link ≡ count s.link
   parts-count [] s = refl

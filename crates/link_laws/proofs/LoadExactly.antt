@@ -1,6 +1,6 @@
 -- Of a load's head and of its elements: the answer is that of the first rule that holds, over names as every link has them.
 -- Assumes nothing.
-use Rattle.std.specs.Prelude.{ℕ, zero, suc, ◌+◌, ◌/◌, ◌≡◌, Bool, ◌&&◌, ◌||◌, List, [], ◌∷◌, ◌++◌, eqb, ltb, get_or, length}
+use Rattle.std.specs.Prelude.{ℕ, zero, suc, ◌+◌, ◌/◌, ◌≡◌, Bool, ◌&&◌, ◌||◌, List, [], ◌∷◌, ◌++◌, eqb, ltb, get_or, length, None}
 use Rattle.std.proofs.Math.Path.{refl, ap}
 use Rattle.std.proofs.Common.{sym, ◌∙◌, subst, eqb-true, eq-eqb}
 use Rattle.std.proofs.Math.Bool.{true, false, cond, not}
@@ -12,7 +12,6 @@ use Rattle.link.specs.Counts.{lent_of}
 use Rattle.link.specs.Judge.{refused, going_of}
 use Rattle.interner.specs.Names.{find_of, fits_of}
 use Rattle.interner_laws.specs.Good.{Good, Chained}
-use Rattle.symbol.specs.declared.SttFile.TheVariants as File
 use Rattle.symbol.specs.declared.Row.{Row}
 use Rattle.upcoming_symbol.specs.Upcoming.{external_row_of}
 use Rattle.symbol_resolution.specs.Holder.{holder_of}
@@ -189,7 +188,7 @@ module _ (o : Input) (s : Symbols.State) (i : ℕ) (c : Chained (state_store s))
     row = external_row_of now.link.gabi (record { 0 = id }) binding visibility
 
     abbrev want : Asked
-    want = asked_of binding visibility 0 id File.None defined
+    want = asked_of binding visibility 0 id None defined
 
     row-stands : Stands row want
     unfolding external_row_of

@@ -1,6 +1,9 @@
 -- Theorems over specs/LocalRows.antt.
 -- Assumes nothing.
-use Rattle.std.specs.Prelude.{ℕ, ◌+◌, ◌-◌, ◌*◌, ◌≤◌, ◌<◌, ◌≡◌, Bool, true, false, List, [], ◌∷◌, ◌++◌, ◌≢◌, eqb, leb, ltb, length, set, take, drop}
+use Rattle.gc_sections.specs.Run.{dropped}
+use Rattle.link.specs.declared.Refusal.{Refusal}
+use Rattle.gc_sections.specs.declared.Dropped.{Dropped}
+use Rattle.std.specs.Prelude.{ℕ, ◌+◌, ◌-◌, ◌*◌, ◌≤◌, ◌<◌, ◌≡◌, Bool, true, false, List, [], ◌∷◌, ◌++◌, ◌≢◌, eqb, leb, ltb, length, set, take, drop, Option, Result, None, Ok, Err}
 use Rattle.std.proofs.Common.{arith, le_refl, le_trans, sym, ◌∙◌, length-set, get_or-set_same, get_or-set_other, length-take-le, get_or-append-add, get_or-drop}
 use Rattle.std.proofs.Math.Path.{refl, ap, subst}
 use Rattle.std.proofs.Math.Bool.{false≢true}
@@ -14,7 +17,6 @@ use Rattle.link.specs.Judge.{change_of}
 use Rattle.link.specs.Bounds.{section_slots}
 use Rattle.interner.specs.Names.{room_of, added, keep_of}
 use Rattle.symbol.specs.declared.Row.{Row}
-use Rattle.symbol.specs.declared.SttFile.TheVariants as File
 use Rattle.symbol.specs.Codes.{successor}
 use Rattle.symbol.specs.Row.{field, state_at, visibility_code_at, set_row}
 use Rattle.symbol.specs.Hidden.{hide_code, passes, hide_if, pass_hidden}
@@ -29,9 +31,6 @@ use Rattle.symbols.specs.Calls.{Left, lent_of}
 use Rattle.symbols.specs.Add.{direct_holder_of, decided_of, committed_of, add_row_of}
 use Rattle.symbols.specs.Lookup.{section_symbol_at}
 use Rattle.symbols.specs.Remove.{Rows, rows_of, drop_section, remove_row_of, remove_of}
-use Rattle.gc_sections.specs.declared.EntryPoint.{EntryPoint}
-use Rattle.gc_sections.specs.declared.Answer.{Answer}
-use Rattle.gc_sections.specs.declared.Answer.TheVariants.{Dropped, Refused}
 use Rattle.gc_laws.proofs.Terms as CollectionLaws
 use Rattle.gc_laws.proofs.Paint.{set-falls}
 use Rattle.symbol_laws.proofs.View.{Named, Free, View, refused, kept, amended, replaced, appended, local, view, decided, held}
@@ -121,14 +120,14 @@ module _ (s t u : State) (a : Onto s t) (b : Onto t u) where
 module _ (s : State) (r : Row) where
   roomy : decided (table s) r ≡ Append → section_room s.link s.sections r ≡ true
   unfolding decided_of
-  roomy e = appended-room s.link s.symbols s.sections r (direct_holder_of s.link s.names s.symbols r.name File.None) e
+  roomy e = appended-room s.link s.symbols s.sections r (direct_holder_of s.link s.names s.symbols r.name None) e
 
   -- what isn't refused has a visibility that passes
   coded_by : (d : Decision) → decided (table s) r ≡ d → refusal_of d ≡ 0 → r.visibility < 5
   unfolding decided_of
   coded_by d e z =
       leb-false _ _
-      (decided-passes s.link s.symbols s.sections r (direct_holder_of s.link s.names s.symbols r.name File.None)
+      (decided-passes s.link s.symbols s.sections r (direct_holder_of s.link s.names s.symbols r.name None)
       (ap (λ (d : Decision). refusal_of d) e ∙ z)).0
 
 -- ---- the cells of sections' symbols
@@ -202,9 +201,9 @@ module _ (s : State) (g : Ready s) (w : Shown s) (r : Row) where
   abbrev Fine : Left → Type 0
   Fine o = Onto s (with_table s o.table)
 
-  decides : (d : Decision) → decided (table s) r ≡ d → Fine (committed_of (table s) r File.None d) → Fine (put_of s r)
+  decides : (d : Decision) → decided (table s) r ≡ d → Fine (committed_of (table s) r None d) → Fine (put_of s r)
   unfolding add_row_of
-  decides d e f = subst (λ (d : Decision). Fine (committed_of (table s) r File.None d)) (sym e) f
+  decides d e f = subst (λ (d : Decision). Fine (committed_of (table s) r None d)) (sym e) f
 
   one_more : Free (table s) r → successor s.link.symbols ≡ s.link.symbols + 1
   unfolding successor
@@ -402,7 +401,7 @@ module _ (s : State) (g : Ready s) (w : Shown s) (r : Row) where
   viewed : View (table s) r → Fine (put_of s r)
   unfolding committed_of apply_of
   viewed (refused n e z) =
-      decides (Refuse n) e (subst (λ (t : Table). Onto s (with_table s t)) (sym (commit-refused (table s) r File.None n z).0) (onto-none s w))
+      decides (Refuse n) e (subst (λ (t : Table). Onto s (with_table s t)) (sym (commit-refused (table s) r None n z).0) (onto-none s w))
   viewed (kept e k z o q p) = decides _ e (onto-none s w)
   viewed (amended e k z o q) = decides _ e (amended-onto k z)
   viewed (replaced e k z o) = decides _ e (replaced-onto k z (coded_by s r _ e refl))
@@ -606,13 +605,13 @@ module _ (s : Linked) (w : Shown s.table) where
       subst (λ (l : Link). section_symbol_at l (call_next (remove id) s).table.sections y ≤ symbol_in s.table y)
       (sym (remove-link s.table.link (rows_of s.table.symbols s.table.sections) id)) (remove-falls s.table id y))
 
-  module _ (marks : List ℕ) (entry : EntryPoint) (work : List ℕ) where
+  module _ (marks : List ℕ) (entry : Option SymbolId) (work : List ℕ) where
     abbrev after : State
     after = (call_next (collect marks entry work) s).table
 
-    collect-row : (a : Answer) → (call_left (collect marks entry work) s).answer ≡ a → (i : ℕ) → row_at after.symbols i ≡ row_at s.table.symbols i
-    collect-row (Dropped a b) e i =
-        let d = CollectionLaws.removes s.table.link (lists_in s marks) s.table.symbols s.table.sections entry work a b e in
+    collect-row : (a : Result Dropped Refusal) → (call_left (collect marks entry work) s).answer ≡ a → (i : ℕ) → row_at after.symbols i ≡ row_at s.table.symbols i
+    collect-row (Ok o) e i =
+        let d = CollectionLaws.removes s.table.link (lists_in s marks) s.table.symbols s.table.sections entry work o.sections o.symbols e in
         let cell : (f : ℕ) → f ≢ 0 → f < 8 → field after.symbols i f ≡ field s.table.symbols i f = λ f u h. d.stays i f h (λ z. absurd (u z)) in
         rw (
           cell 1 (λ z. omega arith) (omega arith),
@@ -623,15 +622,15 @@ module _ (s : Linked) (w : Shown s.table) where
           cell 6 (λ z. omega arith) (omega arith),
           cell 7 (λ z. omega arith) (omega arith),
         )
-    collect-row (Refused r) e i =
+    collect-row (Err r) e i =
         ap (λ (t : Linked). row_at t.table.symbols i)
         (drops-nothing marks entry work s (λ (d : Drops (call_left (collect marks entry work) s).answer). subst Drops e d))
 
-    collect-falls : (a : Answer) → (call_left (collect marks entry work) s).answer ≡ a → (y : ℕ) → symbol_in after y ≤ symbol_in s.table y
-    collect-falls (Dropped a b) e y =
+    collect-falls : (a : Result Dropped Refusal) → (call_left (collect marks entry work) s).answer ≡ a → (y : ℕ) → symbol_in after y ≤ symbol_in s.table y
+    collect-falls (Ok o) e y =
         let l : Link = s.table.link in
         let n : ℕ = length s.table.sections in
-        let d = CollectionLaws.removes l (lists_in s marks) s.table.symbols s.table.sections entry work a b e in
+        let d = CollectionLaws.removes l (lists_in s marks) s.table.symbols s.table.sections entry work o.sections o.symbols e in
         let p = run_past l s.table.symbols s.table.sections (lists_in s marks) entry work in
         let same : section_cell after.link (length after.sections) y ≡ section_cell l n y =
         ap (λ (m : Link). section_cell m (length after.sections) y) p.link ∙ ap (λ (m : ℕ). section_cell l m y) p.sections-long in
@@ -639,7 +638,7 @@ module _ (s : Linked) (w : Shown s.table) where
         (by-test (ltb (section_cell l n y) n) (λ b. rw (cell_at l n y (ltb-true _ _ b)) (d.entry_falls y))
         (λ b.
         omega (arith, get_or-eq_default after.sections 0 {n = section_cell l n y} (omega (arith, p.sections-long, ltb-false (section_cell l n y) n b)))))
-    collect-falls (Refused r) e y =
+    collect-falls (Err r) e y =
         let q : symbol_in after y ≡ symbol_in s.table y =
         ap (λ (t : Linked). symbol_in t.table y)
         (drops-nothing marks entry work s (λ (d : Drops (call_left (collect marks entry work) s).answer). subst Drops e d)) in
@@ -656,7 +655,7 @@ call-stay k s g w = go k
     quiet : (k : Call) → (Removes k s → ⊥) → Stay s.table (call_next k s).table
     quiet k q = onto-stay s.table (call_next k s).table (call-onto k s q g w)
 
-    plain-stay : (marks : List ℕ) (entry : EntryPoint) (work : List ℕ) → Compared marks entry work s → Stay s.table (call_next (plain_collect marks entry work) s).table
+    plain-stay : (marks : List ℕ) (entry : Option SymbolId) (work : List ℕ) → Compared marks entry work s → Stay s.table (call_next (plain_collect marks entry work) s).table
     plain-stay marks entry work (alike r t a) = subst (λ (x : Linked). Stay s.table x.table) (sym t) (collect-stay s w marks entry work)
     plain-stay marks entry work (many m u v e) = quiet (plain_collect marks entry work) (λ d. many-drops marks entry work s e d)
 

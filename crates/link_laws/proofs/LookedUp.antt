@@ -1,6 +1,9 @@
 -- Lookups over a history: what a symbol's id and a name's bytes give, and that what is removed is never found again.
 -- Assumes nothing.
-use Rattle.std.specs.Prelude.{ℕ, ◌+◌, ◌*◌, ◌/◌, ◌≤◌, ◌<◌, refl, Bool, List, [], ◌∷◌, ◌++◌, ◌≢◌, eqb, leb, length}
+use Rattle.gc_sections.specs.Run.{dropped}
+use Rattle.link.specs.declared.Refusal.{Refusal}
+use Rattle.gc_sections.specs.declared.Dropped.{Dropped}
+use Rattle.std.specs.Prelude.{ℕ, ◌+◌, ◌*◌, ◌/◌, ◌≤◌, ◌<◌, refl, Bool, List, [], ◌∷◌, ◌++◌, ◌≢◌, eqb, leb, length, Option, Result, Ok, Err}
 use Rattle.std.proofs.Common.{arith, le_refl, le_trans, sym, ap, subst, ◌∙◌, append-nil, get_or-set_same}
 use Rattle.std.proofs.Math.Path.{◌≡◌}
 use Rattle.std.proofs.Math.Seq.{get_or-set_other}
@@ -17,15 +20,11 @@ use Rattle.symbol.specs.Row.{state_at, symbol_at, set_row}
 use Rattle.symbol.specs.RowLaws.{symbol_of}
 use Rattle.symbol_resolution.specs.declared.rows.Holder.TheVariants.{Removed}
 use Rattle.symbol_resolution.specs.Holder.{global_at, held_by, holder_of}
-use Rattle.symbols.specs.declared.Found.TheVariants as Fd
 use Rattle.symbols.specs.Calls.{lent_of}
 use Rattle.link.specs.Said.{number_in}
 use Rattle.symbols.specs.Lookup.{not_found}
 use Rattle.symbols.specs.New.{null_row, null_of, new_of}
 use Rattle.symbols.specs.Remove.{Rows, rows_of, remove_row_of, remove_of}
-use Rattle.gc_sections.specs.declared.EntryPoint.{EntryPoint}
-use Rattle.gc_sections.specs.declared.Answer.{Answer}
-use Rattle.gc_sections.specs.declared.Answer.TheVariants.{Dropped, Refused}
 use Rattle.gc_laws.proofs.Terms as CollectionLaws
 use Rattle.symbol_laws.specs.History as History
 use Rattle.symbol_laws.specs.History.{State, Entry, only, rows, opened}
@@ -148,18 +147,18 @@ module _ (s : State) (g : Ready s) (id : SymbolId) where
 
 -- ---- a collection
 
-module _ (s : Linked) (g : Ready s.table) (marks : List ℕ) (entry : EntryPoint) (work : List ℕ) where
+module _ (s : Linked) (g : Ready s.table) (marks : List ℕ) (entry : Option SymbolId) (work : List ℕ) where
   abbrev on : State
   on = (call_next (collect marks entry work) s).table
 
-  abbrev answer : Answer
+  abbrev answer : Result Dropped Refusal
   answer = (call_left (collect marks entry work) s).answer
 
-  collect-gone : (a : Answer) → answer ≡ a → (i : ℕ) → state_at s.table.symbols i ≡ 2 → state_at on.symbols i ≡ 2
-  collect-gone (Dropped a b) e i z =
-      (CollectionLaws.removes s.table.link (lists_in s marks) s.table.symbols s.table.sections entry work a b e).stays i 0 (omega arith)
+  collect-gone : (a : Result Dropped Refusal) → answer ≡ a → (i : ℕ) → state_at s.table.symbols i ≡ 2 → state_at on.symbols i ≡ 2
+  collect-gone (Ok o) e i z =
+      (CollectionLaws.removes s.table.link (lists_in s marks) s.table.symbols s.table.sections entry work o.sections o.symbols e).stays i 0 (omega arith)
       (λ f y m q. absurd (m.present z)) ∙ z
-  collect-gone (Refused r) e i z =
+  collect-gone (Err r) e i z =
       subst (λ (t : Linked). state_at t.table.symbols i ≡ 2) (sym (drops-nothing marks entry work s (λ (d : Drops answer). subst Drops e d))) z
 
   collect-later : Later s.table on
@@ -228,7 +227,7 @@ module _ (s : Linked) (met : List (List ℕ)) (k : Lasting s met) (g : Ready s.t
   got-removed = Within.got-removed s.table fits (lasting-within s met k)
 
   pub got-present : (id : SymbolId) → id.0 < s.table.link.symbols → state_at s.table.symbols id.0 ≢ 2
-      → call_left (get id) s ≡ Fd.Row (symbol_at s.table.symbols id)
+      → call_left (get id) s ≡ Ok (symbol_at s.table.symbols id)
   got-present = Within.got-present s.table fits (lasting-within s met k)
 
   -- the accepted remove of a row, then any calls: its id isn't found, nor is its name
@@ -277,7 +276,7 @@ module _ (s : Linked) (past : List Entry) (met : List (List ℕ)) (g : Reached s
 
   pub interned-row : (x : Entry) (xs : List Entry) → only id_now past ≡ x ∷ xs
       → call_left (get_global (record { 0 = id_now })) (call_next (intern b) s)
-      ≡ Fd.Row (symbol_of (record { 0 = x.id }) (hidden_by (call_next (intern b) s).table.link.gabi (rows (x ∷ xs)) (first_by_rank (call_next (intern b) s).table.link.gabi x.row (rows xs))))
+      ≡ Ok (symbol_of (record { 0 = x.id }) (hidden_by (call_next (intern b) s).table.link.gabi (rows (x ∷ xs)) (first_by_rank (call_next (intern b) s).table.link.gabi x.row (rows xs))))
   interned-row x xs e =
       Within.lookup-row (call_next (intern b) s).table (past ++ []) interned.held (reached-within (call_next (intern b) s) _ _ interned) id_now x xs
       (ap (only id_now) (append-nil past) ∙ e)

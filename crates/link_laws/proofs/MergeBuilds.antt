@@ -17,7 +17,7 @@ use Rattle.interner_laws.specs.Good.{Chained, Good}
 use Rattle.interner_laws.proofs.Interns.{keep-good}
 use Rattle.elf_object.specs.Rows as Elf
 use Rattle.elf_object.specs.Judge.{range_ok}
-use Rattle.merge_build.specs.declared.Plan.{Plan}
+use Rattle.merge_build.specs.Build.{Plan}
 use Rattle.merge_stages.specs.Stages.{Tabled, build_object}
 use Rattle.merge_build.specs.Relocations as Relocations
 use Rattle.merge_build.specs.Relocations.{limit_of, symbol_ok, symbols_ok}

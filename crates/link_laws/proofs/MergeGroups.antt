@@ -9,7 +9,7 @@ use Rattle.link.specs.Judge.{refused}
 use Rattle.interner.specs.Names.{find_of}
 use Rattle.interner_laws.specs.Good.{Chained}
 use Rattle.elf_object.specs.Rows as Elf
-use Rattle.section_groups.specs.declared.Plan.{Plan}
+use Rattle.section_groups.specs.Group.{Plan}
 use Rattle.section_groups.specs.Group as Group
 use Rattle.section_groups.specs.Group.{shape_of, signature_of, repeated_of, mark_refusal, plan_with, plan_of, decided_of, signed_of, shaped_of, group_of, group_section_of, groups_of}
 use Rattle.symbol_laws.specs.History.{State, store}

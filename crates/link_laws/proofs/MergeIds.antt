@@ -23,7 +23,7 @@ use Rattle.symbol_resolution.specs.Decide as Decide
 use Rattle.symbol_resolution.specs.Decide.{decide_of}
 use Rattle.symbol_resolution.specs.Proof.Outcomes.{Ended, ended}
 use Rattle.elf_object.specs.Rows as Elf
-use Rattle.merge_symbols.specs.declared.plan.Planned.{Planned}
+use Rattle.merge_symbols.specs.Plan.{Planned}
 use Rattle.merge_symbols.specs.Plan as Plan
 use Rattle.merge_symbols.specs.Plan.{input_of, filtered_at, defines_of, rule_of, judged_of, rowed_of, read_of, planned_of}
 use Rattle.merge_stages.specs.Stages.{Tabled, symbol_object}

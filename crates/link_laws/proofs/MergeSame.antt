@@ -1,9 +1,8 @@
 -- Rules of a merge that ask the object, and rules that ask the work rows and the ids' cells: the same.
 -- Assumes nothing.
-use Rattle.std.specs.Prelude.{ℕ, ◌+◌, ◌/◌, ◌<◌, ◌≤◌, ◌≡◌, refl, Bool, true, false, cond, not, ◌&&◌, ◌||◌, List, [], ◌∷◌, ◌++◌, eqb, ltb, length}
+use Rattle.std.specs.Prelude.{ℕ, ◌+◌, ◌/◌, ◌<◌, ◌≤◌, ◌≡◌, refl, Bool, true, false, cond, not, ◌&&◌, ◌||◌, List, [], ◌∷◌, ◌++◌, eqb, ltb, length, None}
 use Rattle.std.proofs.Common.{arith, ap, ◌∙◌, ltb-true}
 use Rattle.cells.specs.Proof.Split.{by-test}
-use Rattle.symbol.specs.declared.SttFile.TheVariants as File
 use Rattle.upcoming_symbol.specs.declared.ElfSymbol.{ElfSymbol}
 use Rattle.merge_symbols.specs.Stage as Symbols
 use Rattle.merge_build.specs.Build as Build
@@ -88,7 +87,7 @@ module _ (o : Object) (a : All) (few : length o.headers / 8 ≤ 65280) (lent : l
     idless_on b g = eqb (cell_at (d o a).entries i 2) 4 || not (eqb (left b) 0) && (ltb (left b) 0xff00 && g)
 
     abbrev asked_on : Bool → Conversion → State → Asked
-    asked_on b c t = elf_asked (entry_on b) (id_in t x) File.None c (eqb (length x) 0)
+    asked_on b c t = elf_asked (entry_on b) (id_in t x) None c (eqb (length x) 0)
 
     abbrev rules_on : Bool → Bool → Conversion → Symbols.State → List Rule
     rules_on b g c s =

@@ -1,6 +1,6 @@
 -- Of a merge's symbols: each one's answer is that of its first rule that holds, over names as every link has them.
 -- Assumes nothing.
-use Rattle.std.specs.Prelude.{ℕ, zero, suc, ◌+◌, ◌/◌, ◌<◌, ◌≤◌, ◌≡◌, refl, Bool, true, false, cond, not, ◌&&◌, ◌||◌, List, [], ◌∷◌, ◌++◌, eqb, ltb, length}
+use Rattle.std.specs.Prelude.{ℕ, zero, suc, ◌+◌, ◌/◌, ◌<◌, ◌≤◌, ◌≡◌, refl, Bool, true, false, cond, not, ◌&&◌, ◌||◌, List, [], ◌∷◌, ◌++◌, eqb, ltb, length, None}
 use Rattle.std.proofs.Common.{arith, sym, ◌∙◌, subst, eqb-true, ltb-true, ltb-false}
 use Rattle.std.proofs.Math.Path.{ap}
 use Rattle.std.proofs.lemmas.Bool.{false≢true, eqb-false}
@@ -13,7 +13,6 @@ use Rattle.interner.specs.Names.{find_of, fits_of}
 use Rattle.interner_laws.specs.Good.{Chained}
 use Rattle.interner_laws.proofs.Find.{found, find-low}
 use Rattle.symbol.specs.declared.Row.{Row}
-use Rattle.symbol.specs.declared.SttFile.TheVariants as File
 use Rattle.upcoming_symbol.specs.declared.ElfSymbol.{ElfSymbol}
 use Rattle.upcoming_symbol.specs.Upcoming.{conversion_from, elf_row_of}
 use Rattle.symbol_resolution.specs.declared.rows.Decision.{Decision}
@@ -23,7 +22,7 @@ use Rattle.symbol_resolution.specs.Decide as Decide
 use Rattle.symbol_resolution.specs.Decide.{decide_of}
 use Rattle.elf_object.specs.Rows as Elf
 use Rattle.section_groups.specs.Filter.{section_after}
-use Rattle.merge_symbols.specs.declared.plan.Planned.{Planned}
+use Rattle.merge_symbols.specs.Plan.{Planned}
 use Rattle.merge_symbols.specs.Plan as Plan
 use Rattle.merge_symbols.specs.Plan.{input_of, filtered_at, defines_of, rule_of, judged_of, rowed_of, read_of, planned_of, place_of}
 use Rattle.merge_stages.specs.Stages.{Tabled, symbol_object}
@@ -168,7 +167,7 @@ module _ (d : Tabled) (work : List ℕ) (s : Symbols.State) (i : ℕ) (c : Chain
     row = elf_row_of (conversion_from cell) e (record { 0 = id }) empty file
 
     abbrev want : Asked
-    want = elf_asked e id File.None (conversion_in cell) empty
+    want = elf_asked e id None (conversion_in cell) empty
 
     row-stands : Stands row want
     unfolding elf_row_of

@@ -2,13 +2,14 @@
 -- Assumes nothing.
 use Prim.Native.Nat.{ℕ, zero, suc, ◌+◌, ◌<◌, ◌≤◌}
 use Rattle.std.proofs.Common.{arith, not-suc-le-zero, sym, ap, subst, ◌∙◌, inl}
-use Rattle.std.specs.Prelude.{◌≡◌, refl, true, List, [], ◌∷◌, ◌++◌, ◌≢◌, ◌↔◌, ◌⊎◌, eqb, leb, ltb, get_or, length}
+use Rattle.std.specs.Prelude.{◌≡◌, refl, true, List, [], ◌∷◌, ◌++◌, ◌≢◌, ◌↔◌, ◌⊎◌, eqb, leb, ltb, get_or, length, Ok, Result}
 use Rattle.std.proofs.Math.Logic.{inr}
 use borrow.Author.Tests.{eqb-true, eqb-false, leb-false, ltb-true, ltb-false}
 use Rattle.cells.specs.Proof.Split.{by-test}
 use Rattle.gabi.specs.StringTable.{has_name, name_at}
 use Rattle.gabi.specs.SymbolTable.{stb_global, shn_undef}
 use Rattle.link.specs.declared.Link.{Link}
+use Rattle.link.specs.declared.Refusal.{Refusal}
 use Rattle.link.specs.declared.SymbolId.{SymbolId}
 use Rattle.interner.specs.Names.{Store}
 use Rattle.interner_laws.specs.Good.{Issued, name, count, find}
@@ -18,7 +19,6 @@ use Rattle.symbol.specs.Row.{symbol_at}
 use Rattle.symbol_resolution.specs.declared.rows.Holder.{Holder}
 use Rattle.symbol_resolution.specs.declared.rows.Holder.TheVariants.{Unissued, Nobody, Removed, Known}
 use Rattle.symbol_resolution.specs.Holder.{holder_of}
-use Rattle.symbols.specs.declared.Found.TheVariants.{Row}
 use Rattle.symbols.specs.Lookup.{not_found, held_of}
 use Rattle.elf_object.specs.Rows.{rows_in, field, elf_at}
 use Rattle.shared_objects.specs.Need.{input_kind_at, dependencies_at, undefined_at}
@@ -67,7 +67,7 @@ pub record DependsOn (o : Shared.Input) (b : List ℕ) : Type 0 where
 -- "it defines, global or weak, a name undefined and strong in the table, or one that an earlier loaded library, not listing it as a dependency, names by an
 -- undefined symbol of binding 1, since defined or not": of the library o after the calls ks, begun with the link s0
 pub data NeededIn (s0 : Linked) (ks : List Call) (o : Shared.Input) : Type 0 where
-  by_table : (b : List ℕ) → DefinesName o b → (y : Symbol) → lookup b (run_calls ks s0) ≡ Row y → StrongUndefined y → NeededIn s0 ks o
+  by_table : (b : List ℕ) → DefinesName o b → (y : Symbol) → lookup b (run_calls ks s0) ≡ Ok y → StrongUndefined y → NeededIn s0 ks o
   by_library : (b : List ℕ) → DefinesName o b → (k : ℕ) (l : LoadedAt k ks s0) → LacksName l.library b → (DependsOn l.library (name_of o) → ⊥) → NeededIn s0 ks o
 
 -- ---- lists of ids and of the names that they stand for
@@ -199,10 +199,10 @@ module _ (o : Shared.Input) (b : List ℕ) where
 
 -- ---- the history
 
-no_row : {n p : ℕ} (y : Symbol) → not_found n p ≡ Row y → ⊥
+no_row : {n p : ℕ} (y : Symbol) → not_found n p ≡ Ok y → ⊥
 no_row y e = let z : ◌≡◌ {A = ℕ} 0 1 = cc in omega arith
 
-same_row : {x y : Symbol} → Row x ≡ Row y → x ≡ y
+same_row : {x y : Symbol} → ◌≡◌ {A = Result Symbol Refusal} (Ok x) (Ok y) → x ≡ y
 same_row e = cc
 
 known-issued : (l : Link) (names symbols : List ℕ) (i : ℕ) (row : SymbolId) → holder_of l names symbols (record { 0 = i }) ≡ Known row → i < l.names
@@ -234,13 +234,13 @@ module _ (s0 : Linked) (met : List (List ℕ)) (k0 : Lasting s0 met) (g0 : Ready
   needed_by l = dependency_names l.library.image l.library.needs (length l.library.needs) 0
 
   -- a loaded library's row at the end, and the names that it has
-  record Row·of (k : ℕ) (l : LoadedAt k ks s0) : Type 0 where
+  record Ok·of (k : ℕ) (l : LoadedAt k ks s0) : Type 0 where
     lacks : Each (store end.table) (undefined_at end.inputs end.lists k) (undefined_names l.library.entries l.library.image (rows_in l.library.entries) 0)
     needs : Each (store end.table) (dependencies_at end.inputs end.lists k) (dependency_names l.library.image l.library.needs (length l.library.needs) 0)
     kind : input_kind_at end.inputs k ≡ library_kind
     counted : k < end.table.link.inputs
 
-  row_of : (k : ℕ) (l : LoadedAt k ks s0) → Row·of k l
+  row_of : (k : ℕ) (l : LoadedAt k ks s0) → Ok·of k l
   row_of k l =
       let s : Linked = run_calls l.before s0 in
       let t : Linked = run_calls l.behind (call_next (load l.library l.marks) s) in

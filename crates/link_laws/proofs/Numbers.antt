@@ -1,6 +1,8 @@
 -- Every call answers a result or one of the refusals that document 01 gives it.
 -- Assumes nothing.
-use Rattle.std.specs.Prelude.{ℕ, ◌/◌, ◌≡◌, refl, Bool, true, cond, List, [], ◌∷◌, ◌≢◌, eqb, ltb, leb, length}
+use Rattle.symbol.specs.declared.Symbol.{Symbol}
+use Rattle.link.specs.declared.SectionId.{SectionId}
+use Rattle.std.specs.Prelude.{ℕ, ◌/◌, ◌≡◌, refl, Bool, true, cond, List, [], ◌∷◌, ◌≢◌, eqb, ltb, leb, length, Option, Result, None, Some}
 use Rattle.std.proofs.Common.{sym, ap, subst, ◌∙◌, ne_eqb}
 use Rattle.cells.specs.Proof.Split.{by-test}
 use Rattle.byte_slices.specs.Proof.Ways.{pick}
@@ -19,7 +21,6 @@ use Rattle.interner.specs.Calls as Names
 use Rattle.interner.specs.Calls.{intern_of, issue_of, resolve_of}
 use Rattle.symbol.specs.Row.{state_at}
 use Rattle.symbol.specs.declared.Row.{Row}
-use Rattle.symbol.specs.declared.SttFile.{SttFile}
 use Rattle.upcoming_symbol.specs.declared.UpcomingSymbol.{UpcomingSymbol}
 use Rattle.upcoming_symbol.specs.Judge.{in_range}
 use Rattle.upcoming_symbol.specs.Upcoming.{name_of, row_of}
@@ -29,7 +30,6 @@ use Rattle.symbol_resolution.specs.declared.rows.Decision.{Decision}
 use Rattle.symbol_resolution.specs.Holder.{holder_of}
 use Rattle.symbol_resolution.specs.Decide.{refusal_of}
 use Rattle.symbol_resolution.specs.Apply.{Table}
-use Rattle.symbols.specs.declared.Found.{Found}
 use Rattle.symbols.specs.Calls as Symbols
 use Rattle.symbols.specs.Calls.{lent_of}
 use Rattle.symbols.specs.Add.{empty_at, file_of, direct_holder_of, decided_of, committed_of, add_row_of, judge_add_of, add_of}
@@ -38,9 +38,6 @@ use Rattle.symbols.specs.New.{NewLeft, null_of, new_of}
 use Rattle.symbols.specs.Remove.{Rows, RemoveLeft, remove_of}
 use Rattle.symbols.specs.Lookup as Lookup
 use Rattle.symbols.specs.Lookup.{found_at, get_of, held_of, get_global_of}
-use Rattle.gc_sections.specs.declared.EntryPoint.{EntryPoint}
-use Rattle.gc_sections.specs.declared.Unbuilt.{Unbuilt}
-use Rattle.gc_sections.specs.declared.Unbuilt.TheVariants as Unbuilts
 use Rattle.gc_sections.specs.Reach as Reach
 use Rattle.gc_sections.specs.Run as Collection
 use Rattle.gc_sections.specs.Run.{judge_cells, judged, purge_of, sweep_of, finish_of, finished, collect_of, run_of}
@@ -98,7 +95,7 @@ judge-add-numbers l n u =
     P : Refusal → Type 0
     P r = Among add_numbers r.number
 
-commit-numbers : (t : Table) (r : Row) (file : SttFile) (d : Decision) → Among add_numbers (refusal_of d) → Among add_numbers (number_in (committed_of t r file d).said)
+commit-numbers : (t : Table) (r : Row) (file : Option Interned) (d : Decision) → Among add_numbers (refusal_of d) → Among add_numbers (number_in (committed_of t r file d).said)
 unfolding committed_of
 commit-numbers t r file d e =
     pick P (eqb (refusal_of d) 21) _ _ (λ a. refl) (λ a. pick P (eqb (refusal_of d) 0) _ _ (λ b. refl) (λ b. e))
@@ -137,7 +134,7 @@ get-numbers l symbols id =
     (λ a. pick P (leb l.symbols id.0) _ _ (λ b. refl) (λ b. pick P (eqb (state_at symbols id.0) 2) _ _ (λ c. refl) (λ c. refl)))
     (λ a. judge-gives (λ (r : Refusal). Among (call_numbers (get id)) r.number) (λ k. refl) refl l _)
   where
-    P : Found → Type 0
+    P : Result Symbol Refusal → Type 0
     P f = Among (call_numbers (get id)) (Lookup.refusal_of f).number
 
 global-numbers : (l : Link) (names symbols : List ℕ) (name : Interned) → Among (call_numbers (get_global name)) (Lookup.refusal_of (get_global_of l names symbols name)).number
@@ -147,7 +144,7 @@ global-numbers l names symbols name =
     (λ a. held (holder_of l names symbols name))
     (λ a. judge-gives (λ (r : Refusal). Among (call_numbers (get_global name)) r.number) (λ k. refl) refl l _)
   where
-    P : Found → Type 0
+    P : Result Symbol Refusal → Type 0
     P f = Among (call_numbers (get_global name)) (Lookup.refusal_of f).number
 
     held : (h : Holder) → P (held_of symbols name h)
@@ -158,7 +155,7 @@ global-numbers l names symbols name =
 
 -- ---- collection
 
-collect-numbers : (l : Link) (x : Collection.Lists) (symbols sections : List ℕ) (entry : EntryPoint) (work : List ℕ)
+collect-numbers : (l : Link) (x : Collection.Lists) (symbols sections : List ℕ) (entry : Option SymbolId) (work : List ℕ)
     → Among (call_numbers (collect x.marks entry work)) (run_of l x symbols sections entry work).said.number
 unfolding run_of collect_of finished sweep_of purge_of Collection.judge_of judge_cells
 collect-numbers l x symbols sections entry work =
@@ -182,11 +179,11 @@ collect-numbers l x symbols sections entry work =
     Q : Refusal → Type 0
     Q r = Among (call_numbers (collect x.marks entry work)) r.number
 
-    go : (u : Unbuilt) → P (finish_of l symbols sections w.work u)
-    go Unbuilts.None = refl
-    go (Unbuilts.Lowest id) = refl
+    go : (u : Option SectionId) → P (finish_of l symbols sections w.work u)
+    go None = refl
+    go (Some id) = refl
 
-plain-numbers : (marks : List ℕ) (entry : EntryPoint) (work : List ℕ) (s : Linked)
+plain-numbers : (marks : List ℕ) (entry : Option SymbolId) (work : List ℕ) (s : Linked)
     → one_of (call_number (plain_collect marks entry work) s) (0 ∷ call_numbers (plain_collect marks entry work)) ≡ true
 plain-numbers marks entry work s = go (compared marks entry work s)
   where

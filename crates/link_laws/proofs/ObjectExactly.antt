@@ -2,7 +2,7 @@
 -- Assumes nothing.
 use Prim.Native.Nat.{ℕ, zero, suc, ◌+◌, ◌/◌}
 use native.Mathlib.Omega.{arith}
-use Rattle.std.specs.Prelude.{◌≡◌, refl, Bool, true, false, cond, not, ◌||◌, List, ltb, length}
+use Rattle.std.specs.Prelude.{◌≡◌, refl, Bool, true, false, cond, not, ◌||◌, List, ltb, length, None}
 use Rattle.std.proofs.Math.Path.{sym}
 use Rattle.std.proofs.Common.{ap, ◌∙◌}
 use Rattle.std.proofs.Math.Dec.{eqb}
@@ -10,7 +10,6 @@ use borrow.Author.Tests.{eqb-true, lt-ltb, le-ltb}
 use Rattle.cells.specs.Proof.Split.{by-test}
 use Rattle.link.specs.declared.Refusal.{Refusal}
 use Rattle.link.specs.Judge.{refused}
-use Rattle.symbol.specs.declared.SttFile.TheVariants as File
 use Rattle.upcoming_symbol.specs.declared.UpcomingSymbol.TheVariants.{Elf}
 use Rattle.elf_object.specs.Judge as Object
 use Rattle.elf_object.specs.Judge.{range_ok, contents_ok, header_ok, entry_ok, first_bad, bad_header, bad_entry}
@@ -69,7 +68,7 @@ four false y z w = refl
 entry-ok : (entries : List ℕ) (i : ℕ) → entry_ok entries i ≡ not (is_bad_entry entries i)
 unfolding entry_ok
 entry-ok entries i =
-    rw (not-below i 65535, range-is (Elf (entry_at entries i) (record { 0 = 0 }) File.None))
+    rw (not-below i 65535, range-is (Elf (entry_at entries i) (record { 0 = 0 }) None))
     (by-test (ltb i 65535) (λ e. rw e) (λ e. rw e))
 
 module _ (entries : List ℕ) where

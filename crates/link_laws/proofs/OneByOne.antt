@@ -1,6 +1,7 @@
 -- Request 2026-05: "The table, ids and refusal equal those of adding one by one and stopping at the first refused add; that add's position is returned."
 -- Assumes nothing.
-use Rattle.std.specs.Prelude.{ℕ, ◌+◌, ◌<◌, ◌≤◌, ◌≡◌, true, false, cond, eqb, set, length}
+use Rattle.link.specs.declared.Interned.{Interned}
+use Rattle.std.specs.Prelude.{ℕ, ◌+◌, ◌<◌, ◌≤◌, ◌≡◌, true, false, cond, eqb, set, length, Option}
 use native.Mathlib.Omega.{arith}
 use Rattle.std.proofs.Math.Path.{refl, ap}
 use Rattle.std.proofs.Common.{sym, ◌∙◌, eqb-true, le-ltb, lt-ltb}
@@ -12,7 +13,6 @@ use Rattle.link.specs.declared.Refusal.{Refusal}
 use Rattle.link.specs.Judge.{refused, none}
 use Rattle.link.specs.Said.{Said, accepted, refusing, number_in, value_in}
 use Rattle.symbol.specs.declared.Row.{Row}
-use Rattle.symbol.specs.declared.SttFile.{SttFile}
 use Rattle.upcoming_symbol.specs.declared.UpcomingSymbol.{UpcomingSymbol}
 use Rattle.upcoming_symbol.specs.Upcoming.{name_of, row_of}
 use Rattle.symbol_resolution.specs.declared.rows.Decision.{Decision}
@@ -65,7 +65,7 @@ pub record OneByOne (conversion adds ids : List ℕ) (s : Linked) : Type 0 where
 
 -- ---- an add that has number 0 is accepted
 
-commit-said : (t : Table) (r : Row) (file : SttFile) (d : Decision) → number_in (committed_of t r file d).said ≡ 0 → (committed_of t r file d).said ≡ accepted (value_in (committed_of t r file d).said)
+commit-said : (t : Table) (r : Row) (file : Option Interned) (d : Decision) → number_in (committed_of t r file d).said ≡ 0 → (committed_of t r file d).said ≡ accepted (value_in (committed_of t r file d).said)
 unfolding committed_of
 commit-said t r file d =
     pick P (eqb (refusal_of d) 21) _ _ (λ a z. absurd (differ z))

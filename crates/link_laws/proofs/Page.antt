@@ -19,7 +19,9 @@
 --   earlier k s   s; of a list of adds, the link after those of its adds that were accepted (Calls.antt)
 -- Witness.antt has a history that meets the premises.
 -- Assumes nothing.
-use Rattle.std.specs.Prelude.{ℕ, ◌+◌, ◌<◌, ◌≤◌, ◌≡◌, Bool, true, false, cond, not, ◌&&◌, List, [], ◌∷◌, ◌++◌, ◌≢◌, ◌↔◌, eqb, length}
+use Rattle.shared_objects.specs.declared.Load.TheVariants.{NotNeeded}
+use Rattle.gc_sections.specs.Run.{dropped}
+use Rattle.std.specs.Prelude.{ℕ, ◌+◌, ◌<◌, ◌≤◌, ◌≡◌, Bool, true, false, cond, not, ◌&&◌, List, [], ◌∷◌, ◌++◌, ◌≢◌, ◌↔◌, eqb, length, Option, None, Some, Ok}
 use Rattle.std.proofs.Common.{sym, ap, ◌∙◌, subst}
 use Rattle.gabi.specs.SymbolTable.{stv_default, stv_hidden}
 use Rattle.gabi.specs.Visibility.{combined}
@@ -30,18 +32,13 @@ use Rattle.link.specs.Bounds.{not_lent}
 use Rattle.link.specs.Said.{number_in}
 use Rattle.symbol.specs.Row.{symbol_at}
 use Rattle.symbol.specs.RowLaws.{symbol_of}
-use Rattle.symbols.specs.declared.Found.TheVariants.{Row}
-use Rattle.symbols.specs.declared.SectionSymbol.TheVariants as Section
 use Rattle.symbols.specs.New.{new_of}
 use Rattle.symbols.specs.Lookup.{not_found}
-use Rattle.shared_objects.specs.declared.Answer.TheVariants.{NotNeeded}
 use Rattle.shared_objects.specs.Load as Shared
 use Rattle.archive_index.specs.Index.{count_of, offset_of, name_of}
 use Rattle.archive_laws.specs.Rounds as Rounds
 use Rattle.archive_laws.specs.Runs.{Run, start_run}
 use Rattle.archive_laws.proofs.PassList.{is_in, without, first_seen, offered, Over, among_in}
-use Rattle.gc_sections.specs.declared.EntryPoint.{EntryPoint}
-use Rattle.gc_sections.specs.declared.Answer.TheVariants.{Dropped}
 use Rattle.gc_laws.proofs.Terms as CollectionLaws
 use Rattle.gc_laws.specs.Reached as Roots
 use Rattle.merge_stages.specs.Stages as Stages
@@ -164,7 +161,7 @@ module _ (key : ℕ) (gabi : Bool) (bytes names symbols sections inputs lists : 
 
     -- in the gABI profile "A name without a definition thus holds its first accepted strong reference, if there is one" (first_by_rank), and hidden is apart
     pub demand-3a : (b : List ℕ) (x : Entry) (xs : List Entry) → adds b ks s0 ≡ x ∷ xs
-        → lookup b end ≡ Row (symbol_of (record { 0 = x.id }) (hidden_by gabi (rows (x ∷ xs)) (first_by_rank gabi x.row (rows xs))))
+        → lookup b end ≡ Ok (symbol_of (record { 0 = x.id }) (hidden_by gabi (rows (x ∷ xs)) (first_by_rank gabi x.row (rows xs))))
     demand-3a b = Terms.lookup-row key gabi bytes names symbols sections inputs lists new ks quiet lent (id_of b end).0
 
     pub content-3a : (b : List ℕ) (x : Entry) (xs : List Entry) → adds b ks s0 ≡ x ∷ xs → SameButHidden (row_at end.table.symbols x.id) (first_by_rank gabi x.row (rows xs))
@@ -179,7 +176,7 @@ module _ (key : ℕ) (gabi : Bool) (bytes names symbols sections inputs lists : 
     none-3a b = Terms.lookup-none key gabi bytes names symbols sections inputs lists new ks quiet lent (id_of b end).0
 
     -- an id that was given out has its row; one that wasn't gives 21; so does one that is removed, for ever
-    pub given : (i : SymbolId) → i.0 < end.table.link.symbols → call_left (get i) end ≡ Row (symbol_at end.table.symbols i)
+    pub given : (i : SymbolId) → i.0 < end.table.link.symbols → call_left (get i) end ≡ Ok (symbol_at end.table.symbols i)
     given = Terms.get_present key gabi bytes names symbols sections inputs lists new ks quiet lent
 
     pub absent : (i : SymbolId) → end.table.link.symbols ≤ i.0 → call_left (get i) end ≡ not_found 21 i.0
@@ -194,20 +191,20 @@ module _ (key : ℕ) (gabi : Bool) (bytes names symbols sections inputs lists : 
     removed-name b = Terms.lookup-removed key gabi bytes names symbols sections inputs lists new ks quiet lent (id_of b end).0
 
     -- a section's symbol is its last local `Section` row, and there is none where there is no such row (LocalSection, LastOf, SectionSymbols.antt: by `get`)
-    pub section-symbol : (y : SectionId) (i : SymbolId) → (call_left (section_symbol y) end ≡ Section.Symbol i) ↔ LastOf end y i
+    pub section-symbol : (y : SectionId) (i : SymbolId) → (call_left (section_symbol y) end ≡ Some i) ↔ LastOf end y i
     section-symbol = Terms.section-last key gabi bytes names symbols sections inputs lists new ks quiet lent
 
-    pub section-none : (y : SectionId) → (call_left (section_symbol y) end ≡ Section.None) ↔ ((i : SymbolId) → LocalSection end y i → ⊥)
+    pub section-none : (y : SectionId) → (call_left (section_symbol y) end ≡ None) ↔ ((i : SymbolId) → LocalSection end y i → ⊥)
     section-none = Terms.section-none key gabi bytes names symbols sections inputs lists new ks quiet lent
 
     -- "`remove` of any `Section` row drops that entry"; after that, and after any other calls, those added since count (Terms.section-newest)
-    pub section-removed : (y : SectionId) (i : SymbolId) → call_number (remove i) end ≡ 0 → SectionRow end y i → call_left (section_symbol y) (call_next (remove i) end) ≡ Section.None
+    pub section-removed : (y : SectionId) (i : SymbolId) → call_number (remove i) end ≡ 0 → SectionRow end y i → call_left (section_symbol y) (call_next (remove i) end) ≡ None
     section-removed = Terms.section-removed key gabi bytes names symbols sections inputs lists new ks lent
 
     -- ---- as-needed: "not needed" is answered exactly to a library that isn't
 
     pub needed : (o : Shared.Input) (marks : List ℕ) → (Shared.head_in o (library_in end marks)).number ≡ 0 → o.asneeded ≡ true
-        → ((call_left (load o marks) end).answer ≡ NotNeeded) ↔ (NeededIn s0 ks o → ⊥)
+        → ((call_left (load o marks) end).answer ≡ Ok NotNeeded) ↔ (NeededIn s0 ks o → ⊥)
     needed o marks h a =
         let same = Terms.needed-in key gabi bytes names symbols sections inputs lists new ks lent o in (
           λ e n. (Terms.not-needed-only key gabi bytes names symbols sections inputs lists new ks quiet o marks e).2 (same.1 n),
@@ -298,7 +295,7 @@ module _ (key : ℕ) (gabi : Bool) (bytes names symbols sections inputs lists : 
         (x : ObjectSections.ObjectSection o work ids end then n kind named) → AllStand o end (signatures ks s0) then named x.given
     relocation-symbols = Terms.symbols-stand key gabi bytes names symbols sections inputs lists new ks lent
 
-    module _ (marks : List ℕ) (entry : EntryPoint) (work : List ℕ) where
+    module _ (marks : List ℕ) (entry : Option SymbolId) (work : List ℕ) where
       abbrev pub Before : ℕ → Type 0
       Before = CollectionLaws.Before end.table.link (lists_in end marks) end.table.symbols end.table.sections entry work
 
@@ -308,7 +305,7 @@ module _ (key : ℕ) (gabi : Bool) (bytes names symbols sections inputs lists : 
       abbrev pub Reached : ℕ → Type 0
       Reached = Roots.Reached end.table.link (lists_in end marks) end.table.symbols end.table.sections entry
 
-      pub demand-3c : (a c : ℕ) → (call_left (collect marks entry work) end).answer ≡ Dropped a c → (y : ℕ) → After y ↔ Reached y
+      pub demand-3c : (a c : ℕ) → (call_left (collect marks entry work) end).answer ≡ Ok (dropped a c) → (y : ℕ) → After y ↔ Reached y
       demand-3c a c e y =
           let k = Terms.demand-3c key gabi bytes names symbols sections inputs lists new ks quiet marks entry work a c e in (k.reached y, k.kept y)
 
@@ -323,7 +320,7 @@ module _ (key : ℕ) (gabi : Bool) (bytes names symbols sections inputs lists : 
 
     pub grown-3a : (b : List ℕ) (x : Entry) (xs : List Entry)
         → Terms.grown_adds key gabi bytes names symbols sections inputs lists new ts calm lent (id_of b grown_end).0 ≡ x ∷ xs
-        → lookup b grown_end ≡ Row (symbol_of (record { 0 = x.id }) (hidden_by gabi (rows (x ∷ xs)) (first_by_rank gabi x.row (rows xs))))
+        → lookup b grown_end ≡ Ok (symbol_of (record { 0 = x.id }) (hidden_by gabi (rows (x ∷ xs)) (first_by_rank gabi x.row (rows xs))))
     grown-3a b = Terms.grown-row key gabi bytes names symbols sections inputs lists new ts calm lent (id_of b grown_end).0
 
     pub grown-hidden : (b : List ℕ) (x : Entry) (xs : List Entry)

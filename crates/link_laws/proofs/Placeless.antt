@@ -1,6 +1,7 @@
 -- 22 stands for a broken link alone; it, 20, 23, 25, 26 and 30 come at place 0.
 -- Assumes nothing.
-use Rattle.std.specs.Prelude.{ℕ, ◌/◌, ◌≡◌, Bool, true, false, List, [], ◌∷◌, ◌≢◌, eqb, ltb, leb, length}
+use Rattle.link.specs.declared.SectionId.{SectionId}
+use Rattle.std.specs.Prelude.{ℕ, ◌/◌, ◌≡◌, Bool, true, false, List, [], ◌∷◌, ◌≢◌, eqb, ltb, leb, length, Option, None, Some}
 use Rattle.std.proofs.Math.Path.{refl}
 use Rattle.std.proofs.Common.{sym, ap, ◌∙◌, eqb-true}
 use Rattle.std.proofs.lemmas.Bool.{false≢true}
@@ -40,9 +41,6 @@ use Rattle.merge_elf.specs.Merge.{work_refusal, rows_refusal, check_of, head_in}
 use Rattle.shared_objects.specs.Head as Head
 use Rattle.shared_objects.specs.Load as Shared
 use Rattle.load_laws.proofs.NeedTerms as Unneeded
-use Rattle.gc_sections.specs.declared.EntryPoint.{EntryPoint}
-use Rattle.gc_sections.specs.declared.Unbuilt.{Unbuilt}
-use Rattle.gc_sections.specs.declared.Unbuilt.TheVariants as Unbuilts
 use Rattle.gc_sections.specs.Reach as Reach
 use Rattle.gc_sections.specs.Run as Collection
 use Rattle.gc_sections.specs.Run.{judge_cells, judged, purge_of, sweep_of, finish_of, finished, collect_of, run_of}
@@ -172,7 +170,7 @@ merge-head-only o a =
     P : Refusal → Type 0
     P r = r.number ≡ 22 → a.stage.link.broken ≡ true
 
-collect-only : (l : Link) (x : Collection.Lists) (symbols sections : List ℕ) (entry : EntryPoint) (work : List ℕ)
+collect-only : (l : Link) (x : Collection.Lists) (symbols sections : List ℕ) (entry : Option SymbolId) (work : List ℕ)
     → (run_of l x symbols sections entry work).said.number ≡ 22 → l.broken ≡ true
 unfolding run_of collect_of finished sweep_of purge_of Collection.judge_of judge_cells
 collect-only l x symbols sections entry work =
@@ -196,9 +194,9 @@ collect-only l x symbols sections entry work =
     Q : Refusal → Type 0
     Q r = r.number ≡ 22 → l.broken ≡ true
 
-    end : (u : Unbuilt) → P (finish_of l symbols sections w.work u)
-    end Unbuilts.None e = differ 0 22 refl e
-    end (Unbuilts.Lowest id) e = differ 21 22 refl e
+    end : (u : Option SectionId) → P (finish_of l symbols sections w.work u)
+    end None e = differ 0 22 refl e
+    end (Some id) e = differ 21 22 refl e
 
 load-head-only : (o : Shared.Input) (a : Shared.All) → (Shared.head_in o a).number ≡ 22 → a.link.broken ≡ true
 unfolding Head.check_of Head.after_rows Head.name_refusal

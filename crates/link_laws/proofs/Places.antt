@@ -1,6 +1,7 @@
 -- "Each returns number and place (symbol, section or row; else 0, as for a direct add but 21)".
 -- Assumes nothing.
-use Rattle.std.specs.Prelude.{ℕ, ◌≡◌, refl, List, ◌≢◌, eqb}
+use Rattle.link.specs.declared.Interned.{Interned}
+use Rattle.std.specs.Prelude.{ℕ, ◌≡◌, refl, List, ◌≢◌, eqb, Option}
 use Rattle.std.proofs.Common.{eqb-true}
 use Rattle.std.proofs.lemmas.Bool.{eqb-false}
 use Rattle.byte_slices.specs.Proof.Ways.{pick}
@@ -10,7 +11,6 @@ use Rattle.link.specs.declared.Refusal.{Refusal}
 use Rattle.link.specs.Said.{number_in, place_in}
 use Rattle.link.specs.Judge.{change_of}
 use Rattle.symbol.specs.declared.Row.{Row}
-use Rattle.symbol.specs.declared.SttFile.{SttFile}
 use Rattle.upcoming_symbol.specs.declared.UpcomingSymbol.{UpcomingSymbol}
 use Rattle.upcoming_symbol.specs.Judge.{in_range}
 use Rattle.upcoming_symbol.specs.Upcoming.{name_of, row_of}
@@ -32,7 +32,7 @@ judge-place l n u =
     P : Refusal → Type 0
     P r = r.number ≢ 0 → r.place ≡ 0
 
-commit-place : (t : SymbolRows.Table) (r : Row) (file : SttFile) (d : Decision) → number_in (committed_of t r file d).said ≢ 21 → place_in (committed_of t r file d).said ≡ 0
+commit-place : (t : SymbolRows.Table) (r : Row) (file : Option Interned) (d : Decision) → number_in (committed_of t r file d).said ≢ 21 → place_in (committed_of t r file d).said ≡ 0
 unfolding committed_of
 commit-place t r file d =
     pick P (eqb (refusal_of d) 21) _ _ (λ a z. absurd (z refl)) (λ a. pick P (eqb (refusal_of d) 0) _ _ (λ b z. refl) (λ b z. refl))

@@ -1,6 +1,8 @@
 -- The plain collection as a call: it leaves and answers what the first one does, or is refused with 30.
 -- Assumes nothing.
-use Rattle.std.specs.Prelude.{ℕ, ◌<◌, ◌≡◌, refl, List, ◌≢◌, eqb, ltb}
+use Rattle.link.specs.declared.SectionId.{SectionId}
+use Rattle.link.specs.declared.SymbolId.{SymbolId}
+use Rattle.std.specs.Prelude.{ℕ, ◌<◌, ◌≡◌, refl, List, ◌≢◌, eqb, ltb, Option, None, Some, Err}
 use Rattle.std.proofs.Common.{sym, ap, subst, ◌∙◌, eqb-true, ne_eqb, ltb-true, ltb-false}
 use Rattle.std.proofs.lemmas.Bool.{eqb-false}
 use Rattle.cells.specs.Proof.Split.{by-test}
@@ -9,10 +11,6 @@ use Rattle.link.specs.declared.Link.{Link}
 use Rattle.link.specs.declared.Refusal.{Refusal}
 use Rattle.link.specs.Judge.{refused}
 use Rattle.symbols.specs.Remove.{rows_of}
-use Rattle.gc_sections.specs.declared.EntryPoint.{EntryPoint}
-use Rattle.gc_sections.specs.declared.Unbuilt.{Unbuilt}
-use Rattle.gc_sections.specs.declared.Unbuilt.TheVariants as Unbuilts
-use Rattle.gc_sections.specs.declared.Answer.TheVariants.{Refused}
 use Rattle.gc_sections.specs.Run.{Left, left, Lists, Said, judged, finish_of, sweep_of, purge_of, run_of}
 use Rattle.plain_collector.specs.Visit.{Visited, reached_of}
 use Rattle.plain_collector.specs.Run.{judged_plain, finished, plain_of}
@@ -25,7 +23,7 @@ use Rattle.merge_laws.specs.Calls.{Linked, linked}
 use Rattle.link_laws.specs.Calls.{collect, plain_collect, lists_in, Drops, call_left, call_refusal, call_next}
 
 -- no collection changes the counts
-linked-plain : (l : Link) (x : Lists) (symbols sections : List ℕ) (entry : EntryPoint) (work : List ℕ) → (plain_of l x symbols sections entry work).link ≡ l
+linked-plain : (l : Link) (x : Lists) (symbols sections : List ℕ) (entry : Option SymbolId) (work : List ℕ) → (plain_of l x symbols sections entry work).link ≡ l
 unfolding plain_of finished sweep_of purge_of
 linked-plain l x symbols sections entry work =
     pick (λ (o : Left). o.link ≡ l) (eqb (judged_plain l x symbols sections work).number 0) _ _ (λ a. go v.unbuilt) (λ a. refl)
@@ -33,16 +31,16 @@ linked-plain l x symbols sections entry work =
     v : Visited
     v = reached_of l x.bytes x.names symbols sections x.lists x.marks entry work
 
-    go : (u : Unbuilt) → (finish_of l symbols sections v.work u).link ≡ l
-    go Unbuilts.None = refl
-    go (Unbuilts.Lowest id) = refl
+    go : (u : Option SectionId) → (finish_of l symbols sections v.work u).link ≡ l
+    go None = refl
+    go (Some id) = refl
 
-first-refused : (l : Link) (x : Lists) (symbols sections : List ℕ) (entry : EntryPoint) (work : List ℕ) → (judged l x symbols sections work).number ≢ 0
-    → run_of l x symbols sections entry work ≡ left symbols sections work l (Refused (judged l x symbols sections work))
+first-refused : (l : Link) (x : Lists) (symbols sections : List ℕ) (entry : Option SymbolId) (work : List ℕ) → (judged l x symbols sections work).number ≢ 0
+    → run_of l x symbols sections entry work ≡ left symbols sections work l (Err (judged l x symbols sections work))
 unfolding run_of
 first-refused l x symbols sections entry work ne = rw (ne_eqb _ _ ne)
 
-module _ (marks : List ℕ) (entry : EntryPoint) (work : List ℕ) (s : Linked) where
+module _ (marks : List ℕ) (entry : Option SymbolId) (work : List ℕ) (s : Linked) where
   abbrev l : Link
   l = s.table.link
 
@@ -62,7 +60,7 @@ module _ (marks : List ℕ) (entry : EntryPoint) (work : List ℕ) (s : Linked) 
   second = call_left (plain_collect marks entry work) s
 
   abbrev Thirty : Type 0
-  Thirty = second ≡ left symbols sections work l (Refused (refused 30 0))
+  Thirty = second ≡ left symbols sections work l (Err (refused 30 0))
 
   pub data Compared : Type 0 where
     alike : call_refusal (plain_collect marks entry work) s ≡ call_refusal (collect marks entry work) s
@@ -80,7 +78,7 @@ module _ (marks : List ℕ) (entry : EntryPoint) (work : List ℕ) (s : Linked) 
       ∙ ap (λ (k : Link). linked (with_rows s.table (rows_of first.symbols first.sections) k) s.inputs s.lists) a.link)
       a.answer
 
-  same_head : (n : ℕ) → head.number ≡ n → n ≢ 0 → second ≡ left symbols sections work l (Refused head) → Compared
+  same_head : (n : ℕ) → head.number ≡ n → n ≢ 0 → second ≡ left symbols sections work l (Err head) → Compared
   same_head n e ne q =
       agree (agrees-same l.sections second first (q ∙ sym (first-refused l (lists_in s marks) symbols sections entry work (λ z. ne (sym e ∙ z)))))
 

@@ -1,13 +1,13 @@
 -- Of the plain collection: the answer is that of the first rule that holds.
 -- Assumes nothing.
-use Rattle.std.specs.Prelude.{ℕ, ◌/◌, ◌<◌, ◌≡◌, refl, Bool, true, false, cond, List, [], ◌∷◌, ◌++◌, eqb, ltb, length}
+use Rattle.link.specs.declared.SymbolId.{SymbolId}
+use Rattle.std.specs.Prelude.{ℕ, ◌/◌, ◌<◌, ◌≡◌, refl, Bool, true, false, cond, List, [], ◌∷◌, ◌++◌, eqb, ltb, length, Option}
 use Rattle.std.proofs.Common.{sym, ap, ◌∙◌, eqb-true, ltb-true, ltb-false}
 use Rattle.std.proofs.lemmas.Bool.{eqb-false}
 use Rattle.cells.specs.Proof.Split.{by-test}
 use Rattle.link.specs.declared.Refusal.{Refusal}
 use Rattle.link.specs.Bounds.{not_lent}
 use Rattle.link.specs.Judge.{refused}
-use Rattle.gc_sections.specs.declared.EntryPoint.{EntryPoint}
 use Rattle.gc_sections.specs.Run.{Left, Said, judged}
 use Rattle.plain_laws.specs.BuiltRows.{built_rows}
 use Rattle.plain_laws.proofs.Terms.{plain-agrees, plain-broken, plain-short, plain-thirty}
@@ -61,7 +61,7 @@ module _ (p q b : Bool) (here : ℕ) (zs : List Rule) (e : b ≡ true) where
           never : false ≡ true → ⊥
           never k = let z : ◌≡◌ {A = ℕ} 0 1 = cc in eqb-false 0 1 refl z
 
-module _ (marks : List ℕ) (entry : EntryPoint) (work : List ℕ) (s : Linked) where
+module _ (marks : List ℕ) (entry : Option SymbolId) (work : List ℕ) (s : Linked) where
   abbrev t : State
   t = s.table
 

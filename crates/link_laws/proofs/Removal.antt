@@ -1,6 +1,6 @@
 -- Which rows are removed: a call that removes nothing leaves every row present, and a removed row stays removed for ever.
 -- Assumes nothing.
-use Rattle.std.specs.Prelude.{ℕ, ◌+◌, ◌*◌, ◌≤◌, ◌<◌, ◌≡◌, List, [], ◌∷◌, ◌≢◌, eqb, ltb, length, set}
+use Rattle.std.specs.Prelude.{ℕ, ◌+◌, ◌*◌, ◌≤◌, ◌<◌, ◌≡◌, List, [], ◌∷◌, ◌≢◌, eqb, ltb, length, set, None}
 use Rattle.std.proofs.Common.{arith, le_trans, sym, ◌∙◌, get_or-set_other}
 use Rattle.std.proofs.Math.Nat.{le_refl}
 use Rattle.std.proofs.Math.Path.{refl, subst}
@@ -9,7 +9,6 @@ use Rattle.cells.specs.Proof.Split.{by-test}
 use Rattle.link.specs.declared.Interned.{Interned}
 use Rattle.interner.specs.Names.{room_of, added, keep_of}
 use Rattle.symbol.specs.declared.Row.{Row}
-use Rattle.symbol.specs.declared.SttFile.TheVariants as File
 use Rattle.symbol.specs.Codes.{successor}
 use Rattle.symbol.specs.Row.{state_at, set_row}
 use Rattle.symbol.specs.Proof.RowLaws.{length-set_row}
@@ -79,9 +78,9 @@ module _ (s : State) (g : Ready s) (r : Row) where
   abbrev Fine : Left → Type 0
   Fine o = (i : ℕ) → Stood s (with_table s o.table) i
 
-  decides : (d : Decision) → decided (table s) r ≡ d → Fine (committed_of (table s) r File.None d) → Fine (put_of s r)
+  decides : (d : Decision) → decided (table s) r ≡ d → Fine (committed_of (table s) r None d) → Fine (put_of s r)
   unfolding add_row_of
-  decides d e f = subst (λ (d : Decision). Fine (committed_of (table s) r File.None d)) (sym e) f
+  decides d e f = subst (λ (d : Decision). Fine (committed_of (table s) r None d)) (sym e) f
 
   stored : (t : State) (x : Row) (at i : ℕ) → t.symbols ≡ set_row s.symbols (record { 0 = at }) x → at * 8 + 8 ≤ length s.symbols
       → (at < s.link.symbols → state_at s.symbols at ≢ 2) → Stood s t i
@@ -100,7 +99,7 @@ module _ (s : State) (g : Ready s) (r : Row) where
   unfolding committed_of apply_of replaced_in amended_in
   viewed (refused n e z) =
       decides (Refuse n) e
-      (subst (λ (t : Table). (i : ℕ) → Stood s (with_table s t) i) (sym (commit-refused (table s) r File.None n z).0) (λ i. same refl))
+      (subst (λ (t : Table). (i : ℕ) → Stood s (with_table s t) i) (sym (commit-refused (table s) r None n z).0) (λ i. same refl))
   viewed (kept e k z o w p) = decides _ e (λ i. same refl)
   viewed (amended e k z o w) =
       let low : id < s.link.symbols = g.below.held r.name.0 k.issued z in
@@ -121,9 +120,9 @@ module _ (s : State) (g : Ready s) (r : Row) where
   abbrev Keeps : Left → Type 0
   Keeps o = Kept s (with_table s o.table)
 
-  decides-keep : (d : Decision) → decided (table s) r ≡ d → Keeps (committed_of (table s) r File.None d) → Keeps (put_of s r)
+  decides-keep : (d : Decision) → decided (table s) r ≡ d → Keeps (committed_of (table s) r None d) → Keeps (put_of s r)
   unfolding add_row_of
-  decides-keep d e f = subst (λ (d : Decision). Keeps (committed_of (table s) r File.None d)) (sym e) f
+  decides-keep d e f = subst (λ (d : Decision). Keeps (committed_of (table s) r None d)) (sym e) f
 
   one_more : Free (table s) r → successor s.link.symbols ≡ s.link.symbols + 1
   unfolding successor
@@ -187,7 +186,7 @@ module _ (s : State) (g : Ready s) (r : Row) where
   viewed-keeps : View (table s) r → Keeps (put_of s r)
   unfolding committed_of apply_of replaced_in amended_in
   viewed-keeps (refused n e z) =
-      decides-keep (Refuse n) e (subst (λ (t : Table). Kept s (with_table s t)) (sym (commit-refused (table s) r File.None n z).0) (kept-none s g))
+      decides-keep (Refuse n) e (subst (λ (t : Table). Kept s (with_table s t)) (sym (commit-refused (table s) r None n z).0) (kept-none s g))
   viewed-keeps (kept e k z o w p) = decides-keep _ e (kept-none s g)
   viewed-keeps (amended e k z o w) = decides-keep _ e (written_keeps _ (g.below.held r.name.0 k.issued z))
   viewed-keeps (replaced e k z o) = decides-keep _ e (written_keeps _ (g.below.held r.name.0 k.issued z))

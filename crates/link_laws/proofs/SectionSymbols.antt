@@ -1,14 +1,16 @@
 -- Theorems over specs/SectionSymbols.antt.
 -- Assumes nothing.
+use Rattle.gc_sections.specs.Run.{dropped as drop_counts}
 use Prim.Native.Nat.{ℕ, zero, suc, ◌+◌, ◌-◌, ◌*◌, ◌/◌, ◌≤◌, ◌<◌}
 use Rattle.std.proofs.Common.{arith, sym, ap, subst, ◌∙◌, length-set, length-take-le, get_or-append-add, get_or-set_same, get_or-set_other}
-use Rattle.std.specs.Prelude.{◌≡◌, refl, Bool, true, false, List, ◌≢◌, ◌↔◌, eqb, leb, ltb, length, get_or, set, take, replicate}
+use Rattle.std.specs.Prelude.{◌≡◌, refl, Bool, true, false, List, ◌≢◌, ◌↔◌, eqb, leb, ltb, length, get_or, set, take, replicate, Option, None, Some, Ok, Result}
 use Rattle.std.proofs.lemmas.Bool.{false≢true}
 use Rattle.std.proofs.lemmas.List.{length-replicate, get_or-replicate}
 use Rattle.std.proofs.Math.ListN.{get_or-eq_default}
 use borrow.Author.Tests.{eqb-true, eqb-false, eq-eqb, ne_eqb, lt-leb, leb-true, leb-false, ltb-true, ltb-false}
 use Rattle.cells.specs.Proof.Split.{by-test}
 use Rattle.link.specs.declared.Link.{Link}
+use Rattle.link.specs.declared.Refusal.{Refusal}
 use Rattle.link.specs.declared.SymbolId.{SymbolId}
 use Rattle.link.specs.declared.SectionId.{SectionId}
 use Rattle.link.specs.Bounds.{lesser, symbol_rows, section_slots}
@@ -25,14 +27,10 @@ use Rattle.symbol.specs.Codes.{visibility_at, value_at}
 use Rattle.symbol.specs.Row.{field, state_at, visibility_code_at, value_words_at, symbol_at}
 use Rattle.symbol_resolution.specs.Decide.{section_cell}
 use Rattle.symbol_resolution.specs.Apply.{set_section_symbol}
-use Rattle.symbols.specs.declared.Found.TheVariants as Fd
-use Rattle.symbols.specs.declared.SectionSymbol.TheVariants as Answer
 use Rattle.symbols.specs.Lookup.{not_found, section_symbol_at, section_symbol_of}
 use Rattle.symbols.specs.Calls.{lent_of}
 use Rattle.symbols.specs.Remove.{Rows, rows_of, drop_section, remove_row_of, remove_of}
 use Rattle.symbols.specs.New.{null_row, clear_symbols, null_of, new_of}
-use Rattle.gc_sections.specs.declared.EntryPoint.{EntryPoint}
-use Rattle.gc_sections.specs.declared.Answer.TheVariants.{Dropped}
 use Rattle.gc_laws.proofs.Terms as CollectionLaws
 use Rattle.gc_laws.specs.Reached as Roots
 use Rattle.symbol_laws.proofs.Refused.{remove-link}
@@ -112,17 +110,17 @@ local-visibility k e = rw e
 -- ---- lookups
 
 -- what a section's cell answers
-answer-none : (s : Linked) (y : SectionId) → symbol_in s.table y.0 ≡ 0 → call_left (section_symbol y) s ≡ Answer.None
+answer-none : (s : Linked) (y : SectionId) → symbol_in s.table y.0 ≡ 0 → call_left (section_symbol y) s ≡ None
 unfolding section_symbol_of
 answer-none s y e = rw (eq-eqb _ _ e)
 
 answer-some : (s : Linked) (y : SectionId) (i : SymbolId) → symbol_in s.table y.0 ≡ i.0 → i.0 ≢ 0 → i.0 < s.table.link.symbols
-    → call_left (section_symbol y) s ≡ Answer.Symbol i
+    → call_left (section_symbol y) s ≡ Some i
 unfolding section_symbol_of
 answer-some s y i e u h =
     let n : symbol_in s.table y.0 ≢ 0 = λ z. u (sym e ∙ z) in
     let m : symbol_in s.table y.0 < s.table.link.symbols = omega (arith, e, h) in
-    rw (ne_eqb _ _ n, lt-leb _ _ m) (ap (λ (k : ℕ). Answer.Symbol (record { 0 = k })) e)
+    rw (ne_eqb _ _ n, lt-leb _ _ m) (ap (λ (k : ℕ). Some (record { 0 = k })) e)
 
 -- the same cell and as many rows; or no fewer, with the id among those before
 answer-same : (s t : Linked) (y : SectionId) → symbol_in t.table y.0 ≡ symbol_in s.table y.0 → t.table.link.symbols ≡ s.table.link.symbols
@@ -145,7 +143,7 @@ module _ (s : Linked) (met : List (List ℕ)) (k : Lasting s met) (g : Ready s.t
     pub there : state_at s.table.symbols i.0 ≢ 2
     pub is : x ≡ symbol_at s.table.symbols i
 
-  pub got-is : (i : SymbolId) (x : Symbol) → call_left (get i) s ≡ Fd.Row x → Got i x
+  pub got-is : (i : SymbolId) (x : Symbol) → call_left (get i) s ≡ Ok x → Got i x
   got-is i x e =
       by-test (ltb i.0 s.table.link.symbols)
       (λ a.
@@ -156,10 +154,10 @@ module _ (s : Linked) (met : List (List ℕ)) (k : Lasting s met) (g : Ready s.t
       record { counted = h; there = u; is = same x _ (sym e ∙ LookedUp.got-present s met k g i h u) }))
       (λ a. absurd (differ x i.0 (sym e ∙ LookedUp.got-absent s met k g i (ltb-false _ _ a))))
     where
-      differ : (x : Symbol) (n : ℕ) → Fd.Row x ≡ not_found 21 n → ⊥
+      differ : (x : Symbol) (n : ℕ) → Ok x ≡ not_found 21 n → ⊥
       differ x n q = let z : ◌≡◌ {A = ℕ} 0 1 = cc in omega arith
 
-      same : (x y : Symbol) → Fd.Row x ≡ Fd.Row y → x ≡ y
+      same : (x y : Symbol) → ◌≡◌ {A = Result Symbol Refusal} (Ok x) (Ok y) → x ≡ y
       same x y q = cc
 
   own-of : (y : SectionId) (i : SymbolId) → visibility_code_at s.table.symbols i.0 < 5 → LocalSection s y i → is_own s.table i.0 y.0 ≡ true
@@ -195,10 +193,10 @@ module _ (s t : Linked) (met : List (List ℕ)) (k : Lasting t met) (g : Ready t
   own_new i h q = own-of t met k g y i (o.coded i.0 h (got-is t met k g i _ q.its.got).counted) q
 
   -- one that was added since: the last is the answer
-  pub since-last : (i : SymbolId) → before ≤ i.0 → LastOf t y i → call_left (section_symbol y) t ≡ Answer.Symbol i
+  pub since-last : (i : SymbolId) → before ≤ i.0 → LastOf t y i → call_left (section_symbol y) t ≡ Some i
   since-last i h q = go (o.since y.0)
     where
-      go : Since s.table t.table y.0 → call_left (section_symbol y) t ≡ Answer.Symbol i
+      go : Since s.table t.table y.0 → call_left (section_symbol y) t ≡ Some i
       go (none e f) =
           absurd (false≢true (sym (f i.0 h (got-is t met k g i _ q.own.its.got).counted) ∙ own_new i h q.own))
       go (newest j l m u f e) =
@@ -222,10 +220,10 @@ module _ (s t : Linked) (met : List (List ℕ)) (k : Lasting t met) (g : Ready t
     not-old : (i : SymbolId) → LocalSection t y i → before ≤ i.0
     not-old i q = by-test (ltb i.0 before) (λ c. absurd (bare i (ltb-true _ _ c) q)) (λ c. ltb-false _ _ c)
 
-    pub is_last : (i : SymbolId) → (call_left (section_symbol y) t ≡ Answer.Symbol i) ↔ LastOf t y i
+    pub is_last : (i : SymbolId) → (call_left (section_symbol y) t ≡ Some i) ↔ LastOf t y i
     is_last i = (λ e. go e (o.since y.0), λ q. since-last i (not-old i q.own) q)
       where
-        go : call_left (section_symbol y) t ≡ Answer.Symbol i → Since s.table t.table y.0 → LastOf t y i
+        go : call_left (section_symbol y) t ≡ Some i → Since s.table t.table y.0 → LastOf t y i
         go a (none e f) = let z : 0 ≡ i.0 + 1 = ap symbol_number (sym (answer-none t y (e ∙ clear)) ∙ a) in absurd (omega (arith, z))
         go a (newest j l m u f e) =
             let z : j + 1 ≡ i.0 + 1 = ap symbol_number (sym (answer-some t y (record { 0 = j }) e (λ n. omega (arith, l, n, some)) m) ∙ a) in
@@ -240,10 +238,10 @@ module _ (s t : Linked) (met : List (List ℕ)) (k : Lasting t met) (g : Ready t
                   absurd (false≢true (sym (f n.0 h (got-is t met k g n _ q.its.got).counted) ∙ own_new n (not-old n q) q)));
             })
 
-    pub is_none : (call_left (section_symbol y) t ≡ Answer.None) ↔ ((i : SymbolId) → LocalSection t y i → ⊥)
+    pub is_none : (call_left (section_symbol y) t ≡ None) ↔ ((i : SymbolId) → LocalSection t y i → ⊥)
     is_none = (λ e i q. go e (o.since y.0) i q, λ q. since_none (λ i h. q i) ∙ answer-none s y clear)
       where
-        go : call_left (section_symbol y) t ≡ Answer.None → Since s.table t.table y.0 → (i : SymbolId) → LocalSection t y i → ⊥
+        go : call_left (section_symbol y) t ≡ None → Since s.table t.table y.0 → (i : SymbolId) → LocalSection t y i → ⊥
         go a (none e f) i q = false≢true (sym (f i.0 (not-old i q) (got-is t met k g i _ q.its.got).counted) ∙ own_new i (not-old i q) q)
         go a (newest j l m u f e) i q =
             let z : j + 1 ≡ 0 = ap symbol_number (sym (answer-some t y (record { 0 = j }) e (λ n. omega (arith, l, n, some)) m) ∙ a) in omega (arith, z)
@@ -314,10 +312,10 @@ module _ (s : Linked) (f : Fresh s.table) (ready : Ready s.table) (w : Shown s.t
       let c : visibility_code_at end.table.symbols i.0 ≡ 0 = ap (λ (r : Row). r.visibility) e in
       false≢true (sym (ap (λ (r : Row). own_of r y.0) e) ∙ own-of end met k g y i (omega (arith, c)) q)
 
-  pub last_of : (i : SymbolId) → (call_left (section_symbol y) end ≡ Answer.Symbol i) ↔ LastOf end y i
+  pub last_of : (i : SymbolId) → (call_left (section_symbol y) end ≡ Some i) ↔ LastOf end y i
   last_of = is_last s end met k g onto (fresh-counted s.table f) y (f.clear y.0) bare
 
-  pub none_of : (call_left (section_symbol y) end ≡ Answer.None) ↔ ((i : SymbolId) → LocalSection end y i → ⊥)
+  pub none_of : (call_left (section_symbol y) end ≡ None) ↔ ((i : SymbolId) → LocalSection end y i → ⊥)
   none_of = is_none s end met k g onto (fresh-counted s.table f) y (f.clear y.0) bare
 
 -- ---- a removal
@@ -405,7 +403,7 @@ module _ (s : Linked) (met : List (List ℕ)) (k : Lasting s met) (g : Ready s.t
         (λ a. rw a)
 
     -- "`remove` of any `Section` row drops that entry"
-    pub removed-none : call_number (remove i) s ≡ 0 → SectionRow s y i → call_left (section_symbol y) then ≡ Answer.None
+    pub removed-none : call_number (remove i) s ≡ 0 → SectionRow s y i → call_left (section_symbol y) then ≡ None
     removed-none ok q = answer-none then y (by-link (λ (v : ℕ). v ≡ 0) (removed-cell ok q))
 
     -- and no other
@@ -415,7 +413,7 @@ module _ (s : Linked) (met : List (List ℕ)) (k : Lasting s met) (g : Ready s.t
 
   -- ---- a collection
 
-  module _ (marks : List ℕ) (entry : EntryPoint) (work : List ℕ) (a c : ℕ) (e : (call_left (collect marks entry work) s).answer ≡ Dropped a c) where
+  module _ (marks : List ℕ) (entry : Option SymbolId) (work : List ℕ) (a c : ℕ) (e : (call_left (collect marks entry work) s).answer ≡ Ok (drop_counts a c)) where
     abbrev Before : Type 0
     Before = CollectionLaws.Before s.table.link (lists_in s marks) s.table.symbols s.table.sections entry work y.0
 
@@ -458,7 +456,7 @@ module _ (s : Linked) (met : List (List ℕ)) (k : Lasting s met) (g : Ready s.t
         get_or-eq_default collected.table.sections 0 {n = section_cell l n y.0} (omega (arith, long, h)) ∙ q h)
 
     -- "Dropped sections go by ascending id, their symbols' rows with them"
-    pub collected-none : (i : SymbolId) → SectionRow s y i → Before → (Reached → ⊥) → call_left (section_symbol y) collected ≡ Answer.None
+    pub collected-none : (i : SymbolId) → SectionRow s y i → Before → (Reached → ⊥) → call_left (section_symbol y) collected ≡ None
     collected-none i q b r =
         answer-none collected y (by-cell 0 (gone.entry_dropped i.0 y.0 (lies i q) (section-cells i q).0 b r) (λ h. refl))
 

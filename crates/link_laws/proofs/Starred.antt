@@ -1,6 +1,7 @@
 -- The refusal table's marks: which numbers leave all, which break the link, and that nothing else does.
 -- Assumes nothing.
-use Rattle.std.specs.Prelude.{ℕ, ◌≡◌, refl, Bool, true, false, cond, List, [], ◌∷◌, ◌≢◌, eqb, leb, length}
+use Rattle.link.specs.declared.SectionId.{SectionId}
+use Rattle.std.specs.Prelude.{ℕ, ◌≡◌, refl, Bool, true, false, cond, List, [], ◌∷◌, ◌≢◌, eqb, leb, length, Option, None, Some}
 use Rattle.std.proofs.Common.{arith, sym, ap, ◌∙◌, subst, eqb-true}
 use Rattle.std.proofs.lemmas.Bool.{false≢true, eqb-false}
 use Rattle.cells.specs.Proof.Split.{by-test}
@@ -20,9 +21,6 @@ use Rattle.merge_stages.specs.Stages as Stages
 use Rattle.merge_elf.specs.Merge as Merge
 use Rattle.shared_objects.specs.Stages.{Links}
 use Rattle.shared_objects.specs.Load as Shared
-use Rattle.gc_sections.specs.declared.EntryPoint.{EntryPoint}
-use Rattle.gc_sections.specs.declared.Unbuilt.{Unbuilt}
-use Rattle.gc_sections.specs.declared.Unbuilt.TheVariants as Unbuilts
 use Rattle.gc_sections.specs.Reach as Reach
 use Rattle.gc_sections.specs.Run as Collection
 use Rattle.gc_sections.specs.Run.{judged, purge_of, sweep_of, finish_of, finished, collect_of, run_of}
@@ -208,7 +206,7 @@ remove-same l x id =
     P : RemoveLeft → Type 0
     P o = o.link ≡ l
 
-collect-same : (l : Link) (x : Collection.Lists) (symbols sections : List ℕ) (entry : EntryPoint) (work : List ℕ)
+collect-same : (l : Link) (x : Collection.Lists) (symbols sections : List ℕ) (entry : Option SymbolId) (work : List ℕ)
     → (run_of l x symbols sections entry work).link ≡ l
 unfolding run_of collect_of finished sweep_of purge_of
 collect-same l x symbols sections entry work =
@@ -220,9 +218,9 @@ collect-same l x symbols sections entry work =
     P : Collection.Left → Type 0
     P o = o.link ≡ l
 
-    go : (u : Unbuilt) → P (finish_of l symbols sections w.work u)
-    go Unbuilts.None = refl
-    go (Unbuilts.Lowest id) = refl
+    go : (u : Option SectionId) → P (finish_of l symbols sections w.work u)
+    go None = refl
+    go (Some id) = refl
 
 direct-same : (k : Call) (s : Linked) → by_elements k ≡ false → (call_next k s).table.link.broken ≡ s.table.link.broken
 direct-same (intern x) s g = intern-same (store s.table) x

@@ -1,7 +1,11 @@
 -- The terms of acceptance, over links of all calls. Calls.antt says what the calls are, and what each leaves and answers; Table.antt has document
 -- 01's numbers; the proofs stand in the other files.
 -- Assumes nothing.
-use Rattle.std.specs.Prelude.{ℕ, suc, ◌+◌, ◌/◌, ◌<◌, ◌≤◌, ◌≡◌, Bool, true, false, cond, not, ◌||◌, List, [], ◌∷◌, ◌++◌, ◌≢◌, ◌↔◌, eqb, get_or, length}
+use Rattle.shared_objects.specs.declared.Load.TheVariants.{NotNeeded, Loaded}
+use Rattle.gc_sections.specs.Run.{dropped}
+use Rattle.link.specs.declared.Refusal.{Refusal}
+use Rattle.gc_sections.specs.declared.Dropped.{Dropped}
+use Rattle.std.specs.Prelude.{ℕ, suc, ◌+◌, ◌/◌, ◌<◌, ◌≤◌, ◌≡◌, Bool, true, false, cond, not, ◌||◌, List, [], ◌∷◌, ◌++◌, ◌≢◌, ◌↔◌, eqb, get_or, length, Option, Result, None, Some, Ok, Err}
 use Rattle.std.proofs.Common.{arith, sym, ap, ◌∙◌, subst, append-nil, eq-eqb, ne_eqb}
 use Rattle.gabi.specs.StringTable as Strings
 use Rattle.gabi.specs.SymbolTable.{Sym, stv_default, stv_hidden}
@@ -19,15 +23,12 @@ use Rattle.interner.specs.Calls.{resolved}
 use Rattle.interner_laws.specs.Good.{find}
 use Rattle.interner_laws.proofs.Interns.{Accepted, id}
 use Rattle.symbol.specs.declared.Row.{Row}
-use Rattle.symbol.specs.declared.SttFile.TheVariants as File
 use Rattle.symbol.specs.Row.{symbol_at, scope_refused, value_refused}
 use Rattle.symbol.specs.RowLaws.{symbol_of}
 use Rattle.upcoming_symbol.specs.declared.UpcomingSymbol.{UpcomingSymbol}
 use Rattle.upcoming_symbol.specs.Judge.{in_range}
 use Rattle.upcoming_symbol.specs.Upcoming.{name_of}
 use Rattle.symbol_resolution.specs.Holder.{global_at}
-use Rattle.symbols.specs.declared.Found.TheVariants as Fd
-use Rattle.symbols.specs.declared.SectionSymbol.TheVariants as Answers
 use Rattle.symbols.specs.New.{new_of}
 use Rattle.symbols.specs.Add.{file_of, file_issued}
 use Rattle.symbols.specs.Lookup.{not_found}
@@ -40,7 +41,6 @@ use Rattle.section_groups.specs.Group.{mark_group_of, mark_removed_of, group_sec
 use Rattle.section_groups.specs.AddGroup as AddGroup
 use Rattle.merge_stages.specs.Stages as Stages
 use Rattle.merge_elf.specs.Merge as Merge
-use Rattle.shared_objects.specs.declared.Answer.TheVariants.{Loaded, NotNeeded}
 use Rattle.shared_objects.specs.Load as Shared
 use Rattle.shared_objects.specs.Need.{input_kind_at}
 use Rattle.load_laws.specs.Needed.{library_kind, Needed}
@@ -55,10 +55,6 @@ use Rattle.archive_laws.specs.Runs.{Run, history, start_run}
 use Rattle.archive_laws.specs.Walked.{in_index, queue_in, Walked}
 use Rattle.archive_laws.proofs.Terms.{walked}
 use Rattle.archive_laws.proofs.PassList.{Over, offered, without, first_seen, tied_members}
-use Rattle.object_requirement.specs.declared.Admission.TheVariants.{Yes}
-use Rattle.gc_sections.specs.declared.EntryPoint.{EntryPoint}
-use Rattle.gc_sections.specs.declared.Answer.{Answer}
-use Rattle.gc_sections.specs.declared.Answer.TheVariants.{Dropped, Refused}
 use Rattle.gc_laws.proofs.Terms as CollectionLaws
 use Rattle.gc_laws.specs.Reached as Roots
 use Rattle.symbol_laws.specs.Rank.{ranked, FirstOfGreatestRank, first_by_rank}
@@ -177,7 +173,7 @@ use Rattle.link_laws.specs.LocalRows.{Shown, Counted}
 use Rattle.link_laws.proofs.LocalRows.{calls-onto, calls-stay, inv-shown}
 use Rattle.link_laws.proofs.SectionSymbols as SectionSymbolsLaws
 use Rattle.link_laws.specs.SectionSymbols.{SectionRow, LocalSection, LastOf}
-use Rattle.link_laws.proofs.Growth.{Turn, Quiet, run_turns, log_turns, Some, turns-reached}
+use Rattle.link_laws.proofs.Growth.{Turn, Quiet, run_turns, log_turns, Some as SomeTurns, turns-reached}
 use Rattle.link_laws.proofs.NeededIn as NeededIn
 use Rattle.link_laws.proofs.NeededIn.{NeededIn}
 use Rattle.link_laws.proofs.Walks as WalksLaws
@@ -235,7 +231,7 @@ intern-place = CallPlaces.intern-place
 pub start-place : (key : ℕ) (index cells : List ℕ) (s : Linked) → call_number (archive_start key index cells) s ≢ 1 → (call_refusal (archive_start key index cells) s).place ≡ 0
 start-place = CallPlaces.start-place
 
-pub collect-work-place : (marks : List ℕ) (entry : EntryPoint) (work : List ℕ) (s : Linked) → call_number (collect marks entry work) s ≡ 2
+pub collect-work-place : (marks : List ℕ) (entry : Option SymbolId) (work : List ℕ) (s : Linked) → call_number (collect marks entry work) s ≡ 2
     → (call_refusal (collect marks entry work) s).place ≡ 0
 collect-work-place = CallPlaces.collect-work-place
 
@@ -248,7 +244,7 @@ pub add-name-place : (conversion : List ℕ) (u : UpcomingSymbol) (s : Linked) �
 add-name-place = CallPlaces.add-name-place
 
 pub add-file-place : (conversion : List ℕ) (u : UpcomingSymbol) (s : Linked) (id : Interned) → call_number (add conversion u) s ≡ 21
-    → (name_of u).0 < s.table.link.names → file_of u ≡ File.Name id → s.table.link.names ≤ id.0 → (call_refusal (add conversion u) s).place ≡ id.0
+    → (name_of u).0 < s.table.link.names → file_of u ≡ Some id → s.table.link.names ≤ id.0 → (call_refusal (add conversion u) s).place ≡ id.0
 add-file-place = CallPlaces.add-file-place
 
 pub global-place : (name : Interned) (s : Linked) → call_number (get_global name) s ≡ 21 → (call_refusal (get_global name) s).place ≡ name.0
@@ -262,7 +258,7 @@ pub remove-place : (id : SymbolId) (s : Linked) → call_number (remove id) s �
 remove-place = CallPlaces.remove-place
 
 -- "the section's for collection": the lowest that is reached but not built
-pub collect-section-place : (marks : List ℕ) (entry : EntryPoint) (work : List ℕ) (s : Linked) → call_number (collect marks entry work) s ≡ 21
+pub collect-section-place : (marks : List ℕ) (entry : Option SymbolId) (work : List ℕ) (s : Linked) → call_number (collect marks entry work) s ≡ 21
     → CollectionLaws.Lowest s.table.link (lists_in s marks) s.table.symbols s.table.sections entry work (call_refusal (collect marks entry work) s).place
 collect-section-place = CallPlaces.collect-section-place
 
@@ -312,13 +308,13 @@ pub load_row : (o : Shared.Input) (marks : List ℕ) (s : Linked) → (change_of
     → RowPlaces.BadLibrary o (call_refusal (load o marks) s).place
 load_row = RowPlaces.load_row
 
-pub collect-marks-place : (marks : List ℕ) (entry : EntryPoint) (work : List ℕ) (s : Linked) → (change_of s.table.link (collect_lent s)).number ≡ 0
+pub collect-marks-place : (marks : List ℕ) (entry : Option SymbolId) (work : List ℕ) (s : Linked) → (change_of s.table.link (collect_lent s)).number ≡ 0
     → call_number (collect marks entry work) s ≡ 1
     → (length marks < s.table.link.symbols) × ((call_refusal (collect marks entry work) s).place ≡ length marks)
 collect-marks-place = CallPlaces.collect-marks-place
 
 -- else the link's own refusal
-pub collect-link-place : (marks : List ℕ) (entry : EntryPoint) (work : List ℕ) (s : Linked) → (change_of s.table.link (collect_lent s)).number ≢ 0
+pub collect-link-place : (marks : List ℕ) (entry : Option SymbolId) (work : List ℕ) (s : Linked) → (change_of s.table.link (collect_lent s)).number ≢ 0
     → call_refusal (collect marks entry work) s ≡ change_of s.table.link (collect_lent s)
 collect-link-place = CallPlaces.collect-link-place
 
@@ -384,7 +380,7 @@ pub file-unread-leaves : (file cells work ids : List ℕ) (s : Linked) → (file
 file-unread-leaves file cells work ids s u =
     let f = ne_eqb _ _ u in (FileCall.left-unread file cells work ids s f, FileCall.next-unread file cells work ids s f)
 
-pub not-needed-leaves : (o : Shared.Input) (marks : List ℕ) (s : Linked) → (call_left (load o marks) s).answer ≡ NotNeeded → call_next (load o marks) s ≡ s
+pub not-needed-leaves : (o : Shared.Input) (marks : List ℕ) (s : Linked) → (call_left (load o marks) s).answer ≡ Ok NotNeeded → call_next (load o marks) s ≡ s
 not-needed-leaves = LeavesLaws.load-unneeded
 
 -- otherwise it is refused at one of its elements, with that one's place: "that call's earlier elements stay merged", all is left at it, on 10 to 14, 16
@@ -611,7 +607,7 @@ module _ (key : ℕ) (gabi : Bool) (bytes names symbols sections inputs lists : 
         rows (call_notes (merge o work ids) after) ≡ Merged.symbol_rows o all (rows_in (object o all).entries)
     merge-log-whole o work ids = MergeTerms.merge-log-whole o (all_in after work ids)
 
-    pub load-log-whole : (o : Shared.Input) (marks : List ℕ) → (call_left (load o marks) after).answer ≡ Loaded
+    pub load-log-whole : (o : Shared.Input) (marks : List ℕ) → (call_left (load o marks) after).answer ≡ Ok Loaded
         → rows (call_notes (load o marks) after) ≡ LoadRows.symbol_rows o.entries o.image o.needs (Shared.links_in (library_in after marks)) (Shared.name_of o) (rows_in o.entries)
     load-log-whole o marks = LoadTerms.load-log-whole o (library_in after marks)
 
@@ -647,14 +643,14 @@ module _ (key : ℕ) (gabi : Bool) (bytes names symbols sections inputs lists : 
       -- ---- lookups by a section: "`remove` of any `Section` row drops that entry"; so does a collection that drops such a row, and nothing else does
 
       pub section-removed : (y : SectionId) (i : SymbolId) → call_number (remove i) after ≡ 0 → SectionRow after y i
-          → call_left (section_symbol y) (call_next (remove i) after) ≡ Answers.None
+          → call_left (section_symbol y) (call_next (remove i) after) ≡ None
       section-removed y = SectionSymbolsLaws.removed-none after _ lasting ready y
 
       pub section-unremoved : (y : SectionId) (i : SymbolId) → (SectionRow after y i → ⊥)
           → call_left (section_symbol y) (call_next (remove i) after) ≡ call_left (section_symbol y) after
       section-unremoved y = SectionSymbolsLaws.removed-other after _ lasting ready y
 
-      module _ (y : SectionId) (marks : List ℕ) (entry : EntryPoint) (work : List ℕ) (a b : ℕ) (ok : (call_left (collect marks entry work) after).answer ≡ Dropped a b) where
+      module _ (y : SectionId) (marks : List ℕ) (entry : Option SymbolId) (work : List ℕ) (a b : ℕ) (ok : (call_left (collect marks entry work) after).answer ≡ Ok (dropped a b)) where
         abbrev pub StoodBefore : Type 0
         StoodBefore = CollectionLaws.Before after.table.link (lists_in after marks) after.table.symbols after.table.sections entry work y.0
 
@@ -662,7 +658,7 @@ module _ (key : ℕ) (gabi : Bool) (bytes names symbols sections inputs lists : 
         IsReached = Roots.Reached after.table.link (lists_in after marks) after.table.symbols after.table.sections entry y.0
 
         pub section-collected : (i : SymbolId) → SectionRow after y i → StoodBefore → (IsReached → ⊥)
-            → call_left (section_symbol y) (call_next (collect marks entry work) after) ≡ Answers.None
+            → call_left (section_symbol y) (call_next (collect marks entry work) after) ≡ None
         section-collected = SectionSymbolsLaws.collected-none after _ lasting ready y marks entry work a b ok
 
         pub section-uncollected : ((i : SymbolId) → SectionRow after y i → StoodBefore → IsReached)
@@ -685,7 +681,7 @@ module _ (key : ℕ) (gabi : Bool) (bytes names symbols sections inputs lists : 
         abbrev pub onward : Linked
         onward = run_calls ls after
 
-        pub section-newest : (i : SymbolId) → after.table.link.symbols ≤ i.0 → LastOf onward y i → call_left (section_symbol y) onward ≡ Answers.Symbol i
+        pub section-newest : (i : SymbolId) → after.table.link.symbols ≤ i.0 → LastOf onward y i → call_left (section_symbol y) onward ≡ Some i
         section-newest =
             SectionSymbolsLaws.since-last after onward _ (lasting-on ls after _ lasting) (calls-later ls after ready).ready (calls-onto ls after quiet ready shown) counted y
 
@@ -701,7 +697,7 @@ module _ (key : ℕ) (gabi : Bool) (bytes names symbols sections inputs lists : 
       -- ---- "Shared objects": a library that was loaded, after any calls
 
       -- its row has the ids of its name, of the undefined names of binding 1 that it was given and of its dependencies
-      pub library-remembered : (o : Shared.Input) (marks : List ℕ) → (call_left (load o marks) after).answer ≡ Loaded → (ls : List Call)
+      pub library-remembered : (o : Shared.Input) (marks : List ℕ) → (call_left (load o marks) after).answer ≡ Ok Loaded → (ls : List Call)
           → Libraries.Remembered o (library_in after marks) (run_calls ls (call_next (load o marks) after))
       library-remembered o marks ok ls = Libraries.library-remembered after _ lasting o marks ok ls
 
@@ -726,7 +722,7 @@ module _ (key : ℕ) (gabi : Bool) (bytes names symbols sections inputs lists : 
           (inv-ready start.table [] (new-inv key gabi bytes names symbols sections new)) (omega (arith, new-inputs key gabi bytes names symbols sections 0)) ks
 
       -- and these stand for the names
-      pub library-named : (o : Shared.Input) (marks : List ℕ) → (call_left (load o marks) after).answer ≡ Loaded → (ls : List Call)
+      pub library-named : (o : Shared.Input) (marks : List ℕ) → (call_left (load o marks) after).answer ≡ Ok Loaded → (ls : List Call)
           → Libraries.Named o (library_in after marks) (run_calls ls (call_next (load o marks) after))
       library-named o marks ok ls = Libraries.library-named after _ lasting o marks ok ls
 
@@ -790,7 +786,7 @@ module _ (key : ℕ) (gabi : Bool) (bytes names symbols sections inputs lists : 
     abbrev pub grown_adds : ℕ → List Entry
     grown_adds n = only n (log_turns ts start)
 
-    some : Some grown_end (log_turns ts start)
+    some : SomeTurns grown_end (log_turns ts start)
     some =
         turns-reached ts start [] calm
         (record {
@@ -822,10 +818,10 @@ module _ (key : ℕ) (gabi : Bool) (bytes names symbols sections inputs lists : 
         ∙ hidden-objects (grown_adds n) (only-shown n (log_turns ts start) (turns-shown ts start calm (new-profile key gabi bytes names symbols sections new ∙ g)))
 
     pub grown-row : (n : ℕ) (x : Entry) (xs : List Entry) → grown_adds n ≡ x ∷ xs
-        → call_left (get_global (record { 0 = n })) grown_end ≡ Fd.Row (symbol_of (record { 0 = x.id }) (hidden_by gabi (rows (x ∷ xs)) (first_by_rank gabi x.row (rows xs))))
+        → call_left (get_global (record { 0 = n })) grown_end ≡ Ok (symbol_of (record { 0 = x.id }) (hidden_by gabi (rows (x ∷ xs)) (first_by_rank gabi x.row (rows xs))))
     grown-row n x xs e =
         Within.lookup-row grown_end.table _ some.reached.held (reached-within grown_end _ _ some.reached) n x xs e
-        ∙ ap (λ (g : Bool). Fd.Row (symbol_of (record { 0 = x.id }) (hidden_by g (rows (x ∷ xs)) (first_by_rank g x.row (rows xs))))) grown-profile
+        ∙ ap (λ (g : Bool). Ok (symbol_of (record { 0 = x.id }) (hidden_by g (rows (x ∷ xs)) (first_by_rank g x.row (rows xs))))) grown-profile
 
     pub grown-none : (n : ℕ) → grown_adds n ≡ [] → call_left (get_global (record { 0 = n })) grown_end ≡ not_found 23 0
     grown-none = Within.lookup-none grown_end.table _ some.reached.held (reached-within grown_end _ _ some.reached)
@@ -911,7 +907,7 @@ module _ (key : ℕ) (gabi : Bool) (bytes names symbols sections inputs lists : 
     ids-stay ls q n i z = WritesLaws.stays end.table (run_calls ls end).table _ _ held (calls-keep ls end _ q held) n i z
 
     -- "a collection that drops nothing removes nothing": it leaves the link
-    pub drops-nothing : (marks : List ℕ) (entry : EntryPoint) (work : List ℕ) → (Removes (collect marks entry work) end → ⊥)
+    pub drops-nothing : (marks : List ℕ) (entry : Option SymbolId) (work : List ℕ) → (Removes (collect marks entry work) end → ⊥)
         → call_next (collect marks entry work) end ≡ end
     drops-nothing marks entry work q = Idle.drops-nothing marks entry work end q
 
@@ -1067,10 +1063,10 @@ module _ (key : ℕ) (gabi : Bool) (bytes names symbols sections inputs lists : 
     module _ (lent : length lists ≤ not_lent) where
       -- what a lookup by the name then answers
       pub lookup-row : (n : ℕ) (x : Entry) (xs : List Entry) → accepted_adds n ≡ x ∷ xs
-          → call_left (get_global (record { 0 = n })) end ≡ Fd.Row (symbol_of (record { 0 = x.id }) (hidden_by gabi (rows (x ∷ xs)) (first_by_rank gabi x.row (rows xs))))
+          → call_left (get_global (record { 0 = n })) end ≡ Ok (symbol_of (record { 0 = x.id }) (hidden_by gabi (rows (x ∷ xs)) (first_by_rank gabi x.row (rows xs))))
       lookup-row n x xs e =
           Within.lookup-row end.table _ held (within lent) n x xs e
-          ∙ ap (λ (g : Bool). Fd.Row (symbol_of (record { 0 = x.id }) (hidden_by g (rows (x ∷ xs)) (first_by_rank g x.row (rows xs))))) (profile ks)
+          ∙ ap (λ (g : Bool). Ok (symbol_of (record { 0 = x.id }) (hidden_by g (rows (x ∷ xs)) (first_by_rank g x.row (rows xs))))) (profile ks)
 
       pub lookup-none : (n : ℕ) → accepted_adds n ≡ [] → call_left (get_global (record { 0 = n })) end ≡ not_found 23 0
       lookup-none = Within.lookup-none end.table _ held (within lent)
@@ -1082,10 +1078,10 @@ module _ (key : ℕ) (gabi : Bool) (bytes names symbols sections inputs lists : 
 
         pub lookup-interned : (x : Entry) (xs : List Entry) → accepted_adds id_now ≡ x ∷ xs
             → call_left (get_global (record { 0 = id_now })) (call_next (intern b) end)
-            ≡ Fd.Row (symbol_of (record { 0 = x.id }) (hidden_by gabi (rows (x ∷ xs)) (first_by_rank gabi x.row (rows xs))))
+            ≡ Ok (symbol_of (record { 0 = x.id }) (hidden_by gabi (rows (x ∷ xs)) (first_by_rank gabi x.row (rows xs))))
         lookup-interned x xs e =
             LookedUp.interned-row end _ _ (reached lent) b x xs e
-            ∙ ap (λ (g : Bool). Fd.Row (symbol_of (record { 0 = x.id }) (hidden_by g (rows (x ∷ xs)) (first_by_rank g x.row (rows xs))))) (call-profile (intern b) end ∙ profile ks)
+            ∙ ap (λ (g : Bool). Ok (symbol_of (record { 0 = x.id }) (hidden_by g (rows (x ∷ xs)) (first_by_rank g x.row (rows xs))))) (call-profile (intern b) end ∙ profile ks)
 
         pub lookup-interned-none : accepted_adds id_now ≡ [] → call_left (get_global (record { 0 = id_now })) (call_next (intern b) end) ≡ not_found 23 0
         lookup-interned-none = LookedUp.interned-none end _ _ (reached lent) b
@@ -1098,17 +1094,17 @@ module _ (key : ℕ) (gabi : Bool) (bytes names symbols sections inputs lists : 
           LookedUp.removed-global end _ (lasting ks lent) (ready ks lent) (record { 0 = x.id }) ok ls n r.issued r.id (λ z. omega (arith, r.real, z))
 
       -- every id that was given out has its row
-      pub get_present : (i : SymbolId) → i.0 < end.table.link.symbols → call_left (get i) end ≡ Fd.Row (symbol_at end.table.symbols i)
+      pub get_present : (i : SymbolId) → i.0 < end.table.link.symbols → call_left (get i) end ≡ Ok (symbol_at end.table.symbols i)
       get_present i h =
           LookedUp.got-present end _ (lasting ks lent) (ready ks lent) i h
           (calls-whole ks start quiet (inv-ready start.table [] (new-inv key gabi bytes names symbols sections new)) (new-whole key gabi bytes names symbols sections new) i.0 h)
 
       -- "A local `Section` row becomes its section's symbol, the last one winning"; "A section without a symbol answers "none""
-      pub section-last : (y : SectionId) (i : SymbolId) → (call_left (section_symbol y) end ≡ Answers.Symbol i) ↔ LastOf end y i
+      pub section-last : (y : SectionId) (i : SymbolId) → (call_left (section_symbol y) end ≡ Some i) ↔ LastOf end y i
       section-last =
           SectionSymbolsLaws.last_of start (SectionSymbolsLaws.new-fresh key gabi bytes names symbols sections new) start-ready start-shown ks quiet _ (lasting ks lent) (ready ks lent)
 
-      pub section-none : (y : SectionId) → (call_left (section_symbol y) end ≡ Answers.None) ↔ ((i : SymbolId) → LocalSection end y i → ⊥)
+      pub section-none : (y : SectionId) → (call_left (section_symbol y) end ≡ None) ↔ ((i : SymbolId) → LocalSection end y i → ⊥)
       section-none =
           SectionSymbolsLaws.none_of start (SectionSymbolsLaws.new-fresh key gabi bytes names symbols sections new) start-ready start-shown ks quiet _ (lasting ks lent) (ready ks lent)
 
@@ -1121,12 +1117,12 @@ module _ (key : ℕ) (gabi : Bool) (bytes names symbols sections inputs lists : 
       abbrev pub IsNeeded : Type 0
       IsNeeded = Needed end.table.link end.table.bytes end.table.names end.table.symbols end.inputs end.lists o.entries o.image (Shared.name_of o)
 
-      pub not-needed-only : (call_left (load o marks) end).answer ≡ NotNeeded
+      pub not-needed-only : (call_left (load o marks) end).answer ≡ Ok NotNeeded
           → ((Shared.head_in o (library_in end marks)).number ≡ 0) × (o.asneeded ≡ true) × (IsNeeded → ⊥)
       not-needed-only = Unneeded.not-needed-only o (library_in end marks)
 
       pub not-needed-all : (Shared.head_in o (library_in end marks)).number ≡ 0 → o.asneeded ≡ true → (IsNeeded → ⊥)
-          → (call_left (load o marks) end).answer ≡ NotNeeded
+          → (call_left (load o marks) end).answer ≡ Ok NotNeeded
       not-needed-all = Unneeded.not-needed-all o (library_in end marks)
 
     -- ---- "Let an index name m members; then its walk over such a link"
@@ -1272,7 +1268,7 @@ module _ (key : ℕ) (gabi : Bool) (bytes names symbols sections inputs lists : 
                 (asks ∙ p) q us
 
           -- a member that is let in was queued by the pass, so it is offered
-          pub let-in-queued : (on : Linked) → answer_in headers entries contents file index stepped e on ≡ Yes → among index e (queue_in stepped) ≡ true
+          pub let-in-queued : (on : Linked) → answer_in headers entries contents file index stepped e on ≡ Ok true → among index e (queue_in stepped) ≡ true
           let-in-queued = Admitted.let-in-queued end _ held walk_key index cells begun ts made e low unoffered headers entries contents file ranged listed
 
           pub wanted-own : (x : List ℕ) → Taken.lists (symbols_of headers entries file) x ≡ true
@@ -1293,21 +1289,21 @@ module _ (key : ℕ) (gabi : Bool) (bytes names symbols sections inputs lists : 
 
     -- ---- "Collection, unless refused, keeps exactly what relocations reach from the roots"
 
-    module _ (marks : List ℕ) (entry : EntryPoint) (work : List ℕ) where
-      abbrev pub answer : Answer
+    module _ (marks : List ℕ) (entry : Option SymbolId) (work : List ℕ) where
+      abbrev pub answer : Result Dropped Refusal
       answer = (call_left (collect marks entry work) end).answer
 
-      pub demand-3c : (a b : ℕ) → answer ≡ Dropped a b
+      pub demand-3c : (a b : ℕ) → answer ≡ Ok (dropped a b)
           → CollectionLaws.Kept end.table.link (lists_in end marks) end.table.symbols end.table.sections entry work
       demand-3c = CollectionLaws.keeps end.table.link (lists_in end marks) end.table.symbols end.table.sections entry work
 
       -- "Dropped sections go by ascending id, their symbols' rows with them"
-      pub removes : (a b : ℕ) → answer ≡ Dropped a b
+      pub removes : (a b : ℕ) → answer ≡ Ok (dropped a b)
           → CollectionLaws.Removed end.table.link (lists_in end marks) end.table.symbols end.table.sections entry work
       removes = CollectionLaws.removes end.table.link (lists_in end marks) end.table.symbols end.table.sections entry work
 
       -- "Of sections reached but not built, the lowest gives 21"
-      pub refuses : (k : ℕ) → answer ≡ Refused (refused 21 k)
+      pub refuses : (k : ℕ) → answer ≡ Err (refused 21 k)
           → CollectionLaws.Lowest end.table.link (lists_in end marks) end.table.symbols end.table.sections entry work k
       refuses = CollectionLaws.refuses end.table.link (lists_in end marks) end.table.symbols end.table.sections entry work
 

@@ -1,14 +1,13 @@
 -- Laws of the definitions of Words.antt.
 -- Assumes nothing.
 use Prim.Native.Nat.{ℕ, zero, suc, ◌+◌}
-use Rattle.std.specs.Prelude.{◌≡◌, Bool, true, false, cond, ◌&&◌, ◌||◌, List, [], ◌∷◌, eqb}
+use Rattle.std.specs.Prelude.{◌≡◌, Bool, true, false, cond, ◌&&◌, ◌||◌, List, [], ◌∷◌, eqb, Ok}
 use Rattle.std.proofs.Math.Path.{refl}
 use Rattle.std.proofs.Common.{sym, ap, ◌∙◌}
 use Rattle.interner_laws.specs.Good.{find}
 use Rattle.symbol.specs.declared.Words.{Words}
 use Rattle.symbol.specs.declared.Row.{Row}
 use Rattle.symbol.specs.RowLaws.{symbol_of}
-use Rattle.symbols.specs.declared.Found.TheVariants as Fd
 use Rattle.archive_index.specs.Index.{count_of, name_of}
 use Rattle.archive_walk.specs.Look.{name_holder, undefined_name, tied_name}
 use Rattle.archive_laws.proofs.Profiles as Profiles
@@ -31,7 +30,7 @@ use Rattle.link_laws.specs.Words.{is_undefined, undefined, is_strong, strong, ti
 
 -- ---- these are what the calls go by
 
-row-undefined : (i : ℕ) (r : Row) → is_undefined (Fd.Row (symbol_of (record { 0 = i }) r)) ≡ is_undefined_row r
+row-undefined : (i : ℕ) (r : Row) → is_undefined (Ok (symbol_of (record { 0 = i }) r)) ≡ is_undefined_row r
 unfolding symbol_of
 row-undefined i r = Need.undefined-code r.value
 

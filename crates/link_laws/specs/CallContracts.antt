@@ -2,15 +2,16 @@
 -- lent to be written (`Exit`); its contract (`Meets`) is the predicate that stands in the `ensures`, from the crate that defines the call. Two exits
 -- that meet it are equal: the builders lose nothing.
 -- Assumes nothing.
-use Rattle.std.specs.Prelude.{ℕ, List}
+use Rattle.link.specs.declared.Refusal.{Refusal}
+use Rattle.symbol.specs.declared.Symbol.{Symbol}
+use Rattle.link.specs.declared.SymbolId.{SymbolId}
+use Rattle.std.specs.Prelude.{ℕ, List, Option, Result, Bool}
 use denote.Triple.Both.{Both}
 use Rattle.interner.specs.declared.Outcome as Interner
 use Rattle.interner.specs.Calls as Names
 use Rattle.interner.specs.Contract.{ResolveExit, InternMeets, ResolveMeets}
 use Rattle.interner.specs.Contract as Interning
 use Rattle.symbols.specs.declared.Outcome as Symbols
-use Rattle.symbols.specs.declared.Found.{Found}
-use Rattle.symbols.specs.declared.SectionSymbol.{SectionSymbol}
 use Rattle.symbols.specs.Calls as Calls
 use Rattle.symbols.specs.Remove.{rows_of, remove_outcome}
 use Rattle.symbols.specs.Contract.{NewExit, AddExit, AddMeets, RemoveExit, RemoveMeets, GetMeets, GetGlobalMeets, SectionSymbolMeets}
@@ -29,7 +30,6 @@ use Rattle.shared_objects.specs.Load as Loading
 use Rattle.shared_objects.specs.Contract.{LoadMeets}
 use Rattle.archive_walk.specs.Walk as Archive
 use Rattle.archive_walk.specs.Contract.{StartExit, StartMeets, NextExit, NextMeets}
-use Rattle.object_requirement.specs.declared.Admission.{Admission}
 use Rattle.object_requirement.specs.Contract.{MatchesMeets}
 use Rattle.gc_sections.specs.declared.Outcome as Collection
 use Rattle.gc_sections.specs.Run as Collecting
@@ -64,16 +64,16 @@ Exit (reads (Read.resolve id)) = ResolveExit
 Exit (add conversion u) = AddExit
 Exit (add_list conversion adds ids) = ListExit
 Exit (remove id) = RemoveExit
-Exit (reads (Read.get id)) = Found
-Exit (reads (Read.get_global name)) = Found
-Exit (reads (Read.section_symbol section)) = SectionSymbol
+Exit (reads (Read.get id)) = (Result Symbol Refusal)
+Exit (reads (Read.get_global name)) = (Result Symbol Refusal)
+Exit (reads (Read.section_symbol section)) = (Option SymbolId)
 Exit (add_group o work n) = Grouping.Exit
 Exit (merge o work ids) = MergeExit
 Exit (merge_file file cells work ids) = FileExit
 Exit (load o marks) = LoadExit
 Exit (reads (Read.archive_start key index cells)) = StartExit
 Exit (reads (Read.archive_next index cells w)) = NextExit
-Exit (reads (Read.matches headers entries contents file index cells w e)) = Admission
+Exit (reads (Read.matches headers entries contents file index cells w e)) = (Result Bool Refusal)
 Exit (collect marks entry work) = Collects.Exit
 Exit (plain_collect marks entry work) = Collects.Exit
 

@@ -1,7 +1,8 @@
 -- Every public call on a link, and the history of a link. What a call leaves and answers is the right side of its contract. Public functions that
 -- other crates use inside a call, and those on strings and on an index alone, are no calls on a link.
 -- Assumes nothing.
-use Rattle.std.specs.Prelude.{ℕ, ◌+◌, ◌≡◌, Bool, cond, List, [], ◌∷◌, ◌≢◌, eqb, ltb, length}
+use Rattle.gc_sections.specs.declared.Dropped.{Dropped}
+use Rattle.std.specs.Prelude.{ℕ, ◌+◌, ◌≡◌, Bool, cond, List, [], ◌∷◌, ◌≢◌, eqb, ltb, length, Option, Result, Ok, Err}
 use Rattle.link.specs.declared.Interned.{Interned}
 use Rattle.link.specs.declared.SymbolId.{SymbolId}
 use Rattle.link.specs.declared.SectionId.{SectionId}
@@ -26,11 +27,8 @@ use Rattle.merge_file.specs.MergeFile.{FileLeft, file_head_of, merge_file_of}
 use Rattle.shared_objects.specs.Load as Shared
 use Rattle.shared_objects.specs.Load.{load_of}
 use Rattle.archive_walk.specs.declared.Walk.{Walk}
-use Rattle.gc_sections.specs.declared.EntryPoint.{EntryPoint}
-use Rattle.gc_sections.specs.declared.Answer.{Answer}
-use Rattle.gc_sections.specs.declared.Answer.TheVariants.{Dropped, Refused}
 use Rattle.gc_sections.specs.Run as Collection
-use Rattle.gc_sections.specs.Run.{lists_of, run_of}
+use Rattle.gc_sections.specs.Run.{lists_of, run_of, dropped}
 use Rattle.plain_collector.specs.Run.{plain_of}
 use Rattle.symbol_laws.specs.History as History
 use Rattle.symbol_laws.specs.History.{State, Entry, table, store, with_table, with_store, with_rows, run, log, noted, upcoming}
@@ -64,9 +62,9 @@ pub data Call : Type 0 where
   -- the library, cells for the marks that as-needed takes
   load : Shared.Input → List ℕ → Call
   -- marks of symbols, the entry symbol, work cells
-  collect : List ℕ → EntryPoint → List ℕ → Call
+  collect : List ℕ → Option SymbolId → List ℕ → Call
   -- the same, for the plain collector
-  plain_collect : List ℕ → EntryPoint → List ℕ → Call
+  plain_collect : List ℕ → Option SymbolId → List ℕ → Call
 
 abbrev pub resolve : Interned → Call
 resolve id = reads (Read.resolve id)
@@ -240,9 +238,9 @@ log_calls = log call_next call_notes
 -- ---- "that removes nothing"
 
 -- a collection that drops a section or removes a symbol
-abbrev pub Drops : Answer → Type 0
-Drops (Dropped sections symbols) = sections + symbols ≢ 0
-Drops (Refused r) = ⊥
+abbrev pub Drops : Result Dropped Refusal → Type 0
+Drops (Ok d) = d.sections + d.symbols ≢ 0
+Drops (Err r) = ⊥
 
 -- an accepted remove, which is of a row that is there as long as none was removed; and such a collection
 abbrev pub Removes : Call → Linked → Type 0

@@ -1,10 +1,9 @@
 -- Document 01's rules for collection. What is reached is said by rounds, over the rows, without the queue of the walk.
 -- Assumes nothing.
-use Rattle.std.specs.Prelude.{ℕ, zero, suc, ◌+◌, ◌/◌, Bool, true, false, cond, not, ◌&&◌, ◌||◌, List, [], ◌∷◌, ◌++◌, eqb, ltb, get_or, length}
+use Rattle.link.specs.declared.SymbolId.{SymbolId}
+use Rattle.std.specs.Prelude.{ℕ, zero, suc, ◌+◌, ◌/◌, Bool, true, false, cond, not, ◌&&◌, ◌||◌, List, [], ◌∷◌, ◌++◌, eqb, ltb, get_or, length, Option, None, Some}
 use Rattle.byte_slices.specs.Bytes.{same}
 use Rattle.link.specs.Bounds.{not_lent}
-use Rattle.gc_sections.specs.declared.EntryPoint.{EntryPoint}
-use Rattle.gc_sections.specs.declared.EntryPoint.TheVariants as Entry
 use Rattle.symbol_laws.specs.History.{State}
 use Rattle.plain_laws.specs.BuiltRows.{how_many}
 use Rattle.link_laws.specs.Rules.{Rule, ◌gives◌at◌, some, lent_rows, head_rules}
@@ -49,11 +48,11 @@ is_root t y =
 
 -- ---- "what relocations reach from the roots"
 
-abbrev pub is_entered : State → EntryPoint → ℕ → Bool
-is_entered t Entry.None y = false
-is_entered t (Entry.Symbol i) y = lies_in t i.0 y
+abbrev pub is_entered : State → Option SymbolId → ℕ → Bool
+is_entered t None y = false
+is_entered t (Some i) y = lies_in t i.0 y
 
-module _ (t : State) (lists marks : List ℕ) (entry : EntryPoint) where
+module _ (t : State) (lists marks : List ℕ) (entry : Option SymbolId) where
   -- "Roots: symbols marked by the caller, the entry symbol", and those sections
   abbrev pub is_start : ℕ → Bool
   is_start y = some (λ i. not (eqb (get_or marks i 0) 0) && lies_in t i y) 0 t.link.symbols || is_entered t entry y || is_built t y && is_root t y
@@ -95,10 +94,10 @@ abbrev pub lowest : List ℕ → ℕ
 lowest [] = 0
 lowest (y ∷ ys) = lowest_of y ys
 
-abbrev pub reached_rules : State → List ℕ → List ℕ → EntryPoint → List Rule
+abbrev pub reached_rules : State → List ℕ → List ℕ → Option SymbolId → List Rule
 reached_rules t lists marks entry = (is_some (unbuilt t lists marks entry) gives 21 at lowest (unbuilt t lists marks entry)) ∷ []
 
-abbrev pub collect_rules : State → List ℕ → List ℕ → EntryPoint → List ℕ → List Rule
+abbrev pub collect_rules : State → List ℕ → List ℕ → Option SymbolId → List ℕ → List Rule
 collect_rules t lists marks entry work = collect_head t lists marks work ++ reached_rules t lists marks entry
 
 -- ---- request 2026-12: "more such sections than that, after 1, place 0", where such are built and not dropped
@@ -111,5 +110,5 @@ plain_head t lists marks work =
     ∷ (ltb (length work / 2) t.link.sections gives 2 at 0)
     ∷ [])
 
-abbrev pub plain_rules : State → List ℕ → List ℕ → EntryPoint → List ℕ → List Rule
+abbrev pub plain_rules : State → List ℕ → List ℕ → Option SymbolId → List ℕ → List Rule
 plain_rules t lists marks entry work = plain_head t lists marks work ++ reached_rules t lists marks entry

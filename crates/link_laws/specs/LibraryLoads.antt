@@ -1,9 +1,9 @@
 -- A library's input row comes from a load that was answered "loaded", and from no other call.
 -- Assumes nothing.
-use Rattle.std.specs.Prelude.{ℕ, ◌≡◌, List, ◌∷◌, ◌++◌}
+use Rattle.shared_objects.specs.declared.Load.TheVariants.{Loaded}
+use Rattle.std.specs.Prelude.{ℕ, ◌≡◌, List, ◌∷◌, ◌++◌, Ok}
 use Rattle.std.proofs.Common.{ap}
 use Rattle.link.specs.declared.Link.{Link}
-use Rattle.shared_objects.specs.declared.Answer.TheVariants.{Loaded}
 use Rattle.shared_objects.specs.Load as Shared
 use Rattle.merge_laws.specs.Calls.{Linked}
 use Rattle.link_laws.specs.Calls.{Call, load, call_left, call_next, run_calls}
@@ -21,7 +21,7 @@ pub record LoadedAt (k : ℕ) (ks : List Call) (s : Linked) : Type 0 where
   pub marks : List ℕ
   pub behind : List Call
   pub split : ks ≡ before ++ (load library marks ∷ behind)
-  pub loaded : (call_left (load library marks) (run_calls before s)).answer ≡ Loaded
+  pub loaded : (call_left (load library marks) (run_calls before s)).answer ≡ Ok Loaded
   pub place : (run_calls before s).table.link.inputs ≡ k
 
 abbrev pub later : (k : ℕ) (c : Call) (cs : List Call) (s : Linked) → LoadedAt k cs (call_next c s) → LoadedAt k (c ∷ cs) s

@@ -1,9 +1,8 @@
 -- Document 01's rules for a shared object: its head, whether it is needed, then its elements, each over what those before it left.
 -- Assumes nothing.
-use Rattle.std.specs.Prelude.{ℕ, ◌/◌, Bool, false, cond, not, ◌&&◌, ◌||◌, List, [], ◌∷◌, ◌++◌, eqb, ltb, get_or, length}
+use Rattle.std.specs.Prelude.{ℕ, ◌/◌, Bool, false, cond, not, ◌&&◌, ◌||◌, List, [], ◌∷◌, ◌++◌, eqb, ltb, get_or, length, None}
 use Rattle.byte_slices.specs.Bytes.{part}
 use Rattle.gabi.specs.StringTable.{has_name, name_at}
-use Rattle.symbol.specs.declared.SttFile.TheVariants as File
 use Rattle.shared_objects.specs.Record as Lists
 use Rattle.shared_objects.specs.SymbolsLoad as Symbols
 use Rattle.shared_objects.specs.Load.{Input, All, links_in}
@@ -100,7 +99,7 @@ is_unrecorded t lists x = is_unroomed t x || not (ltb t.link.lists lists)
 
 module _ (o : Input) where
   abbrev pub external_asked : State → ℕ → Asked
-  external_asked t i = asked_of (binding_at o.entries i) (visibility_at o.entries i) 0 (id_in t (bytes o i)) File.None defined
+  external_asked t i = asked_of (binding_at o.entries i) (visibility_at o.entries i) 0 (id_in t (bytes o i)) None defined
 
   abbrev pub defined_rules : State → ℕ → List Rule
   defined_rules t i = (is_unroomed t (bytes o i) gives 2 at i) ∷ shown_rules t (external_asked t i) i ++ held_rules t (external_asked t i) i

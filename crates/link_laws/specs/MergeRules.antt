@@ -1,11 +1,10 @@
 -- Document 01's rules for the elements of a merge: each element has its rules, over what the elements before it left. The first rule of the first
 -- element that has one gives the answer.
 -- Assumes nothing.
-use Rattle.std.specs.Prelude.{ℕ, zero, suc, ◌+◌, ◌*◌, ◌/◌, Bool, false, cond, not, ◌&&◌, ◌||◌, List, [], ◌∷◌, ◌++◌, eqb, ltb, length}
+use Rattle.std.specs.Prelude.{ℕ, zero, suc, ◌+◌, ◌*◌, ◌/◌, Bool, false, cond, not, ◌&&◌, ◌||◌, List, [], ◌∷◌, ◌++◌, eqb, ltb, length, None}
 use Rattle.byte_slices.specs.Bytes.{part}
 use Rattle.gabi.specs.StringTable.{same_name}
 use Rattle.link.specs.declared.Link.{Link}
-use Rattle.symbol.specs.declared.SttFile.TheVariants as File
 use Rattle.upcoming_symbol.specs.declared.ElfSymbol.{ElfSymbol}
 use Rattle.section_groups.specs.Group as Group
 use Rattle.merge_symbols.specs.Stage as Symbols
@@ -171,7 +170,7 @@ module _ (k : Reading) (o : Stages.Tabled) (i : ℕ) where
   is_idless = eqb entry.kind 4 || not (eqb entry.section 0) && (ltb entry.section 0xff00 && k.defines entry.section)
 
   abbrev pub symbol_asked : State → Asked
-  symbol_asked t = elf_asked entry (id_in t bytes) File.None (k.conversion entry.section) (eqb (length bytes) 0)
+  symbol_asked t = elf_asked entry (id_in t bytes) None (k.conversion entry.section) (eqb (length bytes) 0)
 
   -- "symbols (9, then add)"
   abbrev pub symbol_rules : Symbols.State → List Rule

@@ -1,6 +1,7 @@
 -- The calls that leave a link as it is: "Lookups and walks don't change a link". What each answers is the right side of its contract.
 -- Assumes nothing.
-use Rattle.std.specs.Prelude.{ℕ, List}
+use Rattle.symbol.specs.declared.Symbol.{Symbol}
+use Rattle.std.specs.Prelude.{ℕ, List, Option, Result, Bool}
 use Rattle.link.specs.declared.Interned.{Interned}
 use Rattle.link.specs.declared.SymbolId.{SymbolId}
 use Rattle.link.specs.declared.SectionId.{SectionId}
@@ -9,15 +10,12 @@ use Rattle.link.specs.Judge.{refused}
 use Rattle.link.specs.Said.{SaidWith}
 use Rattle.interner.specs.Calls as Names
 use Rattle.interner.specs.Calls.{resolve_of}
-use Rattle.symbols.specs.declared.Found.{Found}
-use Rattle.symbols.specs.declared.SectionSymbol.{SectionSymbol}
 use Rattle.symbols.specs.Lookup as Lookup
 use Rattle.symbols.specs.Lookup.{get_of, get_global_of, section_symbol_of}
 use Rattle.archive_walk.specs.declared.Walk.{Walk}
 use Rattle.archive_walk.specs.Look as Look
 use Rattle.archive_walk.specs.Walk as Archive
 use Rattle.archive_walk.specs.Walk.{start_of, next_of}
-use Rattle.object_requirement.specs.declared.Admission.{Admission}
 use Rattle.object_requirement.specs.Matches as Matches
 use Rattle.object_requirement.specs.Matches.{matches_of}
 use Rattle.symbol_laws.specs.History.{State, store}
@@ -43,12 +41,12 @@ refusal_with a = refused a.number a.place
 -- the outcome of which its contract speaks
 abbrev pub ReadLeft : ReadCall → Type 0
 ReadLeft (resolve id) = Names.Resolved
-ReadLeft (get id) = Found
-ReadLeft (get_global name) = Found
-ReadLeft (section_symbol section) = SectionSymbol
+ReadLeft (get id) = (Result Symbol Refusal)
+ReadLeft (get_global name) = (Result Symbol Refusal)
+ReadLeft (section_symbol section) = (Option SymbolId)
 ReadLeft (archive_start key index cells) = Archive.Start
 ReadLeft (archive_next index cells w) = Archive.Step
-ReadLeft (matches headers entries contents file index cells w e) = Admission
+ReadLeft (matches headers entries contents file index cells w e) = (Result Bool Refusal)
 
 -- its contract: the outcome is this
 abbrev pub read_left : (k : ReadCall) → State → ReadLeft k

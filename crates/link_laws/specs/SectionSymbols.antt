@@ -2,16 +2,13 @@
 -- "A section without a symbol answers "none"". Told by what `get` answers, so without a cell.
 -- Assumes nothing.
 use Prim.Native.Nat.{ℕ, ◌+◌, ◌≤◌}
-use Rattle.std.specs.Prelude.{◌≡◌}
+use Rattle.std.specs.Prelude.{◌≡◌, Option, None, Some, Ok}
 use Rattle.link.specs.declared.SymbolId.{SymbolId}
 use Rattle.link.specs.declared.SectionId.{SectionId}
 use Rattle.symbol.specs.declared.Symbol.{Symbol}
 use Rattle.symbol.specs.declared.SymbolVisibility.TheVariants.{Local}
 use Rattle.symbol.specs.declared.SymbolValue.{SymbolValue}
 use Rattle.symbol.specs.declared.SymbolValue.TheVariants as Val
-use Rattle.symbols.specs.declared.Found.TheVariants as Fd
-use Rattle.symbols.specs.declared.SectionSymbol.{SectionSymbol}
-use Rattle.symbols.specs.declared.SectionSymbol.TheVariants as Answer
 use Rattle.symbols.specs.New.{null_row}
 use Rattle.symbol_laws.specs.Proof.Rows.{row_at}
 use Rattle.symbol_laws.specs.History.{State}
@@ -24,7 +21,7 @@ use Rattle.link_laws.specs.LocalRows.{symbol_in}
 -- the row of an id, if it is there, has the value `Section` of y
 pub record SectionRow (s : Linked) (y : SectionId) (i : SymbolId) : Type 0 where
   pub row : Symbol
-  pub got : call_left (get i) s ≡ Fd.Row row
+  pub got : call_left (get i) s ≡ Ok row
   pub section : row.value ≡ Val.Section y
 
 -- and is local
@@ -48,9 +45,9 @@ section_number Val.SectionNotLoaded = 0
 section_number Val.ExternallyDefined = 0
 section_number (Val.Undefined weak) = 0
 
-abbrev pub symbol_number : SectionSymbol → ℕ
-symbol_number Answer.None = 0
-symbol_number (Answer.Symbol i) = i.0 + 1
+abbrev pub symbol_number : Option SymbolId → ℕ
+symbol_number None = 0
+symbol_number (Some i) = i.0 + 1
 
 -- a table without sections' symbols, of one row, which is null
 pub record Fresh (s : State) : Type 0 where

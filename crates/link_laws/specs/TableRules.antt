@@ -1,12 +1,11 @@
 -- Document 01's rules for the calls on names and symbols, in its order and words, over the cells of a link. No test uses a definition of the call that it
 -- judges.
 -- Assumes nothing.
-use Rattle.std.specs.Prelude.{ℕ, zero, suc, ◌+◌, ◌*◌, ◌/◌, ◌-◌, Bool, true, false, cond, not, ◌&&◌, ◌||◌, List, [], ◌∷◌, ◌++◌, eqb, ltb, get_or, length}
+use Rattle.link.specs.declared.Interned.{Interned}
+use Rattle.std.specs.Prelude.{ℕ, zero, suc, ◌+◌, ◌*◌, ◌/◌, ◌-◌, Bool, true, false, cond, not, ◌&&◌, ◌||◌, List, [], ◌∷◌, ◌++◌, eqb, ltb, get_or, length, Option, None, Some}
 use Rattle.byte_slices.specs.Bytes.{same, part}
 use Rattle.link.specs.declared.Link.{Link}
 use Rattle.link.specs.Bounds.{not_lent}
-use Rattle.symbol.specs.declared.SttFile.{SttFile}
-use Rattle.symbol.specs.declared.SttFile.TheVariants as File
 use Rattle.symbol.specs.declared.SymbolValue.{SymbolValue}
 use Rattle.symbol.specs.declared.SymbolValue.TheVariants as Val
 use Rattle.upcoming_symbol.specs.declared.ElfSymbol.{ElfSymbol}
@@ -166,7 +165,7 @@ pub record Asked : Type 0 where
   pub visibility : ℕ
   pub kind : ℕ
   pub name : ℕ
-  pub file : SttFile
+  pub file : Option Interned
   pub value : Value
 
 -- "for each section number an id, "not loaded" or nothing"
@@ -201,19 +200,19 @@ given_value Val.SectionNotLoaded = defined
 given_value Val.ExternallyDefined = defined
 given_value (Val.Undefined weak) = undefined
 
-abbrev pub asked_of : ℕ → ℕ → ℕ → ℕ → SttFile → Value → Asked
+abbrev pub asked_of : ℕ → ℕ → ℕ → ℕ → Option Interned → Value → Asked
 asked_of binding visibility kind name file value =
     record { binding = binding; visibility = visibility; kind = kind; name = name; file = file; value = value }
 
-abbrev pub elf_asked : ElfSymbol → ℕ → SttFile → Conversion → Bool → Asked
+abbrev pub elf_asked : ElfSymbol → ℕ → Option Interned → Conversion → Bool → Asked
 elf_asked e name file c empty = asked_of e.binding e.visibility e.kind name file (elf_value e c empty)
 
 abbrev pub asked : State → List ℕ → UpcomingSymbol → Asked
-asked t conversion Null = asked_of 0 0 0 0 File.None defined
-asked t conversion (GlobalUnknown name) = asked_of 1 0 0 name.0 File.None undefined
-asked t conversion (GlobalHidden name value) = asked_of 1 2 0 name.0 File.None (given_value value)
-asked t conversion (Section s) = asked_of 0 0 3 0 File.None (section s.0)
-asked t conversion (ExternallyDefined name visibility binding) = asked_of binding visibility 0 name.0 File.None defined
+asked t conversion Null = asked_of 0 0 0 0 None defined
+asked t conversion (GlobalUnknown name) = asked_of 1 0 0 name.0 None undefined
+asked t conversion (GlobalHidden name value) = asked_of 1 2 0 name.0 None (given_value value)
+asked t conversion (Section s) = asked_of 0 0 3 0 None (section s.0)
+asked t conversion (ExternallyDefined name visibility binding) = asked_of binding visibility 0 name.0 None defined
 asked t conversion (Elf e name file) = elf_asked e name.0 file (conversion_in (get_or conversion e.section 0)) (is_empty t name.0)
 
 -- "gABI's numbers for binding and type (0 to 15), visibility (0 to 3), section (.., else below 0xff00) [..]; other numbers [..] give 1"
@@ -230,13 +229,13 @@ is_outside (Section s) = false
 is_outside (ExternallyDefined name visibility binding) = ltb 15 binding || ltb 3 visibility
 is_outside (Elf e name file) = is_outside_elf e
 
-abbrev pub is_unissued_file : State → SttFile → Bool
-is_unissued_file t File.None = false
-is_unissued_file t (File.Name id) = not (is_issued t id.0)
+abbrev pub is_unissued_file : State → Option Interned → Bool
+is_unissued_file t None = false
+is_unissued_file t (Some id) = not (is_issued t id.0)
 
-abbrev pub file_id : SttFile → ℕ
-file_id File.None = 0
-file_id (File.Name id) = id.0
+abbrev pub file_id : Option Interned → ℕ
+file_id None = 0
+file_id (Some id) = id.0
 
 module _ (t : State) (a : Asked) where
   abbrev pub is_local : Bool

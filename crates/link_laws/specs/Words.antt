@@ -1,10 +1,10 @@
 -- The words of the page (Page.antt), and what ties them to the definitions behind the calls.
 -- Assumes nothing.
-use Rattle.std.specs.Prelude.{ℕ, Bool, false, cond, ◌&&◌, List}
+use Rattle.link.specs.declared.Refusal.{Refusal}
+use Rattle.symbol.specs.declared.Symbol.{Symbol}
+use Rattle.std.specs.Prelude.{ℕ, Bool, false, cond, ◌&&◌, List, Result, Ok, Err}
 use Rattle.link.specs.declared.Interned.{Interned}
 use Rattle.interner_laws.specs.Good.{find}
-use Rattle.symbols.specs.declared.Found.{Found}
-use Rattle.symbols.specs.declared.Found.TheVariants as Fd
 use Rattle.archive_index.specs.Index.{count_of, name_of}
 use Rattle.archive_laws.proofs.PassList.{members_from}
 use Rattle.load_laws.proofs.Own as Need
@@ -17,21 +17,21 @@ abbrev pub id_of : List ℕ → Linked → Interned
 id_of b s = record { 0 = find (store s.table) b }
 
 -- what get_global answers for the bytes b
-abbrev pub lookup : List ℕ → Linked → Found
+abbrev pub lookup : List ℕ → Linked → Result Symbol Refusal
 lookup b s = call_left (get_global (id_of b s)) s
 
 -- a row, and its value is `Undefined`
-abbrev pub is_undefined : Found → Bool
-is_undefined (Fd.Row y) = Need.is_undefined y.value
-is_undefined (Fd.Refused r) = false
+abbrev pub is_undefined : Result Symbol Refusal → Bool
+is_undefined (Ok y) = Need.is_undefined y.value
+is_undefined (Err r) = false
 
 abbrev pub undefined : List ℕ → Linked → Bool
 undefined b s = is_undefined (lookup b s)
 
 -- a row, and it is global and not weak
-abbrev pub is_strong : Found → Bool
-is_strong (Fd.Row y) = Need.is_strong y.visibility
-is_strong (Fd.Refused r) = false
+abbrev pub is_strong : Result Symbol Refusal → Bool
+is_strong (Ok y) = Need.is_strong y.visibility
+is_strong (Err r) = false
 
 abbrev pub strong : List ℕ → Linked → Bool
 strong b s = is_strong (lookup b s)

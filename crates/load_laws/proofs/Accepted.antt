@@ -1,6 +1,8 @@
 -- A library that is loaded: the rows that it adds are those of the symbols that it defines, in order and none left out.
 -- Assumes nothing.
-use Rattle.std.specs.Prelude.{ℕ, zero, suc, ◌≤◌, true, cond, eqb, get_or, length}
+use Rattle.shared_objects.specs.declared.Load.{Load}
+use Rattle.shared_objects.specs.declared.Load.TheVariants.{NotNeeded, Loaded}
+use Rattle.std.specs.Prelude.{ℕ, zero, suc, ◌≤◌, true, cond, eqb, get_or, length, Result, Ok, Err}
 use native.Mathlib.Omega.{arith}
 use Rattle.std.proofs.Common.{zero-add, le_refl, sym, ◌∙◌}
 use Rattle.std.proofs.Math.Path.{◌≡◌, refl, ap}
@@ -20,7 +22,6 @@ use Rattle.shared_objects.specs.Record.{Recorded, record_of, dependency_of, depe
 use Rattle.shared_objects.specs.Define.{plan_of, view, accept_of, kept_of, commit_of, define_of}
 use Rattle.shared_objects.specs.SymbolsLoad.{State, staged, library_symbol_named, looked_of, symbol_of, symbols_of}
 use Rattle.shared_objects.specs.Need.{Judged}
-use Rattle.shared_objects.specs.declared.Answer.TheVariants.{Loaded, NotNeeded, Refused}
 use Rattle.shared_objects.specs.Stages.{ListLinks, Links}
 use Rattle.shared_objects.specs.Load as Load
 use Rattle.shared_objects.specs.Load.{All, Input, want_of, ended_as, links_in, head_in, name_of, wanted_of, load_of}
@@ -154,14 +155,14 @@ module _ (o : Input) (a : All) where
   abbrev stage : Stage
   stage = (end o.entries o.image o.needs (links_in a) (name_of o)).stage
 
-  loaded-whole : (ended_as stage).answer ≡ Loaded → stage.number ≡ 0
+  loaded-whole : (ended_as stage).answer ≡ Ok Loaded → stage.number ≡ 0
   unfolding ended_as
   loaded-whole e = by-test (eqb stage.number 0) (λ t. eqb-true _ _ t) (λ t. absurd (differ _ (rw t at e)))
     where
-      differ : (r : Refusal) → Refused r ≡ Loaded → ⊥
+      differ : (r : Refusal) → Err r ≡ Ok Loaded → ⊥
       differ r e = let z : ◌≡◌ {A = ℕ} 0 1 = cc in omega arith
 
-  pub load-rows : (load_of o a).answer ≡ Loaded
+  pub load-rows : (load_of o a).answer ≡ Ok Loaded
       → added_rows (load_steps o a) ≡ symbol_rows o.entries o.image o.needs (links_in a) (name_of o) (rows_in o.entries)
   unfolding load_of Load.library_named wanted_of load_steps asked_steps wanted_steps
   load-rows e =
@@ -177,8 +178,8 @@ module _ (o : Input) (a : All) where
       (λ j. absurd (unneeded (rw (h, j) at e))))
       (λ h. absurd (refusal _ (rw h at e)))
     where
-      unneeded : NotNeeded ≡ Loaded → ⊥
+      unneeded : ◌≡◌ {A = Result Load Refusal} (Ok NotNeeded) (Ok Loaded) → ⊥
       unneeded e = let z : ◌≡◌ {A = ℕ} 0 1 = cc in omega arith
 
-      refusal : (r : Refusal) → Refused r ≡ Loaded → ⊥
+      refusal : (r : Refusal) → Err r ≡ Ok Loaded → ⊥
       refusal r e = let z : ◌≡◌ {A = ℕ} 0 1 = cc in omega arith

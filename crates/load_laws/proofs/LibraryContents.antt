@@ -1,6 +1,6 @@
 -- The accepted adds of a load, refused or not: each is that of a symbol that the library defines, and its row has what the symbol's entry says.
 -- Assumes nothing.
-use Rattle.std.specs.Prelude.{ℕ, zero, suc, ◌+◌, ◌<◌, true, false, Bool, ◌≢◌, eqb, length}
+use Rattle.std.specs.Prelude.{ℕ, zero, suc, ◌+◌, ◌<◌, true, false, Bool, ◌≢◌, eqb, length, None}
 use Rattle.std.proofs.Common.{arith, zero-add, sym, ◌∙◌, subst}
 use Rattle.std.proofs.Math.Path.{◌≡◌, refl, ap}
 use mathlib.Core.List.{List, [], ◌∷◌, ◌++◌, append_assoc}
@@ -15,7 +15,6 @@ use Rattle.interner_laws.specs.Good.{Issued, find}
 use Rattle.symbol.specs.declared.Row.{Row}
 use Rattle.symbol.specs.declared.SymbolType.TheVariants as Ty
 use Rattle.symbol.specs.declared.SymbolValue.TheVariants as Val
-use Rattle.symbol.specs.declared.SttFile.TheVariants as File
 use Rattle.symbol.specs.Codes.{type_at, visibility_at, value_at, file_at}
 use Rattle.symbol.specs.Row.{scope_refused}
 use Rattle.symbol_resolution.specs.Decide.{refusal_of}
@@ -63,7 +62,7 @@ module _ (o : Input) (a : All) where
     pub value : value_at r.value ≡ Val.ExternallyDefined
     pub found : has_name o.image (entry_name o.entries number) ≡ true
     pub named : Issued (store (table_in (load_of o a).cells)) r.name.0 (name_at o.image (entry_name o.entries number))
-    pub filed : file_at r.file ≡ File.None
+    pub filed : file_at r.file ≡ None
 
 -- ---- one symbol's steps add its planned row, or none
 

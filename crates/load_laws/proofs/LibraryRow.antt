@@ -1,7 +1,8 @@
 -- The row of a loaded library: its name, the undefined names of binding 1 that it was given, its dependencies, by ids that stand for these names; and
 -- earlier libraries' rows and lists stay. So what a later judgement of need reads is what was loaded.
 -- Assumes nothing.
-use Rattle.std.specs.Prelude.{ℕ, ◌+◌, ◌*◌, ◌/◌, ◌<◌, ◌≤◌, true, List, eqb, ltb, get_or, take}
+use Rattle.shared_objects.specs.declared.Load.TheVariants.{Loaded}
+use Rattle.std.specs.Prelude.{ℕ, ◌+◌, ◌*◌, ◌/◌, ◌<◌, ◌≤◌, true, List, eqb, ltb, get_or, take, Ok}
 use Rattle.std.proofs.Common.{arith, sym, ap, subst, ◌∙◌}
 use Rattle.std.proofs.Math.Path.{◌≡◌, refl}
 use Rattle.std.proofs.Math.ListN.{length}
@@ -26,7 +27,6 @@ use Rattle.shared_objects.specs.Head.{check_of}
 use Rattle.shared_objects.specs.Need.{input_kind_at, dependencies_at, undefined_at}
 use Rattle.shared_objects.specs.Record.{Recorded, recorded_of, dependencies_of}
 use Rattle.shared_objects.specs.SymbolsLoad.{State, state_of, symbols_of}
-use Rattle.shared_objects.specs.declared.Answer.TheVariants.{Loaded}
 use Rattle.shared_objects.specs.declared.Outcome.{Outcome}
 use Rattle.shared_objects.specs.Stages.{InputLinks, library_cells, library_row_of, ListLinks, list_links, with_input, input_stage, lists_of, Links, with_lists, list_stage, contents_of, with_name, kept_of, issued_of, library_of}
 use Rattle.shared_objects.specs.Load.{All, Input, Left, want_of, ended_as, links_in, wanted_of, library_named, head_in, name_of, load_of}
@@ -157,10 +157,10 @@ module _ (o : Input) (a : All) where
       → (contents.stage.number ≡ 0) × (r ≡ contents) × (fits_of (store_of a.bytes a.names a.link) (record { 0 = self }) (length x) ≡ true))
       (fits_of (store_of a.bytes a.names a.link) (record { 0 = self }) (length x)) _ _ (λ t e. (e, refl, t)) (λ t e. absurd (omega arith))
 
-  ended-done : (s : Stage) → (ended_as s).answer ≡ Loaded → (s.number ≡ 0) × ((ended_as s).link ≡ s.link)
+  ended-done : (s : Stage) → (ended_as s).answer ≡ Ok Loaded → (s.number ≡ 0) × ((ended_as s).link ≡ s.link)
   unfolding ended_as
   ended-done s =
-      pick (λ (r : Outcome). r.answer ≡ Loaded → (s.number ≡ 0) × (r.link ≡ s.link)) (eqb s.number 0) _ _ (λ t e. (eqb-true _ _ t, refl))
+      pick (λ (r : Outcome). r.answer ≡ Ok Loaded → (s.number ≡ 0) × (r.link ≡ s.link)) (eqb s.number 0) _ _ (λ t e. (eqb-true _ _ t, refl))
       (λ t e. absurd (let z : ◌≡◌ {A = ℕ} 0 1 = cc in omega arith))
 
   -- the head lets it through, no stage refuses, and what is left is what the stages left
@@ -173,12 +173,12 @@ module _ (o : Input) (a : All) where
     pub lists : t.cells.lists ≡ whole.lists
     pub link : t.cells.link ≡ whole.stage.link
 
-  load-done : (load_of o a).answer ≡ Loaded → LoadedAs (load_of o a)
+  load-done : (load_of o a).answer ≡ Ok Loaded → LoadedAs (load_of o a)
   unfolding load_of library_named wanted_of
   load-done =
-      pick (λ (t : Left). t.answer ≡ Loaded → LoadedAs t) (eqb (head_in o a).number 0) _ _
+      pick (λ (t : Left). t.answer ≡ Ok Loaded → LoadedAs t) (eqb (head_in o a).number 0) _ _
       (λ h.
-      pick (λ (t : Left). t.answer ≡ Loaded → LoadedAs t)
+      pick (λ (t : Left). t.answer ≡ Ok Loaded → LoadedAs t)
       (want_of o.asneeded a.link a.bytes a.names a.symbols a.inputs a.lists a.marks o.entries o.image x).needed _ _
       (λ u e.
       let d = ended-done whole.stage e in
@@ -202,7 +202,7 @@ module _ (o : Input) (a : All) where
     pub earlier-rows : (j f : ℕ) → j < k → f < 8 → field after.inputs j f ≡ field a.inputs j f
     pub earlier-lists : take a.link.lists after.lists ≡ take a.link.lists a.lists
 
-  module _ (fit : length a.lists ≤ most) (e : (load_of o a).answer ≡ Loaded) where
+  module _ (fit : length a.lists ≤ most) (e : (load_of o a).answer ≡ Ok Loaded) where
     abbrev head-zero : (head_in o a).number ≡ 0
     head-zero = (load-done e).passed
 

@@ -1,7 +1,9 @@
 -- "Under as-needed, an unneeded library answers "not needed" and changes nothing"; no other library is answered so. A refusal of the head (22, 1,
 -- 25, too few marks) leaves all, and one after it breaks the link.
 -- Assumes nothing.
-use Rattle.std.specs.Prelude.{ℕ, ◌≤◌, refl, Bool, true, false, List, eqb, ltb, length}
+use Rattle.shared_objects.specs.declared.Load.{Load}
+use Rattle.shared_objects.specs.declared.Load.TheVariants.{NotNeeded, Loaded}
+use Rattle.std.specs.Prelude.{ℕ, ◌≤◌, refl, Bool, true, false, List, eqb, ltb, length, Result, Ok, Err}
 use native.Mathlib.Omega.{arith}
 use Rattle.std.proofs.Math.Path.{◌≡◌}
 use Rattle.std.proofs.Common.{sym, ap, ◌∙◌}
@@ -15,7 +17,6 @@ use Rattle.link.specs.declared.Stage.{Stage}
 use Rattle.link.specs.Judge.{change_of}
 use Rattle.shared_objects.specs.Head.{rows_of, unnamed_of, marks_short, name_refusal, after_rows, check_of}
 use Rattle.shared_objects.specs.Need.{Judged, need_of}
-use Rattle.shared_objects.specs.declared.Answer.TheVariants.{Loaded, NotNeeded, Refused}
 use Rattle.shared_objects.specs.declared.Outcome.{Outcome}
 use Rattle.shared_objects.specs.Load.{All, Input, Left, left, want_of, ended_as, marked, wanted_of, library_named, head_in, name_of, load_of}
 use Rattle.load_laws.specs.Needed.{Needed}
@@ -43,16 +44,16 @@ module _ (l : Link) (archived sonamed : Bool) (soname : ℕ) (marks : ℕ) where
 
 -- ---- a library that is loaded isn't answered so
 
-differ : (r : Refusal) → Refused r ≡ NotNeeded → ⊥
+differ : (r : Refusal) → Err r ≡ Ok NotNeeded → ⊥
 differ r e = let z : ◌≡◌ {A = ℕ} 0 1 = cc in omega arith
 
-loaded : Loaded ≡ NotNeeded → ⊥
+loaded : ◌≡◌ {A = Result Load Refusal} (Ok Loaded) (Ok NotNeeded) → ⊥
 loaded e = let z : ◌≡◌ {A = ℕ} 0 1 = cc in omega arith
 
-ended-other : (s : Stage) → (ended_as s).answer ≡ NotNeeded → ⊥
+ended-other : (s : Stage) → (ended_as s).answer ≡ Ok NotNeeded → ⊥
 unfolding ended_as
 ended-other s =
-    pick (λ (r : Outcome). r.answer ≡ NotNeeded → ⊥) (eqb s.number 0) _ _ (λ t e. loaded e) (λ t e. differ _ e)
+    pick (λ (r : Outcome). r.answer ≡ Ok NotNeeded → ⊥) (eqb s.number 0) _ _ (λ t e. loaded e) (λ t e. differ _ e)
 
 module _ (o : Input) (a : All) where
   abbrev after : Left
@@ -65,27 +66,27 @@ module _ (o : Input) (a : All) where
   IsNeeded = Needed a.link a.bytes a.names a.symbols a.inputs a.lists o.entries o.image (name_of o)
 
   -- the link, and every cell but the marks
-  pub not-needed-leaves : after.answer ≡ NotNeeded → after.cells ≡ marked a after.cells.marks
+  pub not-needed-leaves : after.answer ≡ Ok NotNeeded → after.cells ≡ marked a after.cells.marks
   unfolding load_of library_named wanted_of
   not-needed-leaves =
-      pick (λ (t : Left). t.answer ≡ NotNeeded → t.cells ≡ marked a t.cells.marks) (eqb (head_in o a).number 0) _ _
+      pick (λ (t : Left). t.answer ≡ Ok NotNeeded → t.cells ≡ marked a t.cells.marks) (eqb (head_in o a).number 0) _ _
       (λ t.
-      pick (λ (t : Left). t.answer ≡ NotNeeded → t.cells ≡ marked a t.cells.marks) want.needed _ _ (λ u e. absurd (ended-other _ e))
+      pick (λ (t : Left). t.answer ≡ Ok NotNeeded → t.cells ≡ marked a t.cells.marks) want.needed _ _ (λ u e. absurd (ended-other _ e))
       (λ u e. refl))
       (λ t e. absurd (differ _ e))
 
-  pub head-leaves : ((head_in o a).number ≡ 0 → ⊥) → after ≡ left a (Refused (head_in o a))
+  pub head-leaves : ((head_in o a).number ≡ 0 → ⊥) → after ≡ left a (Err (head_in o a))
   unfolding load_of
   head-leaves n = simp (ne_eqb _ _ n)
 
   -- ---- exactly the unneeded ones
 
-  unwanted : after.answer ≡ NotNeeded → ((head_in o a).number ≡ 0) × (want.needed ≡ false)
+  unwanted : after.answer ≡ Ok NotNeeded → ((head_in o a).number ≡ 0) × (want.needed ≡ false)
   unfolding load_of library_named wanted_of
   unwanted =
-      pick (λ (t : Left). t.answer ≡ NotNeeded → ((head_in o a).number ≡ 0) × (want.needed ≡ false)) (eqb (head_in o a).number 0) _ _
+      pick (λ (t : Left). t.answer ≡ Ok NotNeeded → ((head_in o a).number ≡ 0) × (want.needed ≡ false)) (eqb (head_in o a).number 0) _ _
       (λ t.
-      pick (λ (s : Left). s.answer ≡ NotNeeded → ((head_in o a).number ≡ 0) × (want.needed ≡ false)) want.needed _ _
+      pick (λ (s : Left). s.answer ≡ Ok NotNeeded → ((head_in o a).number ≡ 0) × (want.needed ≡ false)) want.needed _ _
       (λ u e. absurd (ended-other _ e)) (λ u e. (eqb-true _ _ t, u)))
       (λ t e. absurd (differ _ e))
 
@@ -100,7 +101,7 @@ module _ (o : Input) (a : All) where
   room : (head_in o a).number ≡ 0 → o.asneeded ≡ true → a.link.names ≤ length a.marks
   room h e = head-marks a.link o.archived o.sonamed o.soname (length a.marks) _ o.entries o.image o.needs (rw e at h)
 
-  pub not-needed-only : after.answer ≡ NotNeeded → ((head_in o a).number ≡ 0) × (o.asneeded ≡ true) × (IsNeeded → ⊥)
+  pub not-needed-only : after.answer ≡ Ok NotNeeded → ((head_in o a).number ≡ 0) × (o.asneeded ≡ true) × (IsNeeded → ⊥)
   not-needed-only e =
       let u = unwanted e in
       let q = asked u.1 in (
@@ -110,11 +111,11 @@ module _ (o : Input) (a : All) where
             ∙ needed-complete a.link a.bytes a.names a.symbols a.inputs a.lists a.marks o.entries o.image (name_of o) (room u.0 q) n),
       )
 
-  pub not-needed-all : (head_in o a).number ≡ 0 → o.asneeded ≡ true → (IsNeeded → ⊥) → after.answer ≡ NotNeeded
+  pub not-needed-all : (head_in o a).number ≡ 0 → o.asneeded ≡ true → (IsNeeded → ⊥) → after.answer ≡ Ok NotNeeded
   unfolding load_of library_named wanted_of
   not-needed-all h q n =
       rw (eq-eqb _ _ h) (
-      pick (λ (t : Left). t.answer ≡ NotNeeded) want.needed _ _
+      pick (λ (t : Left). t.answer ≡ Ok NotNeeded) want.needed _ _
       (λ u.
       absurd (n (needed-sound a.link a.bytes a.names a.symbols a.inputs a.lists a.marks o.entries o.image (name_of o) (room h q)
       (sym (ap (λ (j : Judged). j.needed) (judged q)) ∙ u))))
@@ -123,18 +124,18 @@ module _ (o : Input) (a : All) where
 
   -- ---- a refusal inside the library
 
-  ended-breaks : (s : Stage) (r : Refusal) → (ended_as s).answer ≡ Refused r → (ended_as s).link.broken ≡ true
+  ended-breaks : (s : Stage) (r : Refusal) → (ended_as s).answer ≡ Err r → (ended_as s).link.broken ≡ true
   unfolding ended_as
   ended-breaks s r =
-      pick (λ (t : Outcome). t.answer ≡ Refused r → t.link.broken ≡ true) (eqb s.number 0) _ _ (λ t e. absurd (no-refusal e)) (λ t e. refl)
+      pick (λ (t : Outcome). t.answer ≡ Err r → t.link.broken ≡ true) (eqb s.number 0) _ _ (λ t e. absurd (no-refusal e)) (λ t e. refl)
     where
-      no-refusal : Loaded ≡ Refused r → ⊥
+      no-refusal : (Ok Loaded) ≡ Err r → ⊥
       no-refusal e = let z : ◌≡◌ {A = ℕ} 0 1 = cc in omega arith
 
-  pub refusal-breaks : (r : Refusal) → (head_in o a).number ≡ 0 → after.answer ≡ Refused r → after.cells.link.broken ≡ true
+  pub refusal-breaks : (r : Refusal) → (head_in o a).number ≡ 0 → after.answer ≡ Err r → after.cells.link.broken ≡ true
   unfolding load_of library_named wanted_of
   refusal-breaks r h =
       rw (eq-eqb _ _ h) (
-      pick (λ (t : Left). t.answer ≡ Refused r → t.cells.link.broken ≡ true) want.needed _ _ (λ u e. ended-breaks _ r e)
+      pick (λ (t : Left). t.answer ≡ Err r → t.cells.link.broken ≡ true) want.needed _ _ (λ u e. ended-breaks _ r e)
       (λ u e. absurd (differ r (sym e)))
       )

@@ -1,6 +1,6 @@
 -- Where a load stops, and what it leaves there: what the elements before the refused one left, and at most that one's name.
 -- Assumes nothing.
-use Rattle.std.specs.Prelude.{ℕ, ◌<◌, ◌≡◌, Bool, true, false, List, [], ◌∷◌, ◌≢◌, eqb, ltb, get_or, length}
+use Rattle.std.specs.Prelude.{ℕ, ◌<◌, ◌≡◌, Bool, true, false, List, [], ◌∷◌, ◌≢◌, eqb, ltb, get_or, length, Err}
 use Rattle.std.proofs.Common.{arith, sym, ◌∙◌}
 use Rattle.std.proofs.Math.Path.{refl, ap}
 use borrow.Author.Tests.{eqb-true, eqb-false, eq-eqb, ne_eqb}
@@ -15,7 +15,6 @@ use Rattle.merge_symbols.specs.Plan.{place_of}
 use Rattle.shared_objects.specs.Record.{Recorded, dependency_of, dependencies_from, dependencies_of}
 use Rattle.shared_objects.specs.SymbolsLoad.{State, symbol_of, symbols_from, symbols_of}
 use Rattle.shared_objects.specs.Need.{Judged}
-use Rattle.shared_objects.specs.declared.Answer.TheVariants.{Refused}
 use Rattle.shared_objects.specs.Stages.{Links, links_of, library_row_of, input_stage, lists_of, with_input, with_lists, list_stage, contents_of, with_name, stop, issued_of, library_of}
 use Rattle.shared_objects.specs.Stages as Stages
 use Rattle.shared_objects.specs.Load.{All, Input, want_of, ended_as, leave_links, links_in, wanted_of, head_in, name_of, load_of}
@@ -236,6 +235,6 @@ module _ (o : Input) (a : All) where
   pub refused-breaks : (head_in o a).number ≡ 0 → want.needed ≡ true → ending.stage.number ≢ 0
       → load_of o a
       ≡ leave_links want.marks ending
-      (record { link = broken_of ending.stage.link; answer = Refused (refused ending.stage.number ending.stage.place) })
+      (record { link = broken_of ending.stage.link; answer = Err (refused ending.stage.number ending.stage.place) })
   unfolding load_of Load.library_named wanted_of ended_as
   refused-breaks h w u = rw (eq-eqb (head_in o a).number 0 h, w, ne_eqb ending.stage.number 0 u)

@@ -1,11 +1,11 @@
 -- The statements about loads. Their proofs stand in the other files.
 -- Assumes nothing.
-use Rattle.std.specs.Prelude.{ℕ, ◌≤◌, ◌≡◌, refl, true, List, [], ◌++◌, ◌≢◌, length}
+use Rattle.shared_objects.specs.declared.Load.TheVariants.{Loaded}
+use Rattle.std.specs.Prelude.{ℕ, ◌≤◌, ◌≡◌, refl, true, List, [], ◌++◌, ◌≢◌, length, Ok, Err}
 use Rattle.std.proofs.Common.{◌∙◌, subst}
 use Rattle.link.specs.Bounds.{not_lent}
 use Rattle.link.specs.Judge.{refused, broken_of}
 use Rattle.elf_object.specs.Rows.{rows_in}
-use Rattle.shared_objects.specs.declared.Answer.TheVariants.{Loaded, Refused}
 use Rattle.shared_objects.specs.Load.{All, Input, leave_links, links_in, head_in, name_of, load_of}
 use Rattle.symbol_laws.specs.History.{State, Entry, rows}
 use Rattle.symbol_laws.proofs.Held.{Inv}
@@ -46,7 +46,7 @@ module _ (o : Input) (a : All) where
 
   -- and of a library that is loaded these are, in order, the rows of all symbols that it defines and that aren't local, each as it is planned on what
   -- the symbols before it left (symbol_rows, Accepted.antt): no add is left out
-  pub load-log-whole : (load_of o a).answer ≡ Loaded
+  pub load-log-whole : (load_of o a).answer ≡ Ok Loaded
       → rows (log_steps (load_steps o a) (table_in a)) ≡ Accepted.symbol_rows o.entries o.image o.needs (links_in a) (name_of o) (rows_in o.entries)
   load-log-whole ok = load-log ∙ Accepted.load-rows o a ok
 
@@ -92,7 +92,7 @@ module _ (o : Input) (a : All) where
   pub refused-breaks : (head_in o a).number ≡ 0 → (want o a).needed ≡ true → (ending o a).stage.number ≢ 0
       → load_of o a
       ≡ leave_links (want o a).marks (ending o a)
-      (record { link = broken_of (ending o a).stage.link; answer = Refused (refused (ending o a).stage.number (ending o a).stage.place) })
+      (record { link = broken_of (ending o a).stage.link; answer = Err (refused (ending o a).stage.number (ending o a).stage.place) })
   refused-breaks = Stops.refused-breaks o a
 
   -- it leaves every cell as the elements before the refused one left it; on 10 to 12 that one's name is issued besides

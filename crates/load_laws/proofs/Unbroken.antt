@@ -1,6 +1,7 @@
 -- What names, rows and lists don't touch of the link stays; so a load that isn't refused leaves it unbroken.
 -- Assumes nothing.
-use Rattle.std.specs.Prelude.{ℕ, ◌≡◌, refl, Bool, true, false, List, eqb, ltb, get_or, length}
+use Rattle.shared_objects.specs.declared.Load.TheVariants.{Loaded}
+use Rattle.std.specs.Prelude.{ℕ, ◌≡◌, refl, Bool, true, false, List, eqb, ltb, get_or, length, Ok}
 use Rattle.std.proofs.Common.{◌∙◌}
 use borrow.Author.Tests.{eqb-true, eqb-false, eq-eqb}
 use Rattle.cells.specs.Proof.Split.{by-test}
@@ -20,7 +21,6 @@ use Rattle.shared_objects.specs.Record.{Recorded, recorded_of, record_fits, keep
 use Rattle.shared_objects.specs.declared.symbols.Definition.{Definition}
 use Rattle.shared_objects.specs.Define.{Added, plan_of, accept_of, kept_of, commit_of, view, define_of}
 use Rattle.shared_objects.specs.SymbolsLoad.{State, staged, library_symbol_named, looked_of, symbol_of, symbols_of}
-use Rattle.shared_objects.specs.declared.Answer.TheVariants.{Loaded}
 use Rattle.shared_objects.specs.Stages.{ListLinks, Links, library_row_of, input_stage, lists_of, list_stage, contents_of, with_name, issued_of, library_of}
 use Rattle.shared_objects.specs.Stages as Stages
 use Rattle.shared_objects.specs.Load.{All, Input, ended_as, leave_links, links_in, wanted_of, head_in, name_of, load_of}
@@ -137,7 +137,7 @@ head-whole l n entries file needs archived sonamed soname asneeded marks h =
 module _ (o : Input) (a : All) where
   -- what a library that is loaded leaves
   pub record Loads : Type 0 where
-    pub all : load_of o a ≡ leave_links (want o a).marks (ending o a) (record { link = (ending o a).stage.link; answer = Loaded })
+    pub all : load_of o a ≡ leave_links (want o a).marks (ending o a) (record { link = (ending o a).stage.link; answer = (Ok Loaded) })
     pub whole : (ending o a).stage.link.broken ≡ false
 
   pub loaded-whole : (head_in o a).number ≡ 0 → (want o a).needed ≡ true → (ending o a).stage.number ≡ 0 → Loads

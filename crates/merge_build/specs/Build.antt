@@ -1,20 +1,22 @@
 -- Document 01, "Objects": uninitialized, then program sections (18, then 19). A section's row is built where it was reserved.
 -- Assumes nothing.
-use Rattle.std.specs.Prelude.{ℕ, zero, suc, ◌+◌, ◌-◌, Bool, true, false, cond, List, eqb, ltb, length}
+use Rattle.std.specs.Prelude.{ℕ, zero, suc, ◌+◌, ◌-◌, ◌≡◌, Bool, true, false, cond, List, eqb, ltb, length, Result}
 use Rattle.link.specs.declared.Link.{Link}
 use Rattle.link.specs.declared.Stage.{Stage}
 use Rattle.link.specs.declared.Interned.{Interned}
 use Rattle.link.specs.declared.SectionId.{SectionId}
-use Rattle.link.specs.Judge.{going_of, stopped_of}
+use Rattle.link.specs.declared.Refusal.{Refusal}
+use Rattle.link.specs.Judge.{going_of, stopped_of, stage_as}
 use Rattle.link.specs.Counts.{more_lists}
 use Rattle.strings.specs.Lookup.{Looked}
 use Rattle.interner.specs.Names.{Store, store_of, find_of, fits_of, keep_of}
 use Rattle.sections.specs.declared.Section.{Section}
 use Rattle.sections.specs.Rows.{built_of}
 use Rattle.elf_object.specs.Judge.{range_ok}
+use Rattle.elf_object.specs.declared.Object as Elf
 use Rattle.elf_object.specs.Rows.{rows_in, name_offset_at, retain_at, read_at, is_loaded, name_in, conversion_at, id_base, mark_at, removed_mark}
-use Rattle.cells.specs.Slice.{Slice, SliceMut}
-use Rattle.merge_build.specs.declared.Plan.{Plan}
+use Rattle.merge_build.specs.declared.Source.{Source}
+use Rattle.merge_build.specs.declared.Builder.{Builder}
 use Rattle.merge_build.specs.Relocations.{table_for, limit_of, relocations_of, symbols_ok, append_from}
 
 -- what is read of the object: headers, lists, bytes, the sections' work rows, the symbols' ids; the section of section names, the loaded
@@ -33,8 +35,11 @@ abbrev pub object_of : List ℕ → List ℕ → List ℕ → List ℕ → List 
 object_of h c f w i s t n = record { headers = h; contents = c; image = f; work = w; ids = i; section_names = s; table = t; symbols = n }
 
 -- as it is lent
-abbrev pub object_in : Slice → Slice → Slice → Slice → Slice → ℕ → ℕ → ℕ → Object
-object_in h c f w i s t n = object_of h.entry.now c.entry.now f.entry.now w.entry.now i.entry.now s t n
+abbrev pub object_with : Elf.Object → List ℕ → List ℕ → Object
+object_with o work ids = object_of o.headers.now o.contents.now o.image.now work ids o.section_names o.table (rows_in o.entries.now)
+
+abbrev pub object_in : Source → Object
+object_in s = object_with s.object s.work.now s.ids.now
 
 -- the lent cells that the stage writes, with its stage; with a link alone; and those that building a row writes
 pub record State : Type 0 where
@@ -59,33 +64,43 @@ pub record RowState : Type 0 where
 abbrev pub state_of : List ℕ → List ℕ → List ℕ → List ℕ → Stage → State
 state_of b n s x st = record { bytes = b; names = n; sections = s; lists = x; stage = st }
 
--- of lent slices before the call, and after it
-abbrev pub state_before : SliceMut → SliceMut → SliceMut → SliceMut → Stage → State
-state_before b n s x st = state_of b.entry.now n.entry.now s.entry.now x.entry.now st
-
-abbrev pub state_after : SliceMut → SliceMut → SliceMut → SliceMut → Stage → State
-state_after b n s x st = state_of b.exit.now n.exit.now s.exit.now x.exit.now st
-
 abbrev pub link_state : List ℕ → List ℕ → List ℕ → List ℕ → Link → LinkState
 link_state b n s x l = record { bytes = b; names = n; sections = s; lists = x; link = l }
-
--- of lent slices before the call
-abbrev pub link_before : SliceMut → SliceMut → SliceMut → SliceMut → Link → LinkState
-link_before b n s x l = link_state b.entry.now n.entry.now s.entry.now x.entry.now l
 
 abbrev pub row_state : List ℕ → List ℕ → Link → RowState
 row_state s x l = record { sections = s; lists = x; link = l }
 
--- of lent slices before the call, and after it
-abbrev pub row_before : SliceMut → SliceMut → Link → RowState
-row_before s x l = row_state s.entry.now x.entry.now l
+-- ---- what is lent
 
-abbrev pub row_after : SliceMut → SliceMut → Link → RowState
-row_after s x l = row_state s.exit.now x.exit.now l
+-- the same cells
+abbrev pub same_loans : Builder → Builder → Type 0
+same_loans b t =
+    (t.bytes.ghost_name ≡ b.bytes.ghost_name) × (t.names.ghost_name ≡ b.names.ghost_name) × (t.sections.ghost_name ≡ b.sections.ghost_name)
+    × (t.inputs.ghost_name ≡ b.inputs.ghost_name) × (t.lists.ghost_name ≡ b.lists.ghost_name)
+
+-- before the call, and after it, with its answer
+abbrev pub state_before : Builder → State
+state_before b = state_of b.bytes.now b.names.now b.sections.now b.lists.now (going_of b.link)
+
+abbrev pub state_after : Builder → Result Unit Refusal → State
+state_after b r = state_of b.bytes.now b.names.now b.sections.now b.lists.now (stage_as b.link r)
+
+abbrev pub linked_before : Builder → LinkState
+linked_before b = link_state b.bytes.now b.names.now b.sections.now b.lists.now b.link
+
+abbrev pub row_before : Builder → RowState
+row_before b = row_state b.sections.now b.lists.now b.link
+
+-- ---- one section
 
 -- room for as many more in a list
 abbrev pub lists_fit : ℕ → ℕ → ℕ → Bool
 lists_fit used all more = range_ok used more all
+
+-- what is to be done with a section whose name is found: number 0 or its refusal, and the id that the name has or gets
+pub record Plan : Type 0 where
+  pub number : ℕ
+  pub id : Interned
 
 abbrev pub planned : ℕ → Interned → Plan
 planned number id = record { number = number; id = id }
@@ -134,10 +149,6 @@ commit_of headers work ids s relocations x n kind p =
     cond (eqb p.number 2) (stop s 2 n)
     (kept_of headers work ids s (keep_of (store_of s.bytes s.names s.link) p.id x) relocations n kind p)
 
--- of what is lent
-abbrev pub commit_in : Slice → Slice → Slice → LinkState → Slice → Slice → ℕ → ℕ → Plan → State
-commit_in headers work ids s relocations x n kind p = commit_of headers.entry.now work.entry.now ids.entry.now s relocations.entry.now x.entry.now n kind p
-
 -- with the relocations of its table
 unfoldable pub tabled_of : List ℕ → List ℕ → List ℕ → List ℕ → LinkState → List ℕ → ℕ → ℕ → ℕ → ℕ → ℕ → State
 tabled_of headers contents work ids s x t symbols n kind table =
@@ -146,10 +157,6 @@ tabled_of headers contents work ids s x t symbols n kind table =
 
 unfoldable pub section_named : List ℕ → List ℕ → List ℕ → List ℕ → LinkState → List ℕ → ℕ → ℕ → ℕ → ℕ → State
 section_named headers contents work ids s x t symbols n kind = tabled_of headers contents work ids s x t symbols n kind (table_for work n kind)
-
--- of what is lent
-abbrev pub named_in : Slice → Slice → Slice → Slice → LinkState → Slice → ℕ → ℕ → ℕ → ℕ → State
-named_in headers contents work ids s x t symbols n kind = section_named headers.entry.now contents.entry.now work.entry.now ids.entry.now s x.entry.now t symbols n kind
 
 -- of that kind, not excluded, and not removed with a repeated group
 unfoldable pub built_from : List ℕ → List ℕ → ℕ → ℕ → Bool

@@ -1,15 +1,16 @@
 -- Document 01, "Objects": ".., uninitialized, program sections (18, then 19)"; "An input's row is taken last (2, place 0)".
 -- Assumes nothing.
-use Rattle.std.specs.Prelude.{ℕ, cond, List, [], ◌∷◌, eqb, ltb, length}
+use Rattle.std.specs.Prelude.{ℕ, cond, List, [], ◌∷◌, eqb, ltb, length, Result}
 use Rattle.cells.specs.Rows.{put_row}
 use Rattle.link.specs.declared.Link.{Link}
 use Rattle.link.specs.declared.Stage.{Stage}
+use Rattle.link.specs.declared.Refusal.{Refusal}
 use Rattle.link.specs.Bounds.{input_rows}
 use Rattle.link.specs.Judge as Link
 use Rattle.link.specs.Counts.{more_inputs}
 use Rattle.elf_object.specs.Kinds.{program, uninitialized}
 use Rattle.merge_build.specs.Build as Build
-use Rattle.cells.specs.Slice.{SliceMut}
+use Rattle.merge_build.specs.declared.Builder.{Builder}
 
 -- ---- the object's row, with the inputs
 
@@ -42,12 +43,12 @@ pub record BuildLinks : Type 0 where
 abbrev pub build_links : List ℕ → List ℕ → List ℕ → List ℕ → List ℕ → Stage → BuildLinks
 build_links b n s i l st = record { bytes = b; names = n; sections = s; inputs = i; lists = l; stage = st }
 
--- of lent slices before the call, and after it
-abbrev pub links_before : SliceMut → SliceMut → SliceMut → SliceMut → SliceMut → Stage → BuildLinks
-links_before b n s i l st = build_links b.entry.now n.entry.now s.entry.now i.entry.now l.entry.now st
+-- what is lent before the call, and after it, with its answer
+abbrev pub links_before : Builder → BuildLinks
+links_before b = build_links b.bytes.now b.names.now b.sections.now b.inputs.now b.lists.now (Link.going_of b.link)
 
-abbrev pub links_after : SliceMut → SliceMut → SliceMut → SliceMut → SliceMut → Stage → BuildLinks
-links_after b n s i l st = build_links b.exit.now n.exit.now s.exit.now i.exit.now l.exit.now st
+abbrev pub links_after : Builder → Result Unit Refusal → BuildLinks
+links_after b r = build_links b.bytes.now b.names.now b.sections.now b.inputs.now b.lists.now (Link.stage_as b.link r)
 
 abbrev pub building : BuildLinks → Build.State
 building s = Build.state_of s.bytes s.names s.sections s.lists s.stage

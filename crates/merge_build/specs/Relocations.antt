@@ -1,6 +1,6 @@
 -- "Of several relocation tables for a section the last counts. Only a relocation's symbol is taken."
 -- Assumes nothing.
-use Rattle.std.specs.Prelude.{ℕ, ◌+◌, ◌-◌, Bool, true, false, cond, List, [], ◌∷◌, eqb, leb, get_or, set}
+use Rattle.std.specs.Prelude.{ℕ, ◌+◌, ◌-◌, Bool, true, false, cond, List, [], ◌∷◌, eqb, leb, get_or, set, Option, None, Some}
 use Rattle.byte_slices.specs.Bytes.{part}
 use Rattle.elf_object.specs.Kinds.{program}
 use Rattle.elf_object.specs.Rows.{link_at, first_at, count_at, section_of, relocations_at}
@@ -8,6 +8,10 @@ use Rattle.elf_object.specs.Rows.{link_at, first_at, count_at, section_of, reloc
 -- the last table that applies to a program section, its number and 1; 0 for none
 unfoldable pub table_for : List ℕ → ℕ → ℕ → ℕ
 table_for work n kind = cond (eqb kind program) (relocations_at work n) 0
+
+-- the table of a cell that holds its number and 1, 0 for none
+abbrev pub table_in : ℕ → Option ℕ
+table_in cell = cond (eqb cell 0) None (Some (cell - 1))
 
 -- a table names symbols of the loaded symbol table, if it links to it
 unfoldable pub limit_of : List ℕ → ℕ → ℕ → ℕ → ℕ

@@ -1,109 +1,42 @@
 // The end of a merge: what is built, and then the object's own row.
-ghost use Rattle.std.specs.Prelude.{◌≡◌};
-ghost use Rattle.merge_build.specs.Build.{object_in};
-ghost use Rattle.merge_build.specs.Finish.{input_links, input_row_of, program_stage, built_of, links_after, links_before};
+ghost use Rattle.std.specs.Prelude.{◌≡◌, ◌≢◌, IfErr};
+ghost use Rattle.merge_build.specs.Build.{object_with, same_loans};
+ghost use Rattle.merge_build.specs.Finish.{links_after, links_before, input_stage, built_of};
 
-use link::{Link, Stage};
+use crate::{Builder, Source};
+use elf_object::{Kind, Object};
+use link::Refusal;
 
 // What stands first in an input's row: an object.
 const OBJECT: u64 = 1;
 
-// The object's own row is taken last.
-fn input_row(l: Link, inputs: &mut [u64]) -> Stage
-    ensures { input_links inputs.new result ≡ input_row_of inputs.old l }
-{
-    let n = l.inputs;
-    if n < link::input_rows(inputs.len()) {
-        cells::row_store(inputs, n, OBJECT, 0, 0, 0, 0, 0, 0, 0);
-        return link::going(link::with_inputs(l, n + 1));
+impl Builder<'_> {
+    // The object's own row is taken last.
+    #[tactic(auto, unfolding(crate::specs::Finish::input_stage, crate::specs::Finish::input_row_of))]
+    fn take_input(&mut self) -> Result<(), Refusal>
+        ensures loans { same_loans self.old self.new }
+        ensures value { links_after self.new result ≡ input_stage (links_before self.old) }
+        ensures numbered { IfErr result (λ r. r.number ≢ 0) }
+    {
+        let n = self.link.inputs;
+        if n < link::input_rows(self.inputs.len()) {
+            cells::row_store(self.inputs, n, [OBJECT, 0, 0, 0, 0, 0, 0, 0]);
+            self.link.inputs = n + 1;
+            return Ok(());
+        }
+        Err(Refusal::new(2, 0))
     }
-    link::stopped(l, 2, 0)
-}
 
-// Program sections, and then the object's row.
-fn from_programs(
-    s: Stage,
-    bytes: &mut [u8],
-    names: &mut [u64],
-    sections: &mut [u64],
-    inputs: &mut [u64],
-    lists: &mut [u64],
-    headers: &[u64],
-    contents: &[u64],
-    image: &[u8],
-    work: &[u64],
-    ids: &[u64],
-    shstrndx: usize,
-    t: usize,
-    count: usize,
-) -> Stage
-    ensures { links_after bytes names sections inputs lists result
-        ≡ program_stage (object_in headers contents image work ids shstrndx t count) (links_before bytes names sections inputs lists s) }
-{
-    if s.number != 0 {
-        return s;
+    // Uninitialized sections, program sections, and then the object's row. What is read: the object, its sections' work rows, and its symbols'
+    // ids and 1, 0 for none.
+    pub fn finish(&mut self, object: Object<'_>, work: &[u64], ids: &[u64]) -> Result<(), Refusal>
+        ensures loans { same_loans self.old self.new }
+        ensures value { links_after self.new result ≡ built_of (object_with object.entry work.now ids.now) (links_before self.old) }
+        ensures numbered { IfErr result (λ r. r.number ≢ 0) }
+    {
+        let source = Source { object, work, ids };
+        self.build_sections(source, Kind::Uninitialized)?;
+        self.build_sections(source, Kind::Program)?;
+        self.take_input()
     }
-    let p = crate::build_sections(
-        s,
-        bytes,
-        names,
-        sections,
-        lists,
-        headers,
-        contents,
-        image,
-        work,
-        ids,
-        shstrndx,
-        t,
-        count,
-        elf_object::PROGRAM,
-    );
-    if p.number != 0 {
-        return p;
-    }
-    let l = p.link;
-    input_row(l, inputs)
-}
-
-// Uninitialized sections come before program sections.
-pub fn finish(
-    s: Stage,
-    bytes: &mut [u8],
-    names: &mut [u64],
-    sections: &mut [u64],
-    inputs: &mut [u64],
-    lists: &mut [u64],
-    headers: &[u64],
-    contents: &[u64],
-    image: &[u8],
-    work: &[u64],
-    ids: &[u64],
-    shstrndx: usize,
-    t: usize,
-    count: usize,
-) -> Stage
-    ensures { links_after bytes names sections inputs lists result
-        ≡ built_of (object_in headers contents image work ids shstrndx t count) (links_before bytes names sections inputs lists s) }
-{
-    let u = crate::build_sections(
-        s,
-        bytes,
-        names,
-        sections,
-        lists,
-        headers,
-        contents,
-        image,
-        work,
-        ids,
-        shstrndx,
-        t,
-        count,
-        elf_object::UNINITIALIZED,
-    );
-    from_programs(
-        u, bytes, names, sections, inputs, lists, headers, contents, image, work, ids, shstrndx, t,
-        count,
-    )
 }

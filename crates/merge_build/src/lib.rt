@@ -1,183 +1,162 @@
 // The last stages of a merge: uninitialized sections are built, then program sections with their relocations' symbols.
 #![tactic(auto)]
 
-ghost use Rattle.std.specs.Prelude.{◌≡◌, ◌+◌, ◌≤◌, set, length};
-ghost use Rattle.merge_build.specs.Relocations.{table_for, limit_of, relocations_of, symbol_ok, symbols_ok, id_in, append_from};
-ghost use Rattle.merge_build.specs.Build.{lists_fit, plan_of, section_id_of, section_row, build_row_of, built_from, section_of, build_of, commit_in, link_before, named_in, object_in, row_after, row_before, state_after, state_before};
+ghost use Rattle.std.specs.Prelude.{◌≡◌, ◌≢◌, ◌+◌, ◌≤◌, true, length, IfErr, List, ℕ};
+ghost use Rattle.elf_object.specs.Kind.{number_of};
+ghost use Rattle.merge_build.specs.Relocations.{table_for, table_in, limit_of, relocations_of, symbol_ok, symbols_ok, id_in, append_from};
+ghost use Rattle.merge_build.specs.Build.{lists_fit, section_id_of, section_row, build_row_of, built_from, section_of, section_named, build_of, object_in, same_loans, linked_before, row_before, row_built, state_after, state_before};
 
 mod last_stages;
 
-pub use last_stages::finish;
-use link::{Interned, Link, SectionId, Stage};
+use elf_object::{Kind, Object};
+use link::{Interned, Link, Refusal, SectionId};
 use sections::Section;
 
-// What is to be done with a section whose name is found: number 0 or its refusal, and the id that the name has or gets.
+// What is read: the object, its sections' work rows, and its symbols' ids and 1, 0 for none.
 #[derive(Clone, Copy)]
-pub struct Plan {
-    pub number: u64,
-    pub id: Interned,
+pub struct Source<'a> {
+    pub object: Object<'a>,
+    pub work: &'a [u64],
+    pub ids: &'a [u64],
+}
+
+// What is written: the tables of a link.
+#[derive(Drop)]
+pub struct Builder<'a> {
+    pub link: Link,
+    pub bytes: &'a mut [u8],
+    pub names: &'a mut [u64],
+    pub sections: &'a mut [u64],
+    pub inputs: &'a mut [u64],
+    pub lists: &'a mut [u64],
 }
 
 // ---- the relocations of a section
 
-// The last table that applies to section n of that kind, its number and 1; none for an uninitialized one.
-fn table_for(work: &[u64], n: usize, kind: u64) -> u64
-    ensures { result ≡ table_for work.now n kind }
-{
-    if kind == elf_object::PROGRAM {
-        return cells::row_get(work, n, elf_object::WORK_RELOCATIONS);
-    }
-    0
+// Their symbols, and how many symbols they can name.
+#[derive(Clone, Copy)]
+struct Relocations<'a> {
+    symbols: &'a [u64],
+    limit: usize,
 }
 
-// The symbols that a relocation of that table can name: those of the loaded symbol table, of section t, if it links to it.
-fn limit_of(headers: &[u64], table: u64, t: usize, symbols: usize) -> usize
-    ensures { result ≡ limit_of headers.now table t symbols }
-{
-    if cells::row_get(
-        headers,
-        elf_object::section_of(table),
-        elf_object::HEADER_LINK,
-    ) == t as u64
+impl<'a> Source<'a> {
+    // The last table that applies to section n of that kind; none for an uninitialized one.
+    #[tactic(auto, unfolding(crate::specs::Relocations::table_for))]
+    fn table_for(self, n: usize, kind: Kind) -> Option<u64>
+        ensures { result ≡ table_in (table_for self.entry.work.now n (number_of kind)) }
     {
-        return symbols;
+        match kind {
+            Kind::Program => {
+                cells::row_get(self.work, n, elf_object::WORK_RELOCATIONS).checked_sub(1)
+            }
+            _ => None,
+        }
     }
-    0
+
+    // Those of section n, among the object's contents; none for no table. They name symbols of the loaded symbol table, if their table links to it.
+    #[tactic(auto, unfolding(crate::specs::Relocations::limit_of, crate::specs::Relocations::relocations_of, crate::specs::Relocations::symbols_ok, elf_object::specs::Rows::section_of))]
+    fn relocations(self, n: usize, kind: Kind) -> Relocations<'a>
+        ensures symbols { result.symbols.now ≡ relocations_of self.entry.object.headers.now self.entry.object.contents.now (table_for self.entry.work.now n (number_of kind)) }
+        ensures known { (ids : List ℕ) → symbols_ok ids result.limit result.symbols.now
+            ≡ symbols_ok ids (limit_of self.entry.object.headers.now (table_for self.entry.work.now n (number_of kind)) self.entry.object.table (object_in self.entry).symbols)
+            (relocations_of self.entry.object.headers.now self.entry.object.contents.now (table_for self.entry.work.now n (number_of kind))) }
+    {
+        let object = self.object;
+        match self.table_for(n, kind) {
+            None => Relocations {
+                symbols: &object.contents[..0],
+                limit: 0,
+            },
+            Some(t) => {
+                let first = cells::row_get(object.headers, t as usize, elf_object::HEADER_FIRST);
+                let count = cells::row_get(object.headers, t as usize, elf_object::HEADER_COUNT);
+                let linked = cells::row_get(object.headers, t as usize, elf_object::HEADER_LINK);
+                Relocations {
+                    symbols: cells::part_of(object.contents, first as usize, count as usize),
+                    limit: if linked == object.table as u64 {
+                        object.symbol_count()
+                    } else {
+                        0
+                    },
+                }
+            }
+        }
+    }
+
+    // Is section n of that kind, not excluded and not removed?
+    #[tactic(auto, unfolding(crate::specs::Build::built_from))]
+    fn builds(self, n: usize, kind: Kind) -> bool
+        ensures { result ≡ built_from self.entry.object.headers.now self.entry.work.now n (number_of kind) }
+    {
+        self.object.is_loaded(n, kind)
+            && cells::row_get(self.work, n, elf_object::WORK_MARK) != elf_object::REMOVED_MARK
+    }
 }
 
-// Its symbols, among the object's contents; none for no table.
-fn table_symbols<'a>(headers: &[u64], contents: &'a [u64], table: u64) -> &'a [u64]
-    ensures { result.now ≡ relocations_of headers.now contents.now table }
-{
-    if table == 0 {
-        return &contents[..0];
-    }
-    let s = elf_object::section_of(table);
-    let first = cells::row_get(headers, s, elf_object::HEADER_FIRST);
-    let count = cells::row_get(headers, s, elf_object::HEADER_COUNT);
-    cells::part_of(contents, first as usize, count as usize)
-}
-
+#[tactic(auto, unfolding(crate::specs::Relocations::symbol_ok))]
 fn symbol_ok(ids: &[u64], limit: usize, k: u64) -> bool
     ensures { result ≡ symbol_ok ids.now limit k }
 {
-    if limit as u64 <= k {
-        return false;
-    }
-    if cells::get(ids, k as usize) == 0 {
-        return false;
-    }
-    true
+    k < limit as u64 && cells::get(ids, k as usize) != 0
 }
 
 // Does each of the symbols have an id?
-fn symbols_ok(ids: &[u64], limit: usize, relocations: &[u64]) -> bool
-    ensures { result ≡ symbols_ok ids.now limit relocations.now }
+fn symbols_ok(ids: &[u64], limit: usize, symbols: &[u64]) -> bool
+    ensures { result ≡ symbols_ok ids.now limit symbols.now }
 {
-    let mut j = 0;
-    while j < relocations.len() {
-        if symbol_ok(ids, limit, relocations[j]) {
-            j += 1;
-        } else {
-            return false;
-        }
-    }
-    true
+    symbols.iter().all(|&k| symbol_ok(ids, limit, k))
 }
 
+#[tactic(auto, unfolding(crate::specs::Relocations::id_in))]
 fn id_of(ids: &[u64], k: u64) -> u64
     ensures { result ≡ id_in ids.now k }
 {
-    let cell = cells::get(ids, k as usize);
-    if cell == 0 {
-        return 0;
-    }
-    cell - 1
-}
-
-fn put_id(lists: &mut [u64], at: usize, ids: &[u64], k: u64)
-    ensures { lists.new ≡ set lists.old at (id_in ids.now k) }
-{
-    cells::put(lists, at, id_of(ids, k));
+    cells::get(ids, k as usize).saturating_sub(1)
 }
 
 // Their ids, written into the lists from a place on.
-fn append_ids(lists: &mut [u64], at: usize, ids: &[u64], relocations: &[u64])
-    requires { at + length relocations.now ≤ length lists.old }
-    ensures { lists.new ≡ append_from ids.now lists.old at relocations.now }
+fn append_ids(lists: &mut [u64], at: usize, ids: &[u64], symbols: &[u64])
+    requires { at + length symbols.now ≤ length lists.old }
+    ensures { lists.new ≡ append_from ids.now lists.old at symbols.now }
 {
-    let mut j = 0;
-    while j < relocations.len() {
-        put_id(lists, at + j, ids, relocations[j]);
-        j += 1;
+    for (j, &k) in symbols.iter().enumerate() {
+        cells::put(lists, at + j, id_of(ids, k));
     }
 }
 
 // ---- one section
 
-// 2 of the name; 19; 2 of the lists.
-fn plan_section(
-    l: Link,
-    bytes: &[u8],
-    names: &[u64],
-    lists: usize,
-    ids: &[u64],
-    limit: usize,
-    relocations: &[u64],
-    x: &[u8],
-) -> Plan
-    ensures { result ≡ plan_of l bytes.now names.now lists ids.now limit relocations.now x.now }
-{
-    let id = interner::find(l, bytes, names, x);
-    if interner::fits(l, bytes, names, id, x.len()) {
-        if symbols_ok(ids, limit, relocations) {
-            if lists_fit(l.lists, lists, relocations.len()) {
-                return Plan { number: 0, id: id };
-            }
-            return Plan { number: 2, id: id };
-        }
-        return Plan { number: 19, id: id };
-    }
-    Plan { number: 2, id: id }
-}
-
+#[tactic(auto, unfolding(elf_object::specs::Judge::range_ok))]
 fn lists_fit(used: usize, all: usize, more: usize) -> bool
     ensures { result ≡ lists_fit used all more }
 {
-    if all < used {
-        return false;
-    }
-    if all - used < more {
-        return false;
-    }
-    true
+    used <= all && more <= all - used
 }
 
 // The id of the row that was reserved, from the conversion's cell.
+#[tactic(auto, unfolding(crate::specs::Build::section_id_of))]
 fn section_id(cell: u64) -> SectionId
     ensures { result ≡ section_id_of cell }
 {
-    if cell < elf_object::ID_BASE {
-        return SectionId(0);
-    }
-    SectionId((cell - elf_object::ID_BASE) as usize)
+    SectionId(cell.saturating_sub(elf_object::ID_BASE) as usize)
 }
 
 // The row of section n of an object, under that name, its relocations' symbols at the lists' end.
 fn section_row(
-    headers: &[u64],
+    object: Object<'_>,
     n: usize,
-    kind: u64,
-    id: Interned,
+    kind: Kind,
+    name: Interned,
     first: usize,
     count: usize,
 ) -> Section
-    ensures { result ≡ section_row headers.now n kind id first count }
+    ensures { result ≡ section_row object.entry.headers.now n (number_of kind) name first count }
 {
-    let flags = cells::row_get(headers, n, elf_object::HEADER_FLAGS);
+    let flags = cells::row_get(object.headers, n, elf_object::HEADER_FLAGS);
     Section {
-        name: id,
-        kind: kind,
+        name,
+        kind: u64::from(kind),
         retain: flags / elf_object::RETAIN_FLAG % 2,
         read: flags / elf_object::READ_FLAG % 2,
         first: first as u64,
@@ -185,208 +164,97 @@ fn section_row(
     }
 }
 
-// The relocations' symbols at the lists' end, and the row that was reserved for section n.
-fn build_row(
-    l: Link,
-    sections: &mut [u64],
-    lists: &mut [u64],
-    headers: &[u64],
-    work: &[u64],
-    ids: &[u64],
-    relocations: &[u64],
-    id: Interned,
-    n: usize,
-    kind: u64,
-) -> Link
-    ensures { row_after sections lists result
-        ≡ build_row_of headers.now work.now ids.now (row_before sections lists l) relocations.now id n kind }
-{
-    let first = l.lists;
-    let count = relocations.len();
-    if lists_fit(first, lists.len(), count) {
-        let more = link::with_lists(l, first + count);
-        append_ids(lists, first, ids, relocations);
-        let row = section_row(headers, n, kind, id, first, count);
-        sections::build(
-            sections,
-            section_id(cells::row_get(work, n, elf_object::WORK_CONVERSION)),
-            row,
-        );
-        return more;
-    }
-    l
-}
-
-// Writes what was planned: nothing on 2; else the name is issued; then, unless refused, the relocations and the row.
-fn commit(
-    l: Link,
-    bytes: &mut [u8],
-    names: &mut [u64],
-    sections: &mut [u64],
-    lists: &mut [u64],
-    headers: &[u64],
-    work: &[u64],
-    ids: &[u64],
-    relocations: &[u64],
-    x: &[u8],
-    n: usize,
-    kind: u64,
-    p: Plan,
-) -> Stage
-    ensures { state_after bytes names sections lists result ≡ commit_in headers work ids (link_before bytes names sections lists l) relocations x n kind p }
-{
-    let id = p.id;
-    let number = p.number;
-    if number == 2 {
-        return link::stopped(l, 2, n as u64);
-    }
-    let kept = interner::keep(l, bytes, names, id, x);
-    if number != 0 {
-        return link::stopped(kept, number, n as u64);
-    }
-    let built = build_row(
-        kept,
-        sections,
-        lists,
-        headers,
-        work,
-        ids,
-        relocations,
-        id,
-        n,
-        kind,
-    );
-    Stage {
-        link: built,
-        number: 0,
-        place: 0,
-    }
-}
-
-// A section whose name is found.
-fn named_section(
-    l: Link,
-    bytes: &mut [u8],
-    names: &mut [u64],
-    sections: &mut [u64],
-    lists: &mut [u64],
-    headers: &[u64],
-    contents: &[u64],
-    work: &[u64],
-    ids: &[u64],
-    x: &[u8],
-    t: usize,
-    symbols: usize,
-    n: usize,
-    kind: u64,
-) -> Stage
-    ensures { state_after bytes names sections lists result
-        ≡ named_in headers contents work ids (link_before bytes names sections lists l) x t symbols n kind }
-{
-    let table = table_for(work, n, kind);
-    let limit = limit_of(headers, table, t, symbols);
-    let relocations = table_symbols(headers, contents, table);
-    let p = plan_section(l, bytes, names, lists.len(), ids, limit, relocations, x);
-    commit(
-        l,
-        bytes,
-        names,
-        sections,
-        lists,
-        headers,
-        work,
-        ids,
-        relocations,
-        x,
-        n,
-        kind,
-        p,
+impl Builder<'_> {
+    // The relocations' symbols at the lists' end, and the row that was reserved for section n.
+    #[tactic(auto, unfolding(crate::specs::Build::build_row_of))]
+    fn build_row(
+        &mut self,
+        source: Source<'_>,
+        symbols: &[u64],
+        name: Interned,
+        n: usize,
+        kind: Kind,
     )
-}
-
-// Section n, if it is of that kind, not excluded and not removed: its name missing is 18.
-fn build_section(
-    s: Stage,
-    bytes: &mut [u8],
-    names: &mut [u64],
-    sections: &mut [u64],
-    lists: &mut [u64],
-    headers: &[u64],
-    contents: &[u64],
-    image: &[u8],
-    work: &[u64],
-    ids: &[u64],
-    shstrndx: usize,
-    t: usize,
-    symbols: usize,
-    n: usize,
-    kind: u64,
-) -> Stage
-    ensures { state_after bytes names sections lists result
-        ≡ section_of (object_in headers contents image work ids shstrndx t symbols) (state_before bytes names sections lists s) n kind }
-{
-    if is_built_from(headers, work, n, kind) {
-        let l = s.link;
-        let offset = cells::row_get(headers, n, elf_object::HEADER_NAME) as usize;
-        let mut found = false;
-        let x = elf_object::name_in(headers, image, shstrndx, offset, &mut found);
-        if found {
-            return named_section(
-                l, bytes, names, sections, lists, headers, contents, work, ids, x, t, symbols, n,
-                kind,
-            );
-        }
-        return link::stopped(l, 18, n as u64);
+        requires { lists_fit self.old.link.lists (length self.old.lists.now) (length symbols.now) ≡ true }
+        ensures loans { same_loans self.old self.new }
+        ensures value { state_before self.new ≡ row_built self.old.bytes.now self.old.names.now
+            (build_row_of source.entry.object.headers.now source.entry.work.now source.entry.ids.now (row_before self.old) symbols.now name n (number_of kind)) }
+        ensures inputs { self.new.inputs.now ≡ self.old.inputs.now }
+    {
+        let first = self.link.lists;
+        let count = symbols.len();
+        append_ids(self.lists, first, source.ids, symbols);
+        self.link.lists = first + count;
+        let row = section_row(source.object, n, kind, name, first, count);
+        let cell = cells::row_get(source.work, n, elf_object::WORK_CONVERSION);
+        sections::build(self.sections, section_id(cell), row);
     }
-    s
-}
 
-fn is_built_from(headers: &[u64], work: &[u64], n: usize, kind: u64) -> bool
-    ensures { result ≡ built_from headers.now work.now n kind }
-{
-    if elf_object::is_loaded(headers, n, kind) {
-        if cells::row_get(work, n, elf_object::WORK_MARK) == elf_object::REMOVED_MARK {
-            return false;
+    // A section whose name is found: 2 of the name; 19, and the name is issued; 2 of the lists; else its row is built.
+    #[tactic(auto, unfolding(crate::specs::Build::section_named, crate::specs::Build::tabled_of, crate::specs::Build::commit_of, crate::specs::Build::kept_of, crate::specs::Build::plan_of, crate::specs::Build::plan_with))]
+    fn build_named(
+        &mut self,
+        source: Source<'_>,
+        x: &[u8],
+        n: usize,
+        kind: Kind,
+    ) -> Result<(), Refusal>
+        ensures loans { same_loans self.old self.new }
+        ensures value { state_after self.new result
+            ≡ section_named source.entry.object.headers.now source.entry.object.contents.now source.entry.work.now source.entry.ids.now (linked_before self.old) x.now source.entry.object.table (object_in source.entry).symbols n (number_of kind) }
+        ensures inputs { self.new.inputs.now ≡ self.old.inputs.now }
+        ensures numbered { IfErr result (λ r. r.number ≢ 0) }
+    {
+        let relocations = source.relocations(n, kind);
+        let symbols = relocations.symbols;
+        let link = self.link;
+        let bytes = &mut *self.bytes;
+        let names = &mut *self.names;
+        let id = interner::find(link, bytes, names, x);
+        if !interner::fits(link, bytes, names, id, x.len()) {
+            return Err(Refusal::new(2, n));
         }
-        return true;
+        let known = symbols_ok(source.ids, relocations.limit, symbols);
+        if known && !lists_fit(link.lists, self.lists.len(), symbols.len()) {
+            return Err(Refusal::new(2, n));
+        }
+        self.link = interner::keep(link, bytes, names, id, x);
+        if !known {
+            return Err(Refusal::new(19, n));
+        }
+        self.build_row(source, symbols, id, n, kind);
+        Ok(())
     }
-    false
-}
 
-// All sections of that kind, ascending, up to the first refusal. Section names lie in string section `strings`; the loaded symbol table is
-// of section t and has that many symbols.
-pub fn build_sections(
-    s: Stage,
-    bytes: &mut [u8],
-    names: &mut [u64],
-    sections: &mut [u64],
-    lists: &mut [u64],
-    headers: &[u64],
-    contents: &[u64],
-    image: &[u8],
-    work: &[u64],
-    ids: &[u64],
-    shstrndx: usize,
-    t: usize,
-    symbols: usize,
-    kind: u64,
-) -> Stage
-    ensures { state_after bytes names sections lists result
-        ≡ build_of (object_in headers contents image work ids shstrndx t symbols) (state_before bytes names sections lists s) kind }
-{
-    let rows = headers.len() / elf_object::ROW_WIDTH;
-    let mut u = s;
-    let mut n = 0;
-    while n < rows {
-        u = build_section(
-            u, bytes, names, sections, lists, headers, contents, image, work, ids, shstrndx, t,
-            symbols, n, kind,
-        );
-        let number = u.number;
-        if number != 0 {
-            return u;
+    // Section n, if it is of that kind, not excluded and not removed: its name missing is 18.
+    #[tactic(auto, unfolding(crate::specs::Build::section_of, crate::specs::Build::looked_of))]
+    fn build_section(&mut self, source: Source<'_>, n: usize, kind: Kind) -> Result<(), Refusal>
+        ensures loans { same_loans self.old self.new }
+        ensures value { state_after self.new result ≡ section_of (object_in source.entry) (state_before self.old) n (number_of kind) }
+        ensures inputs { self.new.inputs.now ≡ self.old.inputs.now }
+        ensures numbered { IfErr result (λ r. r.number ≢ 0) }
+    {
+        if !source.builds(n, kind) {
+            return Ok(());
         }
-        n += 1;
+        let object = source.object;
+        let offset = cells::row_get(object.headers, n, elf_object::HEADER_NAME) as usize;
+        match object.name_in(object.section_names, offset) {
+            Some(x) => self.build_named(source, x, n, kind),
+            None => Err(Refusal::new(18, n)),
+        }
     }
-    u
+
+    // All sections of that kind, ascending, up to the first refusal.
+    pub fn build_sections(&mut self, source: Source<'_>, kind: Kind) -> Result<(), Refusal>
+        ensures loans { same_loans self.old self.new }
+        ensures value { state_after self.new result ≡ build_of (object_in source.entry) (state_before self.old) (number_of kind) }
+        ensures inputs { self.new.inputs.now ≡ self.old.inputs.now }
+        ensures numbered { IfErr result (λ r. r.number ≢ 0) }
+    {
+        for n in 0..source.object.headers.len() / elf_object::ROW_WIDTH {
+            self.build_section(source, n, kind)?;
+        }
+        Ok(())
+    }
 }

@@ -1,6 +1,6 @@
 -- Document 01, "Objects" and the refusal table: what a merge answers, and every lent cell after it.
 -- Assumes nothing.
-use Rattle.std.specs.Prelude.{ℕ, ◌/◌, cond, List, eqb, ltb, length}
+use Rattle.std.specs.Prelude.{ℕ, ◌/◌, cond, List, eqb, ltb, length, Result, Ok, Err}
 use denote.Triple.Both.{Both}
 use Rattle.link.specs.declared.Link.{Link}
 use Rattle.link.specs.declared.Lent.{Lent}
@@ -10,9 +10,8 @@ use Rattle.link.specs.Judge as Link
 use Rattle.link.specs.Counts.{lent_of}
 use Rattle.elf_object.specs.Rows.{rows_in, row_width}
 use Rattle.elf_object.specs.Judge as Elf
-use Rattle.merge_stages.specs.Stages.{All, all_of, Object, stages_of, Cells}
-use Rattle.merge_elf.specs.declared.Answer.{Answer}
-use Rattle.merge_elf.specs.declared.Answer.TheVariants.{Merged, Refused}
+use Rattle.merge_stages.specs.Stages.{All, all_of, Object, stages_of, Cells, merge_before}
+use Rattle.merge_stages.specs.declared.Merge as Lent
 use Rattle.merge_elf.specs.declared.Outcome.{Outcome}
 
 -- a work row for each section, a cell for each symbol
@@ -34,19 +33,18 @@ check_of l lent headers entries contents image work ids =
 -- every lent cell, the link, the answer and what it says
 pub record Left : Type 0 where
   pub cells : All
-  pub answer : Answer
+  pub answer : Result Unit Refusal
   pub said : Refusal
 
 -- document 01's number and place of the answer; it has no value
-abbrev pub refusal_of : Answer → Refusal
-refusal_of Merged = Link.refused 0 0
-refusal_of (Refused r) = r
+abbrev pub refusal_of : Result Unit Refusal → Refusal
+refusal_of = Link.refusal_in
 
 abbrev pub linked_as : All → Link → All
 linked_as a l =
     all_of a.bytes a.names a.symbols a.sections a.inputs a.lists a.work a.ids (Link.going_of l)
 
-abbrev pub leave : All → Link → Answer → Left
+abbrev pub leave : All → Link → Result Unit Refusal → Left
 leave a l answer = record { cells = linked_as a l; answer = answer; said = refusal_of answer }
 
 abbrev pub outcome : List ℕ → List ℕ → List ℕ → List ℕ → List ℕ → List ℕ → List ℕ → List ℕ → Outcome → Left
@@ -57,12 +55,16 @@ abbrev pub outcome_after : Both Cells Cells → Outcome → Left
 outcome_after c r =
     outcome c.exit.bytes c.exit.names c.exit.symbols c.exit.sections c.exit.inputs c.exit.lists c.exit.work c.exit.ids r
 
+-- of what is lent together
+abbrev pub left_after : Lent.Merge → Result Unit Refusal → Left
+left_after m answer = leave (merge_before m) m.link answer
+
 -- a starred refusal breaks the link; "that call's earlier elements stay merged". All that a stage gives are starred: 15 can't be met, since
 -- type 4 never reaches an add
 unfoldable pub ended_as : Stage → Outcome
 ended_as s =
-    cond (eqb s.number 0) (record { link = s.link; answer = Merged })
-    (record { link = Link.broken_of s.link; answer = Refused (Link.refused s.number s.place) })
+    cond (eqb s.number 0) (record { link = s.link; answer = (Ok tt) })
+    (record { link = Link.broken_of s.link; answer = Err (Link.refused s.number s.place) })
 
 abbrev pub leave_as : All → Outcome → Left
 leave_as a r = leave a r.link r.answer
@@ -83,4 +85,4 @@ unfoldable pub finished_of : Object → All → Left
 finished_of o a = ended_of (stages_of o a)
 
 unfoldable pub merge_of : Object → All → Left
-merge_of o a = cond (eqb (head_in o a).number 0) (finished_of o a) (leave a a.stage.link (Refused (head_in o a)))
+merge_of o a = cond (eqb (head_in o a).number 0) (finished_of o a) (leave a a.stage.link (Err (head_in o a)))

@@ -1,16 +1,14 @@
 -- Document 02, 2026-01: the merge of a file. "A file read and merged must equal its rows merged by hand": the merge is `mergeOf` of `rows_of`.
 -- Assumes nothing.
-use Rattle.std.specs.Prelude.{ℕ, ◌+◌, ◌*◌, Bool, cond, List, eqb, ltb, length, take, drop}
-use Rattle.link.specs.declared.Link.{Link}
+use Rattle.std.specs.Prelude.{ℕ, ◌+◌, ◌*◌, Bool, cond, List, eqb, ltb, length, take, drop, Err}
 use Rattle.link.specs.declared.Refusal.{Refusal}
 use Rattle.link.specs.Judge.{refused}
 use Rattle.elf_object.specs.Rows.{row_width}
 use Rattle.merge_stages.specs.Stages.{All, Object, object_of}
-use Rattle.merge_elf.specs.declared.Answer.TheVariants.{Refused}
-use Rattle.merge_elf.specs.declared.Outcome.{Outcome}
 use Rattle.merge_elf.specs.Merge.{Left, leave, merge_of}
 use Rattle.elf_file.specs.Check.{file_refusal}
-use Rattle.elf_file.specs.declared.reading.Reading.{Reading}
+use Rattle.elf_file.specs.Read.{Reading, read_as}
+use Rattle.elf_file.specs.declared.reading.Written.{Written}
 use Rattle.elf_laws.specs.Object.{rows_of, cells_of, laid}
 
 -- what a merge leaves and answers, and the cells that were lent for the rows
@@ -32,7 +30,7 @@ file_head_in image rows a = file_head_of a.stage.link.broken image (length rows)
 
 -- "all leave everything, the link unbroken"
 abbrev pub unread : List ℕ → All → Refusal → FileLeft
-unread rows a r = file_left rows (leave a a.stage.link (Refused r))
+unread rows a r = file_left rows (leave a a.stage.link (Err r))
 
 -- then the merge of the file's rows
 unfoldable pub merge_file_of : List ℕ → List ℕ → All → FileLeft
@@ -41,8 +39,8 @@ merge_file_of image rows a =
 
 -- ---- as the code has it: the merge of the cells that a read wrote, by its counts
 
-abbrev pub refused_as : Link → ℕ → ℕ → Outcome
-refused_as l number place = record { link = l; answer = Refused (refused number place) }
+abbrev pub reading_of : Written → Reading
+reading_of w = read_as 0 0 w.sections w.entries w.contents w.strings
 
 abbrev pub cut_of : List ℕ → List ℕ → Reading → Object
 cut_of image rows r =
@@ -53,4 +51,4 @@ cut_of image rows r =
 
 unfoldable pub merge_read_of : List ℕ → List ℕ → Reading → All → Left
 merge_read_of image rows r a =
-    cond (eqb r.number 0) (merge_of (cut_of image rows r) a) (leave a a.stage.link (Refused (refused r.number r.place)))
+    cond (eqb r.number 0) (merge_of (cut_of image rows r) a) (leave a a.stage.link (Err (refused r.number r.place)))

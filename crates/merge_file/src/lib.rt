@@ -3,79 +3,53 @@
 
 ghost use Rattle.std.specs.Prelude.{◌≡◌, ◌+◌, ◌*◌, ◌≤◌, length};
 ghost use Rattle.elf_object.specs.Rows.{row_width};
-ghost use Rattle.merge_stages.specs.Stages.{cells_in, link_before};
-ghost use Rattle.merge_elf.specs.Merge.{outcome_after};
-ghost use Rattle.merge_file.specs.MergeFile.{refused_as, merge_read_of};
+ghost use Rattle.merge_stages.specs.Stages.{cells_in, object_read, same_loans, merge_before};
+ghost use Rattle.merge_elf.specs.Merge.{left_after};
+ghost use Rattle.merge_file.specs.MergeFile.{file_left, merge_file_of, cut_of, reading_of};
 ghost use Rattle.merge_file.specs.Contract.{MergeFileMeets};
 
-use elf_file::Reading;
+use elf_file::Written;
+use elf_object::Object;
 use link::{Link, Refusal};
-use merge_elf::{Answer, Outcome};
+use merge_elf::Outcome;
+use merge_stages::Merge;
 
-fn refused(l: Link, number: u64, place: u64) -> Outcome
-    ensures { result ≡ refused_as l number place }
+// The object whose rows a read wrote.
+fn object_in<'a>(rows: &'a [u64], image: &'a [u8], written: Written) -> Object<'a>
+    requires { written.sections * row_width + written.entries * row_width + written.contents ≤ length rows.now }
+    ensures { object_read result ≡ cut_of image.now rows.now (reading_of written) }
 {
-    Outcome {
-        link: l,
-        answer: Answer::Refused {
-            refusal: Refusal {
-                number: number,
-                place: place,
-            },
-        },
-    }
-}
-
-// After the read: its refusal, or the merge of the rows that it wrote.
-fn merge_read(
-    l: Link,
-    bytes: &mut [u8],
-    names: &mut [u64],
-    symbols: &mut [u64],
-    sections: &mut [u64],
-    inputs: &mut [u64],
-    lists: &mut [u64],
-    work: &mut [u64],
-    ids: &mut [u64],
-    rows: &[u64],
-    image: &[u8],
-    r: Reading,
-) -> Outcome
-    requires { r.sections * row_width + r.entries * row_width + r.contents ≤ length rows.now }
-    ensures { let c = cells_in bytes names symbols sections inputs lists work ids in
-        outcome_after c result ≡ merge_read_of image.now rows.now r (link_before c l) }
-{
-    if r.number != 0 {
-        return refused(l, r.number, r.place);
-    }
-    let n = r.sections as usize;
-    let e = r.entries as usize;
-    let end = (n + e) * elf_object::ROW_WIDTH;
-    let headers = cells::part_of(rows, 0, n * elf_object::ROW_WIDTH);
-    let entries = cells::part_of(rows, n * elf_object::ROW_WIDTH, e * elf_object::ROW_WIDTH);
-    let contents = cells::part_of(rows, end, r.contents as usize);
-    merge_elf::merge_elf(
-        l,
-        bytes,
-        names,
-        symbols,
-        sections,
-        inputs,
-        lists,
-        work,
-        ids,
-        headers,
-        entries,
-        contents,
+    let sections = written.sections as usize;
+    let entries = written.entries as usize;
+    let start = sections * elf_object::ROW_WIDTH;
+    let end = (sections + entries) * elf_object::ROW_WIDTH;
+    Object {
+        headers: cells::part_of(rows, 0, start),
+        entries: cells::part_of(rows, start, entries * elf_object::ROW_WIDTH),
+        contents: cells::part_of(rows, end, written.contents as usize),
         image,
-        r.strings as usize,
-    )
+        section_names: written.strings as usize,
+        table: 0,
+    }
 }
 
 // Merges an object image. Its rows are written into `rows`: 8 cells for each of its sections and for each symbol of its symbol tables, a cell for
-// each relocation and each member of a group. The work cells are those of merge_elf.
+// each relocation and each member of a group.
+pub fn merge_image(merge: &mut Merge<'_>, rows: &mut [u64], image: &[u8]) -> Result<(), Refusal>
+    ensures loans { same_loans merge.old merge.new }
+    ensures value { file_left rows.new (left_after merge.new result) ≡ merge_file_of image.now rows.old (merge_before merge.old) }
+{
+    if merge.link.broken {
+        return Err(Refusal::new(22, 0));
+    }
+    let written = elf_file::read(image, rows)?;
+    merge_elf::merge_object(merge, object_in(rows, image, written))
+}
+
+// The same of loose cells.
+// Kept: loose parameters, as the C interface lends them.
 pub fn merge_file(
-    l: Link,
+    link: Link,
     bytes: &mut [u8],
     names: &mut [u64],
     symbols: &mut [u64],
@@ -87,13 +61,22 @@ pub fn merge_file(
     rows: &mut [u64],
     image: &[u8],
 ) -> Outcome
-    ensures { MergeFileMeets image.now rows.old rows.new (cells_in bytes names symbols sections inputs lists work ids) l result }
+    ensures { MergeFileMeets image.now rows.old rows.new (cells_in bytes names symbols sections inputs lists work ids) link result }
 {
-    if l.broken {
-        return refused(l, 22, 0);
+    let mut merge = Merge {
+        link,
+        bytes,
+        names,
+        symbols,
+        sections,
+        inputs,
+        lists,
+        work,
+        ids,
+    };
+    let answer = merge_image(&mut merge, rows, image);
+    Outcome {
+        link: merge.link,
+        answer,
     }
-    let r = elf_file::read(image, rows);
-    merge_read(
-        l, bytes, names, symbols, sections, inputs, lists, work, ids, rows, image, r,
-    )
 }

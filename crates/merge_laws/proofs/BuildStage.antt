@@ -15,7 +15,7 @@ use Rattle.interner.specs.Names.{Store, store_of, find_of, fits_of, keep_of}
 use Rattle.sections.specs.Rows.{built_of, built_cells}
 use Rattle.elf_object.specs.Rows.{rows_in, name_offset_at, name_in}
 use Rattle.merge_sections.specs.Reserve.{kind_class}
-use Rattle.merge_build.specs.declared.Plan.{Plan}
+use Rattle.merge_build.specs.Build.{Plan}
 use Rattle.merge_build.specs.Relocations.{table_for, limit_of, relocations_of, symbols_ok}
 use Rattle.merge_build.specs.Build.{Object, State, LinkState, RowState, row_state, linked, lists_fit, plan_with, plan_of, build_row_of, kept_of, commit_of, tabled_of, section_named, built_from, looked_of, section_of, build_from, build_of, section_row}
 use Rattle.symbol_laws.specs.History as History

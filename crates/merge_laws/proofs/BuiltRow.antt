@@ -24,7 +24,7 @@ use Rattle.sections.specs.Rows as Sections
 use Rattle.sections.specs.Rows.{state_at, name_id_at, first_at, count_at, built_of}
 use Rattle.elf_object.specs.Rows.{name_offset_at, retain_at, read_at, name_in, conversion_at}
 use Rattle.elf_object.specs.Judge.{range_ok}
-use Rattle.merge_build.specs.declared.Plan.{Plan}
+use Rattle.merge_build.specs.Build.{Plan}
 use Rattle.merge_build.specs.Relocations.{table_for, limit_of, relocations_of, symbols_ok, id_in, append_from}
 use Rattle.merge_build.specs.Build as Build
 use Rattle.merge_build.specs.Build.{State, Object, lists_fit, plan_with, plan_of, build_row_of, kept_of, commit_of, tabled_of, section_named, looked_of, built_from, section_of}

@@ -1,6 +1,6 @@
 -- What a refusal of a merge leaves, by its number: document 01's refusal table.
 -- Assumes nothing.
-use Rattle.std.specs.Prelude.{ℕ, ◌*◌, ◌/◌, ◌<◌, ◌≡◌, refl, Bool, true, false, cond, List, [], ◌∷◌, ◌≢◌, eqb, ltb, drop, length}
+use Rattle.std.specs.Prelude.{ℕ, ◌*◌, ◌/◌, ◌<◌, ◌≡◌, refl, Bool, true, false, cond, List, [], ◌∷◌, ◌≢◌, eqb, ltb, drop, length, Ok, Err}
 use Rattle.std.proofs.Common.{arith, sym, ap, ◌∙◌, subst}
 use Rattle.std.proofs.lemmas.Bool.{false≢true}
 use borrow.Author.Tests.{eqb-true, eqb-false, eq-eqb, ne_eqb}
@@ -23,7 +23,6 @@ use Rattle.section_groups.specs.Filter.{filter_of}
 use Rattle.merge_symbols.specs.Plan.{place_of}
 use Rattle.merge_symbols.specs.Stage as Symbols
 use Rattle.merge_build.specs.Build as Build
-use Rattle.merge_elf.specs.declared.Answer.TheVariants.{Merged, Refused}
 use Rattle.merge_build.specs.Finish.{after_build}
 use Rattle.merge_stages.specs.Stages.{All, all_of, Object, stop, put_symbols, group_object, after_groups, after_sections}
 use Rattle.merge_elf.specs.Merge.{leave, work_refusal, rows_refusal, check_of, head_in, lent, ended_as, merge_of, finished_of}
@@ -98,14 +97,14 @@ head-numbers o a u =
 pub record HeadLeaves (o : Object) (a : All) : Type 0 where
   pub number : one_of (head_in o a).number merge_head_numbers ≡ true
   -- every cell and the link, not broken by it
-  pub all : merge_of o a ≡ leave a a.stage.link (Refused (head_in o a))
+  pub all : merge_of o a ≡ leave a a.stage.link (Err (head_in o a))
 
 pub head-leaves : (o : Object) (a : All) → (head_in o a).number ≢ 0 → HeadLeaves o a
 unfolding merge_of finished_of
 head-leaves o a u = record { number = head-numbers o a u; all = rw (ne_eqb (head_in o a).number 0 u) }
 
 -- 22 comes first
-pub broken-refused : (o : Object) (a : All) → a.stage.link.broken ≡ true → merge_of o a ≡ leave a a.stage.link (Refused (refused 22 0))
+pub broken-refused : (o : Object) (a : All) → a.stage.link.broken ≡ true → merge_of o a ≡ leave a a.stage.link (Err (refused 22 0))
 unfolding merge_of finished_of check_of
 broken-refused o a b =
     let e : change_of a.stage.link (lent a) ≡ refused 22 0 = change-broken a.stage.link (lent a) b in
@@ -129,13 +128,13 @@ named b x = with_store b (keep_of (store_of b.bytes b.names b.stage.link) (id_in
 
 module _ (o : Object) (a : All) where
   pub refused-breaks : (head_in o a).number ≡ 0 → number o a ≢ 0
-      → merge_of o a ≡ leave (end o a) (broken_of (end o a).stage.link) (Refused (refused (number o a) (end o a).stage.place))
+      → merge_of o a ≡ leave (end o a) (broken_of (end o a).stage.link) (Err (refused (number o a) (end o a).stage.place))
   unfolding merge_of finished_of ended_as
   refused-breaks h u = rw (eq-eqb (head_in o a).number 0 h, ne_eqb (number o a) 0 u)
 
   -- what an accepted merge leaves
   pub record MergeLeaves : Type 0 where
-    pub all : merge_of o a ≡ leave (end o a) (end o a).stage.link Merged
+    pub all : merge_of o a ≡ leave (end o a) (end o a).stage.link (Ok tt)
     pub whole : (end o a).stage.link.broken ≡ false
 
   pub accepted-stays : (head_in o a).number ≡ 0 → number o a ≡ 0 → MergeLeaves

@@ -1,6 +1,6 @@
 -- A row that is judged before its name is issued, and then committed, is its steps.
 -- Assumes nothing.
-use Rattle.std.specs.Prelude.{ℕ, ◌≤◌, ◌≡◌, refl, Bool, true, false, cond, List, [], ◌∷◌, eqb, length}
+use Rattle.std.specs.Prelude.{ℕ, ◌≤◌, ◌≡◌, refl, Bool, true, false, cond, List, [], ◌∷◌, eqb, length, None}
 use Rattle.std.proofs.Common.{sym, ap, ◌∙◌, subst, eqb-true}
 use Rattle.cells.specs.Proof.Split.{by-test}
 use Rattle.link.specs.Said.{number_in}
@@ -8,7 +8,6 @@ use Rattle.link.specs.declared.Interned.{Interned}
 use Rattle.interner.specs.Names.{Store, fits_of, keep_of}
 use Rattle.interner_laws.proofs.Find.{find-low}
 use Rattle.symbol.specs.declared.Row.{Row}
-use Rattle.symbol.specs.declared.SttFile.TheVariants as File
 use Rattle.symbol_resolution.specs.declared.rows.Decision.{Decision}
 use Rattle.symbol_resolution.specs.Holder.{holder_of}
 use Rattle.symbol_resolution.specs.Decide.{decide_of, refusal_of}
@@ -21,8 +20,8 @@ use Rattle.merge_laws.proofs.Issue.{decided-kept}
 use Rattle.merge_laws.specs.MergeSteps.{row_steps}
 
 -- an add that is decided to go
-put-goes : (t : Table) (r : Row) (d : Decision) → decided_of t r File.None ≡ d → refusal_of d ≡ 0
-    → ((add_row_of t r File.None).table ≡ apply_of t r d) × (number_in (add_row_of t r File.None).said ≡ 0)
+put-goes : (t : Table) (r : Row) (d : Decision) → decided_of t r None ≡ d → refusal_of d ≡ 0
+    → ((add_row_of t r None).table ≡ apply_of t r d) × (number_in (add_row_of t r None).said ≡ 0)
 unfolding add_row_of committed_of
 put-goes t r d e z = rw (e, z) (refl, refl)
 
@@ -61,14 +60,14 @@ module _ (s : State) (x : List ℕ) (id : Interned) (r : Row) (d : Decision) whe
             accepted = (subst (λ (k : Interned). fits_of (store s) k (length x) ≡ true) f.found (f.fits two), tt);
           }
 
-      pub same : decided_of (table named) r File.None ≡ before
+      pub same : decided_of (table named) r None ≡ before
       same =
-          subst (λ (k : Interned). decided_of (table (with_store s (keep_of (store s) k x))) r File.None ≡ before) f.own
+          subst (λ (k : Interned). decided_of (table (with_store s (keep_of (store s) k x))) r None ≡ before) f.own
           (decided-kept (store s) x s.symbols s.sections r (rw f.own (f.fits two)) (rw f.own low))
 
       -- with the row of an accepted decision
       module _ (from : Source) (b : a ≡ true) (z : refusal_of d ≡ 0) where
-        abbrev both : ((add_row_of (table named) r File.None).table ≡ apply_of (table named) r d) × (number_in (add_row_of (table named) r File.None).said ≡ 0)
+        abbrev both : ((add_row_of (table named) r None).table ≡ apply_of (table named) r d) × (number_in (add_row_of (table named) r None).said ≡ 0)
         both = put-goes (table named) r d (same ∙ sym (f.added b two)) z
 
         rowed : Makes s (part (issue x) ∷ part (put r from) ∷ []) (with_table named (apply_of (table named) r d))

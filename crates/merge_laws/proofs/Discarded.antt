@@ -12,7 +12,7 @@ use Rattle.gabi.specs.StringTable.{among}
 use Rattle.gabi.specs.Groups as Gabi
 use Rattle.strings.specs.Lookup.{Looked}
 use Rattle.elf_object.specs.Rows.{rows_in, field, first_at, is_loaded, mark_at}
-use Rattle.section_groups.specs.declared.Plan.{Plan}
+use Rattle.section_groups.specs.Group.{Plan}
 use Rattle.section_groups.specs.Group as Group
 use Rattle.section_groups.specs.Group.{shape_of, signature_of, plan_of, mark_group_of, mark_removed_of, admit_of, decided_of, group_named, signed_of, shaped_of, group_of, group_section_of, groups_of}
 use Rattle.section_groups.specs.Filter.{section_after}

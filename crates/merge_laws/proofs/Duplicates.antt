@@ -1,6 +1,6 @@
 -- A second strong definition met inside a call: what is answered to a row that is judged before its name is issued.
 -- Assumes nothing.
-use Rattle.std.specs.Prelude.{ℕ, ◌<◌, ◌≡◌, refl, true, false, List, [], ◌∷◌, ◌++◌, ◌≢◌, ltb, length}
+use Rattle.std.specs.Prelude.{ℕ, ◌<◌, ◌≡◌, refl, true, false, List, [], ◌∷◌, ◌++◌, ◌≢◌, ltb, length, None}
 use Rattle.std.proofs.Common.{arith, sym, ap, ◌∙◌, subst, append-nil, lt-ltb}
 use Rattle.std.proofs.lemmas.Bool.{false≢true, eqb-false}
 use Rattle.cells.specs.Proof.Split.{by-test}
@@ -13,7 +13,6 @@ use Rattle.gabi.specs.Resolution as Gabi
 use Rattle.gabi.specs.Resolution.{defined, duplicate, unresolved, zero_value, is_global_definition, is_weak_definition, is_global_reference, has, resolve}
 use Rattle.interner.specs.Names.{fits_of, keep_of}
 use Rattle.symbol.specs.declared.Row.{Row}
-use Rattle.symbol.specs.declared.SttFile.TheVariants as File
 use Rattle.symbol.specs.Row.{scope_refused, value_refused}
 use Rattle.symbol_resolution.specs.declared.rows.Decision.{Decision}
 use Rattle.symbol_resolution.specs.Holder.{holder_of}
@@ -51,9 +50,9 @@ module _ (s : State) (x : List ℕ) (r : Row) (own : r.name ≡ id_of s x) where
     fits = rw (lt-ltb r.name.0 s.link.names issued)
 
     -- what is judged before is what an add answers after
-    judged-same : decided_of (table named) r File.None ≡ judged
+    judged-same : decided_of (table named) r None ≡ judged
     judged-same =
-        subst (λ (k : Interned). decided_of (table (with_store s (keep_of (store s) k x))) r File.None ≡ judged) own
+        subst (λ (k : Interned). decided_of (table (with_store s (keep_of (store s) k x))) r None ≡ judged) own
         (decided-kept (store s) x s.symbols s.sections r fits (omega (arith, issued)))
 
     put-judged : number_in (put_of named r).said ≡ refusal_of judged

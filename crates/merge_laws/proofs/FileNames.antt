@@ -3,7 +3,7 @@
 use Prim.Native.Nat.{ℕ, zero, suc, ◌<◌, ◌≤◌}
 use Rattle.std.proofs.Common.{arith, zero-add, sym, ◌∙◌, eqb-true, ltb-true, ltb-false}
 use Rattle.std.proofs.Math.Path.{◌≡◌, refl, ap, subst}
-use Rattle.std.specs.Prelude.{true, false, List, [], ◌∷◌, ◌++◌, ◌≢◌, eqb, ltb, length}
+use Rattle.std.specs.Prelude.{true, false, List, [], ◌∷◌, ◌++◌, ◌≢◌, eqb, ltb, length, Some}
 use Rattle.std.proofs.lemmas.Bool.{eqb-false}
 use Rattle.cells.specs.Proof.Split.{by-test}
 use Rattle.gabi.specs.SymbolTable.{stt_file}
@@ -12,7 +12,6 @@ use Rattle.interner.specs.Names.{Store, fits_of}
 use Rattle.interner_laws.specs.Good.{Issued, Stays, count, name, find}
 use Rattle.interner_laws.proofs.Histories.{issued-stays}
 use Rattle.interner_laws.proofs.Interns.{keep-issued}
-use Rattle.symbol.specs.declared.SttFile.TheVariants as File
 use Rattle.symbol.specs.Codes.{successor, file_at}
 use Rattle.symbol_resolution.specs.declared.rows.Decision.{Decision}
 use Rattle.symbol_resolution.specs.Decide.{refusal_of}
@@ -184,7 +183,7 @@ module _ (o : Object) (a : All) (met : List (List ℕ)) (known : Marked (table_i
       let e : (symbols_to o a (suc i)).stage.file ≡ successor id.0 = file-same i z ∙ rw b in
       last i id (bytes i) (omega arith) (eqb-true _ _ b) (λ k p q. absurd (omega arith))
       (bears-own o a head goes i (omega arith) (found (symbols_to o a i) i (fine i (omega arith) z))) (file-issued i (omega arith) z b)
-      (λ l. ap file_at e ∙ file-back (File.Name id) l))
+      (λ l. ap file_at e ∙ file-back (Some id) l))
       (λ b.
       let e : (symbols_to o a (suc i)).stage.file ≡ (symbols_to o a i).stage.file = file-same i z ∙ rw b in
       subst (IsFile end t Bears (suc i)) (sym e)

@@ -3,7 +3,7 @@
 use Prim.Native.Nat.{ℕ, suc, ◌+◌, ◌<◌, ◌≤◌}
 use Rattle.std.proofs.Common.{arith, zero-add, sym, ◌∙◌, length-set, get_or-set_other}
 use Rattle.std.proofs.Math.Path.{◌≡◌, refl, ap, subst}
-use Rattle.std.specs.Prelude.{Bool, ◌≢◌, eqb, length}
+use Rattle.std.specs.Prelude.{Bool, ◌≢◌, eqb, length, None}
 use Rattle.std.proofs.Math.Bool.{true, false, cond}
 use Rattle.std.proofs.lemmas.Bool.{false≢true}
 use mathlib.Core.List.{List}
@@ -14,7 +14,6 @@ use Rattle.cells.specs.Proof.Split.{by-test}
 use Rattle.link.specs.Said.{value_in}
 use Rattle.interner.specs.Names.{store_of, fits_of}
 use Rattle.symbol.specs.declared.Row.{Row}
-use Rattle.symbol.specs.declared.SttFile.TheVariants as File
 use Rattle.symbol.specs.Codes.{successor}
 use Rattle.symbol_resolution.specs.declared.rows.Decision.{Decision}
 use Rattle.symbol_resolution.specs.declared.rows.Decision.TheVariants.{Refuse, Nothing, Keep}
@@ -23,7 +22,7 @@ use Rattle.symbols.specs.Calls.{Left}
 use Rattle.symbols.specs.Add.{committed_of, add_row_of}
 use Rattle.strings.specs.Lookup.{Looked}
 use Rattle.elf_object.specs.Rows.{rows_in}
-use Rattle.merge_symbols.specs.declared.plan.Planned.{Planned}
+use Rattle.merge_symbols.specs.Plan.{Planned}
 use Rattle.merge_symbols.specs.Plan.{Input, input_of, is_first, defines_of, rule_of, judged_of, rowed_of, read_of, planned_of, filtered_at}
 use Rattle.merge_symbols.specs.Stage as Symbols
 use Rattle.merge_symbols.specs.Stage.{cell_of, accept_row, kept_of, commit_of, view, symbol_named, looked_of, symbol_of, symbols_from, symbols_of}
@@ -122,9 +121,9 @@ module _ (s : State) (b : Below s) (r : Row) where
   Small : Left → Type 0
   Small x = value_in x.said ≤ 65535
 
-  decides : (d : Decision) → decided (table s) r ≡ d → Small (committed_of (table s) r File.None d) → Small (put_of s r)
+  decides : (d : Decision) → decided (table s) r ≡ d → Small (committed_of (table s) r None d) → Small (put_of s r)
   unfolding add_row_of
-  decides d e h = subst (λ (d : Decision). Small (committed_of (table s) r File.None d)) (sym e) h
+  decides d e h = subst (λ (d : Decision). Small (committed_of (table s) r None d)) (sym e) h
 
   small_by : View (table s) r → Small (put_of s r)
   unfolding Small committed_of

@@ -18,7 +18,7 @@ use Rattle.interner_laws.proofs.Find.{found}
 use Rattle.interner_laws.proofs.Interns.{keep-issued}
 use Rattle.interner.specs.Names.{store_of, fits_of}
 use Rattle.elf_object.specs.Rows.{first_at, is_loaded, mark_at}
-use Rattle.section_groups.specs.declared.Plan.{Plan}
+use Rattle.section_groups.specs.Group.{Plan}
 use Rattle.section_groups.specs.Group.{Object, shape_of, signature_of, repeated_of, mark_refusal, plan_with, plan_of, mark_group_of, mark_removed_of, admit_of, decided_of, group_named, signed_of, shaped_of, group_of, group_section_of}
 use Rattle.section_groups.specs.Group as Group
 use Rattle.symbol_laws.specs.History.{State, store}

@@ -10,7 +10,7 @@ use Rattle.strings.specs.Lookup.{Looked}
 use Rattle.interner.specs.Names.{Store, store_of, find_of, fits_of, keep_of}
 use Rattle.interner_laws.proofs.Find.{find-low}
 use Rattle.elf_object.specs.Rows.{first_at, is_loaded}
-use Rattle.section_groups.specs.declared.Plan.{Plan}
+use Rattle.section_groups.specs.Group.{Plan}
 use Rattle.section_groups.specs.Group.{Object, State, shape_of, signature_of, repeated_of, plan_with, plan_of, admit_of, decided_of, group_named, signed_of, shaped_of, group_of, group_section_of}
 use Rattle.section_groups.specs.Group as Group
 use Rattle.symbol_laws.specs.History as History

@@ -10,7 +10,7 @@ use Rattle.link.specs.declared.Interned.{Interned}
 use Rattle.strings.specs.Lookup.{Looked}
 use Rattle.interner.specs.Names.{Store, store_of, keep_of}
 use Rattle.elf_object.specs.Rows.{rows_in, first_at, is_loaded, mark_at}
-use Rattle.section_groups.specs.declared.Plan.{Plan}
+use Rattle.section_groups.specs.Group.{Plan}
 use Rattle.section_groups.specs.Group.{Object, shape_of, signature_of, plan_of, mark_group_of, mark_removed_of, admit_of, decided_of, group_named, signed_of, shaped_of, group_of, group_section_of, groups_from, groups_of}
 use Rattle.section_groups.specs.Group as Group
 use Rattle.merge_laws.specs.Steps.{Makes}

@@ -1,6 +1,6 @@
 -- A row is judged before its name is issued as it is after.
 -- Assumes nothing.
-use Rattle.std.specs.Prelude.{ℕ, ◌+◌, ◌<◌, ◌≤◌, ◌≡◌, List, ltb, length}
+use Rattle.std.specs.Prelude.{ℕ, ◌+◌, ◌<◌, ◌≤◌, ◌≡◌, List, ltb, length, None}
 use Rattle.std.proofs.Common.{arith, ◌∙◌}
 use Rattle.std.proofs.Math.Path.{refl, ap}
 use Rattle.std.proofs.Math.Bool.{true}
@@ -11,7 +11,6 @@ use Rattle.link.specs.declared.Link.{Link}
 use Rattle.link.specs.declared.Interned.{Interned}
 use Rattle.interner.specs.Names.{Store, room_of, fits_of, added, keep_of}
 use Rattle.symbol.specs.declared.Row.{Row}
-use Rattle.symbol.specs.declared.SttFile.TheVariants as File
 use Rattle.symbol_resolution.specs.Holder.{held_by, holder_of}
 use Rattle.symbol_resolution.specs.Decide.{decide_of}
 use Rattle.symbol_resolution.specs.Proof.Outcomes.{decision-alike}
@@ -65,7 +64,7 @@ module _ (s : Store) (id : Interned) (x : List ℕ) where
 
 -- under an issued name a direct add judges by the name's holder
 direct-holder : (l : Link) (names symbols : List ℕ) (name : Interned) → name.0 < l.names
-    → direct_holder_of l names symbols name File.None ≡ holder_of l names symbols name
+    → direct_holder_of l names symbols name None ≡ holder_of l names symbols name
 unfolding direct_holder_of issued_of
 direct-holder l names symbols name h = simp (lt-leb _ _ h)
 
@@ -73,7 +72,7 @@ module _ (s : Store) (x symbols sections : List ℕ) (r : Row) (fits : fits_of s
   abbrev k : Store
   k = keep_of s r.name x
 
-  pub decided-kept : decided_of (table_of k.names symbols sections k.link) r File.None
+  pub decided-kept : decided_of (table_of k.names symbols sections k.link) r None
       ≡ decide_of s.link symbols sections r (holder_of s.link s.names symbols r.name)
   unfolding decided_of
   decided-kept =

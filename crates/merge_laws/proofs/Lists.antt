@@ -25,7 +25,7 @@ use Rattle.merge_sections.specs.Reserve as Reserve
 use Rattle.section_groups.specs.Group as Group
 use Rattle.section_groups.specs.Filter.{filter_of}
 use Rattle.merge_symbols.specs.Stage as Symbols
-use Rattle.merge_build.specs.declared.Plan.{Plan}
+use Rattle.merge_build.specs.Build.{Plan}
 use Rattle.merge_build.specs.Relocations.{table_for, limit_of, relocations_of, id_in, append_from}
 use Rattle.merge_build.specs.Build.{Object, State, RowState, row_state, lists_fit, plan_of, build_row_of, kept_of, commit_of, tabled_of, section_named, built_from, looked_of, section_of, build_of}
 use Rattle.merge_build.specs.Finish.{BuildLinks, input_row_of, building, after_build, input_stage, program_stage, built_of}

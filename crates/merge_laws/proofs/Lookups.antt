@@ -1,6 +1,6 @@
 -- Counts within their bounds, over every history: a lookup is never refused with 1.
 -- Assumes nothing.
-use Rattle.std.specs.Prelude.{ℕ, ◌+◌, ◌-◌, ◌*◌, ◌≤◌, ◌≡◌, refl, Bool, true, List, [], ◌∷◌, eqb, ltb, leb, length}
+use Rattle.std.specs.Prelude.{ℕ, ◌+◌, ◌-◌, ◌*◌, ◌≤◌, ◌≡◌, refl, Bool, true, List, [], ◌∷◌, eqb, ltb, leb, length, None}
 use Rattle.std.proofs.Common.{arith, sym, ap, ◌∙◌, subst, length-set, ltb-false}
 use Rattle.std.proofs.lemmas.Bool.{false≢true}
 use Rattle.cells.specs.Proof.Split.{by-test}
@@ -13,7 +13,6 @@ use Rattle.interner.specs.Calls as Names
 use Rattle.symbols.specs.New.{null_of, new_of}
 use Rattle.interner_laws.proofs.Written.{linked_long}
 use Rattle.symbol.specs.declared.Row.{Row}
-use Rattle.symbol.specs.declared.SttFile.TheVariants as File
 use Rattle.symbol_resolution.specs.declared.rows.Decision.{Decision}
 use Rattle.symbol_resolution.specs.Apply.{Table, note_name, append_of, apply_of}
 use Rattle.symbol_resolution.specs.Proof.Outcomes.{decision-left}
@@ -91,8 +90,8 @@ applied-counted t r d c =
     })
     (λ id x. c) d
 
-put-counted : (t : Table) (r : Row) → Counted t.link t.names → Counted (add_row_of t r File.None).table.link (add_row_of t r File.None).table.names
-put-counted t r c = added-left t r File.None (λ (u : Table). Counted u.link u.names) c (applied-counted t r (decided_of t r File.None) c)
+put-counted : (t : Table) (r : Row) → Counted t.link t.names → Counted (add_row_of t r None).table.link (add_row_of t r None).table.names
+put-counted t r c = added-left t r None (λ (u : Table). Counted u.link u.names) c (applied-counted t r (decided_of t r None) c)
 
 part-counted : (p : Part) (s : State) → CountedIn s → CountedIn (part_next p s)
 part-counted (issue x) s c = issue-counted s x c
@@ -146,10 +145,10 @@ within l names c h =
 
 -- ---- the count of the lists
 
-put-lists : (t : Table) (r : Row) → (add_row_of t r File.None).table.link.lists ≡ t.link.lists
+put-lists : (t : Table) (r : Row) → (add_row_of t r None).table.link.lists ≡ t.link.lists
 put-lists t r =
-    added-left t r File.None (λ (u : Table). u.link.lists ≡ t.link.lists) refl
-    (applied-count (λ (l : Link). l.lists) keep-lists (λ l n. refl) t r (decided_of t r File.None))
+    added-left t r None (λ (u : Table). u.link.lists ≡ t.link.lists) refl
+    (applied-count (λ (l : Link). l.lists) keep-lists (λ l n. refl) t r (decided_of t r None))
 
 part-lists : (p : Part) (s : State) → (part_next p s).link.lists ≡ s.link.lists
 part-lists (issue x) s = keep-lists (store s) (id_of s x) x

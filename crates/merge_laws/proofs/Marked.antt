@@ -1,6 +1,6 @@
 -- Theorems over specs/Marked.antt.
 -- Assumes nothing.
-use Rattle.std.specs.Prelude.{ℕ, ◌+◌, ◌*◌, ◌<◌, ◌≤◌, ◌≡◌, ◌≢◌, eqb, ltb}
+use Rattle.std.specs.Prelude.{ℕ, ◌+◌, ◌*◌, ◌<◌, ◌≤◌, ◌≡◌, ◌≢◌, eqb, ltb, None}
 use Rattle.std.proofs.Common.{arith, sym, ◌∙◌, length-set, ltb-true, ltb-false, eq-eqb, ne_eqb}
 use Rattle.std.proofs.Math.Path.{refl, ap, subst}
 use mathlib.Core.List.{List}
@@ -16,7 +16,6 @@ use Rattle.interner_laws.proofs.Written.{head-behind, row_new}
 use Rattle.interner_laws.proofs.Interns.{keep-good, keep-stays, keep-untouched}
 use Rattle.interner_laws.proofs.Same.{alike-stays, good-same, find-same}
 use Rattle.symbol.specs.declared.Row.{Row}
-use Rattle.symbol.specs.declared.SttFile.TheVariants as File
 use Rattle.symbol_resolution.specs.declared.rows.Decision.{Decision}
 use Rattle.symbol_resolution.specs.declared.rows.Decision.TheVariants.{Refuse}
 use Rattle.symbol_resolution.specs.Apply.{Table, note_name, append_of, apply_of}
@@ -65,9 +64,9 @@ module _ (s : State) (met : List (List ℕ)) (m : Marked s met) (r : Row) where
   abbrev Fine : Left → Type 0
   Fine o = Marked (with_table s o.table) met
 
-  decides : (d : Decision) → decided (table s) r ≡ d → Fine (committed_of (table s) r File.None d) → Fine (put_of s r)
+  decides : (d : Decision) → decided (table s) r ≡ d → Fine (committed_of (table s) r None d) → Fine (put_of s r)
   unfolding add_row_of
-  decides d e g = subst (λ (d : Decision). Fine (committed_of (table s) r File.None d)) (sym e) g
+  decides d e g = subst (λ (d : Decision). Fine (committed_of (table s) r None d)) (sym e) g
 
   abbrev tabled : List ℕ → Table → State
   tabled names t = record { bytes = s.bytes; names = names; symbols = t.symbols; sections = t.sections; link = t.link }
@@ -107,7 +106,7 @@ module _ (s : State) (met : List (List ℕ)) (m : Marked s met) (r : Row) where
   unfolding committed_of apply_of
   viewed (refused n e z) =
       decides (Refuse n) e
-      (subst (λ (t : Table). Marked (with_table s t) met) (sym (commit-refused (table s) r File.None n z).0) m)
+      (subst (λ (t : Table). Marked (with_table s t) met) (sym (commit-refused (table s) r None n z).0) m)
   viewed (kept e k z o w p) = decides _ e m
   viewed (amended e k z o w) = decides _ e (same_names _ refl refl refl refl refl)
   viewed (replaced e k z o) = decides _ e (same_names _ refl refl refl refl refl)

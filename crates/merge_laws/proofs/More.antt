@@ -1,11 +1,10 @@
 -- Steps never lower a count.
 -- Assumes nothing.
-use Rattle.std.specs.Prelude.{◌≤◌, ◌≡◌, refl, List, [], ◌∷◌, ltb}
+use Rattle.std.specs.Prelude.{◌≤◌, ◌≡◌, refl, List, [], ◌∷◌, ltb, None}
 use Rattle.std.proofs.Common.{arith, le_refl, le_trans, ap, ◌∙◌, subst}
 use Rattle.cells.specs.Proof.Split.{by-test}
 use Rattle.link.specs.declared.Link.{Link}
 use Rattle.symbol.specs.declared.Row.{Row}
-use Rattle.symbol.specs.declared.SttFile.TheVariants as File
 use Rattle.symbol.specs.Codes.{successor}
 use Rattle.symbol_resolution.specs.declared.rows.Decision.{Decision}
 use Rattle.symbol_resolution.specs.Apply.{Table, append_of, apply_of}
@@ -55,8 +54,8 @@ applied-more t r d =
     })
     (λ id x. more-none t.link) d
 
-put-more : (t : Table) (r : Row) → More t.link (add_row_of t r File.None).table.link
-put-more t r = added-left t r File.None (λ (u : Table). More t.link u.link) (more-none t.link) (applied-more t r (decided_of t r File.None))
+put-more : (t : Table) (r : Row) → More t.link (add_row_of t r None).table.link
+put-more t r = added-left t r None (λ (u : Table). More t.link u.link) (more-none t.link) (applied-more t r (decided_of t r None))
 
 part-more : (p : Part) (s : State) → More s.link (part_next p s).link
 part-more (issue x) s =

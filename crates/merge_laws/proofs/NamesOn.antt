@@ -1,6 +1,6 @@
 -- Names are never moved by the steps of a call: an id once given stands for its bytes.
 -- Assumes nothing.
-use Rattle.std.specs.Prelude.{ℕ, ◌+◌, ◌*◌, ◌<◌, ◌≡◌, refl, true, List, [], ◌∷◌, ◌++◌, eqb, get_or, length}
+use Rattle.std.specs.Prelude.{ℕ, ◌+◌, ◌*◌, ◌<◌, ◌≡◌, refl, true, List, [], ◌∷◌, ◌++◌, eqb, get_or, length, None}
 use Rattle.std.proofs.Common.{arith, le_refl, sym, ap, ◌∙◌, subst, get_or-set_other}
 use Rattle.link.specs.Said.{number_in}
 use Rattle.interner.specs.Names.{fits_of}
@@ -10,7 +10,6 @@ use Rattle.interner_laws.specs.Good.{Good, Issued, Stays, count, name, find}
 use Rattle.interner_laws.proofs.Histories.{stays-none, stays-both, issued-stays}
 use Rattle.interner_laws.proofs.Interns.{keep-stays, keep-issued}
 use Rattle.symbol.specs.declared.Row.{Row}
-use Rattle.symbol.specs.declared.SttFile.TheVariants as File
 use Rattle.symbol_resolution.specs.declared.rows.Decision.{Decision}
 use Rattle.symbol_resolution.specs.Apply.{Table, note_name, append_of, apply_of}
 use Rattle.symbol_resolution.specs.Proof.Outcomes.{row_written, decision-left}
@@ -59,8 +58,8 @@ applied-lies t r d =
     })
     (λ id x. row_same t (row_written t id x) refl refl) d
 
-put-lies : (t : Table) (r : Row) → RowLies t (add_row_of t r File.None).table
-put-lies t r = added-left t r File.None (RowLies t) (row_same t t refl refl) (applied-lies t r (decided_of t r File.None))
+put-lies : (t : Table) (r : Row) → RowLies t (add_row_of t r None).table
+put-lies t r = added-left t r None (RowLies t) (row_same t t refl refl) (applied-lies t r (decided_of t r None))
 
 step_stays : (k : Step) (s : State) → Good (store s) → Stays (store s) (store (step_next k s))
 step_stays (part (issue x)) s g = keep-stays (store s) x g (id_of s x)

@@ -1,12 +1,11 @@
 -- Laws of the definitions of Past.antt.
 -- Assumes nothing.
-use Rattle.std.specs.Prelude.{ℕ, ◌+◌, ◌*◌, ◌<◌, ◌≤◌, ◌≡◌, refl, List, [], ◌∷◌, eqb, leb, get_or, set, take, drop, length}
+use Rattle.std.specs.Prelude.{ℕ, ◌+◌, ◌*◌, ◌<◌, ◌≤◌, ◌≡◌, refl, List, [], ◌∷◌, eqb, leb, get_or, set, take, drop, length, None}
 use Rattle.std.proofs.Common.{arith, ◌∙◌, subst, ap, append-nil, length-set, length-append, length-drop, drop_of_length-le, get_or-set_other, get_or-take, length-take-le, take_all, leb-true, leb-false}
 use Rattle.std.proofs.Math.ListN.{get_or-append}
 use Rattle.cells.specs.Proof.Split.{by-test}
 use Rattle.interner_laws.proofs.Interns.{keep-untouched}
 use Rattle.symbol.specs.declared.Row.{Row}
-use Rattle.symbol.specs.declared.SttFile.TheVariants as File
 use Rattle.symbol.specs.Proof.RowLaws.{length-set_row}
 use Rattle.symbol_resolution.specs.Holder.{global_at}
 use Rattle.symbol_resolution.specs.declared.rows.Decision.{Decision}
@@ -64,11 +63,11 @@ applied-symbols t r d =
     (λ id x. length-set_row t.symbols id x) d
 
 pub put-long : (t : Table) (r : Row)
-    → let u = (add_row_of t r File.None).table in
+    → let u = (add_row_of t r None).table in
     (length u.names ≡ length t.names) × (length u.sections ≡ length t.sections) × (length u.symbols ≡ length t.symbols)
 put-long t r =
-    let d : Decision = decided_of t r File.None in
-    added-left t r File.None
+    let d : Decision = decided_of t r None in
+    added-left t r None
     (λ (u : Table). (length u.names ≡ length t.names) × (length u.sections ≡ length t.sections) × (length u.symbols ≡ length t.symbols))
     (refl, refl, refl) (applied-names t r d, applied-long t r d, applied-symbols t r d)
 

@@ -33,9 +33,8 @@ use Rattle.symbol_resolution.specs.Proof.Outcomes.{absent_under, is_local_row, M
 use Rattle.elf_object.specs.Rows as Elf
 use Rattle.elf_object.specs.Rows.{conversion_at, rows_in, first_at, is_loaded, name_in, name_offset_at, comdat_at, count_at, link_at, info_at}
 use Rattle.merge_sections.specs.Reserve as Reserve
-use Rattle.section_groups.specs.declared.Plan as GroupPlan
 use Rattle.section_groups.specs.Group as Group
-use Rattle.merge_symbols.specs.declared.plan.Planned.{Planned}
+use Rattle.merge_symbols.specs.Plan.{Planned}
 use Rattle.merge_symbols.specs.Plan.{View, Input, is_first, defines_of, filtered_at, rule_of, judged_of, rowed_of, read_of, planned_of, place_of}
 use Rattle.merge_symbols.specs.Stage as Symbols
 use Rattle.merge_build.specs.Build as Build
@@ -66,7 +65,7 @@ plan-numbers : (l : Link) (bytes names : List ℕ) (marks : ℕ) (x : List ℕ) 
 unfolding Group.plan_of Group.plan_with Group.mark_refusal
 plan-numbers l bytes names marks x listed =
     let id : ℕ = find_of bytes names l x in
-    pick (λ (p : GroupPlan.Plan). p.number ≢ 0 → one_of p.number group_numbers ≡ true) (fits_of (store_of bytes names l) (record { 0 = id }) (length x)) _ _
+    pick (λ (p : Group.Plan). p.number ≢ 0 → one_of p.number group_numbers ≡ true) (fits_of (store_of bytes names l) (record { 0 = id }) (length x)) _ _
     (λ t.
     pick P (Group.repeated_of names l.names id) _ _ (λ t. pick P (leb marks listed) _ _ (λ t u. refl) (λ t u. absurd (u refl))) (λ t u. absurd (u refl)))
     (λ t u. refl)
@@ -93,7 +92,7 @@ module _ (o : Group.Object) (s : Group.Step) (n : ℕ) where
       let x : Looked = Group.signature_of o.headers o.entries o.image o.table n in
       let listed : ℕ = get_or o.contents (first_at o.headers n) 0 in
       let marks : ℕ = length s.work / 8 in
-      let p : GroupPlan.Plan = Group.plan_of s.stage.link s.bytes s.names marks x.name listed in
+      let p : Group.Plan = Group.plan_of s.stage.link s.bytes s.names marks x.name listed in
       by-test (is_loaded o.headers n 7)
       (λ a.
       by-test (eqb shape 0)

@@ -13,7 +13,6 @@ use Rattle.sections.specs.Rows as Sections
 use Rattle.merge_sections.specs.Reserve as Reserve
 use Rattle.merge_symbols.specs.Plan.{View, Input, input_of, rowed_of, read_of, planned_of, place_of}
 use Rattle.merge_symbols.specs.Stage as Symbols
-use Rattle.merge_build.specs.declared.Plan as BuildPlan
 use Rattle.merge_build.specs.Relocations.{table_for, limit_of, relocations_of, symbols_ok}
 use Rattle.merge_build.specs.Build as Build
 use Rattle.merge_laws.specs.Table.{one_of, section_numbers}
@@ -74,7 +73,7 @@ build-numbers l bytes names lists ids limit relocations x =
     id : Interned
     id = record { 0 = find_of bytes names l x }
 
-    P : BuildPlan.Plan → Type 0
+    P : Build.Plan → Type 0
     P p = (p.id ≡ id) × (p.number ≢ 0 → p.number ≢ 2 → (p.number ≡ 19) × (symbols_ok ids limit relocations ≡ false))
 
 -- a section without relocations has no 19
@@ -83,7 +82,7 @@ none-without : (headers contents work ids : List ℕ) (limit n kind : ℕ)
 unfolding table_for relocations_of symbols_ok
 none-without headers contents work ids limit n kind e = by-test (eqb kind 1) (λ t. eqb-true _ _ t) (λ t. absurd (false≢true (sym (rw t at e))))
 
-build-commit-left : (o : Build.Object) (headers work ids : List ℕ) (s : Build.State) (relocations x : List ℕ) (n kind : ℕ) (p : BuildPlan.Plan)
+build-commit-left : (o : Build.Object) (headers work ids : List ℕ) (s : Build.State) (relocations x : List ℕ) (n kind : ℕ) (p : Build.Plan)
     → (section_name o n).found ≡ true → x ≡ (section_name o n).name → p.id ≡ record { 0 = find_of s.bytes s.names s.stage.link x } → (p.number ≢ 0 → p.number ≢ 2 → (p.number ≡ 19) × (kind ≡ 1))
     → (Build.commit_of headers work ids (Build.linked s) relocations x n kind p).stage.number ≢ 0
     → BuildLeft o kind s (Build.commit_of headers work ids (Build.linked s) relocations x n kind p) n
@@ -104,7 +103,7 @@ build-left o s n kind z u =
     let table : ℕ = table_for o.work n kind in
     let relocations : List ℕ = relocations_of o.headers o.contents table in
     let limit : ℕ = limit_of o.headers table o.table o.symbols in
-    let p : BuildPlan.Plan = Build.plan_of s.stage.link s.bytes s.names (length s.lists) o.ids limit relocations x.name in
+    let p : Build.Plan = Build.plan_of s.stage.link s.bytes s.names (length s.lists) o.ids limit relocations x.name in
     let k = build-numbers s.stage.link s.bytes s.names (length s.lists) o.ids limit relocations x.name in
     let only : p.number ≢ 0 → p.number ≢ 2 → (p.number ≡ 19) × (kind ≡ 1) =
     λ v w. ((k.1 v w).0, none-without o.headers o.contents o.work o.ids limit n kind (k.1 v w).1) in

@@ -17,11 +17,11 @@ use Rattle.symbol_resolution.specs.Proof.Outcomes.{decision-left}
 use Rattle.sections.specs.Rows.{state_at, built_of, built_cells}
 use Rattle.elf_object.specs.Rows.{rows_in, field, name_offset_at, name_in, is_loaded, mark_at, removed_mark}
 use Rattle.merge_sections.specs.Reserve.{kind_class, class_of}
-use Rattle.merge_symbols.specs.declared.plan.Planned.{Planned}
+use Rattle.merge_symbols.specs.Plan.{Planned}
 use Rattle.merge_symbols.specs.Plan.{input_of, planned_of}
 use Rattle.merge_symbols.specs.Stage as Symbols
 use Rattle.merge_symbols.specs.Stage.{accept_row, kept_of, commit_of, view, symbol_named, looked_of, symbol_of, symbols_of}
-use Rattle.merge_build.specs.declared.Plan.{Plan}
+use Rattle.merge_build.specs.Build.{Plan}
 use Rattle.merge_build.specs.Relocations.{table_for, limit_of, relocations_of}
 use Rattle.merge_build.specs.Build as Build
 use Rattle.merge_build.specs.Build.{lists_fit, plan_of, build_row_of, tabled_of, built_from, section_of, build_of, section_row}

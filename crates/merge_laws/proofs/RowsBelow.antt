@@ -16,7 +16,7 @@ use Rattle.elf_object.specs.Rows.{rows_in, name_offset_at, name_in, is_loaded}
 use Rattle.merge_sections.specs.Reserve as Reserve
 use Rattle.merge_sections.specs.Reserve.{class_of, conversion_of}
 use Rattle.merge_symbols.specs.Stage as Symbols
-use Rattle.merge_build.specs.declared.Plan.{Plan}
+use Rattle.merge_build.specs.Build.{Plan}
 use Rattle.merge_build.specs.Relocations.{table_for, limit_of, relocations_of}
 use Rattle.merge_build.specs.Build as Build
 use Rattle.merge_build.specs.Build.{section_id_of, lists_fit, plan_of, build_row_of, tabled_of, built_from, section_of, build_of, section_row}

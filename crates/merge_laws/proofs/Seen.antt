@@ -2,7 +2,7 @@
 -- Assumes nothing.
 use Prim.Native.Nat.{ℕ, zero, suc, ◌+◌, ◌*◌, ◌-◌, ◌<◌, ◌≤◌}
 use Rattle.std.proofs.Common.{arith, ◌∙◌, length-set, drop_of_length-le, get_or-set_same, get_or-set_other, drop_at, length-take-le, eqb-true, ltb-true, ltb-false, leb-true, leb-false}
-use Rattle.std.specs.Prelude.{◌≡◌, refl, ◌≢◌, eqb, ltb, leb, take}
+use Rattle.std.specs.Prelude.{◌≡◌, refl, ◌≢◌, eqb, ltb, leb, take, None}
 use Rattle.std.proofs.Math.Path.{sym, ap, subst}
 use mathlib.Core.List.{List, [], ◌∷◌, ◌++◌}
 use Rattle.std.proofs.Math.ListN.{get_or, set, drop, length, get_or-eq_default}
@@ -19,7 +19,6 @@ use Rattle.interner.specs.Names.{Store, chase, seek_of, find_from, find_of, room
 use Rattle.interner_laws.proofs.Written.{head-behind, head-within, head-out, linked_long, row_old, row_new, head-new, head-old}
 use Rattle.symbol.specs.declared.Row.{Row}
 use Rattle.symbol.specs.Codes.{successor}
-use Rattle.symbol.specs.declared.SttFile.TheVariants as File
 use Rattle.symbol_resolution.specs.declared.rows.Holder.{Holder}
 use Rattle.symbol_resolution.specs.declared.rows.Decision.{Decision}
 use Rattle.symbol_resolution.specs.declared.rows.Decision.TheVariants.{Refuse, Nothing, Keep, Append, Replace, Amend}
@@ -199,11 +198,11 @@ module _ (s t : State) (e : Seen s t) where
       rw e.symbols
       (decision-alike t.link s.link s.symbols t.sections s.sections r e.symbols-count e.slots e.profile e.sections-long h)
 
-  holder-same : (r : Row) → direct_holder_of t.link t.names t.symbols r.name File.None ≡ direct_holder_of s.link s.names s.symbols r.name File.None
+  holder-same : (r : Row) → direct_holder_of t.link t.names t.symbols r.name None ≡ direct_holder_of s.link s.names s.symbols r.name None
   unfolding direct_holder_of issued_of holder_of
   holder-same r = simp (e.names-count, e.symbols-count, e.symbols, e.names r.name.0 3 (omega arith) (λ z. omega arith))
 
-  decided-same : (r : Row) → decided_of (table t) r File.None ≡ decided_of (table s) r File.None
+  decided-same : (r : Row) → decided_of (table t) r None ≡ decided_of (table s) r None
   unfolding decided_of
   decided-same r = ap (decide_of t.link t.symbols t.sections r) (holder-same r) ∙ decide-same r _
 
@@ -311,32 +310,32 @@ module _ (s t : State) (e : Seen s t) (r : Row) where
   applied-seen (Amend id) =
       stored-seen (amended_in s.link.gabi s.symbols r id) (amended_in t.link.gabi t.symbols r id) (rw (e.profile, e.symbols))
 
-  place_same : place_of t.link r.name File.None ≡ place_of s.link r.name File.None
+  place_same : place_of t.link r.name None ≡ place_of s.link r.name None
   unfolding place_of
   place_same = simp e.names-count
 
   committed-seen : (d : Decision)
-      → Seen (History.with_table s (committed_of (table s) r File.None d).table) (History.with_table t (committed_of (table t) r File.None d).table)
+      → Seen (History.with_table s (committed_of (table s) r None d).table) (History.with_table t (committed_of (table t) r None d).table)
   unfolding committed_of
   committed-seen d =
       by-test (eqb (refusal_of d) 21) (λ a. rw a e) (λ a. by-test (eqb (refusal_of d) 0) (λ b. rw (a, b) (applied-seen d)) (λ b. rw (a, b) e))
 
-  committed-said : (d : Decision) → (committed_of (table t) r File.None d).said ≡ (committed_of (table s) r File.None d).said
+  committed-said : (d : Decision) → (committed_of (table t) r None d).said ≡ (committed_of (table s) r None d).said
   unfolding committed_of
   committed-said d =
       by-test (eqb (refusal_of d) 21) (λ a. rw a (ap (λ (p : ℕ). refusing (refused 21 p)) place_same))
       (λ a. by-test (eqb (refusal_of d) 0) (λ b. rw (a, b) (ap (λ (n : ℕ). accepted (id_of d n).0) e.symbols-count)) (λ b. rw (a, b)))
 
-  put-seen : Seen (History.with_table s (add_row_of (table s) r File.None).table) (History.with_table t (add_row_of (table t) r File.None).table)
+  put-seen : Seen (History.with_table s (add_row_of (table s) r None).table) (History.with_table t (add_row_of (table t) r None).table)
   unfolding add_row_of
   put-seen =
-      subst (λ (d : Decision). Seen (History.with_table s (committed_of (table s) r File.None (decided_of (table s) r File.None)).table) (History.with_table t (committed_of (table t) r File.None d).table))
-      (sym (decided-same s t e r)) (committed-seen (decided_of (table s) r File.None))
+      subst (λ (d : Decision). Seen (History.with_table s (committed_of (table s) r None (decided_of (table s) r None)).table) (History.with_table t (committed_of (table t) r None d).table))
+      (sym (decided-same s t e r)) (committed-seen (decided_of (table s) r None))
 
-  put-said : (add_row_of (table t) r File.None).said ≡ (add_row_of (table s) r File.None).said
+  put-said : (add_row_of (table t) r None).said ≡ (add_row_of (table s) r None).said
   unfolding add_row_of
   put-said =
-      ap (λ (d : Decision). (committed_of (table t) r File.None d).said) (decided-same s t e r) ∙ committed-said (decided_of (table s) r File.None)
+      ap (λ (d : Decision). (committed_of (table t) r None d).said) (decided-same s t e r) ∙ committed-said (decided_of (table s) r None)
 
 -- ---- parts and steps
 
@@ -349,10 +348,10 @@ names-kept t r Append = refl
 names-kept t r (Replace id) = refl
 names-kept t r (Amend id) = refl
 
-put-names : (t : Table) (r : Row) → (add_row_of t r File.None).table.link.names ≡ t.link.names
+put-names : (t : Table) (r : Row) → (add_row_of t r None).table.link.names ≡ t.link.names
 unfolding add_row_of committed_of
 put-names t r =
-    let d : Decision = decided_of t r File.None in
+    let d : Decision = decided_of t r None in
     by-test (eqb (refusal_of d) 21) (λ a. rw a)
     (λ a. by-test (eqb (refusal_of d) 0) (λ b. rw (a, b) (names-kept t r d)) (λ b. rw (a, b)))
 
@@ -365,10 +364,10 @@ chains-kept t r Append = refl
 chains-kept t r (Replace id) = refl
 chains-kept t r (Amend id) = refl
 
-put-chains : (t : Table) (r : Row) → (add_row_of t r File.None).table.link.chains ≡ t.link.chains
+put-chains : (t : Table) (r : Row) → (add_row_of t r None).table.link.chains ≡ t.link.chains
 unfolding add_row_of committed_of
 put-chains t r =
-    let d : Decision = decided_of t r File.None in
+    let d : Decision = decided_of t r None in
     by-test (eqb (refusal_of d) 21) (λ a. rw a)
     (λ a. by-test (eqb (refusal_of d) 0) (λ b. rw (a, b) (chains-kept t r d)) (λ b. rw (a, b)))
 
@@ -380,7 +379,7 @@ part-notes : (p : Part) (s t : State) → Seen s t → part_notes p t ≡ part_n
 part-notes (issue x) s t e = refl
 part-notes (put r from) s t e = ap (History.noted r from) (put-said s t e r)
 
-put-roomy : (t : Table) (r : Row) → t.link.names ≤ t.link.chains → (add_row_of t r File.None).table.link.names ≤ (add_row_of t r File.None).table.link.chains
+put-roomy : (t : Table) (r : Row) → t.link.names ≤ t.link.chains → (add_row_of t r None).table.link.names ≤ (add_row_of t r None).table.link.chains
 put-roomy t r h = omega (arith, put-chains t r, put-names t r)
 
 fits-seen : (x : List ℕ) (s t : State) → Seen s t → fits_of (store t) (History.id_of t x) (length x) ≡ fits_of (store s) (History.id_of s x) (length x)

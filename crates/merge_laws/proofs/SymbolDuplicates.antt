@@ -21,7 +21,7 @@ use Rattle.symbol_resolution.specs.declared.rows.Decision.{Decision}
 use Rattle.symbol_resolution.specs.Decide.{refusal_of}
 use Rattle.elf_object.specs.Rows.{rows_in, conversion_at}
 use Rattle.section_groups.specs.Filter.{filter_of}
-use Rattle.merge_symbols.specs.declared.plan.Planned.{Planned}
+use Rattle.merge_symbols.specs.Plan.{Planned}
 use Rattle.merge_symbols.specs.Plan.{Input, input_of, is_first, defines_of, filtered_at, rule_of, judged_of, rowed_of, read_of, planned_of, place_of}
 use Rattle.merge_symbols.specs.Stage as Symbols
 use Rattle.merge_symbols.specs.Stage.{accept_row, kept_of, commit_of, view, symbol_named, looked_of, symbol_of}

@@ -1,6 +1,6 @@
 -- An accepted symbol's cell holds the id that its add is answered, and 1.
 -- Assumes nothing.
-use Rattle.std.specs.Prelude.{ℕ, true, List, eqb}
+use Rattle.std.specs.Prelude.{ℕ, true, List, eqb, None}
 use Rattle.std.proofs.Common.{arith, sym, ap, ◌∙◌}
 use Rattle.std.proofs.Math.Path.{◌≡◌}
 use Rattle.std.proofs.Math.ListN.{set}
@@ -10,7 +10,6 @@ use Rattle.link.specs.declared.Interned.{Interned}
 use Rattle.link.specs.Said.{value_in}
 use Rattle.interner.specs.Names.{store_of, keep_of}
 use Rattle.symbol.specs.declared.Row.{Row}
-use Rattle.symbol.specs.declared.SttFile.TheVariants as File
 use Rattle.symbol.specs.Codes.{successor}
 use Rattle.symbol_resolution.specs.declared.rows.Decision.{Decision}
 use Rattle.symbol_resolution.specs.Decide.{refusal_of, id_of}
@@ -18,7 +17,7 @@ use Rattle.symbol_resolution.specs.Apply.{Table}
 use Rattle.symbols.specs.Add.{committed_of, add_row_of}
 use Rattle.strings.specs.Lookup.{Looked}
 use Rattle.elf_object.specs.Rows.{field, name_in}
-use Rattle.merge_symbols.specs.declared.plan.Planned.{Planned}
+use Rattle.merge_symbols.specs.Plan.{Planned}
 use Rattle.merge_symbols.specs.Plan.{Input, input_of, planned_of}
 use Rattle.merge_symbols.specs.Stage as Symbols
 use Rattle.merge_symbols.specs.Stage.{Object, cell_of, accept_row, kept_of, commit_of, view, symbol_named}
@@ -37,11 +36,11 @@ decided-cell t r z (replaced e k w o) = rw e
 decided-cell t r z (appended e f k w) = rw e
 decided-cell t r z (local e f v) = rw e
 
-answered : (t : Table) (r : Row) → refusal_of (decided t r) ≡ 0 → value_in (add_row_of t r File.None).said ≡ (id_of (decided t r) t.link.symbols).0
+answered : (t : Table) (r : Row) → refusal_of (decided t r) ≡ 0 → value_in (add_row_of t r None).said ≡ (id_of (decided t r) t.link.symbols).0
 unfolding add_row_of committed_of
 answered t r z = rw z
 
-pub put-cell : (t : Table) (r : Row) (d : Decision) → decided t r ≡ d → refusal_of d ≡ 0 → cell_of d t.link.symbols ≡ successor (value_in (add_row_of t r File.None).said)
+pub put-cell : (t : Table) (r : Row) (d : Decision) → decided t r ≡ d → refusal_of d ≡ 0 → cell_of d t.link.symbols ≡ successor (value_in (add_row_of t r None).said)
 put-cell t r d e z =
     let y : refusal_of (decided t r) ≡ 0 = ap (λ (d : Decision). refusal_of d) e ∙ z in
     ap (λ (d : Decision). cell_of d t.link.symbols) (sym e) ∙ decided-cell t r y (Decided.view t r) ∙ ap successor (sym (answered t r y))

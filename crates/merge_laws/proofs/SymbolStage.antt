@@ -1,20 +1,19 @@
 -- The symbol stage is its steps.
 -- Assumes nothing.
-use Rattle.std.specs.Prelude.{ℕ, ◌≡◌, refl, Bool, true, false, cond, List, eqb, length}
+use Rattle.std.specs.Prelude.{ℕ, ◌≡◌, refl, Bool, true, false, cond, List, eqb, length, None}
 use Rattle.std.proofs.Common.{sym, ◌∙◌, subst}
 use Rattle.std.proofs.lemmas.Bool.{false≢true}
 use Rattle.cells.specs.Proof.Split.{by-test}
 use Rattle.link.specs.declared.Interned.{Interned}
 use Rattle.interner.specs.Names.{store_of, find_of, fits_of, keep_of}
 use Rattle.symbol.specs.declared.Row.{Row}
-use Rattle.symbol.specs.declared.SttFile.TheVariants as File
 use Rattle.upcoming_symbol.specs.Upcoming.{elf_row_of}
 use Rattle.symbol_resolution.specs.declared.rows.Decision.{Decision}
 use Rattle.symbol_resolution.specs.declared.rows.Decision.TheVariants.{Refuse, Nothing, Keep}
 use Rattle.symbol_resolution.specs.Decide.{refusal_of}
 use Rattle.symbol_resolution.specs.Apply.{Table, apply_of}
 use Rattle.symbols.specs.Add.{decided_of}
-use Rattle.merge_symbols.specs.declared.plan.Planned.{Planned}
+use Rattle.merge_symbols.specs.Plan.{Planned}
 use Rattle.merge_symbols.specs.Plan.{Input, is_first, defines_of, filtered_at, rule_of, judged_of, rowed_of, read_of, planned_of}
 use Rattle.merge_symbols.specs.Stage.{accept_row, kept_of, commit_of, view, symbol_named}
 use Rattle.merge_symbols.specs.Stage as Symbols
@@ -100,11 +99,11 @@ module _ (o : Input) (s : Symbols.State) (x : List ℕ) (i : ℕ) where
   plan-id = fair.found
 
   -- what a symbol that is added is decided on, before its name is issued and after
-  pub plan-decides : adds o x i ≡ true → refusal_of plan.decision ≡ 0 → decided_of (table (part_next (issue x) (table_in s))) plan.row File.None ≡ plan.decision
+  pub plan-decides : adds o x i ≡ true → refusal_of plan.decision ≡ 0 → decided_of (table (part_next (issue x) (table_in s))) plan.row None ≡ plan.decision
   plan-decides b z =
       let two : eqb (refusal_of plan.decision) 2 ≡ false = rw z in
       subst
-      (λ (k : Interned). decided_of (table (with_store (table_in s) (keep_of (store_of s.bytes s.names s.stage.link) k x))) plan.row File.None ≡ plan.decision)
+      (λ (k : Interned). decided_of (table (with_store (table_in s) (keep_of (store_of s.bytes s.names s.stage.link) k x))) plan.row None ≡ plan.decision)
       plan-id
       (same (table_in s) x plan.id plan.row plan.decision (adds o x i) fair two ∙ sym (fair.added b two))
 

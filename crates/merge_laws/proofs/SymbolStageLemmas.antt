@@ -15,7 +15,7 @@ use Rattle.symbol_resolution.specs.Decide.{section_cell, refusal_of}
 use Rattle.symbol_resolution.specs.Apply.{Table, table_of, set_section_symbol, note_section, append_of, apply_of}
 use Rattle.symbol_resolution.specs.Proof.Outcomes.{decision-left}
 use Rattle.elf_object.specs.Rows.{rows_in, field, name_in}
-use Rattle.merge_symbols.specs.declared.plan.Planned.{Planned}
+use Rattle.merge_symbols.specs.Plan.{Planned}
 use Rattle.merge_symbols.specs.Plan.{input_of, planned_of}
 use Rattle.merge_symbols.specs.Stage.{Object, accept_row, kept_of, commit_of, view, symbol_named, looked_of, symbol_of, symbols_from, symbols_of}
 use Rattle.merge_symbols.specs.Stage as Symbols

@@ -1,6 +1,6 @@
 -- The statements about merges. Their proofs stand in the other files.
 -- Assumes nothing.
-use Rattle.std.specs.Prelude.{ℕ, suc, ◌<◌, ◌≤◌, ◌≡◌, Bool, true, false, not, List, [], ◌∷◌, ◌++◌, ◌≢◌, set, length}
+use Rattle.std.specs.Prelude.{ℕ, suc, ◌<◌, ◌≤◌, ◌≡◌, Bool, true, false, not, List, [], ◌∷◌, ◌++◌, ◌≢◌, set, length, Ok, Err}
 use Rattle.std.proofs.Common.{ap, ◌∙◌, subst}
 use Rattle.gabi.specs.SymbolTable.{Sym}
 use Rattle.gabi.specs.Resolution.{resolve}
@@ -11,7 +11,6 @@ use Rattle.link.specs.Judge.{refused, broken_of}
 use Rattle.symbol_resolution.specs.Holder.{global_at}
 use Rattle.symbols.specs.New.{new_of}
 use Rattle.symbols.specs.Lookup.{not_found, get_global_of}
-use Rattle.symbols.specs.declared.Found.TheVariants as Fd
 use Rattle.symbol.specs.RowLaws.{symbol_of}
 use Rattle.symbol.specs.Codes.{successor}
 use Rattle.link.specs.Bounds.{not_lent}
@@ -22,7 +21,6 @@ use Rattle.section_groups.specs.Group.{mark_group_of, mark_removed_of, group_sec
 use Rattle.section_groups.specs.Filter.{symbol_ok}
 use Rattle.merge_symbols.specs.Plan.{input_of, filtered_at}
 use Rattle.merge_symbols.specs.Stage as Symbols
-use Rattle.merge_elf.specs.declared.Answer.TheVariants.{Refused}
 use Rattle.merge_stages.specs.Stages.{All, Object}
 use Rattle.merge_elf.specs.Merge.{leave, head_in, merge_of}
 use Rattle.symbol_laws.specs.Rank.{first_by_rank}
@@ -143,10 +141,10 @@ module _ (key : ℕ) (gabi : Bool) (bytes names symbols sections inputs lists : 
       within = Lookups.calls-within ks start quiet (Within.new-within key gabi bytes names symbols sections new) (new-lists key gabi bytes names symbols sections lists) lent
 
       pub lookup-row : (n : ℕ) (x : Entry) (xs : List Entry) → accepted_adds n ≡ x ∷ xs
-          → get_global_of end.table.link end.table.names end.table.symbols (record { 0 = n }) ≡ Fd.Row (symbol_of (record { 0 = x.id }) (hidden_by gabi (rows (x ∷ xs)) (first_by_rank gabi x.row (rows xs))))
+          → get_global_of end.table.link end.table.names end.table.symbols (record { 0 = n }) ≡ Ok (symbol_of (record { 0 = x.id }) (hidden_by gabi (rows (x ∷ xs)) (first_by_rank gabi x.row (rows xs))))
       lookup-row n x xs e =
           Within.lookup-row end.table _ kept within n x xs e
-          ∙ ap (λ (g : Bool). Fd.Row (symbol_of (record { 0 = x.id }) (hidden_by g (rows (x ∷ xs)) (first_by_rank g x.row (rows xs))))) profile
+          ∙ ap (λ (g : Bool). Ok (symbol_of (record { 0 = x.id }) (hidden_by g (rows (x ∷ xs)) (first_by_rank g x.row (rows xs))))) profile
 
       pub lookup-none : (n : ℕ) → accepted_adds n ≡ [] → get_global_of end.table.link end.table.names end.table.symbols (record { 0 = n }) ≡ not_found 23 0
       lookup-none = Within.lookup-none end.table _ kept within
@@ -218,12 +216,12 @@ module _ (o : Object) (a : All) where
   pub head-leaves-all : (head_in o a).number ≢ 0 → ByNumber.HeadLeaves o a
   head-leaves-all = ByNumber.head-leaves o a
 
-  pub broken-refused : a.stage.link.broken ≡ true → merge_of o a ≡ leave a a.stage.link (Refused (refused 22 0))
+  pub broken-refused : a.stage.link.broken ≡ true → merge_of o a ≡ leave a a.stage.link (Err (refused 22 0))
   broken-refused = ByNumber.broken-refused o a
 
   -- every other refusal breaks the link; "that call's earlier elements stay merged"
   pub refused-breaks : (head_in o a).number ≡ 0 → Stages.number o a ≢ 0
-      → merge_of o a ≡ leave (Stages.end o a) (broken_of (Stages.end o a).stage.link) (Refused (refused (Stages.number o a) (Stages.end o a).stage.place))
+      → merge_of o a ≡ leave (Stages.end o a) (broken_of (Stages.end o a).stage.link) (Err (refused (Stages.number o a) (Stages.end o a).stage.place))
   refused-breaks = ByNumber.refused-breaks o a
 
   -- an accepted merge doesn't

@@ -19,7 +19,7 @@ use Rattle.strings.specs.Lookup.{Looked}
 use Rattle.elf_object.specs.Rows as Elf
 use Rattle.elf_object.specs.Rows.{rows_in, field, link_at, info_at, first_at, mark_at, is_loaded, name_in, table_entries, entries_from, section_of}
 use Rattle.elf_object.specs.Judge as Judge
-use Rattle.section_groups.specs.declared.Plan.{Plan}
+use Rattle.section_groups.specs.Group.{Plan}
 use Rattle.section_groups.specs.Group as Group
 use Rattle.section_groups.specs.Group.{shape_of, signature_of, mark_group_of, mark_removed_of, plan_of, group_section_of, group_of, shaped_of, signed_of, group_named, decided_of, admit_of, groups_of}
 use Rattle.merge_sections.specs.Reserve.{class_of, conversion_of}

@@ -10,7 +10,7 @@ use Rattle.interner.specs.Names.{find_of}
 use Rattle.elf_object.specs.Rows.{rows_in, field, name_offset_at, is_loaded, name_in}
 use Rattle.section_groups.specs.Group as Group
 use Rattle.merge_build.specs.Build as Build
-use Rattle.merge_symbols.specs.declared.plan.Planned.{Planned}
+use Rattle.merge_symbols.specs.Plan.{Planned}
 use Rattle.merge_symbols.specs.Plan.{Input, input_of, is_first, defines_of, filtered_at, planned_of}
 use Rattle.merge_symbols.specs.Stage as Symbols
 use Rattle.link.specs.Judge as Link

@@ -1,14 +1,22 @@
 -- Document 01, "Objects": sections (3, 24), in one ascending loop. A row is reserved for kinds 1 and 2; a work row notes the conversion.
 -- Assumes nothing.
-use Rattle.std.specs.Prelude.{ℕ, zero, suc, ◌+◌, cond, List, eqb}
+use Rattle.std.specs.Prelude.{ℕ, zero, suc, ◌+◌, ◌≡◌, ◌<◌, cond, List, eqb, Option, None, Some, IfSome, Result, Ok, Err}
 use Rattle.cells.specs.Rows.{put_row}
 use Rattle.link.specs.declared.Link.{Link}
+use Rattle.link.specs.declared.Refusal.{Refusal}
 use Rattle.symbol.specs.Codes.{successor}
 use Rattle.sections.specs.Rows as Sections
 use Rattle.elf_object.specs.Kinds.{program, uninitialized, symbol_table, dynamic_symbols, frame_header, dynamic, unknown}
 use Rattle.elf_object.specs.Rows.{rows_in, kind_at, is_excluded, work_cells, nothing, not_loaded}
-use Rattle.cells.specs.Slice.{SliceMut}
-use Rattle.merge_sections.specs.declared.Reserved.{Reserved}
+use Rattle.merge_sections.specs.declared.Class.{Class}
+use Rattle.merge_sections.specs.declared.Reserving.{Reserving}
+
+-- the link, and the number of the loaded symbol table's section and 1 (0 for none); number 0 as long as nothing is refused
+pub record Reserved : Type 0 where
+  pub link : Link
+  pub table : ℕ
+  pub number : ℕ
+  pub place : ℕ
 
 -- the lent cells that the stage writes, and what it hands on
 pub record State : Type 0 where
@@ -19,15 +27,32 @@ pub record State : Type 0 where
 abbrev pub state_of : List ℕ → List ℕ → Reserved → State
 state_of sections work r = record { sections = sections; work = work; reserved = r }
 
--- of lent slices before the call, and after it
-abbrev pub state_before : SliceMut → SliceMut → Reserved → State
-state_before sections work r = state_of sections.entry.now work.entry.now r
-
-abbrev pub state_after : SliceMut → SliceMut → Reserved → State
-state_after sections work r = state_of sections.exit.now work.exit.now r
-
 abbrev pub reserved_of : Link → ℕ → ℕ → ℕ → Reserved
 reserved_of l table number place = record { link = l; table = table; number = number; place = place }
+
+-- the cell for the loaded symbol table's section
+abbrev pub table_cell : Option ℕ → ℕ
+table_cell None = 0
+table_cell (Some n) = successor n
+
+-- the same cells are lent
+abbrev pub same_loans : Reserving → Reserving → Type 0
+same_loans r t = (t.sections.ghost_name ≡ r.sections.ghost_name) × (t.work.ghost_name ≡ r.work.ghost_name)
+
+-- the loaded symbol table, if it is met, is one of the object's sections
+abbrev pub TableWithin : List ℕ → Reserving → Type 0
+TableWithin headers r = IfSome r.table (λ n. n < rows_in headers)
+
+-- what is lent before the call, and after it, with its answer
+abbrev pub reserving : Reserving → ℕ → ℕ → State
+reserving r number place = state_of r.sections.now r.work.now (reserved_of r.link (table_cell r.table) number place)
+
+abbrev pub state_before : Reserving → State
+state_before r = reserving r 0 0
+
+abbrev pub state_after : Reserving → Result Unit Refusal → State
+state_after r (Ok tt) = reserving r 0 0
+state_after r (Err e) = reserving r e.number e.place
 
 -- what the stage does with a section
 abbrev pub excluded_class : ℕ
@@ -48,6 +73,13 @@ table_class = 3
 -- "kinds 10 to 13"
 abbrev pub refused_class : ℕ
 refused_class = 4
+
+abbrev pub code_of : Class → ℕ
+code_of Class.Excluded = excluded_class
+code_of Class.Other = other_class
+code_of Class.Row = row_class
+code_of Class.Table = table_class
+code_of Class.Refused = refused_class
 
 unfoldable pub kind_class : ℕ → ℕ
 kind_class k =

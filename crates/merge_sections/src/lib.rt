@@ -2,183 +2,150 @@
 // is noted in its work row: its conversion, its mark, the last relocation table that applies to it.
 #![tactic(auto)]
 
-ghost use Rattle.std.specs.Prelude.{◌≡◌};
-ghost use Rattle.merge_sections.specs.Reserve.{kind_class, class_of, reserve_number, conversion_of, table_after, note_of, take_row_of, reserve_one_of, reserve_all_of, state_after, state_before};
+ghost use Rattle.std.specs.Prelude.{◌≡◌, ◌≢◌, ◌<◌, IfErr};
+ghost use Rattle.link.specs.Judge.{judged, refused};
+ghost use Rattle.elf_object.specs.Rows.{rows_in};
+ghost use Rattle.merge_sections.specs.Reserve.{code_of, kind_class, class_of, reserve_number, conversion_of, table_cell, note_of, reserve_one_of, reserve_all_of, same_loans, TableWithin, state_after, state_before};
 ghost use Rattle.merge_sections.specs.Notes.{is_table, note_table_of, note_tables_of, clear_one_of, clear_all_of};
-ghost use Rattle.sections.specs.Rows.{sections_of};
 
-use link::Link;
+use elf_object::{Kind, Object};
+use link::{Link, Refusal};
 
-// The link, and the number of the loaded symbol table's section and 1 (0 for none); number 0 as long as nothing is refused.
+// What the stage does with a section.
 #[derive(Clone, Copy)]
-pub struct Reserved {
+enum Class {
+    // Nothing.
+    Excluded,
+    // It is not loaded.
+    Other,
+    // It gets a row.
+    Row,
+    // It is the symbol table, not loaded either.
+    Table,
+    Refused,
+}
+
+impl From<u64> for Class {
+    ghost from_gives = { λ kind class. code_of class ≡ kind_class kind };
+
+    #[tactic(auto, unfolding(crate::specs::Reserve::kind_class))]
+    fn from(kind: u64) -> Class {
+        match kind {
+            elf_object::PROGRAM | elf_object::UNINITIALIZED => Class::Row,
+            elf_object::SYMBOL_TABLE => Class::Table,
+            elf_object::DYNAMIC_SYMBOLS
+            | elf_object::FRAME_HEADER
+            | elf_object::DYNAMIC
+            | elf_object::UNKNOWN => Class::Refused,
+            _ => Class::Other,
+        }
+    }
+}
+
+impl Class {
+    // That of its kind, if section n isn't excluded.
+    #[tactic(auto, unfolding(crate::specs::Reserve::class_of))]
+    fn of(object: Object<'_>, n: usize) -> Class
+        ensures { code_of result ≡ class_of object.entry.headers.now n }
+    {
+        if object.is_excluded(n) {
+            return Class::Excluded;
+        }
+        Class::from(cells::row_get(object.headers, n, elf_object::HEADER_KIND))
+    }
+
+    // What is noted of a section that would get that id.
+    #[tactic(auto, unfolding(crate::specs::Reserve::conversion_of))]
+    fn conversion(self, id: usize) -> u64
+        ensures { result ≡ conversion_of (code_of self) id }
+    {
+        match self {
+            Class::Excluded => elf_object::NOTHING,
+            Class::Row => symbol::next(symbol::next(id)) as u64,
+            _ => elf_object::NOT_LOADED,
+        }
+    }
+}
+
+// What the stage writes, and the section of the loaded symbol table, once it is met.
+#[derive(Drop)]
+pub struct Reserving<'a> {
     pub link: Link,
-    pub table: u64,
-    pub number: u64,
-    pub place: u64,
+    pub table: Option<usize>,
+    pub sections: &'a mut [u64],
+    pub work: &'a mut [u64],
 }
 
-// What the stage does with a section: nothing, not loaded, a row, the symbol table, refused.
-const EXCLUDED: u64 = 0;
-
-const OTHER: u64 = 1;
-
-const ROW: u64 = 2;
-
-const TABLE: u64 = 3;
-
-const REFUSED: u64 = 4;
-
-fn kind_class(kind: u64) -> u64
-    ensures { result ≡ kind_class kind }
-{
-    match kind {
-        elf_object::PROGRAM => ROW,
-        elf_object::UNINITIALIZED => ROW,
-        elf_object::SYMBOL_TABLE => TABLE,
-        elf_object::DYNAMIC_SYMBOLS => REFUSED,
-        elf_object::FRAME_HEADER => REFUSED,
-        elf_object::DYNAMIC => REFUSED,
-        elf_object::UNKNOWN => REFUSED,
-        _ => OTHER,
-    }
-}
-
-// The class of its kind, if it isn't excluded.
-fn class_of(headers: &[u64], n: usize) -> u64
-    ensures { result ≡ class_of headers.now n }
-{
-    if elf_object::is_excluded(headers, n) {
-        return EXCLUDED;
-    }
-    kind_class(cells::row_get(headers, n, elf_object::HEADER_KIND))
-}
-
-fn refusal_of(l: Link, sections: &[u64], class: u64, table: u64) -> u64
-    ensures { result ≡ reserve_number l sections.now class table }
-{
-    if class == REFUSED {
-        return 3;
-    }
-    if class == TABLE {
-        if table != 0 {
-            return 24;
+impl Reserving<'_> {
+    // 3; a second symbol table 24; no free row 2.
+    #[tactic(auto, unfolding(crate::specs::Reserve::reserve_number, link::specs::Judge::judged, symbol::specs::Codes::successor))]
+    fn judge(&self, class: Class, n: usize) -> Result<(), Refusal>
+        ensures { result ≡ judged (refused (reserve_number self.now.link self.now.sections.now (code_of class) (table_cell self.now.table)) n) }
+    {
+        match class {
+            Class::Refused => Err(Refusal::new(3, n)),
+            Class::Table if self.table.is_some() => Err(Refusal::new(24, n)),
+            Class::Row if !sections::room(self.link, self.sections) => Err(Refusal::new(2, n)),
+            _ => Ok(()),
         }
-        return 0;
     }
-    if class == ROW {
-        if sections::room(l, sections) {
-            return 0;
+
+    // One section: its row and its note.
+    #[tactic(auto, unfolding(crate::specs::Reserve::reserve_one_of, crate::specs::Reserve::reserve_class_of, crate::specs::Reserve::take_row_of, crate::specs::Reserve::table_after, crate::specs::Reserve::reserve_number, link::specs::Judge::judged))]
+    fn reserve_one(&mut self, object: Object<'_>, n: usize) -> Result<(), Refusal>
+        requires { n < rows_in object.headers.now }
+        ensures loans { same_loans self.old self.new }
+        ensures within { TableWithin object.entry.headers.now self.old → TableWithin object.entry.headers.now self.new }
+        ensures value { state_after self.new result ≡ reserve_one_of object.entry.headers.now (state_before self.old) n }
+        ensures numbered { IfErr result (λ r. r.number ≢ 0) }
+    {
+        let class = Class::of(object, n);
+        self.judge(class, n)?;
+        note(self.work, n, class.conversion(self.link.sections));
+        match class {
+            Class::Row => self.link = sections::reserve(self.link, self.sections),
+            Class::Table => self.table = Some(n),
+            _ => {}
         }
-        return 2;
+        Ok(())
     }
-    0
+
+    // All sections, ascending, up to the first refusal.
+    pub fn reserve_all(&mut self, object: Object<'_>) -> Result<(), Refusal>
+        ensures loans { same_loans self.old self.new }
+        ensures within { TableWithin object.entry.headers.now self.old → TableWithin object.entry.headers.now self.new }
+        ensures value { state_after self.new result ≡ reserve_all_of object.entry.headers.now (state_before self.old) }
+        ensures numbered { IfErr result (λ r. r.number ≢ 0) }
+    {
+        for n in 0..object.headers.len() / elf_object::ROW_WIDTH {
+            self.reserve_one(object, n)?;
+        }
+        Ok(())
+    }
 }
 
-fn conversion_of(class: u64, id: usize) -> u64
-    ensures { result ≡ conversion_of class id }
-{
-    if class == EXCLUDED {
-        return elf_object::NOTHING;
-    }
-    if class == ROW {
-        return symbol::next(symbol::next(id)) as u64;
-    }
-    elf_object::NOT_LOADED
-}
-
-fn table_after(table: u64, class: u64, n: usize) -> u64
-    ensures { result ≡ table_after table class n }
-{
-    if class == TABLE {
-        return symbol::next(n) as u64;
-    }
-    table
-}
-
+#[tactic(auto, unfolding(crate::specs::Reserve::note_of))]
 fn note(work: &mut [u64], n: usize, conversion: u64)
     ensures { work.new ≡ note_of work.old n conversion }
 {
-    cells::row_store(work, n, conversion, 0, 0, 0, 0, 0, 0, 0);
-}
-
-fn take_row(l: Link, sections: &mut [u64], class: u64) -> Link
-    ensures { sections_of sections.new result ≡ take_row_of (sections_of sections.old l) class }
-{
-    if class == ROW {
-        return sections::reserve(l, sections);
-    }
-    l
-}
-
-// One section: 3, 24, 2; else its row and its note.
-fn reserve_one(
-    s: Reserved,
-    sections: &mut [u64],
-    work: &mut [u64],
-    headers: &[u64],
-    n: usize,
-) -> Reserved
-    ensures { state_after sections work result ≡ reserve_one_of headers.now (state_before sections work s) n }
-{
-    let l = s.link;
-    let class = class_of(headers, n);
-    let number = refusal_of(l, sections, class, s.table);
-    if number != 0 {
-        return Reserved {
-            link: l,
-            table: s.table,
-            number: number,
-            place: n as u64,
-        };
-    }
-    note(work, n, conversion_of(class, l.sections));
-    let more = take_row(l, sections, class);
-    Reserved {
-        link: more,
-        table: table_after(s.table, class, n),
-        number: 0,
-        place: 0,
-    }
-}
-
-// All sections, ascending, up to the first refusal.
-pub fn reserve_all(s: Reserved, sections: &mut [u64], work: &mut [u64], headers: &[u64]) -> Reserved
-    ensures { state_after sections work result ≡ reserve_all_of headers.now (state_before sections work s) }
-{
-    let rows = headers.len() / elf_object::ROW_WIDTH;
-    let mut u = s;
-    let mut n = 0;
-    while n < rows {
-        u = reserve_one(u, sections, work, headers, n);
-        let number = u.number;
-        if number != 0 {
-            return u;
-        }
-        n += 1;
-    }
-    u
+    cells::row_store(work, n, [conversion, 0, 0, 0, 0, 0, 0, 0]);
 }
 
 // A relocation table, and loaded?
-fn is_table(headers: &[u64], t: usize) -> bool
-    ensures { result ≡ is_table headers.now t }
+#[tactic(auto, unfolding(crate::specs::Notes::is_table))]
+fn is_table(object: Object<'_>, t: usize) -> bool
+    ensures { result ≡ is_table object.entry.headers.now t }
 {
-    if elf_object::is_loaded(headers, t, elf_object::REL) {
-        return true;
-    }
-    elf_object::is_loaded(headers, t, elf_object::RELA)
+    object.is_loaded(t, Kind::Rel) || object.is_loaded(t, Kind::Rela)
 }
 
 // It is noted at the section that it applies to.
-fn note_table(work: &mut [u64], headers: &[u64], t: usize)
-    ensures { work.new ≡ note_table_of headers.now work.old t }
+#[tactic(auto, unfolding(crate::specs::Notes::note_table_of))]
+fn note_table(work: &mut [u64], object: Object<'_>, t: usize)
+    ensures { work.new ≡ note_table_of object.entry.headers.now work.old t }
 {
-    let info = cells::row_get(headers, t, elf_object::HEADER_INFO) as usize;
-    if headers.len() / elf_object::ROW_WIDTH <= info {
-        return;
-    }
-    if is_table(headers, t) {
+    let info = cells::row_get(object.headers, t, elf_object::HEADER_INFO) as usize;
+    if info < object.section_count() && is_table(object, t) {
         cells::row_put(
             work,
             info,
@@ -189,18 +156,16 @@ fn note_table(work: &mut [u64], headers: &[u64], t: usize)
 }
 
 // Ascending, so that the last table for a section is the one that stays.
-pub fn note_tables(work: &mut [u64], headers: &[u64])
-    ensures { work.new ≡ note_tables_of headers.now work.old }
+pub fn note_tables(work: &mut [u64], object: Object<'_>)
+    ensures { work.new ≡ note_tables_of object.entry.headers.now work.old }
 {
-    let rows = headers.len() / elf_object::ROW_WIDTH;
-    let mut t = 0;
-    while t < rows {
-        note_table(work, headers, t);
-        t += 1;
+    for t in 0..object.headers.len() / elf_object::ROW_WIDTH {
+        note_table(work, object, t);
     }
 }
 
 // A symbol may name a section that isn't there: nothing is known of that one.
+#[tactic(auto, unfolding(crate::specs::Notes::clear_one_of))]
 fn clear_one(work: &mut [u64], rows: usize, entries: &[u64], i: usize)
     ensures { work.new ≡ clear_one_of rows entries.now work.old i }
 {
@@ -210,13 +175,11 @@ fn clear_one(work: &mut [u64], rows: usize, entries: &[u64], i: usize)
     }
 }
 
+// In an object of that many sections.
 pub fn clear_absent(work: &mut [u64], rows: usize, entries: &[u64])
     ensures { work.new ≡ clear_all_of rows entries.now work.old }
 {
-    let all = entries.len() / elf_object::ROW_WIDTH;
-    let mut i = 0;
-    while i < all {
+    for i in 0..entries.len() / elf_object::ROW_WIDTH {
         clear_one(work, rows, entries, i);
-        i += 1;
     }
 }

@@ -1,9 +1,11 @@
 -- Document 01, "Objects": "Order: sections (3, 24), groups, symbol filter, symbols (9, then add), uninitialized, program sections (18, then 19)".
 -- Assumes nothing.
-use Rattle.std.specs.Prelude.{ℕ, cond, List, eqb, ltb}
+use Rattle.std.specs.Prelude.{ℕ, ◌≡◌, cond, List, eqb, ltb, Option, Result, Ok, Err}
 use denote.Triple.Both.{Both}
+use Rattle.link.specs.declared.Refusal.{Refusal}
 use Rattle.link.specs.declared.Stage.{Stage}
 use Rattle.link.specs.Judge as Link
+use Rattle.elf_object.specs.declared.Object as Elf
 use Rattle.elf_object.specs.Rows.{rows_in, link_at, section_of, table_entries}
 use Rattle.merge_sections.specs.Reserve as Reserve
 use Rattle.merge_sections.specs.Notes.{note_tables_of, clear_all_of}
@@ -13,7 +15,7 @@ use Rattle.merge_symbols.specs.Stage as Symbols
 use Rattle.merge_build.specs.Build as Build
 use Rattle.merge_build.specs.Finish.{BuildLinks, build_links, built_of}
 use Rattle.link.specs.declared.Link.{Link}
-use Rattle.merge_sections.specs.declared.Reserved.{Reserved}
+use Rattle.merge_stages.specs.declared.Merge.{Merge}
 use Rattle.cells.specs.Slice.{Slice, SliceMut}
 
 -- every lent cell that a merge may write, and the stage
@@ -54,26 +56,27 @@ cells_in b n s x i l w d =
       exit = cells_of b.exit.now n.exit.now s.exit.now x.exit.now i.exit.now l.exit.now w.exit.now d.exit.now;
     }
 
--- where the work cells are only read
-abbrev pub cells_reading : SliceMut → SliceMut → SliceMut → SliceMut → SliceMut → SliceMut → Slice → SliceMut → Both Cells Cells
-cells_reading b n s x i l w d =
-    record {
-      entry = cells_of b.entry.now n.entry.now s.entry.now x.entry.now i.entry.now l.entry.now w.entry.now d.entry.now;
-      exit = cells_of b.exit.now n.exit.now s.exit.now x.exit.now i.exit.now l.exit.now w.exit.now d.exit.now;
-    }
-
--- with the cells before the call, and after it
-abbrev pub stage_after : Both Cells Cells → Stage → All
-stage_after c s =
-    all_of c.exit.bytes c.exit.names c.exit.symbols c.exit.sections c.exit.inputs c.exit.lists c.exit.work c.exit.ids s
-
+-- with the cells before the call
 abbrev pub link_before : Both Cells Cells → Link → All
 link_before c l =
     all_of c.entry.bytes c.entry.names c.entry.symbols c.entry.sections c.entry.inputs c.entry.lists c.entry.work c.entry.ids (Link.going_of l)
 
-abbrev pub stage_before : Both Cells Cells → Stage → All
-stage_before c s =
-    all_of c.entry.bytes c.entry.names c.entry.symbols c.entry.sections c.entry.inputs c.entry.lists c.entry.work c.entry.ids s
+-- the same cells are lent
+abbrev pub same_loans : Merge → Merge → Type 0
+same_loans m t =
+    (t.bytes.ghost_name ≡ m.bytes.ghost_name) × (t.names.ghost_name ≡ m.names.ghost_name) × (t.symbols.ghost_name ≡ m.symbols.ghost_name)
+    × (t.sections.ghost_name ≡ m.sections.ghost_name) × (t.inputs.ghost_name ≡ m.inputs.ghost_name) × (t.lists.ghost_name ≡ m.lists.ghost_name)
+    × (t.work.ghost_name ≡ m.work.ghost_name) × (t.ids.ghost_name ≡ m.ids.ghost_name)
+
+-- what is lent with a stage: before a call, and after it with its answer
+abbrev pub merging : Merge → Stage → All
+merging m s = all_of m.bytes.now m.names.now m.symbols.now m.sections.now m.inputs.now m.lists.now m.work.now m.ids.now s
+
+abbrev pub merge_before : Merge → All
+merge_before m = merging m (Link.going_of m.link)
+
+abbrev pub merge_after : Merge → Result Unit Refusal → All
+merge_after m r = merging m (Link.stage_as m.link r)
 
 -- the object: headers, entries of all symbol tables, lists, bytes, and the section of section names
 pub record Object : Type 0 where
@@ -90,6 +93,9 @@ object_of h e c f s = record { headers = h; entries = e; contents = c; image = f
 abbrev pub object_in : Slice → Slice → Slice → Slice → ℕ → Object
 object_in h e c f s = object_of h.entry.now e.entry.now c.entry.now f.entry.now s
 
+abbrev pub object_read : Elf.Object → Object
+object_read o = object_of o.headers.now o.entries.now o.contents.now o.image.now o.section_names
+
 -- ---- the symbols, and then what is built
 
 pub record SymbolLinks : Type 0 where
@@ -105,13 +111,15 @@ pub record SymbolLinks : Type 0 where
 abbrev pub symbol_links : List ℕ → List ℕ → List ℕ → List ℕ → List ℕ → List ℕ → List ℕ → Stage → SymbolLinks
 symbol_links b n s x i l d st = record { bytes = b; names = n; symbols = s; sections = x; inputs = i; lists = l; ids = d; stage = st }
 
--- with the cells before the call, and after it
-abbrev pub symbols_after : Both Cells Cells → Stage → SymbolLinks
-symbols_after c s = symbol_links c.exit.bytes c.exit.names c.exit.symbols c.exit.sections c.exit.inputs c.exit.lists c.exit.ids s
+-- what is lent with a stage: before a call, and after it with its answer
+abbrev pub linking : Merge → Stage → SymbolLinks
+linking m s = symbol_links m.bytes.now m.names.now m.symbols.now m.sections.now m.inputs.now m.lists.now m.ids.now s
 
-abbrev pub symbols_before : Both Cells Cells → Link → SymbolLinks
-symbols_before c l =
-    symbol_links c.entry.bytes c.entry.names c.entry.symbols c.entry.sections c.entry.inputs c.entry.lists c.entry.ids (Link.going_of l)
+abbrev pub links_before : Merge → SymbolLinks
+links_before m = linking m (Link.going_of m.link)
+
+abbrev pub links_after : Merge → Result Unit Refusal → SymbolLinks
+links_after m r = linking m (Link.stage_as m.link r)
 
 -- the object with the loaded symbol table's own entries and its section; without one there are no entries, and the section is 0
 pub record Tabled : Type 0 where
@@ -126,8 +134,8 @@ abbrev pub table_of : List ℕ → List ℕ → List ℕ → List ℕ → ℕ �
 table_of h e c f s t = record { headers = h; entries = e; contents = c; image = f; section_names = s; table = t }
 
 -- as it is lent
-abbrev pub tabled_in : Slice → Slice → Slice → Slice → ℕ → ℕ → Tabled
-tabled_in h e c f s t = table_of h.entry.now e.entry.now c.entry.now f.entry.now s t
+abbrev pub tabled_read : Elf.Object → Tabled
+tabled_read o = table_of o.headers.now o.entries.now o.contents.now o.image.now o.section_names o.table
 
 abbrev pub symbol_object : Tabled → List ℕ → Symbols.Object
 symbol_object o work = Symbols.object_of o.headers o.entries o.image work (link_at o.headers o.table)
@@ -151,16 +159,16 @@ build_stage o work s =
     (built_of (build_object o work s.ids) (build_links s.bytes s.names s.sections s.inputs s.lists (Link.going_of s.stage.link))))
     s
 
+-- the symbol stage
+abbrev pub symbol_stage : Tabled → List ℕ → SymbolLinks → Symbols.State
+symbol_stage o work s =
+    Symbols.symbols_of (symbol_object o work) (Symbols.state_of s.bytes s.names s.symbols s.sections s.ids (Symbols.stage_of s.stage.link 0 0 0))
+
 unfoldable pub merge_table_of : Tabled → List ℕ → SymbolLinks → SymbolLinks
 merge_table_of o work s =
     build_stage o work
     (after_symbols s
-    (Symbols.symbols_of (symbol_object o work)
-    (Symbols.state_of s.bytes s.names s.symbols s.sections s.ids (Symbols.stage_of s.stage.link 0 0 0))))
-
--- of what is lent
-abbrev pub merge_table_in : Tabled → Both Cells Cells → Link → SymbolLinks
-merge_table_in o c l = merge_table_of o c.entry.work (symbols_before c l)
+    (symbol_stage o work s))
 
 -- ---- the groups, the filter, and then the symbols
 
@@ -216,10 +224,14 @@ group_stage o table a = cond (eqb a.stage.number 0) (merge_groups_of (tabled o t
 unfoldable pub reserved_stages : Object → All → Reserve.State → All
 reserved_stages o a r = group_stage o r.reserved.table (after_sections a r)
 
--- of what is lent
-abbrev pub reserved_in : Object → Both Cells Cells → Reserved → All
-reserved_in o c r = reserved_stages o (link_before c r.link) (Reserve.state_of c.entry.sections c.entry.work r)
+-- the section stage
+abbrev pub section_stage : Object → All → Reserve.State
+section_stage o a = Reserve.reserve_all_of o.headers (Reserve.state_of a.sections a.work (Reserve.reserved_of a.stage.link 0 0 0))
+
+-- its answer without the loaded symbol table
+abbrev pub answered : Result (Option ℕ) Refusal → Result Unit Refusal
+answered (Ok t) = Ok tt
+answered (Err r) = Err r
 
 unfoldable pub stages_of : Object → All → All
-stages_of o a =
-    reserved_stages o a (Reserve.reserve_all_of o.headers (Reserve.state_of a.sections a.work (Reserve.reserved_of a.stage.link 0 0 0)))
+stages_of o a = reserved_stages o a (section_stage o a)

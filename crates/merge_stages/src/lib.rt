@@ -1,214 +1,174 @@
-// The stages of a merge, in document 01's order, up to the first refusal. Each function is a stage and what comes after it.
+// The stages of a merge, in document 01's order, up to the first refusal.
 #![tactic(auto)]
 
-ghost use Rattle.std.specs.Prelude.{◌≡◌};
-ghost use Rattle.merge_stages.specs.Stages.{filter_stage, merge_groups_of, stages_of, cells_in, cells_reading, link_before, merge_table_in, object_in, reserved_in, stage_after, stage_before, symbols_after, tabled_in};
+ghost use Rattle.std.specs.Prelude.{◌≡◌, ◌≢◌, ◌<◌, IfErr, IfOk, IfSome};
+ghost use Rattle.std.specs.Option.{ForSome};
+ghost use Rattle.link.specs.Judge.{going_of};
+ghost use Rattle.elf_object.specs.Rows.{rows_in};
+ghost use Rattle.merge_sections.specs.Reserve.{table_cell};
+ghost use Rattle.section_groups.specs.Group.{groups_of, step_of};
+ghost use Rattle.merge_build.specs.Finish.{built_of, build_links};
+ghost use Rattle.merge_stages.specs.Stages.{merge_groups_of, stages_of, merge_table_of, object_read, tabled_read, same_loans, merge_before, merge_after, links_before, links_after, symbol_stage, after_symbols, section_stage, answered, after_sections, after_groups, group_object, build_object, with_built, tabled};
 
-use link::{Link, Stage};
-use merge_sections::Reserved;
-use merge_symbols::SymbolStage;
+use elf_object::Object;
+use link::{Link, Refusal};
+use merge_build::Builder;
+use merge_sections::Reserving;
+use merge_symbols::Symbols;
+use section_groups::Grouping;
 
-// The symbols of the loaded table, of section t, and then what is built.
-fn merge_table(
-    l: Link,
-    bytes: &mut [u8],
-    names: &mut [u64],
-    symbols: &mut [u64],
-    sections: &mut [u64],
-    inputs: &mut [u64],
-    lists: &mut [u64],
-    ids: &mut [u64],
-    headers: &[u64],
-    entries: &[u64],
-    contents: &[u64],
-    image: &[u8],
-    work: &[u64],
-    shstrndx: usize,
-    t: usize,
-) -> Stage
-    ensures { let c = cells_reading bytes names symbols sections inputs lists work ids in
-        symbols_after c result ≡ merge_table_in (tabled_in headers entries contents image shstrndx t) c l }
-{
-    let first = SymbolStage {
-        link: l,
-        file: 0,
-        number: 0,
-        place: 0,
-    };
-    let named = cells::row_get(headers, t, elf_object::HEADER_LINK) as usize;
-    let m = merge_symbols::merge_symbols(
-        first, bytes, names, symbols, sections, ids, headers, entries, image, work, named,
-    );
-    let k = m.link;
-    if m.number != 0 {
-        return link::stopped(k, m.number, m.place);
-    }
-    merge_build::finish(
-        link::going(k),
-        bytes,
-        names,
-        sections,
-        inputs,
-        lists,
-        headers,
-        contents,
-        image,
-        work,
-        ids,
-        shstrndx,
-        t,
-        entries.len() / elf_object::ROW_WIDTH,
-    )
+// What a merge writes: the tables of a link, a work row for each section of the object, and for each of its symbols a cell for its id and 1.
+#[derive(Drop)]
+pub struct Merge<'a> {
+    pub link: Link,
+    pub bytes: &'a mut [u8],
+    pub names: &'a mut [u64],
+    pub symbols: &'a mut [u64],
+    pub sections: &'a mut [u64],
+    pub inputs: &'a mut [u64],
+    pub lists: &'a mut [u64],
+    pub work: &'a mut [u64],
+    pub ids: &'a mut [u64],
 }
 
-// The whole filter comes before the first symbol: 8.
-fn from_filter(
-    s: Stage,
-    bytes: &mut [u8],
-    names: &mut [u64],
-    symbols: &mut [u64],
-    sections: &mut [u64],
-    inputs: &mut [u64],
-    lists: &mut [u64],
-    ids: &mut [u64],
-    headers: &[u64],
-    entries: &[u64],
-    contents: &[u64],
-    image: &[u8],
-    work: &[u64],
-    shstrndx: usize,
-    t: usize,
-) -> Stage
-    ensures { let c = cells_reading bytes names symbols sections inputs lists work ids in
-        stage_after c result ≡ filter_stage (tabled_in headers entries contents image shstrndx t) (stage_before c s) }
+// The object with the own entries of its loaded symbol table; without one there are none.
+fn loaded(object: Object<'_>, table: Option<usize>) -> Object<'_>
+    requires { ForSome table (λ t. t < rows_in object.headers.now) }
+    ensures { tabled_read result ≡ tabled (object_read object.entry) (table_cell table) }
 {
-    if s.number != 0 {
-        return s;
+    match table {
+        Some(t) => Object {
+            entries: object.entries_of(t),
+            table: t,
+            ..object
+        },
+        None => Object {
+            entries: &object.entries[..0],
+            table: 0,
+            ..object
+        },
     }
-    let l = s.link;
-    let i = section_groups::filter_symbol_table(work, entries);
-    if i < entries.len() / elf_object::ROW_WIDTH {
-        return link::stopped(l, 8, i as u64);
-    }
-    merge_table(
-        l, bytes, names, symbols, sections, inputs, lists, ids, headers, entries, contents, image,
-        work, shstrndx, t,
-    )
 }
 
-// The groups, and then all that asks which sections they removed.
-fn merge_groups(
-    l: Link,
-    bytes: &mut [u8],
-    names: &mut [u64],
-    symbols: &mut [u64],
-    sections: &mut [u64],
-    inputs: &mut [u64],
-    lists: &mut [u64],
-    work: &mut [u64],
-    ids: &mut [u64],
-    headers: &[u64],
-    entries: &[u64],
-    contents: &[u64],
-    image: &[u8],
-    shstrndx: usize,
-    t: usize,
-) -> Stage
-    ensures { let c = cells_in bytes names symbols sections inputs lists work ids in
-        stage_after c result ≡ merge_groups_of (tabled_in headers entries contents image shstrndx t) (link_before c l) }
-{
-    let g = section_groups::add_groups(
-        link::going(l),
-        bytes,
-        names,
-        work,
-        headers,
-        entries,
-        contents,
-        image,
-        t,
-    );
-    from_filter(
-        g, bytes, names, symbols, sections, inputs, lists, ids, headers, entries, contents, image,
-        work, shstrndx, t,
-    )
-}
-
-// What later stages ask of a section number is noted; a symbol's number is its row of the loaded table.
-fn from_groups(
-    r: Reserved,
-    bytes: &mut [u8],
-    names: &mut [u64],
-    symbols: &mut [u64],
-    sections: &mut [u64],
-    inputs: &mut [u64],
-    lists: &mut [u64],
-    work: &mut [u64],
-    ids: &mut [u64],
-    headers: &[u64],
-    entries: &[u64],
-    contents: &[u64],
-    image: &[u8],
-    shstrndx: usize,
-) -> Stage
-    ensures { let c = cells_in bytes names symbols sections inputs lists work ids in
-        stage_after c result ≡ reserved_in (object_in headers entries contents image shstrndx) c r }
-{
-    let l = r.link;
-    if r.number != 0 {
-        return link::stopped(l, r.number, r.place);
+impl Merge<'_> {
+    // The rows of sections; the loaded symbol table, if there is one.
+    fn reserve(&mut self, object: Object<'_>) -> Result<Option<usize>, Refusal>
+        ensures loans { same_loans self.old self.new }
+        ensures value { merge_after self.new (answered result) ≡ after_sections (merge_before self.old) (section_stage (object_read object.entry) (merge_before self.old)) }
+        ensures table { IfOk result (λ t. table_cell t ≡ (section_stage (object_read object.entry) (merge_before self.old)).reserved.table) }
+        ensures within { IfOk result (λ t. IfSome t (λ n. n < rows_in object.entry.headers.now)) }
+        ensures numbered { IfErr result (λ r. r.number ≢ 0) }
+    {
+        let mut reserving = Reserving {
+            link: self.link,
+            table: None,
+            sections: self.sections,
+            work: self.work,
+        };
+        let answer = reserving.reserve_all(object);
+        let table = reserving.table;
+        self.link = reserving.link;
+        answer?;
+        Ok(table)
     }
-    merge_sections::note_tables(work, headers);
-    merge_sections::clear_absent(work, headers.len() / elf_object::ROW_WIDTH, entries);
-    let own = elf_object::table_entries(headers, entries, r.table);
-    merge_groups(
-        l,
-        bytes,
-        names,
-        symbols,
-        sections,
-        inputs,
-        lists,
-        work,
-        ids,
-        headers,
-        own,
-        contents,
-        image,
-        shstrndx,
-        elf_object::section_of(r.table),
-    )
-}
 
-// All stages, in document 01's order, up to the first refusal.
-pub fn merge_stages(
-    l: Link,
-    bytes: &mut [u8],
-    names: &mut [u64],
-    symbols: &mut [u64],
-    sections: &mut [u64],
-    inputs: &mut [u64],
-    lists: &mut [u64],
-    work: &mut [u64],
-    ids: &mut [u64],
-    headers: &[u64],
-    entries: &[u64],
-    contents: &[u64],
-    image: &[u8],
-    shstrndx: usize,
-) -> Stage
-    ensures { let c = cells_in bytes names symbols sections inputs lists work ids in
-        stage_after c result ≡ stages_of (object_in headers entries contents image shstrndx) (link_before c l) }
-{
-    let first = Reserved {
-        link: l,
-        table: 0,
-        number: 0,
-        place: 0,
-    };
-    let r = merge_sections::reserve_all(first, sections, work, headers);
-    from_groups(
-        r, bytes, names, symbols, sections, inputs, lists, work, ids, headers, entries, contents,
-        image, shstrndx,
-    )
+    // The groups of the object.
+    fn add_groups(&mut self, object: Object<'_>) -> Result<(), Refusal>
+        ensures loans { same_loans self.old self.new }
+        ensures value { merge_after self.new result ≡ after_groups (merge_before self.old)
+            (groups_of (group_object (tabled_read object.entry)) (step_of self.old.bytes.now self.old.names.now self.old.work.now (going_of self.old.link))) }
+        ensures numbered { IfErr result (λ r. r.number ≢ 0) }
+    {
+        let mut groups = Grouping {
+            link: self.link,
+            bytes: self.bytes,
+            names: self.names,
+            work: self.work,
+        };
+        let answer = groups.add_groups(object);
+        self.link = groups.link;
+        answer
+    }
+
+    // The symbols of the loaded table.
+    fn add_symbols(&mut self, object: Object<'_>) -> Result<(), Refusal>
+        ensures loans { same_loans self.old self.new }
+        ensures value { links_after self.new result ≡ after_symbols (links_before self.old) (symbol_stage (tabled_read object.entry) self.old.work.now (links_before self.old)) }
+        ensures work { self.new.work.now ≡ self.old.work.now }
+        ensures numbered { IfErr result (λ r. r.number ≢ 0) }
+    {
+        let work = &mut *self.work;
+        let mut symbols = Symbols {
+            link: self.link,
+            bytes: self.bytes,
+            names: self.names,
+            symbols: self.symbols,
+            sections: self.sections,
+            ids: self.ids,
+            file: None,
+        };
+        let answer = symbols.merge_symbols(object, work);
+        self.link = symbols.link;
+        answer
+    }
+
+    // What is built, and the object's own row.
+    fn build(&mut self, object: Object<'_>) -> Result<(), Refusal>
+        ensures loans { same_loans self.old self.new }
+        ensures value { links_after self.new result ≡ with_built (links_before self.old) (built_of (build_object (tabled_read object.entry) self.old.work.now self.old.ids.now)
+            (build_links self.old.bytes.now self.old.names.now self.old.sections.now self.old.inputs.now self.old.lists.now (going_of self.old.link))) }
+        ensures work { self.new.work.now ≡ self.old.work.now }
+        ensures numbered { IfErr result (λ r. r.number ≢ 0) }
+    {
+        let work = &mut *self.work;
+        let ids = &mut *self.ids;
+        let mut builder = Builder {
+            link: self.link,
+            bytes: self.bytes,
+            names: self.names,
+            sections: self.sections,
+            inputs: self.inputs,
+            lists: self.lists,
+        };
+        let answer = builder.finish(object, work, ids);
+        self.link = builder.link;
+        answer
+    }
+
+    // The symbols, and then what is built.
+    fn merge_table(&mut self, object: Object<'_>) -> Result<(), Refusal>
+        ensures loans { same_loans self.old self.new }
+        ensures value { links_after self.new result ≡ merge_table_of (tabled_read object.entry) self.old.work.now (links_before self.old) }
+        ensures work { self.new.work.now ≡ self.old.work.now }
+        ensures numbered { IfErr result (λ r. r.number ≢ 0) }
+    {
+        self.add_symbols(object)?;
+        self.build(object)
+    }
+
+    // The groups, and then all that asks which sections they removed. The whole filter comes before the first symbol: 8.
+    fn merge_groups(&mut self, object: Object<'_>) -> Result<(), Refusal>
+        ensures loans { same_loans self.old self.new }
+        ensures value { merge_after self.new result ≡ merge_groups_of (tabled_read object.entry) (merge_before self.old) }
+        ensures numbered { IfErr result (λ r. r.number ≢ 0) }
+    {
+        self.add_groups(object)?;
+        let work = &mut *self.work;
+        if let Some(i) = section_groups::filter_symbol_table(work, object.entries) {
+            return Err(Refusal::new(8, i));
+        }
+        self.merge_table(object)
+    }
+
+    // All stages, in document 01's order, up to the first refusal. What later stages ask of a section number is noted between them.
+    pub fn merge_stages(&mut self, object: Object<'_>) -> Result<(), Refusal>
+        ensures loans { same_loans self.old self.new }
+        ensures value { merge_after self.new result ≡ stages_of (object_read object.entry) (merge_before self.old) }
+        ensures numbered { IfErr result (λ r. r.number ≢ 0) }
+    {
+        let table = self.reserve(object)?;
+        merge_sections::note_tables(self.work, object);
+        merge_sections::clear_absent(self.work, object.section_count(), object.entries);
+        self.merge_groups(loaded(object, table))
+    }
 }

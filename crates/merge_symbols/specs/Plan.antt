@@ -1,6 +1,6 @@
 -- Document 01, "Objects": symbols (9, then add). What is decided on one symbol whose name is found; nothing is written.
 -- Assumes nothing.
-use Rattle.std.specs.Prelude.{ℕ, Bool, true, false, cond, List, eqb, leb, length}
+use Rattle.std.specs.Prelude.{ℕ, ◌≢◌, Bool, true, false, cond, List, eqb, leb, length, Result, IfErr}
 use Rattle.link.specs.declared.Link.{Link}
 use Rattle.link.specs.declared.Interned.{Interned}
 use Rattle.interner.specs.Names.{store_of, find_of, fits_of}
@@ -8,15 +8,17 @@ use Rattle.symbol.specs.declared.Row.{Row}
 use Rattle.symbol.specs.Codes.{successor}
 use Rattle.upcoming_symbol.specs.declared.ElfSymbol.{ElfSymbol}
 use Rattle.upcoming_symbol.specs.Upcoming.{conversion_from, elf_row_of}
+use Rattle.symbol_resolution.specs.declared.rows.Resolution.{Resolution}
 use Rattle.symbol_resolution.specs.declared.rows.Decision.{Decision}
 use Rattle.symbol_resolution.specs.declared.rows.Decision.TheVariants.{Refuse, Nothing, Keep}
 use Rattle.symbol_resolution.specs.Holder.{holder_of}
-use Rattle.symbol_resolution.specs.Decide.{decide_of}
+use Rattle.symbol_resolution.specs.Decide.{decision_of, decide_of}
 use Rattle.gabi.specs.SymbolTable.{stt_notype, stt_file, shn_undef, shn_loreserve}
 use Rattle.elf_object.specs.Rows.{binding_at, type_at, visibility_at, section_at, value_at, conversion_at, mark_at, group_mark}
 use Rattle.section_groups.specs.Filter.{section_after}
 use Rattle.cells.specs.Slice.{Slice}
-use Rattle.merge_symbols.specs.declared.plan.Planned.{Planned}
+use Rattle.merge_symbols.specs.declared.Symbols.{Symbols}
+use Rattle.merge_symbols.specs.declared.plan.Plan.{Plan}
 
 -- a symbol of a removed section is undefined by now
 abbrev pub filtered_at : List ℕ → List ℕ → ℕ → ElfSymbol
@@ -60,6 +62,9 @@ view_of b n s x l = record { bytes = b; names = n; symbols = s; sections = x; li
 abbrev pub view_in : Slice → Slice → Slice → Slice → Link → View
 view_in b n s x l = view_of b.entry.now n.entry.now s.entry.now x.entry.now l
 
+abbrev pub view_now : Symbols → View
+view_now s = view_of s.bytes.now s.names.now s.symbols.now s.sections.now s.link
+
 pub record Input : Type 0 where
   pub entries : List ℕ
   pub work : List ℕ
@@ -67,15 +72,26 @@ pub record Input : Type 0 where
 abbrev pub input_of : List ℕ → List ℕ → Input
 input_of e w = record { entries = e; work = w }
 
--- as it is lent
-abbrev pub input_in : Slice → Slice → Input
-input_in e w = input_of e.entry.now w.entry.now
-
 -- "A name is interned (2) once found, before later checks"
 unfoldable pub judged_of : View → List ℕ → ℕ → ℕ → ElfSymbol → Row → Decision
 judged_of v work i n e r =
     cond (fits_of (store_of v.bytes v.names v.link) r.name n)
     (rule_of v.link v.names v.symbols v.sections work i (eqb n 0) e r) (Refuse 2)
+
+-- what is to be done with a symbol, under a name that has or would get this id
+pub record Planned : Type 0 where
+  pub id : Interned
+  pub kind : ℕ
+  pub row : Row
+  pub decision : Decision
+
+-- as it is planned
+abbrev pub planned_as : Plan → Planned
+planned_as p = record { id = p.id; kind = p.kind; row = p.row; decision = decision_of p.resolution }
+
+-- a refusal has a number
+abbrev pub Numbered : Result Resolution ℕ → Type 0
+Numbered r = IfErr r (λ n. n ≢ 0)
 
 abbrev pub planned : Interned → ElfSymbol → Row → Decision → Planned
 planned id e r d = record { id = id; kind = e.kind; row = r; decision = d }

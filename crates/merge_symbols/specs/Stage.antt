@@ -1,19 +1,26 @@
 -- The symbol stage of a merge, symbol by symbol up to the first refusal: 9; the name (2); the decision; what is written.
 -- Assumes nothing.
-use Rattle.std.specs.Prelude.{ℕ, zero, suc, ◌+◌, cond, List, eqb, set}
+use Rattle.std.specs.Prelude.{ℕ, zero, suc, ◌+◌, ◌≡◌, cond, List, eqb, set, Result, Ok, Err}
 use Rattle.link.specs.declared.Link.{Link}
+use Rattle.link.specs.declared.Refusal.{Refusal}
 use Rattle.strings.specs.Lookup.{Looked}
 use Rattle.interner.specs.Names.{Store, store_of, keep_of}
-use Rattle.symbol.specs.Codes.{successor}
+use Rattle.symbol.specs.Codes.{file_cell, successor}
 use Rattle.symbol_resolution.specs.declared.rows.Decision.{Decision}
 use Rattle.symbol_resolution.specs.declared.rows.Decision.TheVariants.{Refuse, Nothing, Keep, Append, Replace, Amend}
 use Rattle.symbol_resolution.specs.Decide.{refusal_of}
 use Rattle.symbol_resolution.specs.Apply.{Table, table_of, apply_of}
-use Rattle.elf_object.specs.Rows.{rows_in, name_in, entry_name_at}
-use Rattle.merge_symbols.specs.declared.plan.Planned.{Planned}
-use Rattle.merge_symbols.specs.Plan.{View, view_of, Input, input_of, planned_of, file_after, place_of}
-use Rattle.cells.specs.Slice.{Slice, SliceMut}
-use Rattle.merge_symbols.specs.declared.SymbolStage.{SymbolStage}
+use Rattle.elf_object.specs.Rows.{rows_in, link_at, name_in, entry_name_at}
+use Rattle.merge_symbols.specs.Plan.{Planned, View, view_of, Input, input_of, planned_of, file_after, place_of}
+use Rattle.elf_object.specs.declared.Object.{Object as Lent}
+use Rattle.merge_symbols.specs.declared.Symbols.{Symbols}
+
+-- the link, and the file name's id and 1, between two symbols; number 0 as long as nothing is refused
+pub record SymbolStage : Type 0 where
+  pub link : Link
+  pub file : ℕ
+  pub number : ℕ
+  pub place : ℕ
 
 -- the lent cells that the stage writes, and what it hands on
 pub record State : Type 0 where
@@ -27,13 +34,6 @@ pub record State : Type 0 where
 abbrev pub state_of : List ℕ → List ℕ → List ℕ → List ℕ → List ℕ → SymbolStage → State
 state_of b n s x w st = record { bytes = b; names = n; symbols = s; sections = x; ids = w; stage = st }
 
--- of lent slices before the call, and after it
-abbrev pub state_before : SliceMut → SliceMut → SliceMut → SliceMut → SliceMut → SymbolStage → State
-state_before b n s x w st = state_of b.entry.now n.entry.now s.entry.now x.entry.now w.entry.now st
-
-abbrev pub state_after : SliceMut → SliceMut → SliceMut → SliceMut → SliceMut → SymbolStage → State
-state_after b n s x w st = state_of b.exit.now n.exit.now s.exit.now x.exit.now w.exit.now st
-
 -- what it reads of the object: headers, the loaded table's entries, bytes, work rows, the section of the symbols' names
 pub record Object : Type 0 where
   pub headers : List ℕ
@@ -45,12 +45,32 @@ pub record Object : Type 0 where
 abbrev pub object_of : List ℕ → List ℕ → List ℕ → List ℕ → ℕ → Object
 object_of h e f w s = record { headers = h; entries = e; image = f; work = w; symbol_names = s }
 
--- as it is lent
-abbrev pub object_in : Slice → Slice → Slice → Slice → ℕ → Object
-object_in h e f w s = object_of h.entry.now e.entry.now f.entry.now w.entry.now s
+-- as it is lent, with the section of the symbols' names: the one that the loaded table links to
+abbrev pub object_in : Lent → List ℕ → ℕ → Object
+object_in o work names = object_of o.headers.now o.entries.now o.image.now work names
+
+abbrev pub input_in : Lent → List ℕ → Object
+input_in o work = object_in o work (link_at o.headers.now o.table)
 
 abbrev pub stage_of : Link → ℕ → ℕ → ℕ → SymbolStage
 stage_of l file number place = record { link = l; file = file; number = number; place = place }
+
+-- what is lent before the call, and after it, with its answer
+abbrev pub state_in : Symbols → ℕ → ℕ → State
+state_in s number place = state_of s.bytes.now s.names.now s.symbols.now s.sections.now s.ids.now (stage_of s.link (file_cell s.file) number place)
+
+abbrev pub state_before : Symbols → State
+state_before s = state_in s 0 0
+
+abbrev pub state_after : Symbols → Result Unit Refusal → State
+state_after s (Ok tt) = state_in s 0 0
+state_after s (Err r) = state_in s r.number r.place
+
+-- the same cells are lent
+abbrev pub same_loans : Symbols → Symbols → Type 0
+same_loans s t =
+    (t.bytes.ghost_name ≡ s.bytes.ghost_name) × (t.names.ghost_name ≡ s.names.ghost_name) × (t.symbols.ghost_name ≡ s.symbols.ghost_name)
+    × (t.sections.ghost_name ≡ s.sections.ghost_name) × (t.ids.ghost_name ≡ s.ids.ghost_name)
 
 -- the symbol's id and 1, 0 for none
 abbrev pub cell_of : Decision → ℕ → ℕ
@@ -82,9 +102,12 @@ pub record Accepted : Type 0 where
 abbrev pub accepted_of : List ℕ → List ℕ → List ℕ → List ℕ → SymbolStage → Accepted
 accepted_of n s x d st = record { names = n; symbols = s; sections = x; ids = d; stage = st }
 
--- of lent slices after the call
-abbrev pub accepted_after : SliceMut → SliceMut → SliceMut → SliceMut → SymbolStage → Accepted
-accepted_after n s x d st = accepted_of n.exit.now s.exit.now x.exit.now d.exit.now st
+-- of what is lent
+abbrev pub accepted_in : Symbols → Accepted
+accepted_in s = accepted_of s.names.now s.symbols.now s.sections.now s.ids.now (stage_of s.link (file_cell s.file) 0 0)
+
+abbrev pub table_in : Symbols → Table
+table_in s = table_of s.names.now s.symbols.now s.sections.now s.link
 
 abbrev pub accepting : Table → List ℕ → ℕ → Accepted
 accepting t ids file = accepted_of t.names t.symbols t.sections ids (stage_of t.link file 0 0)

@@ -1,180 +1,143 @@
 // The symbol stage of a merge: each symbol's name, the decision, and then what it writes.
 #![tactic(auto)]
 
-ghost use Rattle.std.specs.Prelude.{◌≡◌};
-ghost use Rattle.symbol_resolution.specs.Apply.{table_before};
-ghost use Rattle.merge_symbols.specs.Plan.{input_in};
-ghost use Rattle.merge_symbols.specs.Stage.{stage_of, cell_of, accept_row, commit_of, symbol_named, symbol_of, symbols_of, accepted_after, object_in, state_after, state_before};
+ghost use Rattle.std.specs.Prelude.{◌≡◌, ◌≢◌, IfErr, Ok};
+ghost use Rattle.link.specs.Judge.{refused};
+ghost use Rattle.symbol.specs.Codes.{file_cell};
+ghost use Rattle.symbol_resolution.specs.Decide.{decision_of};
+ghost use Rattle.merge_symbols.specs.Plan.{Numbered, place_of, planned_as};
+ghost use Rattle.merge_symbols.specs.Stage.{accepted_in, accept_row, cell_of, commit_of, input_in, object_in, same_loans, state_after, state_before, symbol_named, symbol_of, symbols_of, table_in};
 
 mod plan;
 
-use crate::plan::Planned;
-use link::Link;
+use crate::plan::Plan;
+use elf_object::Object;
+use link::{Interned, Link, Refusal};
 pub use plan::place_of;
-use symbol_resolution::Decision;
+use symbol_resolution::{Resolution, Table};
 
-// The link, and the file name's id and 1, between two symbols; number 0 as long as nothing is refused.
-#[derive(Clone, Copy)]
-pub struct SymbolStage {
+// What the stage writes, and the name of the last file symbol.
+#[derive(Drop)]
+pub struct Symbols<'a> {
     pub link: Link,
-    pub file: u64,
-    pub number: u64,
-    pub place: u64,
-}
-
-fn stage_of(l: Link, file: u64, number: u64, place: u64) -> SymbolStage
-    ensures { result ≡ stage_of l file number place }
-{
-    SymbolStage {
-        link: l,
-        file: file,
-        number: number,
-        place: place,
-    }
+    pub bytes: &'a mut [u8],
+    pub names: &'a mut [u64],
+    pub symbols: &'a mut [u64],
+    pub sections: &'a mut [u64],
+    pub ids: &'a mut [u64],
+    pub file: Option<Interned>,
 }
 
 // The symbol's id and 1, in a table of that many rows; 0 for none.
-fn cell_of(d: Decision, count: usize) -> u64
-    ensures { result ≡ cell_of d count }
+fn cell_of(resolution: Resolution, count: usize) -> u64
+    ensures { result ≡ cell_of (decision_of (Ok resolution)) count }
 {
-    match d {
-        Decision::Refuse { number: _ } => 0,
-        Decision::Nothing => 0,
-        Decision::Keep { id } => symbol::next(id.0) as u64,
-        Decision::Append => symbol::next(count) as u64,
-        Decision::Replace { id } => symbol::next(id.0) as u64,
-        Decision::Amend { id } => symbol::next(id.0) as u64,
+    match resolution {
+        Resolution::Nothing => 0,
+        _ => symbol::next(resolution.id(count).0) as u64,
     }
 }
 
-// An accepted symbol: its row, and its id in its cell.
-fn accept(
-    l: Link,
-    names: &mut [u64],
-    symbols: &mut [u64],
-    sections: &mut [u64],
-    ids: &mut [u64],
-    p: Planned,
-    i: usize,
-    file: u64,
-) -> SymbolStage
-    ensures { accepted_after names symbols sections ids result ≡ accept_row (table_before names symbols sections l) ids.old p i file }
+fn refusal(number: u64, id: Interned, i: usize) -> Refusal
+    ensures { result ≡ refused number (place_of number id i) }
 {
-    let row = p.row;
-    let d = p.decision;
-    let done = symbol_resolution::apply(l, names, symbols, sections, row, d);
-    cells::put(ids, i, cell_of(d, l.symbols));
-    stage_of(done, crate::plan::file_after(file, p.kind, p.id), 0, 0)
-}
-
-// Writes what was decided: nothing on 2; else the name is issued; then, unless refused, the row, and the symbol's id into its cell.
-fn commit(
-    s: SymbolStage,
-    bytes: &mut [u8],
-    names: &mut [u64],
-    symbols: &mut [u64],
-    sections: &mut [u64],
-    ids: &mut [u64],
-    x: &[u8],
-    p: Planned,
-    i: usize,
-) -> SymbolStage
-    ensures { state_after bytes names symbols sections ids result ≡ commit_of (state_before bytes names symbols sections ids s) x.now p i }
-{
-    let l = s.link;
-    let id = p.id;
-    let d = p.decision;
-    let number = symbol_resolution::refusal_of(d);
-    if number == 2 {
-        return stage_of(l, s.file, 2, i as u64);
+    Refusal {
+        number,
+        place: place_of(number, id, i),
     }
-    let kept = interner::keep(l, bytes, names, id, x);
-    if number != 0 {
-        return stage_of(kept, s.file, number, crate::plan::place_of(number, id, i));
+}
+
+impl Symbols<'_> {
+    // An accepted symbol: its row, and its id in its cell.
+    #[tactic(auto, unfolding(crate::specs::Stage::accept_row, symbol_resolution::specs::Apply::apply_of))]
+    fn accept(&mut self, plan: Plan, resolution: Resolution, i: usize)
+        requires { plan.resolution ≡ Ok resolution }
+        ensures loans { same_loans self.old self.new }
+        ensures bytes { self.new.bytes.now ≡ self.old.bytes.now }
+        ensures value { accepted_in self.new ≡ accept_row (table_in self.old) self.old.ids.now (planned_as plan) i (file_cell self.old.file) }
+    {
+        cells::put(self.ids, i, cell_of(resolution, self.link.symbols));
+        let mut table = Table {
+            link: self.link,
+            names: self.names,
+            symbols: self.symbols,
+            sections: self.sections,
+        };
+        table.apply(plan.row, resolution);
+        self.link = table.link;
+        self.file = plan.file_after(self.file);
     }
-    accept(kept, names, symbols, sections, ids, p, i, s.file)
-}
 
-// A symbol whose name is found: judged on the link as it stands, then written.
-fn merge_named(
-    s: SymbolStage,
-    bytes: &mut [u8],
-    names: &mut [u64],
-    symbols: &mut [u64],
-    sections: &mut [u64],
-    ids: &mut [u64],
-    entries: &[u64],
-    work: &[u64],
-    x: &[u8],
-    i: usize,
-) -> SymbolStage
-    ensures { state_after bytes names symbols sections ids result
-        ≡ symbol_named (input_in entries work) (state_before bytes names symbols sections ids s) x.now i }
-{
-    let l = s.link;
-    let p = crate::plan::plan_symbol(
-        l, bytes, names, symbols, sections, entries, work, x, i, s.file,
-    );
-    commit(s, bytes, names, symbols, sections, ids, x, p, i)
-}
-
-// One symbol: its name missing is 9.
-fn merge_symbol(
-    s: SymbolStage,
-    bytes: &mut [u8],
-    names: &mut [u64],
-    symbols: &mut [u64],
-    sections: &mut [u64],
-    ids: &mut [u64],
-    headers: &[u64],
-    entries: &[u64],
-    image: &[u8],
-    work: &[u64],
-    strtab: usize,
-    i: usize,
-) -> SymbolStage
-    ensures { state_after bytes names symbols sections ids result
-        ≡ symbol_of (object_in headers entries image work strtab) (state_before bytes names symbols sections ids s) i }
-{
-    let offset = cells::row_get(entries, i, elf_object::ENTRY_NAME) as usize;
-    let mut found = false;
-    let x = elf_object::name_in(headers, image, strtab, offset, &mut found);
-    if found {
-        return merge_named(s, bytes, names, symbols, sections, ids, entries, work, x, i);
-    }
-    let l = s.link;
-    stage_of(l, s.file, 9, i as u64)
-}
-
-// All symbols of the loaded table, whose names lie in string section `strtab`, ascending, up to the first refusal.
-pub fn merge_symbols(
-    s: SymbolStage,
-    bytes: &mut [u8],
-    names: &mut [u64],
-    symbols: &mut [u64],
-    sections: &mut [u64],
-    ids: &mut [u64],
-    headers: &[u64],
-    entries: &[u64],
-    image: &[u8],
-    work: &[u64],
-    strtab: usize,
-) -> SymbolStage
-    ensures { state_after bytes names symbols sections ids result
-        ≡ symbols_of (object_in headers entries image work strtab) (state_before bytes names symbols sections ids s) }
-{
-    let rows = entries.len() / elf_object::ROW_WIDTH;
-    let mut u = s;
-    let mut i = 0;
-    while i < rows {
-        u = merge_symbol(
-            u, bytes, names, symbols, sections, ids, headers, entries, image, work, strtab, i,
-        );
-        let number = u.number;
-        if number != 0 {
-            return u;
+    // Writes what was decided: nothing on 2; else the name is issued; then, unless refused, the row, and the symbol's id into its cell.
+    #[tactic(auto, unfolding(crate::specs::Stage::commit_of, crate::specs::Stage::kept_of))]
+    fn commit(&mut self, x: &[u8], plan: Plan, i: usize) -> Result<(), Refusal>
+        requires { Numbered plan.resolution }
+        ensures loans { same_loans self.old self.new }
+        ensures value { state_after self.new result ≡ commit_of (state_before self.old) x.now (planned_as plan) i }
+        ensures numbered { IfErr result (λ r. r.number ≢ 0) }
+    {
+        if let Err(2) = plan.resolution {
+            return Err(Refusal::new(2, i));
         }
-        i += 1;
+        self.link = interner::keep(self.link, self.bytes, self.names, plan.id, x);
+        match plan.resolution {
+            Ok(resolution) => {
+                self.accept(plan, resolution, i);
+                Ok(())
+            }
+            Err(number) => Err(refusal(number, plan.id, i)),
+        }
     }
-    u
+
+    // One symbol: its name missing is 9; else it is judged on the link as it stands, then written.
+    #[tactic(auto, unfolding(crate::specs::Stage::symbol_of, crate::specs::Stage::looked_of, crate::specs::Stage::symbol_named))]
+    fn merge_symbol(
+        &mut self,
+        object: Object<'_>,
+        work: &[u64],
+        strings: usize,
+        i: usize,
+    ) -> Result<(), Refusal>
+        ensures loans { same_loans self.old self.new }
+        ensures value { state_after self.new result ≡ symbol_of (object_in object.entry work.now strings) (state_before self.old) i }
+        ensures numbered { IfErr result (λ r. r.number ≢ 0) }
+    {
+        let offset = cells::row_get(object.entries, i, elf_object::ENTRY_NAME) as usize;
+        let Some(x) = object.name_in(strings, offset) else {
+            return Err(Refusal::new(9, i));
+        };
+        let plan = self.plan(object.entries, work, x, i);
+        self.commit(x, plan, i)
+    }
+
+    // All symbols of the loaded table, ascending, up to the first refusal. Their names lie in the section of that number.
+    pub fn merge_named(
+        &mut self,
+        object: Object<'_>,
+        work: &[u64],
+        strings: usize,
+    ) -> Result<(), Refusal>
+        ensures loans { same_loans self.old self.new }
+        ensures value { state_after self.new result ≡ symbols_of (object_in object.entry work.now strings) (state_before self.old) }
+        ensures numbered { IfErr result (λ r. r.number ≢ 0) }
+    {
+        for i in 0..object.symbol_count() {
+            self.merge_symbol(object, work, strings, i)?;
+        }
+        Ok(())
+    }
+
+    // The same, of the string section that the table links to.
+    pub fn merge_symbols(&mut self, object: Object<'_>, work: &[u64]) -> Result<(), Refusal>
+        ensures loans { same_loans self.old self.new }
+        ensures value { state_after self.new result ≡ symbols_of (input_in object.entry work.now) (state_before self.old) }
+        ensures numbered { IfErr result (λ r. r.number ≢ 0) }
+    {
+        let strings = cells::row_get(
+            object.headers,
+            object.table,
+            elf_object::HEADER_LINK,
+        ) as usize;
+        self.merge_named(object, work, strings)
+    }
 }

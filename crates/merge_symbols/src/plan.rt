@@ -1,19 +1,36 @@
 // What the symbol stage of a merge decides on one symbol of an object: read only.
 ghost use Rattle.std.specs.Prelude.{◌≡◌};
-ghost use Rattle.merge_symbols.specs.Plan.{filtered_at, is_first, defines_of, rule_of, judged_of, planned_of, place_of, file_after, input_in, view_in};
+ghost use Rattle.symbol.specs.Codes.{file_cell};
+ghost use Rattle.symbol_resolution.specs.Decide.{decision_of};
+ghost use Rattle.merge_symbols.specs.Plan.{Numbered, filtered_at, is_first, defines_of, rule_of, judged_of, planned_as, planned_of, place_of, file_after, input_of, view_now};
 
-use link::{Interned, Link, SymbolId};
+use crate::Symbols;
+use link::{Interned, SymbolId};
 use symbol::Row;
-use symbol_resolution::Decision;
-use upcoming_symbol::ElfSymbol;
+use symbol_resolution::Resolution;
+use upcoming_symbol::{Conversion, ElfSymbol};
 
-// What is to be done with a symbol, under a name that has or would get this id.
+// What is to be done with a symbol, under a name that has or would get this id; or the number that refuses it.
 #[derive(Clone, Copy)]
-pub struct Planned {
+pub struct Plan {
     pub id: Interned,
     pub kind: u64,
     pub row: Row,
-    pub decision: Decision,
+    pub resolution: Result<Resolution, u64>,
+}
+
+impl Plan {
+    // A file symbol sets the file name of the symbols after it.
+    #[tactic(auto, unfolding(crate::specs::Plan::file_after))]
+    pub fn file_after(self, file: Option<Interned>) -> Option<Interned>
+        ensures { file_cell result ≡ file_after (file_cell file) self.kind self.id }
+    {
+        if self.kind == symbol::STT_FILE {
+            Some(self.id)
+        } else {
+            file
+        }
+    }
 }
 
 // The symbol after the groups' filter: undefined where its section is removed.
@@ -22,141 +39,100 @@ fn filtered_at(entries: &[u64], work: &[u64], i: usize) -> ElfSymbol
 {
     let e = elf_object::elf_at(entries, i);
     ElfSymbol {
-        binding: e.binding,
-        visibility: e.visibility,
-        kind: e.kind,
         section: section_groups::section_after(work, e.section),
-        value: e.value,
+        ..e
     }
 }
 
 // The first symbol, if named empty, undefined and of type 0.
+#[tactic(auto, unfolding(crate::specs::Plan::is_first))]
 fn is_first(i: usize, empty: bool, e: ElfSymbol) -> bool
     ensures { result ≡ is_first i empty e }
 {
-    if i != 0 {
-        return false;
-    }
-    if e.section != upcoming_symbol::SHN_UNDEF {
-        return false;
-    }
-    if e.kind != symbol::STT_NOTYPE {
-        return false;
-    }
-    empty
+    i == 0 && e.section == upcoming_symbol::SHN_UNDEF && e.kind == symbol::STT_NOTYPE && empty
 }
 
 // Does the section define a group?
+#[tactic(auto, unfolding(crate::specs::Plan::defines_of))]
 fn defines(work: &[u64], section: u64) -> bool
     ensures { result ≡ defines_of work.now section }
 {
-    if section == upcoming_symbol::SHN_UNDEF {
-        return false;
-    }
-    if upcoming_symbol::SHN_LORESERVE <= section {
-        return false;
-    }
-    if cells::row_get(work, section as usize, elf_object::WORK_MARK) == elf_object::GROUP_MARK {
-        return true;
-    }
-    false
+    section != upcoming_symbol::SHN_UNDEF
+        && section < upcoming_symbol::SHN_LORESERVE
+        && cells::row_get(work, section as usize, elf_object::WORK_MARK) == elf_object::GROUP_MARK
 }
 
-// The first symbol maps to the null symbol; a file symbol and one of a group-defining section get no id; else add's rules.
-fn rule(
-    l: Link,
-    names: &[u64],
-    symbols: &[u64],
-    sections: &[u64],
-    work: &[u64],
-    i: usize,
-    empty: bool,
-    e: ElfSymbol,
-    row: Row,
-) -> Decision
-    ensures { result ≡ rule_of l names.now symbols.now sections.now work.now i empty e row }
-{
-    if is_first(i, empty, e) {
-        return Decision::Keep { id: SymbolId(0) };
+impl Symbols<'_> {
+    // The first symbol maps to the null symbol; a file symbol and one of a group-defining section get no id; else add's rules.
+    #[tactic(auto, unfolding(crate::specs::Plan::rule_of))]
+    fn resolve(
+        &self,
+        work: &[u64],
+        i: usize,
+        empty: bool,
+        e: ElfSymbol,
+        row: Row,
+    ) -> Result<Resolution, u64>
+        ensures value { let v = view_now self.now in decision_of result ≡ rule_of v.link v.names v.symbols v.sections work.now i empty e row }
+        ensures numbered { Numbered result }
+    {
+        if is_first(i, empty, e) {
+            return Ok(Resolution::Keep { id: SymbolId(0) });
+        }
+        if e.kind == symbol::STT_FILE || defines(work, e.section) {
+            return Ok(Resolution::Nothing);
+        }
+        let symbols = &*self.symbols;
+        let holder = symbol_resolution::holder_of(self.link, self.names, symbols, row.name);
+        symbol_resolution::resolve(self.link, symbols, self.sections, row, holder)
     }
-    if e.kind == symbol::STT_FILE {
-        return Decision::Nothing;
-    }
-    if defines(work, e.section) {
-        return Decision::Nothing;
-    }
-    let name = row.name;
-    let holder = symbol_resolution::holder_of(l, names, symbols, name);
-    symbol_resolution::decide(l, symbols, sections, row, holder)
-}
 
-// A name that is neither known nor has room is 2.
-fn judged(
-    l: Link,
-    bytes: &[u8],
-    names: &[u64],
-    symbols: &[u64],
-    sections: &[u64],
-    work: &[u64],
-    i: usize,
-    len: usize,
-    e: ElfSymbol,
-    row: Row,
-) -> Decision
-    ensures { result ≡ judged_of (view_in bytes names symbols sections l) work.now i len e row }
-{
-    let name = row.name;
-    if interner::fits(l, bytes, names, name, len) {
-        return rule(l, names, symbols, sections, work, i, len == 0, e, row);
+    // A name of that length that is neither known nor has room is 2.
+    #[tactic(auto, unfolding(crate::specs::Plan::judged_of))]
+    fn judge(
+        &self,
+        work: &[u64],
+        i: usize,
+        len: usize,
+        e: ElfSymbol,
+        row: Row,
+    ) -> Result<Resolution, u64>
+        ensures value { decision_of result ≡ judged_of (view_now self.now) work.now i len e row }
+        ensures numbered { Numbered result }
+    {
+        let bytes = &*self.bytes;
+        if !interner::fits(self.link, bytes, self.names, row.name, len) {
+            return Err(2);
+        }
+        self.resolve(work, i, len == 0, e, row)
     }
-    Decision::Refuse { number: 2 }
-}
 
-// Symbol i of the table, named x; file is its file name's id and 1.
-pub fn plan_symbol(
-    l: Link,
-    bytes: &[u8],
-    names: &[u64],
-    symbols: &[u64],
-    sections: &[u64],
-    entries: &[u64],
-    work: &[u64],
-    x: &[u8],
-    i: usize,
-    file: u64,
-) -> Planned
-    ensures { result ≡ planned_of (view_in bytes names symbols sections l) (input_in entries work) x.now i file }
-{
-    let id = interner::find(l, bytes, names, x);
-    let e = filtered_at(entries, work, i);
-    let cell = cells::row_get(work, e.section as usize, elf_object::WORK_CONVERSION);
-    let c = upcoming_symbol::conversion_from(cell);
-    let row = upcoming_symbol::elf_row(c, e, id, x.len() == 0, file);
-    let decision = judged(l, bytes, names, symbols, sections, work, i, x.len(), e, row);
-    Planned {
-        id: id,
-        kind: e.kind,
-        row: row,
-        decision: decision,
+    // Symbol i of the table, named x.
+    #[tactic(auto, unfolding(crate::specs::Plan::planned_of, crate::specs::Plan::read_of, crate::specs::Plan::rowed_of))]
+    pub fn plan(&self, entries: &[u64], work: &[u64], x: &[u8], i: usize) -> Plan
+        ensures value { planned_as result ≡ planned_of (view_now self.now) (input_of entries.now work.now) x.now i (file_cell self.now.file) }
+        ensures numbered { Numbered result.resolution }
+    {
+        let bytes = &*self.bytes;
+        let id = interner::find(self.link, bytes, self.names, x);
+        let e = filtered_at(entries, work, i);
+        let cell = cells::row_get(work, e.section as usize, elf_object::WORK_CONVERSION);
+        let file = symbol::file_cell(self.file);
+        let row = upcoming_symbol::elf_row(Conversion::from(cell), e, id, x.is_empty(), file);
+        let resolution = self.judge(work, i, x.len(), e, row);
+        Plan {
+            id,
+            kind: e.kind,
+            row,
+            resolution,
+        }
     }
 }
 
 // The place of a refusal: the symbol's number, but for 21 the name's id.
+#[tactic(auto, unfolding(crate::specs::Plan::place_of))]
 pub fn place_of(number: u64, id: Interned, i: usize) -> u64
     ensures { result ≡ place_of number id i }
 {
-    if number == 21 {
-        return id.0 as u64;
-    }
-    i as u64
-}
-
-// A file symbol sets the file name of the symbols after it.
-pub fn file_after(file: u64, kind: u64, id: Interned) -> u64
-    ensures { result ≡ file_after file kind id }
-{
-    if kind == symbol::STT_FILE {
-        return symbol::next(id.0) as u64;
-    }
-    file
+    if number == 21 { id.0 as u64 } else { i as u64 }
 }

@@ -1,3 +1,3 @@
 pub mod Matches
+pub mod Required
 pub mod Contract
-pub mod Proof

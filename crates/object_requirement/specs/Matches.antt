@@ -2,7 +2,7 @@
 -- gABI's profile, document 02, 2026-02: "a weak or global definition, and nothing else, admits one". Which names are required is a test of
 -- their bytes.
 -- Assumes nothing.
-use Rattle.std.specs.Prelude.{ℕ, ◌+◌, Bool, true, false, cond, List, [], ◌∷◌, eqb, leb, ltb, length}
+use Rattle.std.specs.Prelude.{ℕ, ◌+◌, Bool, true, false, cond, List, [], ◌∷◌, eqb, leb, ltb, length, Result, Ok, Err}
 use Rattle.cells.specs.Search.{any_from}
 use Rattle.strings.specs.Lookup.{Looked, looked, look_up}
 use Rattle.link.specs.declared.Link.{Link}
@@ -15,27 +15,25 @@ use Rattle.gabi.specs.SymbolTable.{stb_global, stb_weak, shn_undef}
 use Rattle.elf_object.specs.Kinds.{symbol_table, string_table, dynamic_symbols}
 use Rattle.elf_object.specs.Rows.{rows_in, kind_at, link_at, strings_at, table_entries, entry_name_at, binding_at, section_at}
 use Rattle.elf_object.specs.Judge.{judge_of}
-use Rattle.object_requirement.specs.declared.Admission.{Admission}
-use Rattle.object_requirement.specs.declared.Admission.TheVariants.{Yes, No, Refused}
 
 -- document 01's number and place of each answer
-abbrev pub number_of : Admission → ℕ
-number_of Yes = 0
-number_of No = 0
-number_of (Refused r) = r.number
+abbrev pub number_of : Result Bool Refusal → ℕ
+number_of (Ok true) = 0
+number_of (Ok false) = 0
+number_of (Err r) = r.number
 
-abbrev pub place_of : Admission → ℕ
-place_of Yes = 0
-place_of No = 0
-place_of (Refused r) = r.place
+abbrev pub place_of : Result Bool Refusal → ℕ
+place_of (Ok true) = 0
+place_of (Ok false) = 0
+place_of (Err r) = r.place
 
 -- and value: admitted is 1, not admitted 0
-abbrev pub values_of : Admission → List ℕ
-values_of Yes = 1 ∷ []
-values_of No = 0 ∷ []
-values_of (Refused r) = []
+abbrev pub values_of : Result Bool Refusal → List ℕ
+values_of (Ok true) = 1 ∷ []
+values_of (Ok false) = 0 ∷ []
+values_of (Err r) = []
 
-abbrev pub said : Admission → SaidWith ℕ
+abbrev pub said : Result Bool Refusal → SaidWith ℕ
 said a = record { number = number_of a; place = place_of a; values = values_of a }
 
 -- ---- names
@@ -83,12 +81,12 @@ in_section gabi headers entries image required n =
 unfoldable pub has_global_symbol : Bool → List ℕ → List ℕ → List ℕ → (List ℕ → Bool) → Bool
 has_global_symbol gabi headers entries image required = any_from (in_section gabi headers entries image required) 0 (rows_in headers)
 
-abbrev pub admission : Bool → Admission
-admission true = Yes
-admission false = No
+abbrev pub admission : Bool → Result Bool Refusal
+admission true = Ok true
+admission false = Ok false
 
-abbrev pub after_judging : Refusal → Admission → Admission
-after_judging r a = cond (eqb r.number 0) a (Refused r)
+abbrev pub after_judging : Refusal → Result Bool Refusal → Result Bool Refusal
+after_judging r a = cond (eqb r.number 0) a (Err r)
 
 -- an entry of the walk's index, which is lent with its rows; after "done" too
 unfoldable pub offered_in : List ℕ → List ℕ → Walk → ℕ → Bool
@@ -96,7 +94,7 @@ offered_in s l w e = cond (ltb (length s) w.length) false (cond (ltb (rows_in l)
 
 -- 1 at the first row of the object that is out of range; 1 at 0 where the walk isn't as it was; then yes or no, over the names required of
 -- the member that entry e offered. Of the link its profile alone is looked at, so a broken one answers as another.
-unfoldable pub matches_of : Link → List ℕ → List ℕ → List ℕ → List ℕ → List ℕ → List ℕ → Walk → ℕ → Admission
+unfoldable pub matches_of : Link → List ℕ → List ℕ → List ℕ → List ℕ → List ℕ → List ℕ → Walk → ℕ → Result Bool Refusal
 matches_of link headers entries contents image s l w e =
     after_judging (judge_of headers entries (length contents) (length image))
-    (cond (offered_in s l w e) (admission (has_global_symbol link.gabi headers entries image (required_of s l w e))) (Refused (refused 1 0)))
+    (cond (offered_in s l w e) (admission (has_global_symbol link.gabi headers entries image (required_of s l w e))) (Err (refused 1 0)))

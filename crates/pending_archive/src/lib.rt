@@ -1,13 +1,15 @@
-// The walk lent by reference and moved on in place: the Rust's `PendingArchive::next(&mut self)`. Thin functions over `archive_walk::next`.
+// The walk lent by reference and moved on in place, for a caller with loose slices: the Rust's `PendingArchive::next(&mut self)`. Thin functions over
+// `Walk::next`.
 #![tactic(auto)]
 
 ghost use Rattle.archive_walk.specs.Contract.{next_exit, NextMeets};
 ghost use Rattle.archive_walk.specs.Look.{table_in};
 
-use archive_walk::{Moved, Offer, Walk};
-use link::Link;
+use archive_index::Rows;
+use archive_walk::{Offer, Table, Walk};
+use link::{Link, Refusal};
 
-// The walk behind the reference is taken, moved on by value, and stored back; by a refusal it is stored back as it was.
+// By a refusal the walk stays as it was.
 pub fn next(
     walk: &mut Walk,
     index: &[u8],
@@ -16,16 +18,20 @@ pub fn next(
     bytes: &[u8],
     names: &[u64],
     symbols: &[u64],
-) -> Offer
+) -> Result<Offer, Refusal>
     ensures { NextMeets index.now cells.old walk.old (table_in l bytes names symbols) (next_exit cells (record { walk = walk.new; offer = result })) }
 {
-    let w = *walk;
-    let m = archive_walk::next(w, index, cells, l, bytes, names, symbols);
-    *walk = m.walk;
-    m.offer
+    let mut rows = Rows { index, cells };
+    let table = Table {
+        link: l,
+        bytes,
+        names,
+        symbols,
+    };
+    walk.next(&mut rows, table)
 }
 
-// The same for a caller with plain parameters: the walk by value is lent to `next`.
+// The same with the walk by value.
 pub fn next_by_value(
     w: Walk,
     index: &[u8],
@@ -34,10 +40,10 @@ pub fn next_by_value(
     bytes: &[u8],
     names: &[u64],
     symbols: &[u64],
-) -> Moved
-    ensures { NextMeets index.now cells.old w (table_in l bytes names symbols) (next_exit cells result) }
+) -> (Walk, Result<Offer, Refusal>)
+    ensures { NextMeets index.now cells.old w (table_in l bytes names symbols) (next_exit cells (record { walk = result.0; offer = result.1 })) }
 {
-    let mut x = w;
-    let offer = next(&mut x, index, cells, l, bytes, names, symbols);
-    Moved { walk: x, offer }
+    let mut walk = w;
+    let offer = next(&mut walk, index, cells, l, bytes, names, symbols);
+    (walk, offer)
 }

@@ -1,12 +1,11 @@
 -- The plain collection: 22 and 1 as the first has them, 30, 2; what is reached; then the end of the first, 21 or the sweep.
 -- Assumes nothing.
-use Rattle.std.specs.Prelude.{ℕ, ◌+◌, cond, List, eqb, ltb}
+use Rattle.link.specs.declared.SymbolId.{SymbolId}
+use Rattle.std.specs.Prelude.{ℕ, ◌+◌, cond, List, eqb, ltb, Option, Err}
 use Rattle.link.specs.declared.Link.{Link}
 use Rattle.link.specs.declared.Refusal.{Refusal}
 use Rattle.link.specs.Judge.{refused}
 use Rattle.sections.specs.Rows.{is_built}
-use Rattle.gc_sections.specs.declared.EntryPoint.{EntryPoint}
-use Rattle.gc_sections.specs.declared.Answer.TheVariants.{Refused}
 use Rattle.gc_sections.specs.Each.{each}
 use Rattle.gc_sections.specs.Run.{Left, left, Lists, finish_of, judged}
 use Rattle.plain_collector.specs.Visit.{Visited, reached_of}
@@ -33,8 +32,8 @@ judged_plain l x symbols sections work = judge_plain (judged l x symbols section
 unfoldable pub finished : Link → List ℕ → List ℕ → Visited → Left
 finished l symbols sections s = finish_of l symbols sections s.work s.unbuilt
 
-unfoldable pub plain_of : Link → Lists → List ℕ → List ℕ → EntryPoint → List ℕ → Left
+unfoldable pub plain_of : Link → Lists → List ℕ → List ℕ → Option SymbolId → List ℕ → Left
 plain_of l x symbols sections entry work =
     cond (eqb (judged_plain l x symbols sections work).number 0)
     (finished l symbols sections (reached_of l x.bytes x.names symbols sections x.lists x.marks entry work))
-    (left symbols sections work l (Refused (judged_plain l x symbols sections work)))
+    (left symbols sections work l (Err (judged_plain l x symbols sections work)))

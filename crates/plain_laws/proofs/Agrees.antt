@@ -1,6 +1,7 @@
 -- What two collections have in common whose work cells agree for each section.
 -- Assumes nothing.
-use Rattle.std.specs.Prelude.{ℕ, ◌+◌, ◌<◌, ◌≤◌, ◌≡◌, Bool, false, ltb, get_or, length}
+use Rattle.link.specs.declared.SectionId.{SectionId}
+use Rattle.std.specs.Prelude.{ℕ, ◌+◌, ◌<◌, ◌≤◌, ◌≡◌, Bool, false, ltb, get_or, length, Option, None, Some, Ok}
 use Rattle.std.proofs.Common.{arith, sym, ◌∙◌, ltb-true}
 use Rattle.std.proofs.Math.Path.{refl, ap}
 use mathlib.Core.List.{List, []}
@@ -9,15 +10,10 @@ use Rattle.byte_slices.specs.Proof.Ways.{apart}
 use Rattle.link.specs.declared.Link.{Link}
 use Rattle.symbols.specs.Remove.{Rows, rows_of}
 use Rattle.sections.specs.Rows.{is_built}
-use Rattle.gc_sections.specs.declared.Lead.{Lead}
-use Rattle.gc_sections.specs.declared.Lead.TheVariants.{Nowhere, Section}
-use Rattle.gc_sections.specs.declared.Unbuilt.{Unbuilt}
-use Rattle.gc_sections.specs.declared.Unbuilt.TheVariants.{None, Lowest}
-use Rattle.gc_sections.specs.declared.Answer.TheVariants.{Dropped}
 use Rattle.gc_sections.specs.Each.{each}
 use Rattle.gc_sections.specs.Roots.{symbol_id, lead_of}
 use Rattle.gc_sections.specs.Sweep.{Purged, dropped_now, purge_lead, purge_symbol, purge_symbols}
-use Rattle.gc_sections.specs.Run.{Left, left, purge_of, sweep_of, finish_of}
+use Rattle.gc_sections.specs.Run.{Left, left, purge_of, sweep_of, finish_of, dropped}
 use Rattle.plain_collector.specs.Proof.Depth.{built-below}
 use Rattle.gc_laws.specs.Proof.Paint.{paint, picked}
 use Rattle.gc_laws.proofs.Paint.{paint-hit, paint-miss, paint-same}
@@ -72,9 +68,9 @@ module _ (l : Link) (symbols sections : List ℕ) where
     unfolding purge_symbol
     purge-same i s = go (lead_of s.rows.symbols l.symbols (symbol_id i))
       where
-        go : (k : Lead) → purge_lead l w₁ i k s ≡ purge_lead l v₁ i k s
-        go Nowhere = refl
-        go (Section x) = rw (now-same x.0)
+        go : (k : Option SectionId) → purge_lead l w₁ i k s ≡ purge_lead l v₁ i k s
+        go None = refl
+        go (Some x) = rw (now-same x.0)
 
     purged-same : (rows : Rows) → purge_symbols l w₁ rows ≡ purge_symbols l v₁ rows
     unfolding purge_symbols
@@ -83,7 +79,7 @@ module _ (l : Link) (symbols sections : List ℕ) where
     abbrev out : List ℕ → List ℕ → ℕ → Left
     out rows u c =
         left (purge_symbols l u (rows_of symbols rows)).rows.symbols (purge_symbols l u (rows_of symbols rows)).rows.sections u l
-        (Dropped c (purge_symbols l u (rows_of symbols rows)).count)
+        (Ok (dropped c (purge_symbols l u (rows_of symbols rows)).count))
 
     abbrev rows₁ : List ℕ
     rows₁ = each (paint D state_cell 3) n 0 sections
@@ -106,14 +102,14 @@ module _ (l : Link) (symbols sections : List ℕ) where
           symbols = ap (λ (p : Purged). p.rows.symbols) e;
           sections = ap (λ (p : Purged). p.rows.sections) e;
           link = refl;
-          answer = ap (λ (p : Purged). Dropped (0 + picked D n 0) p.count) e;
-          said = ap (λ (p : Purged). (left [] [] [] l (Dropped (0 + picked D n 0) p.count)).said) e;
+          answer = ap (λ (p : Purged). Ok (dropped (0 + picked D n 0) p.count)) e;
+          said = ap (λ (p : Purged). (left [] [] [] l (Ok (dropped (0 + picked D n 0) p.count))).said) e;
           work = cell_same;
         }
 
     sweep-same : Agrees n (sweep_of l symbols sections w) (sweep_of l symbols sections v)
     sweep-same = rw (first, second) out-same
 
-    pub finish-same : (u : Unbuilt) → Agrees n (finish_of l symbols sections w u) (finish_of l symbols sections v u)
+    pub finish-same : (u : Option SectionId) → Agrees n (finish_of l symbols sections w u) (finish_of l symbols sections v u)
     finish-same None = sweep-same
-    finish-same (Lowest id) = record { symbols = refl; sections = refl; link = refl; answer = refl; said = refl; work = agree }
+    finish-same (Some id) = record { symbols = refl; sections = refl; link = refl; answer = refl; said = refl; work = agree }

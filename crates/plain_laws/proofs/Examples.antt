@@ -1,6 +1,6 @@
 -- The worked examples of collection, computed from the definition of the plain one; and placeholders, by both.
 -- Assumes nothing.
-use Rattle.std.specs.Prelude.{ℕ, ◌≡◌, refl, List, [], ◌∷◌, ◌++◌, replicate}
+use Rattle.std.specs.Prelude.{ℕ, ◌≡◌, refl, List, [], ◌∷◌, ◌++◌, replicate, None, Err}
 use Rattle.byte_slices.specs.Bytes.{same}
 use Rattle.link.specs.Bounds.{lesser}
 use Rattle.link.specs.Judge as Link
@@ -9,8 +9,6 @@ use Rattle.symbol_resolution.specs.Apply.{set_section_symbol}
 use Rattle.symbols.specs.Remove.{drop_section, remove_row_of}
 use Rattle.sections.specs.Rows.{state_at, is_built}
 use Rattle.symbol.specs.Row as Symbol
-use Rattle.gc_sections.specs.declared.EntryPoint.TheVariants as Entry
-use Rattle.gc_sections.specs.declared.Answer.TheVariants.{Refused}
 use Rattle.gc_sections.specs.Each.{each}
 use Rattle.gc_sections.specs.Roots.{value_lead, lead_of, readable, name_is, rooted, is_root}
 use Rattle.gc_sections.specs.Reach.{save_of, reach_of, add_of, root_symbol, root_section, end_of, relocation, relocations, follow, visit, clear_cell, start_of, roots_of, process_of, walked}
@@ -23,7 +21,7 @@ use Rattle.gc_laws.specs.Examples as Collections
 use Rattle.gc_laws.specs.Examples.{Example, counts, null, in_section, section, reserved, lent, states_from, p12, short_marks, two_unbuilt, unreadable}
 
 abbrev pub collected : Example → Left
-collected e = plain_of e.link e.lists e.symbols e.sections Entry.None e.work
+collected e = plain_of e.link e.lists e.symbols e.sections None e.work
 
 abbrev pub Right : Example → Type 0
 Right e =
@@ -39,7 +37,7 @@ placeholders =
       symbols = null ++ (in_section 7 ++ in_section 3);
       sections = section 1 0 ++ (section 1 0 ++ (section 1 0 ++ (reserved ++ (section 1 0 ++ (section 1 0 ++ (section 1 0 ++ (reserved ++ replicate {A = ℕ} 8 0)))))));
       work = replicate {A = ℕ} 16 9;
-      answer = Refused (Link.refused 21 3);
+      answer = Err (Link.refused 21 3);
       section_states = 2 ∷ 2 ∷ 2 ∷ 1 ∷ 2 ∷ 2 ∷ 2 ∷ 1 ∷ [];
       symbol_states = 1 ∷ 1 ∷ 1 ∷ [];
     }

@@ -3,7 +3,8 @@
 -- gc_laws), so no walk is compared with the other. The work cells of the sections are equal too; those behind them, where the first has its queue
 -- and the second writes nothing, aren't.
 -- Assumes nothing.
-use Rattle.std.specs.Prelude.{ℕ, zero, suc, ◌+◌, ◌<◌, ◌≤◌, ◌≡◌, ◌↔◌, ◌≢◌, Bool, List, eqb, get_or}
+use Rattle.link.specs.declared.SymbolId.{SymbolId}
+use Rattle.std.specs.Prelude.{ℕ, zero, suc, ◌+◌, ◌<◌, ◌≤◌, ◌≡◌, ◌↔◌, ◌≢◌, Bool, List, eqb, get_or, Option, None, Some, Ok, Err}
 use Rattle.std.proofs.Common.{arith, zero-add, sym, ap, ◌∙◌, ⊎_elim}
 use Rattle.std.proofs.Math.Path.{refl}
 use Rattle.std.proofs.Math.Bool.{true, false, cond}
@@ -14,13 +15,9 @@ use Rattle.link.specs.declared.Refusal.{Refusal}
 use Rattle.link.specs.declared.SectionId.{SectionId}
 use Rattle.link.specs.Judge.{refused}
 use Rattle.sections.specs.Rows.{state_at, is_built, built_state}
-use Rattle.gc_sections.specs.declared.Unbuilt.{Unbuilt}
-use Rattle.gc_sections.specs.declared.Unbuilt.TheVariants.{None, Lowest}
-use Rattle.gc_sections.specs.declared.EntryPoint.{EntryPoint}
-use Rattle.gc_sections.specs.declared.Answer.TheVariants.{Dropped, Refused}
 use Rattle.gc_sections.specs.Each.{each}
 use Rattle.gc_sections.specs.Reach.{Walk, walked}
-use Rattle.gc_sections.specs.Run.{Left, left, Lists, finish_of, judged, run_of}
+use Rattle.gc_sections.specs.Run.{Left, left, Lists, finish_of, judged, run_of, dropped}
 use Rattle.plain_collector.specs.Visit.{Visited, reached_of}
 use Rattle.plain_collector.specs.Run.{count_one, count_built, judge_plain, judged_plain, finished, plain_of}
 use Rattle.plain_collector.specs.Proof.Head.{judge-passed}
@@ -66,7 +63,7 @@ short-stays : (h : Refusal) (built : ℕ) → h.number ≡ 1 → judge_plain h b
 unfolding judge_plain
 short-stays h built e = rw (ne_eqb _ _ (λ (z : h.number ≡ 22). eqb-false 1 22 refl (sym e ∙ z)), eq-eqb _ _ e)
 
-module _ (l : Link) (x : Lists) (symbols sections : List ℕ) (entry : EntryPoint) (work : List ℕ) where
+module _ (l : Link) (x : Lists) (symbols sections : List ℕ) (entry : Option SymbolId) (work : List ℕ) where
   abbrev n : ℕ
   n = l.sections
 
@@ -110,30 +107,30 @@ module _ (l : Link) (x : Lists) (symbols sections : List ℕ) (entry : EntryPoin
     same-unbuilt : v.unbuilt ≡ w.visitor.unbuilt
     same-unbuilt = go v.unbuilt w.visitor.unbuilt refl refl
       where
-        nobody : (id : SectionId) → None ≡ Lowest id → ⊥
+        nobody : (id : SectionId) → None ≡ Some id → ⊥
         nobody id e = let z : ◌≡◌ {A = ℕ} 0 1 = cc in omega arith
 
-        go : (a b : Unbuilt) → v.unbuilt ≡ a → w.visitor.unbuilt ≡ b → a ≡ b
+        go : (a b : Option SectionId) → v.unbuilt ≡ a → w.visitor.unbuilt ≡ b → a ≡ b
         go None None d e = refl
-        go None (Lowest j) d e =
+        go None (Some j) d e =
             let p = one.good.lowest j e in
             let f = (two.all j.0 p.0).low p.1 in
             absurd (nobody f.0 (sym d ∙ f.1))
-        go (Lowest i) None d e =
+        go (Some i) None d e =
             let p = two.good.lowest i d in
             let f = (one.all i.0 p.0).low p.1 in
             absurd (nobody f.0 (sym e ∙ f.1))
-        go (Lowest i) (Lowest j) d e =
+        go (Some i) (Some j) d e =
             let p = one.good.lowest j e in
             let f = (two.all j.0 p.0).low p.1 in
             let q = two.good.lowest i d in
             let g = (one.all i.0 q.0).low q.1 in
-            let a : Lowest i ≡ Lowest f.0 = sym d ∙ f.1 in
-            let b : Lowest j ≡ Lowest g.0 = sym e ∙ g.1 in
+            let a : Some i ≡ Some f.0 = sym d ∙ f.1 in
+            let b : Some j ≡ Some g.0 = sym e ∙ g.1 in
             let c : i ≡ f.0 = cc in
             let k : j ≡ g.0 = cc in
             let s : i.0 ≡ j.0 = omega (arith, f.2, g.2, ap (λ (m : SectionId). m.0) c, ap (λ (m : SectionId). m.0) k) in
-            ap (λ (m : ℕ). Lowest (record { 0 = m })) s
+            ap (λ (m : ℕ). Some (record { 0 = m })) s
 
     ends-agree : Agrees n (finish_of l symbols sections v.work v.unbuilt) (finish_of l symbols sections w.work w.visitor.unbuilt)
     ends-agree =
@@ -167,39 +164,39 @@ module _ (l : Link) (x : Lists) (symbols sections : List ℕ) (entry : EntryPoin
         (λ t. let ok : head.number ≡ 0 = eqb-true _ _ t in rw (second_is ok, run_is l x symbols sections work ok entry) (ends-agree ok))
         (λ t. agrees-same n second first (refused-both (eqb-false _ _ t)))
 
-  head-stays : judged_plain l x symbols sections work ≡ head → (head.number ≡ 0 → ⊥) → second ≡ left symbols sections work l (Refused head)
+  head-stays : judged_plain l x symbols sections work ≡ head → (head.number ≡ 0 → ⊥) → second ≡ left symbols sections work l (Err head)
   unfolding plain_of
   head-stays e ne = rw (e, ne_eqb _ _ ne)
 
   -- more: 22 and 1 as the first has them, else 30 at place 0; everything is left, and the link isn't broken
   module _ (many : 256 < built_rows l sections) where
-    pub plain-broken : head.number ≡ 22 → second ≡ left symbols sections work l (Refused head)
+    pub plain-broken : head.number ≡ 22 → second ≡ left symbols sections work l (Err head)
     plain-broken e = head-stays (broken-stays head (count_built sections n) e) (λ z. eqb-false 22 0 refl (sym e ∙ z))
 
-    pub plain-short : head.number ≡ 1 → second ≡ left symbols sections work l (Refused head)
+    pub plain-short : head.number ≡ 1 → second ≡ left symbols sections work l (Err head)
     plain-short e = head-stays (short-stays head (count_built sections n) e) (λ z. eqb-false 1 0 refl (sym e ∙ z))
 
-    pub plain-thirty : head.number ≢ 22 → head.number ≢ 1 → second ≡ left symbols sections work l (Refused (refused 30 0))
+    pub plain-thirty : head.number ≢ 22 → head.number ≢ 1 → second ≡ left symbols sections work l (Err (refused 30 0))
     unfolding plain_of judge_plain
     plain-thirty a b = rw (ne_eqb _ _ a, ne_eqb _ _ b, count-is l sections, lt-ltb _ _ many)
 
   -- ---- demand 3 of the second collector
 
-  unlike : (a b : ℕ) (q : Refusal) → Dropped a b ≡ Refused q → ⊥
+  unlike : (a b : ℕ) (q : Refusal) → Ok (dropped a b) ≡ Err q → ⊥
   unlike a b q d = let z : ◌≡◌ {A = ℕ} 0 1 = cc in omega arith
 
-  refused-so : eqb (judged_plain l x symbols sections work).number 0 ≡ false → second.answer ≡ Refused (judged_plain l x symbols sections work)
+  refused-so : eqb (judged_plain l x symbols sections work).number 0 ≡ false → second.answer ≡ Err (judged_plain l x symbols sections work)
   unfolding plain_of
   refused-so t = rw t
 
-  accepted-few : (a b : ℕ) → second.answer ≡ Dropped a b → built_rows l sections ≤ 256
+  accepted-few : (a b : ℕ) → second.answer ≡ Ok (dropped a b) → built_rows l sections ≤ 256
   accepted-few a b e =
       by-test (eqb (judged_plain l x symbols sections work).number 0)
       (λ t. let p = judge-passed head (count_built sections n) (eqb-true _ _ t) in omega (arith, p.1, count-is l sections))
       (λ t. absurd (unlike a b (judged_plain l x symbols sections work) (sym e ∙ refused-so t)))
 
   -- not refused: a section is there after the call exactly if it is reached
-  pub plain-keeps : (a b : ℕ) → second.answer ≡ Dropped a b → (y : ℕ) → Built l x second.symbols second.sections y ↔ R y
+  pub plain-keeps : (a b : ℕ) → second.answer ≡ Ok (dropped a b) → (y : ℕ) → Built l x second.symbols second.sections y ↔ R y
   plain-keeps a b e y =
       let s = plain-agrees (accepted-few a b e) in
       let k = DemandLaws.keeps l x symbols sections entry work a b (sym s.answer ∙ e) in

@@ -1,10 +1,11 @@
 -- The plain collector's visits find exactly what is reached.
 -- Assumes nothing.
+use Rattle.link.specs.declared.SymbolId.{SymbolId}
 use Prim.Native.Nat.{ℕ, zero, suc, ◌+◌, ◌-◌, ◌<◌, ◌≤◌}
 use Rattle.std.proofs.Math.Decide.{ℕ_discrete}
 use Rattle.std.proofs.Common.{sym, ap, ◌∙◌, inl, inr, ⊎_elim, eqb-true, ne_eqb, length-set, get_or-set_same, get_or-set_other}
 use native.Mathlib.Omega.{arith}
-use Rattle.std.specs.Prelude.{◌≡◌, refl, ◌⊎◌, Bool, true, false, cond, List, eqb, get_or, set, length}
+use Rattle.std.specs.Prelude.{◌≡◌, refl, ◌⊎◌, Bool, true, false, cond, List, eqb, get_or, set, length, Option, None, Some}
 use Rattle.std.proofs.Math.Path.{subst}
 use Rattle.std.proofs.lemmas.Bool.{eqb-false}
 use Rattle.cells.specs.Proof.Split.{by-test}
@@ -12,11 +13,6 @@ use Rattle.byte_slices.specs.Proof.Ways.{apart}
 use Rattle.link.specs.declared.Link.{Link}
 use Rattle.link.specs.declared.SectionId.{SectionId}
 use Rattle.sections.specs.Rows.{first_at, count_at, is_built}
-use Rattle.gc_sections.specs.declared.Lead.{Lead}
-use Rattle.gc_sections.specs.declared.Lead.TheVariants as Leading
-use Rattle.gc_sections.specs.declared.Unbuilt.TheVariants.{None, Lowest}
-use Rattle.gc_sections.specs.declared.EntryPoint.{EntryPoint}
-use Rattle.gc_sections.specs.declared.EntryPoint.TheVariants as Entry
 use Rattle.gc_sections.specs.Each.{each}
 use Rattle.gc_sections.specs.Roots.{symbol_id, section_id, lead_of, is_root}
 use Rattle.gc_sections.specs.Reach.{lower_of, end_of, clear_cell}
@@ -32,7 +28,7 @@ use Rattle.gc_laws.proofs.Exact.{elsewhere, lead-below, end-first, end-within, e
 differ : {k : ℕ} → k ≡ 1 → k ≡ 0 → ⊥
 differ m z = omega arith
 
-module _ (l : Link) (x : Lists) (symbols sections : List ℕ) (entry : EntryPoint) where
+module _ (l : Link) (x : Lists) (symbols sections : List ℕ) (entry : Option SymbolId) where
   abbrev n : ℕ
   n = l.sections
 
@@ -46,14 +42,14 @@ module _ (l : Link) (x : Lists) (symbols sections : List ℕ) (entry : EntryPoin
   Unready y = is_built sections n y ≡ false
 
   abbrev Lies : ℕ → ℕ → Type 0
-  Lies i y = lead_of symbols l.symbols (symbol_id i) ≡ Leading.Section (section_id y)
+  Lies i y = lead_of symbols l.symbols (symbol_id i) ≡ Some (section_id y)
 
   abbrev Marked : Visited → ℕ → Type 0
   Marked s y = get_or s.work y 0 ≡ 1
 
   -- a section that isn't built, y or a lower one, was noted
   abbrev Low : Visited → ℕ → Type 0
-  Low s y = (id : SectionId) × (s.unbuilt ≡ Lowest id) × (id.0 ≤ y)
+  Low s y = (id : SectionId) × (s.unbuilt ≡ Some id) × (id.0 ≤ y)
 
   -- ---- what every visit keeps
 
@@ -61,7 +57,7 @@ module _ (l : Link) (x : Lists) (symbols sections : List ℕ) (entry : EntryPoin
     pub room : n ≤ length s.work
     pub bit : (y : ℕ) → y < n → (get_or s.work y 0 ≡ 0) ⊎ (Marked s y)
     pub sound : (y : ℕ) → y < n → Marked s y → R y × Built y
-    pub lowest : (id : SectionId) → s.unbuilt ≡ Lowest id → R id.0 × Unready id.0
+    pub lowest : (id : SectionId) → s.unbuilt ≡ Some id → R id.0 × Unready id.0
 
   record Ext (s t : Visited) : Type 0 where
     mono : (y : ℕ) → y < n → Marked s y → Marked t y
@@ -221,15 +217,15 @@ module _ (l : Link) (x : Lists) (symbols sections : List ℕ) (entry : EntryPoin
       }
 
   -- the sections that a lead names: one or none
-  abbrev To : Lead → ℕ → Type 0
-  To k y = k ≡ Leading.Section (section_id y)
+  abbrev To : Option SectionId → ℕ → Type 0
+  To k y = k ≡ Some (section_id y)
 
-  lead-step : (on : ℕ → Visited → Visited) (k : Lead) (s : Visited) → Good s → ((y : ℕ) → To k y → R y)
+  lead-step : (on : ℕ → Visited → Visited) (k : Option SectionId) (s : Visited) → Good s → ((y : ℕ) → To k y → R y)
       → ((y : ℕ) → R y → (b : Built y) (z : get_or s.work y 0 ≡ 0) → Good (visited_of (set s.work y 1) s.unbuilt) → suc (unvisited n (set s.work y 1)) ≡ unvisited n s.work
       → Steps (visited_of (set s.work y 1) s.unbuilt) (λ k. Names l x symbols sections y k) (on y (visited_of (set s.work y 1) s.unbuilt)))
       → Steps s (To k) (enter_lead sections n on k s)
-  lead-step on Leading.Nowhere s g p more = none s (To Leading.Nowhere) g (λ y m. absurd (elsewhere (section_id y) m))
-  lead-step on (Leading.Section id) s g p more =
+  lead-step on None s g p more = none s (To None) g (λ y m. absurd (elsewhere (section_id y) m))
+  lead-step on (Some id) s g p more =
       narrow (enter_step on id.0 s g (p id.0 refl) (more id.0 (p id.0 refl)))
       (λ y m. let f : section_id y ≡ id = cc in ap (λ (k : SectionId). k.0) f)
 
@@ -237,7 +233,7 @@ module _ (l : Link) (x : Lists) (symbols sections : List ℕ) (entry : EntryPoin
   lists = x.lists
 
   abbrev Visits : ℕ → Type 0
-  Visits depth = (k : Lead) (s : Visited) → Good s → unvisited n s.work ≤ depth → ((y : ℕ) → To k y → R y) → Steps s (To k) (visit_of l symbols sections lists depth k s)
+  Visits depth = (k : Option SectionId) (s : Visited) → Good s → unvisited n s.work ≤ depth → ((y : ℕ) → To k y → R y) → Steps s (To k) (visit_of l symbols sections lists depth k s)
 
   relocation-step : (depth : ℕ) → Visits depth → (y j : ℕ) (t : Visited) → R y → Built y → first_at sections y ≤ j
       → j < end_of l.lists (first_at sections y) (count_at sections y) → Good t → unvisited n t.work ≤ depth
@@ -274,7 +270,7 @@ module _ (l : Link) (x : Lists) (symbols sections : List ℕ) (entry : EntryPoin
       (lead-step (follow l symbols sections lists (suc depth)) k s g p
       (λ y r b z h e. follow-step depth (visit-step depth) y r b (visited_of (set s.work y 1) s.unbuilt) h (omega arith)))
 
-  visited-step : (k : Lead) (s : Visited) → Good s → ((y : ℕ) → To k y → R y) → Steps s (To k) (visited l symbols sections lists k s)
+  visited-step : (k : Option SectionId) (s : Visited) → Good s → ((y : ℕ) → To k y → R y) → Steps s (To k) (visited l symbols sections lists k s)
   unfolding visited
   visited-step k s g p = visit-step (unvisited n s.work) k s g (omega arith) p
 
@@ -296,27 +292,27 @@ module _ (l : Link) (x : Lists) (symbols sections : List ℕ) (entry : EntryPoin
       narrow
       (visited-step (root_lead x.bytes x.names sections n i) s g
       (λ y m. by-test (is_root x.bytes x.names sections n i)
-      (λ t. let d : Leading.Section (section_id i) ≡ Leading.Section (section_id y) = rw t at m in
+      (λ t. let d : Some (section_id i) ≡ Some (section_id y) = rw t at m in
       let f : section_id i ≡ section_id y = cc in
       let q = root-own l x symbols sections i t in
       subst R (ap (λ (k : SectionId). k.0) f) (root q.0 q.1))
       (λ t. absurd (elsewhere (section_id y) (rw t at m)))))
-      (λ y m. rw m.1 (ap (λ (k : ℕ). Leading.Section (section_id k)) (sym m.0)))
+      (λ y m. rw m.1 (ap (λ (k : ℕ). Some (section_id k)) (sym m.0)))
 
   abbrev Entered : ℕ → Type 0
-  Entered y = (i : ℕ) × (entry ≡ Entry.Symbol (symbol_id i)) × Lies i y
+  Entered y = (i : ℕ) × (entry ≡ Some (symbol_id i)) × Lies i y
 
-  entry-sound : (e : EntryPoint) → entry ≡ e → (y : ℕ) → To (entry_lead symbols l.symbols e) y → R y
-  entry-sound Entry.None d y m = absurd (elsewhere (section_id y) m)
-  entry-sound (Entry.Symbol id) d y m = entered id.0 d (leads-own l x symbols sections id.0 y m)
+  entry-sound : (e : Option SymbolId) → entry ≡ e → (y : ℕ) → To (entry_lead symbols l.symbols e) y → R y
+  entry-sound None d y m = absurd (elsewhere (section_id y) m)
+  entry-sound (Some id) d y m = entered id.0 d (leads-own l x symbols sections id.0 y m)
 
-  entry-met : (e : EntryPoint) → entry ≡ e → (y : ℕ) → Entered y → To (entry_lead symbols l.symbols e) y
-  entry-met Entry.None d y m = absurd (never m.0 (sym d ∙ m.1))
+  entry-met : (e : Option SymbolId) → entry ≡ e → (y : ℕ) → Entered y → To (entry_lead symbols l.symbols e) y
+  entry-met None d y m = absurd (never m.0 (sym d ∙ m.1))
     where
-      never : (i : ℕ) → Entry.None ≡ Entry.Symbol (symbol_id i) → ⊥
+      never : (i : ℕ) → None ≡ Some (symbol_id i) → ⊥
       never i e = let z : ◌≡◌ {A = ℕ} 0 1 = cc in omega arith
-  entry-met (Entry.Symbol id) d y m =
-      let f : Entry.Symbol (symbol_id m.0) ≡ Entry.Symbol id = sym m.1 ∙ d in
+  entry-met (Some id) d y m =
+      let f : Some (symbol_id m.0) ≡ Some id = sym m.1 ∙ d in
       let k : symbol_id m.0 ≡ id = cc in
       rw (← k) m.2
 
@@ -344,7 +340,7 @@ module _ (l : Link) (x : Lists) (symbols sections : List ℕ) (entry : EntryPoin
         never : {k : ℕ} → k ≡ 0 → k ≡ 1 → ⊥
         never z m = omega arith
 
-        nobody : (id : SectionId) → None ≡ Lowest id → ⊥
+        nobody : (id : SectionId) → None ≡ Some id → ⊥
         nobody id e = let z : ◌≡◌ {A = ℕ} 0 1 = cc in omega arith
 
     abbrev a₁ : Visited

@@ -1,6 +1,6 @@
 -- The index of an archive that a list tells, in lent bytes.
 -- Assumes nothing.
-use Rattle.std.specs.Prelude.{ℕ, ◌+◌, ◌*◌, ◌/◌, ◌%◌, ◌^◌, cond, List, [], ◌∷◌, length, ◌==◌, nat_lt, slice_set}
+use Rattle.std.specs.Prelude.{ℕ, ◌+◌, ◌*◌, ◌/◌, ◌%◌, ◌^◌, cond, List, [], ◌∷◌, length, ◌==◌, nat_lt, slice_set, None}
 use Rattle.byte_slices.specs.Bytes.{copied}
 use Rattle.symbol.specs.Codes.{successor}
 use Rattle.text.specs.Fields.{field_of}
@@ -18,7 +18,7 @@ told_as file a = record { file = file; archive = a }
 
 -- nothing was offered yet
 abbrev pub archive_as : ℕ → ℕ → Archive
-archive_as len entries = record { length = len; entries = entries; offered = 0 }
+archive_as len entries = record { length = len; entries = entries; offered = None }
 
 unfoldable pub put_byte : List ℕ → ℕ → ℕ → List ℕ
 put_byte file i v = slice_set file i (v % 256)

@@ -1,11 +1,14 @@
 -- The load of the shared object that was told, with what is lent of each store.
 -- Assumes nothing.
-use Rattle.std.specs.Prelude.{ℕ, ◌-◌, ◌*◌, cond, List, ◌++◌, length, take, drop, nat_lt}
+use Rattle.shared_objects.specs.declared.Load.TheVariants.{NotNeeded, Loaded}
+use Rattle.link.specs.declared.Refusal.{Refusal}
+use Rattle.shared_objects.specs.declared.Load.{Load}
+use Rattle.std.specs.Prelude.{ℕ, ◌-◌, ◌*◌, cond, List, ◌++◌, length, take, drop, nat_lt, Result, Ok, Err}
 use denote.Triple.Both.{Both}
 use Rattle.byte_slices.specs.Bytes.{part}
 use Rattle.link.specs.declared.Link.{Link}
-use Rattle.shared_objects.specs.declared.Answer.{Answer}
-use Rattle.shared_objects.specs.Load.{All, all_of, Input, input_as, Left, load_of, Cells}
+use Rattle.shared_objects.specs.Load.{All, all_of, Input, input_as, Left, load_of, Cells, cells_of}
+use Rattle.replay_stores.specs.declared.Stores.{Stores}
 use Rattle.replay_text.specs.declared.replies.Reply.{Reply}
 use Rattle.replay_text.specs.declared.replies.Changed.{Changed}
 use Rattle.replay_words.specs.declared.lend.Lend.{Lend}
@@ -14,12 +17,12 @@ use Rattle.replay_load.specs.declared.Library.{Library}
 
 -- ---- the answer
 
-abbrev pub reply_of : Answer → Reply
-reply_of Answer.Loaded = Reply.Loaded
-reply_of Answer.NotNeeded = Reply.NotNeeded
-reply_of (Answer.Refused r) = Reply.Refused r
+abbrev pub reply_of : Result Load Refusal → Result Reply Refusal
+reply_of (Ok Loaded) = Ok Reply.Loaded
+reply_of (Ok NotNeeded) = Ok Reply.NotNeeded
+reply_of (Err r) = Err r
 
-unfoldable pub changed_as : Link → Answer → Changed
+unfoldable pub changed_as : Link → Result Load Refusal → Changed
 changed_as l answer = record { table = record { link = l }; reply = reply_of answer }
 
 -- ---- the shared object
@@ -48,6 +51,14 @@ pub record Done : Type 0 where
 
 abbrev pub done_of : List ℕ → List ℕ → List ℕ → List ℕ → List ℕ → List ℕ → List ℕ → Changed → Done
 done_of b n s x i l m c = record { bytes = b; names = n; symbols = s; sections = x; inputs = i; lists = l; marks = m; changed = c }
+
+-- the stores' cells before the call and after it
+abbrev pub cells_of_stores : Stores → Stores → Both Cells Cells
+cells_of_stores s t =
+    record {
+      entry = cells_of s.bytes.now s.names.now s.symbols.now s.sections.now s.inputs.now s.lists.now s.ids.now;
+      exit = cells_of t.bytes.now t.names.now t.symbols.now t.sections.now t.inputs.now t.lists.now t.ids.now;
+    }
 
 -- with the cells after the call
 abbrev pub done_after : Both Cells Cells → Changed → Done

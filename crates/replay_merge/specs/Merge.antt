@@ -1,13 +1,14 @@
 -- The merge of the object that was told, with what is lent of each store.
 -- Assumes nothing.
-use Rattle.std.specs.Prelude.{ℕ, List, ◌++◌, length, take, drop}
+use Rattle.link.specs.declared.Refusal.{Refusal}
+use Rattle.std.specs.Prelude.{ℕ, List, ◌++◌, length, take, drop, Result, Ok, Err}
 use denote.Triple.Both.{Both}
 use Rattle.byte_slices.specs.Bytes.{part}
 use Rattle.link.specs.declared.Link.{Link}
-use Rattle.merge_stages.specs.Stages.{All, all_of, Cells}
+use Rattle.merge_stages.specs.Stages.{All, all_of, Cells, cells_of}
 use Rattle.merge_stages.specs.Stages as Stages
-use Rattle.merge_elf.specs.declared.Answer.{Answer}
 use Rattle.merge_elf.specs.Merge.{Left, merge_of}
+use Rattle.replay_stores.specs.declared.Stores.{Stores}
 use Rattle.replay_text.specs.declared.replies.Reply.{Reply}
 use Rattle.replay_text.specs.declared.replies.Changed.{Changed}
 use Rattle.replay_words.specs.declared.lend.Lend.{Lend}
@@ -17,11 +18,11 @@ use Rattle.replay_object.specs.Told.{headers_in, entries_in, contents_in}
 
 -- ---- the answer
 
-abbrev pub reply_of : Answer → Reply
-reply_of Answer.Merged = Reply.Merged
-reply_of (Answer.Refused r) = Reply.Refused r
+abbrev pub reply_of : Result Unit Refusal → Result Reply Refusal
+reply_of (Ok tt) = Ok Reply.Merged
+reply_of (Err r) = Err r
 
-unfoldable pub changed_as : Link → Answer → Changed
+unfoldable pub changed_as : Link → Result Unit Refusal → Changed
 changed_as l answer = record { table = record { link = l }; reply = reply_of answer }
 
 -- ---- the merge
@@ -43,6 +44,14 @@ pub record Done : Type 0 where
 abbrev pub done_of : List ℕ → List ℕ → List ℕ → List ℕ → List ℕ → List ℕ → List ℕ → List ℕ → Changed → Done
 done_of b n s x i l w d c =
     record { bytes = b; names = n; symbols = s; sections = x; inputs = i; lists = l; work = w; ids = d; changed = c }
+
+-- the stores' cells before the call and after it
+abbrev pub cells_of_stores : Stores → Stores → Both Cells Cells
+cells_of_stores s t =
+    record {
+      entry = cells_of s.bytes.now s.names.now s.symbols.now s.sections.now s.inputs.now s.lists.now s.work.now s.ids.now;
+      exit = cells_of t.bytes.now t.names.now t.symbols.now t.sections.now t.inputs.now t.lists.now t.work.now t.ids.now;
+    }
 
 -- with the cells after the call
 abbrev pub done_after : Both Cells Cells → Changed → Done

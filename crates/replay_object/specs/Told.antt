@@ -8,8 +8,9 @@ use Rattle.symbol.specs.Codes.{successor}
 use Rattle.text.specs.Fields.{field_of}
 use Rattle.replay_words.specs.Words.{word_is, number_at}
 use Rattle.replay_words.specs.Spelled.{Spelled, put_bytes}
-use Rattle.cells.specs.Slice.{SliceMut}
 use Rattle.replay_object.specs.declared.Object.{Object}
+use Rattle.replay_object.specs.declared.Kind.{Kind}
+use Rattle.replay_object.specs.declared.Kind.TheVariants as Kinds
 
 abbrev pub wrapped : ℕ → ℕ
 wrapped n = n % 2 ^ 64
@@ -66,6 +67,10 @@ list_from (suc n) c at line j = list_from n (listed_of c at line j) at line (j +
 unfoldable pub put_list_of : List ℕ → ℕ → List ℕ → ℕ → List ℕ
 put_list_of c at line count = cond (nat_lt 2048 count) c (list_from count c at line 0)
 
+-- 3 and 10 are tables of symbols, 4 is one of strings
+unfoldable pub kind_of : ℕ → Kind
+kind_of number = cond (number == 3) Kinds.Symbols (cond (number == 10) Kinds.Symbols (cond (number == 4) Kinds.Strings Kinds.Words))
+
 -- where its contents begin: by the list's words for a symbol table, in the file for a string table, else among the contents
 unfoldable pub contents_start_of : Object → List ℕ → ℕ → ℕ
 contents_start_of o line kind =
@@ -108,10 +113,6 @@ pub record Told : Type 0 where
 
 abbrev pub told_as : List ℕ → List ℕ → Object → Told
 told_as c f o = record { cells = c; file = f; object = o }
-
--- of lent slices after the call
-abbrev pub told_after : SliceMut → SliceMut → Object → Told
-told_after c f o = told_as c.exit.now f.exit.now o
 
 -- s: its bytes in the file
 unfoldable pub section_after : List ℕ → Object → List ℕ → Spelled → Told

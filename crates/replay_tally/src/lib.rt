@@ -3,11 +3,12 @@
 
 ghost use Rattle.std.specs.Prelude.{◌≡◌};
 ghost use Rattle.symbol.specs.Codes.{successor};
-ghost use Rattle.replay_tally.specs.Answer.{line_length, first_line, meets};
+ghost use Rattle.replay_tally.specs.Answer.{first_line, meets};
 ghost use Rattle.replay_tally.specs.Tally.{started, on_line, on_link, answered_by, differing, pending_of, past_of, compared_of, compare_of, settle_of};
 
 // Counts, the line that was read last, and the answers of the last operation that weren't compared yet: text from `from` to `to`.
-#[derive(Clone, Copy)]
+// Kept: (4) a tally is copied, and a Range isn't Copy; a slice of the text would keep it from being written.
+#[derive(Clone, Copy, Debug, PartialEq, Eq)]
 pub struct Tally {
     pub line: u64,
     pub links: u64,
@@ -20,190 +21,137 @@ pub struct Tally {
 
 // ---- comparing
 
-fn line_length(text: &[u8]) -> usize
-    ensures { result ≡ line_length text.now }
-{
-    let mut i = 0;
-    while i < text.len() {
-        if text[i] == 10 {
-            return i;
-        }
-        i += 1;
-    }
-    i
-}
-
 // The text before the first line end, or all of it.
 pub fn first_line(text: &[u8]) -> &[u8]
     ensures result_value { result.now ≡ first_line text.now }
     ensures place { result.ref_ptr.0 ≡ text.entry.ref_ptr.0 }
 {
-    byte_slices::part_of(text, 0, line_length(text))
+    let end = text.iter().position(|&b| b == b'\n').unwrap_or(text.len());
+    &text[..end]
 }
 
 // Is the answer what is expected? Where that ends in `?`, what stands there isn't compared.
 pub fn same_answer(expected: &[u8], got: &[u8]) -> bool
     ensures { result ≡ meets expected.now got.now }
 {
-    let n = expected.len();
-    if n == 0 {
-        return byte_slices::same_bytes(expected, got);
-    }
-    let last = n - 1;
-    if expected[last] == 63 {
-        let a = byte_slices::part_of(expected, 0, last);
-        let b = byte_slices::part_of(got, 0, last);
-        return byte_slices::same_bytes(a, b);
+    let Some((&last, start)) = expected.split_last() else {
+        return got.is_empty();
+    };
+    if last == b'?' {
+        return got.starts_with(start);
     }
     byte_slices::same_bytes(expected, got)
 }
 
 // ---- the tally
 
+#[tactic(auto, unfolding(symbol::specs::Codes::successor))]
 fn more(n: u64) -> u64
     ensures { result ≡ successor n }
 {
-    symbol::next(n as usize) as u64
+    n.saturating_add(1)
 }
 
-pub fn start() -> Tally
-    ensures { result ≡ started }
-{
-    Tally {
-        line: 0,
-        links: 0,
-        operations: 0,
-        answers: 0,
-        differences: 0,
-        from: 0,
-        to: 0,
-    }
-}
-
-pub fn on_line(t: Tally) -> Tally
-    ensures { result ≡ on_line t }
-{
-    Tally {
-        line: more(t.line),
-        links: t.links,
-        operations: t.operations,
-        answers: t.answers,
-        differences: t.differences,
-        from: t.from,
-        to: t.to,
-    }
-}
-
-pub fn on_link(t: Tally) -> Tally
-    ensures { result ≡ on_link t }
-{
-    Tally {
-        line: t.line,
-        links: more(t.links),
-        operations: t.operations,
-        answers: t.answers,
-        differences: t.differences,
-        from: t.from,
-        to: t.to,
-    }
-}
-
-// After an operation whose answers are the first `to` bytes of the text.
-pub fn answered(t: Tally, to: usize) -> Tally
-    ensures { result ≡ answered_by t to }
-{
-    Tally {
-        line: t.line,
-        links: t.links,
-        operations: more(t.operations),
-        answers: t.answers,
-        differences: t.differences,
-        from: 0,
-        to: to,
-    }
-}
-
-// The first ten are shown.
-fn show(t: Tally, expected: &[u8], got: &[u8]) {
-    if t.differences < 10 {
-        io::write_all(1, b"line ");
-        io::print_decimal(1, t.line);
-        io::write_all(1, b": expected ");
-        io::write_all(1, expected);
-        io::write_all(1, b", got ");
-        io::write_all(1, got);
-        io::write_all(1, b"\n");
-    }
-}
-
-pub fn differs(t: Tally, expected: &[u8], got: &[u8]) -> Tally
-    ensures { result ≡ differing t }
-{
-    show(t, expected, got);
-    Tally {
-        line: t.line,
-        links: t.links,
-        operations: t.operations,
-        answers: t.answers,
-        differences: more(t.differences),
-        from: t.from,
-        to: t.to,
-    }
-}
-
+#[tactic(auto, unfolding(crate::specs::Tally::pending_of))]
 fn pending<'a>(text: &'a [u8], from: usize, to: usize) -> &'a [u8]
     ensures { result.now ≡ pending_of text.now from to }
 {
-    if to < from {
-        return byte_slices::part_of(text, 0, 0);
-    }
-    byte_slices::part_of(text, from, to - from)
+    byte_slices::part_of(text, from, to.saturating_sub(from))
 }
 
+#[tactic(auto, unfolding(crate::specs::Tally::past_of))]
 fn past(from: usize, len: usize, to: usize) -> usize
     ensures { result ≡ past_of from len to }
 {
-    if to < from {
-        return to;
-    }
-    if len < to - from {
+    if len < to.saturating_sub(from) {
         return from + len + 1;
     }
     to
 }
 
-fn compared(t: Tally, len: usize) -> Tally
-    ensures { result ≡ compared_of t len }
-{
-    Tally {
-        line: t.line,
-        links: t.links,
-        operations: t.operations,
-        answers: more(t.answers),
-        differences: t.differences,
-        from: past(t.from, len, t.to),
-        to: t.to,
+impl Tally {
+    pub fn new() -> Tally
+        ensures { result ≡ started }
+    {
+        Tally {
+            line: 0,
+            links: 0,
+            operations: 0,
+            answers: 0,
+            differences: 0,
+            from: 0,
+            to: 0,
+        }
     }
-}
 
-// An expected answer against the next one of the text.
-pub fn compare(t: Tally, text: &[u8], expected: &[u8]) -> Tally
-    ensures { result ≡ compare_of t text.now expected.now }
-{
-    let got = first_line(pending(text, t.from, t.to));
-    let next = compared(t, got.len());
-    if same_answer(expected, got) {
-        return next;
+    pub fn on_line(&mut self)
+        ensures { self.new ≡ on_line self.old }
+    {
+        self.line = more(self.line);
     }
-    differs(next, expected, got)
-}
 
-// Before the next operation: an answer that the list doesn't have is a difference.
-pub fn settle(t: Tally, text: &[u8]) -> Tally
-    ensures { result ≡ settle_of t }
-{
-    if t.from < t.to {
-        return differs(t, b"no answer", first_line(pending(text, t.from, t.to)));
+    pub fn on_link(&mut self)
+        ensures { self.new ≡ on_link self.old }
+    {
+        self.links = more(self.links);
     }
-    t
+
+    // After an operation whose answers are the first `to` bytes of the text.
+    pub fn answered(&mut self, to: usize)
+        ensures { self.new ≡ answered_by self.old to }
+    {
+        self.operations = more(self.operations);
+        self.from = 0;
+        self.to = to;
+    }
+
+    // The first ten are shown.
+    // Kept: (4) answers are bytes that needn't be text, which no Display writes; and println! can fail, where counting can't.
+    fn show(self, expected: &[u8], got: &[u8]) {
+        if self.differences < 10 {
+            io::write_all(1, b"line ");
+            io::print_decimal(1, self.line);
+            io::write_all(1, b": expected ");
+            io::write_all(1, expected);
+            io::write_all(1, b", got ");
+            io::write_all(1, got);
+            io::write_all(1, b"\n");
+        }
+    }
+
+    pub fn differs(&mut self, expected: &[u8], got: &[u8])
+        ensures { self.new ≡ differing self.old }
+    {
+        self.show(expected, got);
+        self.differences = more(self.differences);
+    }
+
+    fn compared(&mut self, len: usize)
+        ensures { self.new ≡ compared_of self.old len }
+    {
+        self.answers = more(self.answers);
+        self.from = past(self.from, len, self.to);
+    }
+
+    // An expected answer against the next one of the text.
+    #[tactic(auto, unfolding(crate::specs::Tally::compare_of))]
+    pub fn compare(&mut self, text: &[u8], expected: &[u8])
+        ensures { self.new ≡ compare_of self.old text.now expected.now }
+    {
+        let got = first_line(pending(text, self.from, self.to));
+        self.compared(got.len());
+        if !same_answer(expected, got) {
+            self.differs(expected, got);
+        }
+    }
+
+    // Before the next operation: an answer that the list doesn't have is a difference.
+    #[tactic(auto, unfolding(crate::specs::Tally::settle_of))]
+    pub fn settle(&mut self, text: &[u8])
+        ensures { self.new ≡ settle_of self.old }
+    {
+        if self.from < self.to {
+            self.differs(b"no answer", first_line(pending(text, self.from, self.to)));
+        }
+    }
 }

@@ -1,7 +1,8 @@
 -- Answers as the oracle's lists write them: the pieces that are put one behind the other.
 -- Assumes nothing.
-use Rattle.std.specs.Prelude.{ℕ, ◌+◌, ◌-◌, Bool, true, false, cond, List, [], ◌∷◌, ◌++◌, eqb, ltb, length}
-use Rattle.text.specs.Text.{Text, put_of}
+use Rattle.link.specs.declared.Interned.{Interned}
+use Rattle.std.specs.Prelude.{ℕ, ◌+◌, ◌-◌, Bool, true, false, cond, List, [], ◌∷◌, ◌++◌, eqb, ltb, length, Option, None, Some}
+pub use Rattle.text.specs.Writing.{Pieces, put_all}
 use Rattle.link.specs.declared.Refusal.{Refusal}
 use Rattle.interner.specs.Names.{name_at}
 use Rattle.symbol.specs.Offset.{word_of}
@@ -12,17 +13,7 @@ use Rattle.symbol.specs.declared.SymbolVisibility.{SymbolVisibility}
 use Rattle.symbol.specs.declared.SymbolVisibility.TheVariants as Visibility
 use Rattle.symbol.specs.declared.SymbolValue.{SymbolValue}
 use Rattle.symbol.specs.declared.SymbolValue.TheVariants as Value
-use Rattle.symbol.specs.declared.SttFile.{SttFile}
-use Rattle.symbol.specs.declared.SttFile.TheVariants as File
-use Rattle.replay_text.specs.Decimal.{decimal}
-
-abbrev pub Pieces : Type 0
-Pieces = List (List ℕ)
-
--- each behind those before it; one that doesn't have room whole is left out
-unfoldable pub put_all : Text → Pieces → Text
-put_all t [] = t
-put_all t (x ∷ l) = put_all (put_of t.bytes t.len x) l
+pub use Rattle.text.specs.Digits.{decimal}
 
 -- ---- words
 
@@ -177,9 +168,9 @@ type_text Kind.Section = (32 ∷ 51 ∷ []) ∷ []
 unfoldable pub kind_text : Symbol → Pieces
 kind_text s = visibility_text s.visibility ++ type_text s.kind
 
-unfoldable pub file_text : List ℕ → List ℕ → SttFile → Pieces
-file_text bytes names File.None = no_file_word ∷ []
-file_text bytes names (File.Name id) = file_word ∷ name_text bytes names id.0
+unfoldable pub file_text : List ℕ → List ℕ → Option Interned → Pieces
+file_text bytes names None = no_file_word ∷ []
+file_text bytes names (Some id) = file_word ∷ name_text bytes names id.0
 
 -- `symbol ID NAME`
 unfoldable pub head_text : List ℕ → List ℕ → Symbol → Pieces

@@ -1,4 +1,2 @@
-pub mod Decimal
 pub mod Answers
-pub mod Proof
 pub mod RepliesAnswers

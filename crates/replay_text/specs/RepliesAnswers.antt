@@ -1,10 +1,11 @@
 -- What changing calls and lookups answer, as the lists write it.
 -- Assumes nothing.
-use Rattle.std.specs.Prelude.{ℕ, Bool, true, false, cond, List, [], ◌∷◌, ◌++◌}
+use Rattle.link.specs.declared.Refusal.{Refusal}
+use Rattle.symbol.specs.declared.Symbol.{Symbol}
+use Rattle.link.specs.declared.SymbolId.{SymbolId}
+use Rattle.std.specs.Prelude.{ℕ, Bool, true, false, cond, List, [], ◌∷◌, ◌++◌, Option, Result, None, Some, Ok, Err}
 use Rattle.link.specs.declared.Link.{Link}
 use Rattle.interner.specs.Names.{find_of}
-use Rattle.symbols.specs.declared.Found.{Found}
-use Rattle.symbols.specs.declared.SectionSymbol.{SectionSymbol}
 use Rattle.symbols.specs.Lookup.{get_of, get_global_of, section_symbol_of}
 use Rattle.replay_words.specs.Words.{word_is, number_at, name_at}
 use Rattle.replay_text.specs.Answers.{Pieces, space_word, numbered, refusal_text, symbol_text}
@@ -58,24 +59,24 @@ get_key = 103 ∷ 101 ∷ 116 ∷ []
 abbrev pub global_key : List ℕ
 global_key = 103 ∷ 108 ∷ 111 ∷ 98 ∷ 97 ∷ 108 ∷ []
 
-unfoldable pub reply_text : Reply → Pieces
-reply_text Reply.Silent = []
-reply_text (Reply.Id id) = numbered id_word id.0
-reply_text Reply.Done = ok_word ∷ []
-reply_text Reply.Merged = merged_word ∷ []
-reply_text Reply.Loaded = loaded_word ∷ []
-reply_text Reply.NotNeeded = not_needed_word ∷ []
-reply_text (Reply.Refused r) = refusal_text r
+unfoldable pub reply_text : Result Reply Refusal → Pieces
+reply_text (Ok Reply.Silent) = []
+reply_text (Ok (Reply.Id id)) = numbered id_word id.0
+reply_text (Ok Reply.Done) = ok_word ∷ []
+reply_text (Ok Reply.Merged) = merged_word ∷ []
+reply_text (Ok Reply.Loaded) = loaded_word ∷ []
+reply_text (Ok Reply.NotNeeded) = not_needed_word ∷ []
+reply_text (Err r) = refusal_text r
 
 -- ---- lookups
 
-unfoldable pub found_text : List ℕ → List ℕ → Found → Pieces
-found_text bytes names (Found.Row symbol) = symbol_text bytes names symbol
-found_text bytes names (Found.Refused r) = refusal_text r
+unfoldable pub found_text : List ℕ → List ℕ → Result Symbol Refusal → Pieces
+found_text bytes names (Ok symbol) = symbol_text bytes names symbol
+found_text bytes names (Err r) = refusal_text r
 
-unfoldable pub section_symbol_text : SectionSymbol → Pieces
-section_symbol_text SectionSymbol.None = none_word ∷ []
-section_symbol_text (SectionSymbol.Symbol id) = numbered id_word id.0
+unfoldable pub section_symbol_text : Option SymbolId → Pieces
+section_symbol_text None = none_word ∷ []
+section_symbol_text (Some id) = numbered id_word id.0
 
 unfoldable pub broken_text : Bool → Pieces
 broken_text true = broken_word ∷ []

@@ -1,137 +1,127 @@
 // What changing calls answer, as the lists write it, and lookups that a list asks for.
 ghost use Rattle.std.specs.Prelude.{◌≡◌};
-ghost use Rattle.text.specs.Text.{text_of};
-ghost use Rattle.replay_text.specs.Answers.{put_all};
-ghost use Rattle.replay_text.specs.RepliesAnswers.{reply_text, found_text, section_symbol_text, broken_text, pair_text, end_text, front_text, back_text, counts_text, look_text};
+ghost use Rattle.text.specs.Writing.{Puts};
+ghost use Rattle.replay_text.specs.RepliesAnswers.{reply_text, found_text, section_symbol_text, broken_text, counts_text, look_text};
 
+use crate::Names;
 use link::{Link, Refusal, SectionId, SymbolId};
-use symbols::{Found, SectionSymbol, Symbols};
+use symbol::Symbol;
+use symbols::Symbols;
+use text::Writer;
 
-// What a changing call answers; Silent for an operation without answer.
+// What a changing call answers where it isn't refused; Silent for an operation without answer.
 #[derive(Clone, Copy)]
 pub enum Reply {
     Silent,
-    Id { id: SymbolId },
+    Id(SymbolId),
     Done,
     Merged,
     Loaded,
     NotNeeded,
-    Refused { refusal: Refusal },
 }
 
 #[derive(Clone, Copy)]
 pub struct Changed {
     pub table: Symbols,
-    pub reply: Reply,
+    pub reply: Result<Reply, Refusal>,
 }
 
-pub fn put_reply(out: &mut [u8], r: Reply) -> usize
-    ensures { text_of out.new result ≡ put_all (text_of out.old 0) (reply_text r) }
+#[tactic(auto, using(text::specs::Proof::WritingWays::puts_none), unfolding(crate::specs::RepliesAnswers::reply_text))]
+pub fn put_reply(out: &mut Writer<'_>, reply: Result<Reply, Refusal>)
+    ensures { Puts out.old out.new (reply_text reply) }
 {
-    match r {
-        Reply::Silent => 0,
-        Reply::Id { id } => crate::put_numbered(out, 0, b"id ", id.0 as u64),
-        Reply::Done => text::put(out, 0, b"ok"),
-        Reply::Merged => text::put(out, 0, b"merged"),
-        Reply::Loaded => text::put(out, 0, b"loaded"),
-        Reply::NotNeeded => text::put(out, 0, b"notneeded"),
-        Reply::Refused { refusal } => crate::put_refusal(out, 0, refusal),
+    match reply {
+        Ok(Reply::Silent) => {}
+        Ok(Reply::Id(id)) => crate::put_numbered(out, b"id ", id.0 as u64),
+        Ok(Reply::Done) => out.put(b"ok"),
+        Ok(Reply::Merged) => out.put(b"merged"),
+        Ok(Reply::Loaded) => out.put(b"loaded"),
+        Ok(Reply::NotNeeded) => out.put(b"notneeded"),
+        Err(refusal) => crate::put_refusal(out, refusal),
     }
 }
 
 // ---- lookups
 
-fn put_found(out: &mut [u8], bytes: &[u8], names: &[u64], f: Found) -> usize
-    ensures { text_of out.new result ≡ put_all (text_of out.old 0) (found_text bytes.now names.now f) }
+#[tactic(auto, unfolding(crate::specs::RepliesAnswers::found_text))]
+fn put_found(out: &mut Writer<'_>, names: Names<'_>, found: Result<Symbol, Refusal>)
+    ensures { Puts out.old out.new (found_text names.entry.bytes.now names.entry.cells.now found) }
 {
-    match f {
-        Found::Row { symbol } => crate::put_symbol(out, 0, bytes, names, symbol),
-        Found::Refused { refusal } => crate::put_refusal(out, 0, refusal),
+    match found {
+        Ok(symbol) => crate::put_symbol(out, names, symbol),
+        Err(refusal) => crate::put_refusal(out, refusal),
     }
 }
 
-fn put_section_symbol(out: &mut [u8], s: SectionSymbol) -> usize
-    ensures { text_of out.new result ≡ put_all (text_of out.old 0) (section_symbol_text s) }
+#[tactic(auto, unfolding(crate::specs::RepliesAnswers::section_symbol_text))]
+fn put_section_symbol(out: &mut Writer<'_>, id: Option<SymbolId>)
+    ensures { Puts out.old out.new (section_symbol_text id) }
 {
-    match s {
-        SectionSymbol::None => text::put(out, 0, b"none"),
-        SectionSymbol::Symbol { id } => crate::put_numbered(out, 0, b"id ", id.0 as u64),
+    match id {
+        None => out.put(b"none"),
+        Some(id) => crate::put_numbered(out, b"id ", id.0 as u64),
     }
 }
 
-fn put_broken(out: &mut [u8], n: usize, broken: bool) -> usize
-    ensures { text_of out.new result ≡ put_all (text_of out.old n) (broken_text broken) }
+#[tactic(auto, unfolding(crate::specs::RepliesAnswers::broken_text))]
+fn put_broken(out: &mut Writer<'_>, broken: bool)
+    ensures { Puts out.old out.new (broken_text broken) }
 {
     if broken {
-        return text::put(out, n, b" 1");
+        out.put(b" 1");
+    } else {
+        out.put(b" 0");
     }
-    text::put(out, n, b" 0")
 }
 
-fn put_pair(out: &mut [u8], n: usize, a: usize, b: usize) -> usize
-    ensures { text_of out.new result ≡ put_all (text_of out.old n) (pair_text a b) }
+// `counts NAMES BYTES SYMBOLS SECTIONS INPUTS LISTS BROKEN`
+fn put_counts(out: &mut Writer<'_>, l: Link)
+    ensures { Puts out.old out.new (counts_text l) }
 {
-    let m = crate::put_numbered(out, n, b" ", a as u64);
-    crate::put_numbered(out, m, b" ", b as u64)
+    crate::put_numbered(out, b"counts ", l.names as u64);
+    crate::put_numbered(out, b" ", l.bytes as u64);
+    crate::put_numbered(out, b" ", l.symbols as u64);
+    crate::put_numbered(out, b" ", l.sections as u64);
+    crate::put_numbered(out, b" ", l.inputs as u64);
+    crate::put_numbered(out, b" ", l.lists as u64);
+    put_broken(out, l.broken);
 }
 
-fn put_end(out: &mut [u8], n: usize, lists: usize, broken: bool) -> usize
-    ensures { text_of out.new result ≡ put_all (text_of out.old n) (end_text lists broken) }
-{
-    let m = crate::put_numbered(out, n, b" ", lists as u64);
-    put_broken(out, m, broken)
+// A link's tables, lent to be looked at.
+#[derive(Clone, Copy)]
+pub struct View<'a> {
+    pub table: Symbols,
+    pub names: Names<'a>,
+    pub symbols: &'a [u64],
+    pub sections: &'a [u64],
 }
 
-// `counts NAMES BYTES SYMBOLS`
-fn put_front(out: &mut [u8], l: Link) -> usize
-    ensures { text_of out.new result ≡ put_all (text_of out.old 0) (front_text l) }
-{
-    let names = crate::put_numbered(out, 0, b"counts ", l.names as u64);
-    put_pair(out, names, l.bytes, l.symbols)
-}
-
-// ` SECTIONS INPUTS LISTS BROKEN`
-fn put_back(out: &mut [u8], n: usize, l: Link) -> usize
-    ensures { text_of out.new result ≡ put_all (text_of out.old n) (back_text l) }
-{
-    let inputs = put_pair(out, n, l.sections, l.inputs);
-    put_end(out, inputs, l.lists, l.broken)
-}
-
-fn put_counts(out: &mut [u8], l: Link) -> usize
-    ensures { text_of out.new result ≡ put_all (text_of out.old 0) (counts_text l) }
-{
-    let n = put_front(out, l);
-    put_back(out, n, l)
-}
-
-// `counts`, `get ID`, `global NAME`, `sectionsymbol SECTION`
-pub fn look(
-    table: Symbols,
-    out: &mut [u8],
-    bytes: &[u8],
-    names: &[u64],
-    symbols: &[u64],
-    sections: &[u64],
-    line: &[u8],
-) -> usize
-    ensures { text_of out.new result
-        ≡ put_all (text_of out.old 0) (look_text table.link bytes.now names.now symbols.now sections.now line.now) }
-{
-    if replay_words::is(line, 0, b"counts") {
-        return put_counts(out, table.link);
+impl View<'_> {
+    // `counts`, `get ID`, `global NAME`, `sectionsymbol SECTION`
+    // Kept: (4) an enum of the four words would be read from them by the same tests and matched once.
+    #[tactic(auto, unfolding(crate::specs::RepliesAnswers::look_text))]
+    pub fn look(self, line: &[u8], out: &mut Writer<'_>)
+        ensures { Puts out.old out.new
+            (look_text self.entry.table.link self.entry.names.bytes.now self.entry.names.cells.now self.entry.symbols.now self.entry.sections.now line.now) }
+    {
+        let names = self.names;
+        if replay_words::is(line, 0, b"counts") {
+            return put_counts(out, self.table.link);
+        }
+        if replay_words::is(line, 0, b"get") {
+            let id = SymbolId(replay_words::number(line, 1) as usize);
+            return put_found(out, names, symbols::get(self.table, self.symbols, id));
+        }
+        if replay_words::is(line, 0, b"global") {
+            let name = replay_words::name_at(line, 1);
+            let id = interner::find(self.table.link, names.bytes, names.cells, name);
+            let found = symbols::get_global(self.table, names.cells, self.symbols, id);
+            return put_found(out, names, found);
+        }
+        let section = SectionId(replay_words::number(line, 1) as usize);
+        put_section_symbol(
+            out,
+            symbols::section_symbol_id(self.table, self.sections, section),
+        );
     }
-    if replay_words::is(line, 0, b"get") {
-        let id = SymbolId(replay_words::number(line, 1) as usize);
-        let found = symbols::get(table, symbols, id);
-        return put_found(out, bytes, names, found);
-    }
-    if replay_words::is(line, 0, b"global") {
-        let l = table.link;
-        let id = interner::find(l, bytes, names, replay_words::name_at(line, 1));
-        let found = symbols::get_global(table, names, symbols, id);
-        return put_found(out, bytes, names, found);
-    }
-    let section = SectionId(replay_words::number(line, 1) as usize);
-    put_section_symbol(out, symbols::section_symbol_id(table, sections, section))
 }

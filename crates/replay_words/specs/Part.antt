@@ -30,6 +30,10 @@ everything = 0xffffffffffffffff
 abbrev pub all_lent : Lend
 all_lent = lend_of everything everything everything everything everything everything everything everything
 
+-- of len cells, those of so many rows of a width
+unfoldable pub lent_of : ℕ → ℕ → ℕ → ℕ
+lent_of width count len = cond (nat_lt count (len / width)) (count * width) len
+
 unfoldable pub cells_of : ℕ → ℕ → ℕ
 cells_of count len = cond (nat_lt count len) count len
 

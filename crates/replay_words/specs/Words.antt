@@ -1,19 +1,17 @@
 -- Words of an operation's line, and the numbers and names that they are.
 -- Assumes nothing.
-use Rattle.std.specs.Prelude.{ℕ, Bool, cond, List, [], ◌∷◌}
+use Rattle.std.specs.Prelude.{ℕ, Bool, cond, List, [], ◌∷◌, Option, Some, None}
 use Rattle.byte_slices.specs.Bytes.{same}
 use Rattle.text.specs.Fields.{field_of}
 use Rattle.text.specs.Decimal.{decimal_of}
-use Rattle.text.specs.declared.fields.Number.{Number}
-use Rattle.text.specs.declared.fields.Number.TheVariants.{None, Value}
 
 unfoldable pub word_is : List ℕ → ℕ → List ℕ → Bool
 word_is line k word = same (field_of line k) word
 
 -- a word that is no number is one that no list holds
-abbrev pub value_of : Number → ℕ
+abbrev pub value_of : Option ℕ → ℕ
 value_of None = 0xffffffffffffffff
-value_of (Value v) = v
+value_of (Some v) = v
 
 unfoldable pub number_in : List ℕ → ℕ
 number_in x = value_of (decimal_of x)

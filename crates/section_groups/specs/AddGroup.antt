@@ -1,7 +1,7 @@
 -- Document 01, "Groups" and the refusal table: `add_group` as a call of its own. 22, then 1, then the marks; 4, 5, 6, 7, 2. "Those marked *
 -- break the link when met inside an object", so not here.
 -- Assumes nothing.
-use Rattle.std.specs.Prelude.{ℕ, ◌/◌, cond, List, [], eqb, ltb, length}
+use Rattle.std.specs.Prelude.{ℕ, ◌/◌, cond, List, [], eqb, ltb, length, Result, Ok, Err}
 use Rattle.link.specs.declared.Link.{Link}
 use Rattle.link.specs.declared.Lent.{Lent}
 use Rattle.link.specs.declared.Refusal.{Refusal}
@@ -14,8 +14,6 @@ use Rattle.elf_object.specs.Kinds.{group, symbol_table}
 use Rattle.elf_object.specs.Judge as Elf
 use Rattle.section_groups.specs.Group.{Object, object_of, Step, group_of}
 use Rattle.section_groups.specs.Group as Group
-use Rattle.section_groups.specs.declared.alone.Answer.{Answer}
-use Rattle.section_groups.specs.declared.alone.Answer.TheVariants.{Added, Refused}
 use Rattle.section_groups.specs.declared.alone.Outcome.{Outcome}
 
 -- a section that is no group is out of range; a mark for each section of the object
@@ -31,9 +29,8 @@ check_of l lent headers entries contents image work n =
     cond (eqb (Link.change_of l lent).number 0) (rows_refusal headers work n (Elf.judge_of headers entries contents image)) (Link.change_of l lent)
 
 -- document 01's number and place of the answer; it has no value
-abbrev pub refusal_of : Answer → Refusal
-refusal_of Added = Link.refused 0 0
-refusal_of (Refused r) = r
+abbrev pub refusal_of : Result Unit Refusal → Refusal
+refusal_of = Link.refusal_in
 
 -- every lent cell, the link, the answer and what it says
 pub record Left : Type 0 where
@@ -51,8 +48,8 @@ state_of = Group.state_of
 
 unfoldable pub answer_of : Stage → Outcome
 answer_of s =
-    cond (eqb s.number 0) (record { link = s.link; answer = Added })
-    (record { link = s.link; answer = Refused (Link.refused s.number s.place) })
+    cond (eqb s.number 0) (record { link = s.link; answer = (Ok tt) })
+    (record { link = s.link; answer = Err (Link.refused s.number s.place) })
 
 abbrev pub answered : Step → Left
 answered g = left_of g.bytes g.names g.work (answer_of g.stage)
@@ -74,4 +71,4 @@ loaded_in o = object_of o.headers (table_in o.headers o.entries o.table) o.conte
 unfoldable pub add_group_of : Object → Group.State → ℕ → Left
 add_group_of o s n =
     cond (eqb (head_in o s n).number 0) (answered (group_of (loaded_in o) s n))
-    (left_of s.bytes s.names s.work (record { link = s.link; answer = Refused (head_in o s n) }))
+    (left_of s.bytes s.names s.work (record { link = s.link; answer = Err (head_in o s n) }))

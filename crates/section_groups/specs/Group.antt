@@ -1,15 +1,19 @@
 -- Document 01, "Groups": 4, 5, 6, 7, then 2; "A signature met before, in this or an earlier object, marks the group's one section as removed".
 -- Assumes nothing.
-use Rattle.std.specs.Prelude.{ℕ, zero, suc, ◌+◌, ◌*◌, Bool, true, false, cond, List, eqb, leb, get_or, set, length}
+use Rattle.std.specs.Prelude.{ℕ, zero, suc, ◌+◌, ◌*◌, ◌≡◌, Bool, true, false, cond, List, eqb, leb, get_or, set, length, Result}
 use Rattle.link.specs.declared.Link.{Link}
+use Rattle.link.specs.declared.Interned.{Interned}
+use Rattle.link.specs.declared.Refusal.{Refusal}
 use Rattle.link.specs.declared.Stage.{Stage}
-use Rattle.link.specs.Judge.{going_of, stopped_of}
-use Rattle.strings.specs.Lookup.{Looked}
+use Rattle.link.specs.Judge.{going_of, stopped_of, stage_as}
+use Rattle.strings.specs.Lookup.{Looked, looked}
+use Rattle.strings.specs.Contract.{StringExit}
 use Rattle.interner.specs.Names.{Store, store_of, find_of, fits_of, keep_of}
 use Rattle.elf_object.specs.Kinds.{group}
 use Rattle.elf_object.specs.Rows.{rows_in, comdat_at, link_at, info_at, first_at, count_at, is_loaded, name_in, entry_name_at, mark_at, with_mark, group_mark, removed_mark}
 use Rattle.cells.specs.Slice.{Slice, SliceMut}
-use Rattle.section_groups.specs.declared.Plan.{Plan}
+use Rattle.elf_object.specs.declared.Object as Declared
+use Rattle.section_groups.specs.declared.Grouping.{Grouping}
 
 -- what is read of the object: its headers, the loaded symbol table's entries, lists, bytes, and that table's section
 pub record Object : Type 0 where
@@ -22,9 +26,12 @@ pub record Object : Type 0 where
 abbrev pub object_of : List ℕ → List ℕ → List ℕ → List ℕ → ℕ → Object
 object_of h e c f t = record { headers = h; entries = e; contents = c; image = f; table = t }
 
--- as it is lent
-abbrev pub object_in : Slice → Slice → Slice → Slice → ℕ → Object
-object_in h e c f t = object_of h.entry.now e.entry.now c.entry.now f.entry.now t
+-- as it is lent, whole or by its slices
+abbrev pub object_in : Declared.Object → Object
+object_in o = object_of o.headers.now o.entries.now o.contents.now o.image.now o.table
+
+abbrev pub object_lent : Slice → Slice → Slice → Slice → ℕ → Object
+object_lent h e c f t = object_of h.entry.now e.entry.now c.entry.now f.entry.now t
 
 -- the lent cells that a group writes, with the link; and with a stage
 pub record State : Type 0 where
@@ -42,22 +49,26 @@ pub record Step : Type 0 where
 abbrev pub state_of : List ℕ → List ℕ → List ℕ → Link → State
 state_of b n w l = record { bytes = b; names = n; work = w; link = l }
 
--- of lent slices before the call, and after it
-abbrev pub state_before : SliceMut → SliceMut → SliceMut → Link → State
-state_before b n w l = state_of b.entry.now n.entry.now w.entry.now l
-
-abbrev pub state_after : SliceMut → SliceMut → SliceMut → Link → State
-state_after b n w l = state_of b.exit.now n.exit.now w.exit.now l
+-- of lent slices before the call
+abbrev pub state_lent : SliceMut → SliceMut → SliceMut → Link → State
+state_lent b n w l = state_of b.entry.now n.entry.now w.entry.now l
 
 abbrev pub step_of : List ℕ → List ℕ → List ℕ → Stage → Step
 step_of b n w s = record { bytes = b; names = n; work = w; stage = s }
 
--- of lent slices before the call, and after it
-abbrev pub step_before : SliceMut → SliceMut → SliceMut → Stage → Step
-step_before b n w s = step_of b.entry.now n.entry.now w.entry.now s
+-- the same cells are lent
+abbrev pub same_loans : Grouping → Grouping → Type 0
+same_loans g t = (t.bytes.ghost_name ≡ g.bytes.ghost_name) × (t.names.ghost_name ≡ g.names.ghost_name) × (t.work.ghost_name ≡ g.work.ghost_name)
 
-abbrev pub step_after : SliceMut → SliceMut → SliceMut → Stage → Step
-step_after b n w s = step_of b.exit.now n.exit.now w.exit.now s
+-- what is lent before the call, and after it, with its answer
+abbrev pub state_before : Grouping → State
+state_before g = state_of g.bytes.now g.names.now g.work.now g.link
+
+abbrev pub step_before : Grouping → Step
+step_before g = step_of g.bytes.now g.names.now g.work.now (going_of g.link)
+
+abbrev pub step_after : Grouping → Result Unit Refusal → Step
+step_after g r = step_of g.bytes.now g.names.now g.work.now (stage_as g.link r)
 
 abbrev pub stop : State → ℕ → ℕ → Step
 stop s number place = step_of s.bytes s.names s.work (stopped_of s.link number place)
@@ -76,6 +87,10 @@ shape_of headers entries t n =
 unfoldable pub signature_of : List ℕ → List ℕ → List ℕ → ℕ → ℕ → Looked
 signature_of headers entries image t n = name_in headers image (link_at headers t) (entry_name_at entries (info_at headers n))
 
+-- a name that is handed back, or none, against its definition
+abbrev pub SignatureMeets : Object → ℕ → StringExit → Type 0
+SignatureMeets o n e = looked e.result e.found ≡ signature_of o.headers o.entries o.image o.table n
+
 -- the cell of a name's row that has 1 where a group of that signature is loaded
 abbrev pub signature_cell : ℕ → ℕ
 signature_cell id = id * 8 + 4
@@ -85,6 +100,12 @@ with_signature names id = set names (signature_cell id) 1
 
 unfoldable pub repeated_of : List ℕ → ℕ → ℕ → Bool
 repeated_of names count id = cond (leb count id) false (cond (eqb (get_or names (signature_cell id) 0) 1) true false)
+
+-- what a group with a signature does: number 0 or its refusal, the id that the signature has or gets, and whether it was met before
+pub record Plan : Type 0 where
+  pub number : ℕ
+  pub signature : Interned
+  pub repeated : Bool
 
 abbrev pub planned : ℕ → ℕ → Bool → Plan
 planned number id repeated = record { number = number; signature = record { 0 = id }; repeated = repeated }

@@ -1,97 +1,59 @@
 // A COMDAT group added by itself, outside a merge. Marks of the object's earlier groups lie in the work rows; a new object begins with
 // cleared ones.
-ghost use Rattle.std.specs.Prelude.{◌≡◌};
-ghost use Rattle.section_groups.specs.Group.{object_in, state_before};
-ghost use Rattle.section_groups.specs.AddGroup.{check_of, answer_of, table_in};
+ghost use Rattle.std.specs.Prelude.{◌≡◌, length};
+ghost use Rattle.link.specs.Judge.{judged};
+ghost use Rattle.section_groups.specs.Group.{object_lent, state_lent};
+ghost use Rattle.section_groups.specs.AddGroup.{marks_refusal, check_of, table_in};
 ghost use Rattle.section_groups.specs.AloneContract.{group_exit, GroupMeets};
 
-use link::{Lent, Link, Refusal, Stage};
-
-#[derive(Clone, Copy)]
-pub enum Answer {
-    Added,
-    Refused { refusal: Refusal },
-}
+use crate::Grouping;
+use elf_object::{Kind, Object};
+use link::{Lent, Link, Refusal};
 
 #[derive(Clone, Copy)]
 pub struct Outcome {
     pub link: Link,
-    pub answer: Answer,
+    pub answer: Result<(), Refusal>,
+}
+
+// 1 of a section that is no group; too few marks 2 at place 0.
+#[tactic(auto, unfolding(crate::specs::AddGroup::marks_refusal, link::specs::Judge::judged))]
+fn check_marks(object: Object<'_>, work: usize, n: usize) -> Result<(), Refusal>
+    ensures { result ≡ judged (marks_refusal object.entry.headers.now work n) }
+{
+    if !object.is_loaded(n, Kind::Group) {
+        return Err(Refusal::new(1, n));
+    }
+    if work / elf_object::ROW_WIDTH < object.section_count() {
+        return Err(Refusal::new(2, 0));
+    }
+    Ok(())
 }
 
 // 22; 1 of the link's counts, of the object's sections, of its symbols, of a section that is no group; too few marks 2 at place 0.
-fn check(
-    l: Link,
-    lent: Lent,
-    headers: &[u64],
-    entries: &[u64],
-    contents: usize,
-    file: usize,
-    work: usize,
-    n: usize,
-) -> Refusal
-    ensures { result ≡ check_of l lent headers.now entries.now contents file work n }
+fn check(link: Link, lent: Lent, object: Object<'_>, work: usize, n: usize) -> Result<(), Refusal>
+    ensures { result ≡ judged (check_of link lent object.entry.headers.now object.entry.entries.now (length object.entry.contents.now) (length object.entry.image.now) work n) }
 {
-    let counts = link::judge_change(l, lent);
-    if counts.number != 0 {
-        return counts;
-    }
-    let rows = elf_object::judge(headers, entries, contents, file);
-    if rows.number != 0 {
-        return rows;
-    }
-    if elf_object::is_loaded(headers, n, elf_object::GROUP) {
-        if work / elf_object::ROW_WIDTH < headers.len() / elf_object::ROW_WIDTH {
-            return Refusal {
-                number: 2,
-                place: 0,
-            };
-        }
-        return Refusal {
-            number: 0,
-            place: 0,
-        };
-    }
-    Refusal {
-        number: 1,
-        place: n as u64,
-    }
+    link.judge_change(lent)?;
+    object.judge()?;
+    check_marks(object, work, n)
 }
 
-fn answered(s: Stage) -> Outcome
-    ensures { result ≡ answer_of s }
+// The entries of the object's table, none unless it is a symbol table and not excluded.
+#[tactic(auto, unfolding(crate::specs::AddGroup::table_in))]
+fn symbols_of(object: Object<'_>) -> &[u64]
+    ensures { result.now ≡ table_in object.entry.headers.now object.entry.entries.now object.entry.table }
 {
-    let l = s.link;
-    if s.number != 0 {
-        return Outcome {
-            link: l,
-            answer: Answer::Refused {
-                refusal: Refusal {
-                    number: s.number,
-                    place: s.place,
-                },
-            },
-        };
+    if object.is_loaded(object.table, Kind::SymbolTable) {
+        return object.entries;
     }
-    Outcome {
-        link: l,
-        answer: Answer::Added,
-    }
-}
-
-// The entries of section t, none unless it is a symbol table and not excluded.
-fn symbols_of<'a>(headers: &[u64], entries: &'a [u64], t: usize) -> &'a [u64]
-    ensures { result.now ≡ table_in headers.now entries.now t }
-{
-    if elf_object::is_loaded(headers, t, elf_object::SYMBOL_TABLE) {
-        return entries;
-    }
-    &entries[..0]
+    &object.entries[..0]
 }
 
 // The group of section n. The entries are those of the object's symbol table, which is of section t.
+// Kept: loose parameters, as the C interface lends them.
 pub fn add_group(
-    l: Link,
+    link: Link,
     bytes: &mut [u8],
     names: &mut [u64],
     work: &mut [u64],
@@ -102,34 +64,45 @@ pub fn add_group(
     t: usize,
     n: usize,
 ) -> Outcome
-    ensures { GroupMeets (object_in headers entries contents image t) (state_before bytes names work l) n (group_exit bytes names work result) }
+    ensures { GroupMeets (object_lent headers entries contents image t) (state_lent bytes names work link) n (group_exit bytes names work result) }
 {
     let lent = Lent {
         names: names.len() / link::NAME_CELLS,
         bytes: bytes.len(),
         symbols: link::NOT_LENT,
-        sections: l.slots,
+        sections: link.slots,
         inputs: link::NOT_LENT,
         lists: link::NOT_LENT,
     };
-    let refusal = check(
-        l,
-        lent,
+    let object = Object {
         headers,
         entries,
-        contents.len(),
-        image.len(),
-        work.len(),
-        n,
-    );
-    if refusal.number != 0 {
+        contents,
+        image,
+        section_names: 0,
+        table: t,
+    };
+    if let Err(refusal) = check(link, lent, object, work.len(), n) {
         return Outcome {
-            link: l,
-            answer: Answer::Refused { refusal: refusal },
+            link,
+            answer: Err(refusal),
         };
     }
-    let symbols = symbols_of(headers, entries, t);
-    answered(crate::take_group(
-        l, bytes, names, work, headers, symbols, contents, image, t, n,
-    ))
+    let mut groups = Grouping {
+        link,
+        bytes,
+        names,
+        work,
+    };
+    let answer = groups.take_group(
+        Object {
+            entries: symbols_of(object),
+            ..object
+        },
+        n,
+    );
+    Outcome {
+        link: groups.link,
+        answer,
+    }
 }

@@ -1,58 +1,33 @@
 // A merge's group stage: the groups of an object, one section after the other.
-ghost use Rattle.std.specs.Prelude.{◌≡◌};
-ghost use Rattle.section_groups.specs.Group.{group_section_of, groups_of, object_in, step_after, step_before};
+ghost use Rattle.std.specs.Prelude.{◌≡◌, ◌≢◌, IfErr};
+ghost use Rattle.section_groups.specs.Group.{group_section_of, groups_of, object_in, same_loans, step_after, step_before};
 
-use link::Stage;
+use crate::Grouping;
+use elf_object::{Kind, Object};
+use link::Refusal;
 
-fn group_section(
-    s: Stage,
-    bytes: &mut [u8],
-    names: &mut [u64],
-    work: &mut [u64],
-    headers: &[u64],
-    entries: &[u64],
-    contents: &[u64],
-    image: &[u8],
-    t: usize,
-    n: usize,
-) -> Stage
-    ensures { step_after bytes names work result ≡ group_section_of (object_in headers entries contents image t) (step_before bytes names work s) n }
-{
-    if elf_object::is_loaded(headers, n, elf_object::GROUP) {
-        let l = s.link;
-        return crate::take_group(
-            l, bytes, names, work, headers, entries, contents, image, t, n,
-        );
-    }
-    s
-}
-
-// All groups, ascending, up to the first refusal.
-pub fn add_groups(
-    s: Stage,
-    bytes: &mut [u8],
-    names: &mut [u64],
-    work: &mut [u64],
-    headers: &[u64],
-    entries: &[u64],
-    contents: &[u64],
-    image: &[u8],
-    t: usize,
-) -> Stage
-    ensures { step_after bytes names work result ≡ groups_of (object_in headers entries contents image t) (step_before bytes names work s) }
-{
-    let rows = headers.len() / elf_object::ROW_WIDTH;
-    let mut u = s;
-    let mut n = 0;
-    while n < rows {
-        u = group_section(
-            u, bytes, names, work, headers, entries, contents, image, t, n,
-        );
-        let number = u.number;
-        if number != 0 {
-            return u;
+impl Grouping<'_> {
+    #[tactic(auto, unfolding(crate::specs::Group::group_section_of))]
+    fn take_section(&mut self, object: Object<'_>, n: usize) -> Result<(), Refusal>
+        ensures loans { same_loans self.old self.new }
+        ensures value { step_after self.new result ≡ group_section_of (object_in object.entry) (step_before self.old) n }
+        ensures numbered { IfErr result (λ r. r.number ≢ 0) }
+    {
+        if object.is_loaded(n, Kind::Group) {
+            return self.take_group(object, n);
         }
-        n += 1;
+        Ok(())
     }
-    u
+
+    // All groups, ascending, up to the first refusal.
+    pub fn add_groups(&mut self, object: Object<'_>) -> Result<(), Refusal>
+        ensures loans { same_loans self.old self.new }
+        ensures value { step_after self.new result ≡ groups_of (object_in object.entry) (step_before self.old) }
+        ensures numbered { IfErr result (λ r. r.number ≢ 0) }
+    {
+        for n in 0..object.headers.len() / elf_object::ROW_WIDTH {
+            self.take_section(object, n)?;
+        }
+        Ok(())
+    }
 }

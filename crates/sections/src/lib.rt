@@ -35,6 +35,7 @@ pub const PROGRAM: u64 = 1;
 pub const UNINITIALIZED: u64 = 2;
 
 // What a built section's row holds. Retain and read: 0 no, else yes.
+// Kept: states, kinds and flags are numbers, as they lie in the lent cells that C and the laws read.
 #[derive(Clone, Copy)]
 pub struct Section {
     pub name: Interned,
@@ -46,43 +47,44 @@ pub struct Section {
 }
 
 // Is there a free row?
+#[tactic(auto, unfolding(crate::specs::Rows::room_of))]
 pub fn room(l: Link, sections: &[u64]) -> bool
     ensures { result ≡ room_of l sections.now }
 {
     let slots = link::lesser_of(l.slots, link::section_slots(sections.len()));
-    if l.sections < link::section_rows(slots) {
-        return true;
-    }
-    false
+    l.sections < link::section_rows(slots)
 }
 
 // One row more, reserved: its id is the count before. Nothing where there is no room.
+#[tactic(auto, unfolding(crate::specs::Rows::reserve_of))]
 pub fn reserve(l: Link, sections: &mut [u64]) -> Link
     ensures { sections_of sections.new result ≡ reserve_of (sections_of sections.old l) }
 {
-    if room(l, sections) {
-        let id = l.sections;
-        cells::row_store(sections, id, RESERVED, 0, 0, 0, 0, 0, 0, 0);
-        return link::with_sections(l, id + 1);
+    if !room(l, sections) {
+        return l;
     }
-    l
+    let id = l.sections;
+    cells::row_store(sections, id, [RESERVED, 0, 0, 0, 0, 0, 0, 0]);
+    link::with_sections(l, id + 1)
 }
 
+#[tactic(auto, unfolding(crate::specs::Rows::built_of))]
 pub fn build(sections: &mut [u64], id: SectionId, s: Section)
     ensures { sections.new ≡ built_of sections.old id s }
 {
-    let name = s.name;
     cells::row_store(
         sections,
         id.0,
-        BUILT,
-        name.0 as u64,
-        s.kind,
-        s.retain,
-        s.read,
-        s.first,
-        s.count,
-        0,
+        [
+            BUILT,
+            s.name.0 as u64,
+            s.kind,
+            s.retain,
+            s.read,
+            s.first,
+            s.count,
+            0,
+        ],
     );
 }
 
@@ -94,14 +96,9 @@ pub fn drop_section(sections: &mut [u64], id: SectionId)
 }
 
 // Built and not dropped, in a table of that many rows.
+#[tactic(auto, unfolding(crate::specs::Rows::is_built))]
 pub fn is_built(sections: &[u64], count: usize, id: SectionId) -> bool
     ensures { result ≡ is_built sections.now count id.0 }
 {
-    if count <= id.0 {
-        return false;
-    }
-    if cells::row_get(sections, id.0, STATE) == BUILT {
-        return true;
-    }
-    false
+    id.0 < count && cells::row_get(sections, id.0, STATE) == BUILT
 }

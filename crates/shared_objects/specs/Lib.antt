@@ -1,10 +1,12 @@
 pub mod Stages
 pub mod Load
+pub mod LoadIn
 pub mod Contract
 pub mod Proof
 pub mod Head
 pub mod Lists
 pub mod Need
+pub mod Library
 pub mod Record
 pub mod Define
 pub mod SymbolsLoad

@@ -1,6 +1,8 @@
 -- Document 01, "Shared objects": "Under as-needed, an unneeded library answers "not needed" and changes nothing".
 -- Assumes nothing.
-use Rattle.std.specs.Prelude.{ℕ, Bool, true, cond, List, eqb, length}
+use Rattle.shared_objects.specs.declared.Load.TheVariants.{NotNeeded, Loaded}
+use Rattle.shared_objects.specs.declared.Load.{Load}
+use Rattle.std.specs.Prelude.{ℕ, Bool, true, cond, List, eqb, length, Result, Ok, Err}
 use denote.Triple.Both.{Both}
 use Rattle.link.specs.declared.Link.{Link}
 use Rattle.link.specs.declared.Refusal.{Refusal}
@@ -11,8 +13,6 @@ use Rattle.link.specs.Counts.{lent_of}
 use Rattle.shared_objects.specs.Head.{check_of}
 use Rattle.shared_objects.specs.Need.{Judged, judged_as, need_of, library_name}
 use Rattle.cells.specs.Slice.{Slice, SliceMut}
-use Rattle.shared_objects.specs.declared.Answer.{Answer}
-use Rattle.shared_objects.specs.declared.Answer.TheVariants.{Loaded, NotNeeded, Refused}
 use Rattle.shared_objects.specs.declared.Outcome.{Outcome}
 use Rattle.shared_objects.specs.Stages.{Links, links_of, library_of}
 
@@ -75,18 +75,18 @@ abbrev pub library_in : Slice → Slice → Slice → Slice → Bool → Bool �
 library_in e f n p a h s d = input_as e.entry.now f.entry.now n.entry.now p.entry.now a h s d
 
 -- what the answer says, in document 01's terms: loaded has the value 1, "not needed" 0
-abbrev pub said_of : Answer → Said
-said_of Loaded = accepted 1
-said_of NotNeeded = accepted 0
-said_of (Refused r) = refusing r
+abbrev pub said_of : Result Load Refusal → Said
+said_of (Ok Loaded) = accepted 1
+said_of (Ok NotNeeded) = accepted 0
+said_of (Err r) = refusing r
 
 -- every lent cell, the link, the answer and what it says
 pub record Left : Type 0 where
   pub cells : All
-  pub answer : Answer
+  pub answer : Result Load Refusal
   pub said : Said
 
-abbrev pub left : All → Answer → Left
+abbrev pub left : All → Result Load Refusal → Left
 left a answer = record { cells = a; answer = answer; said = said_of answer }
 
 abbrev pub outcome : List ℕ → List ℕ → List ℕ → List ℕ → List ℕ → List ℕ → List ℕ → Outcome → Left
@@ -113,8 +113,8 @@ want_in asneeded l bytes names symbols inputs lists marks entries image x =
 -- a starred refusal breaks the link; "that call's earlier elements stay merged"
 unfoldable pub ended_as : Stage → Outcome
 ended_as s =
-    cond (eqb s.number 0) (record { link = s.link; answer = Loaded })
-    (record { link = broken_of s.link; answer = Refused (refused s.number s.place) })
+    cond (eqb s.number 0) (record { link = s.link; answer = (Ok Loaded) })
+    (record { link = broken_of s.link; answer = Err (refused s.number s.place) })
 
 abbrev pub leave_links : List ℕ → Links → Outcome → Left
 leave_links marks s r = outcome s.bytes s.names s.symbols s.sections s.inputs s.lists marks r
@@ -130,7 +130,7 @@ marked a marks = all_of a.bytes a.names a.symbols a.sections a.inputs a.lists ma
 
 unfoldable pub wanted_of : List ℕ → List ℕ → List ℕ → All → List ℕ → Judged → Left
 wanted_of entries image needs a x j =
-    cond j.needed (leave_loaded j.marks (library_of entries image needs (links_in a) x)) (left (marked a j.marks) NotNeeded)
+    cond j.needed (leave_loaded j.marks (library_of entries image needs (links_in a) x)) (left (marked a j.marks) (Ok NotNeeded))
 
 -- the library named x
 unfoldable pub library_named : List ℕ → List ℕ → List ℕ → Bool → All → List ℕ → Left
@@ -156,4 +156,4 @@ name_of o = library_name o.image o.path o.sonamed o.soname
 -- 22, 1, 25 and too few marks leave all
 unfoldable pub load_of : Input → All → Left
 load_of o a =
-    cond (eqb (head_in o a).number 0) (library_named o.entries o.image o.needs o.asneeded a (name_of o)) (left a (Refused (head_in o a)))
+    cond (eqb (head_in o a).number 0) (library_named o.entries o.image o.needs o.asneeded a (name_of o)) (left a (Err (head_in o a)))

@@ -1,131 +1,83 @@
-// The head of a load of a shared object: 22, 1, 25, and the marks that as-needed takes. A library is given by the entries of its symbol table
-// (rows of 8 cells, as an object's), its string table `file`, the offsets `needs` of its dependencies' names, and its soname's offset.
+// The head of a load of a shared object: 22, 1, 25, and the marks that as-needed takes.
 ghost use Rattle.std.specs.Prelude.{◌≡◌};
-ghost use Rattle.gabi.specs.StringTable.{has_name};
-ghost use Rattle.link.specs.Judge.{refused};
-ghost use Rattle.shared_objects.specs.Head.{dependencies_ok, bad_need, soname_missing, rows_of, unnamed_of, marks_short, check_of};
+ghost use Rattle.link.specs.Judge.{judged};
 
+use crate::Library;
 use link::{Lent, Link, Refusal};
 
-fn refuse(number: u64, place: usize) -> Refusal
-    ensures { result ≡ refused number place }
-{
-    Refusal {
-        number: number,
-        place: place as u64,
+impl Library<'_> {
+    ghost use Rattle.gabi.specs.StringTable.{has_name};
+    ghost use Rattle.shared_objects.specs.Library.{bad_need_in, soname_missing_in, rows_refusal_in, name_refusal_in, check_in};
+
+    fn has_name(&self, offset: usize) -> bool
+        ensures { result ≡ has_name self.now.file.now offset }
+    {
+        let mut found = false;
+        strings::get_found(self.file, offset, &mut found);
+        found
     }
-}
 
-fn has_name(image: &[u8], offset: usize) -> bool
-    ensures { result ≡ has_name image.now offset }
-{
-    let mut found = false;
-    strings::get(image, offset, &mut found);
-    found
-}
+    // The first dependency whose offset gives no name; as many as there are where each does.
+    fn bad_need(&self) -> usize
+        ensures { result ≡ bad_need_in self.now }
+    {
+        for (j, &offset) in self.needs.iter().enumerate() {
+            if !self.has_name(offset as usize) {
+                return j;
+            }
+        }
+        self.needs.len()
+    }
 
-fn need_ok(image: &[u8], needs: &[u64], j: usize) -> bool
-    ensures { result ≡ dependencies_ok image.now needs.now j }
-{
-    has_name(image, cells::get(needs, j) as usize)
-}
-
-// The first dependency whose offset gives no name; as many as there are where each does.
-fn bad_need(image: &[u8], needs: &[u64]) -> usize
-    ensures { result ≡ bad_need image.now needs.now }
-{
-    let rows = needs.len();
-    let mut j = 0;
-    while j < rows {
-        if need_ok(image, needs, j) {
-            j += 1;
-        } else {
-            return j;
+    #[tactic(auto, unfolding(crate::specs::Head::soname_missing))]
+    fn soname_missing(&self) -> bool
+        ensures { result ≡ soname_missing_in self.now }
+    {
+        match self.soname {
+            None => false,
+            Some(offset) => !self.has_name(offset),
         }
     }
-    j
-}
 
-fn soname_missing(image: &[u8], sonamed: bool, soname: usize) -> bool
-    ensures { result ≡ soname_missing image.now sonamed soname }
-{
-    if sonamed {
-        if has_name(image, soname) {
-            return false;
+    // Refusal 1 of the library's lists: symbols, then the rest.
+    #[tactic(auto, unfolding(crate::specs::Head::rows_of, link::specs::Judge::judged))]
+    fn judge_rows(&self) -> Result<(), Refusal>
+        ensures { result ≡ judged (rows_refusal_in self.now) }
+    {
+        let entry = elf_object::bad_entry(self.entries);
+        if entry < self.entries.len() / elf_object::ROW_WIDTH {
+            return Err(Refusal::new(1, entry));
         }
-        return true;
-    }
-    false
-}
-
-// Refusal 1 of the library's lists: symbols, then the rest.
-fn judge_rows(entries: &[u64], image: &[u8], needs: &[u64], sonamed: bool, soname: usize) -> Refusal
-    ensures { result ≡ rows_of entries.now image.now needs.now sonamed soname }
-{
-    let i = elf_object::bad_entry(entries);
-    if i < entries.len() / elf_object::ROW_WIDTH {
-        return refuse(1, i);
-    }
-    if soname_missing(image, sonamed, soname) {
-        return refuse(1, 0);
-    }
-    let j = bad_need(image, needs);
-    if j < needs.len() {
-        return refuse(1, j);
-    }
-    refuse(0, 0)
-}
-
-fn is_unnamed(archived: bool, sonamed: bool) -> bool
-    ensures { result ≡ unnamed_of archived sonamed }
-{
-    if sonamed {
-        return false;
-    }
-    archived
-}
-
-// Under as-needed a mark for each name is needed.
-fn marks_short(asneeded: bool, marks: usize, count: usize) -> bool
-    ensures { result ≡ marks_short asneeded marks count }
-{
-    if asneeded {
-        if marks < count {
-            return true;
+        if self.soname_missing() {
+            return Err(Refusal::new(1, 0));
         }
-        return false;
+        let need = self.bad_need();
+        if need < self.needs.len() {
+            return Err(Refusal::new(1, need));
+        }
+        Ok(())
     }
-    false
-}
 
-// 22; 1 of the link's counts, then of the library's lists; 25; too few marks 2 at place 0.
-pub fn check(
-    l: Link,
-    lent: Lent,
-    entries: &[u64],
-    image: &[u8],
-    needs: &[u64],
-    archived: bool,
-    sonamed: bool,
-    soname: usize,
-    asneeded: bool,
-    marks: usize,
-) -> Refusal
-    ensures { result ≡ check_of l lent entries.now image.now needs.now archived sonamed soname asneeded marks }
-{
-    let counts = link::judge_change(l, lent);
-    if counts.number != 0 {
-        return counts;
+    // A library in an archive needs a soname; under as-needed a mark for each name is needed.
+    #[tactic(auto, unfolding(crate::specs::Head::name_refusal, crate::specs::Head::unnamed_of, crate::specs::Head::marks_short, link::specs::Judge::judged))]
+    fn judge_name(&self, link: Link, marks: usize) -> Result<(), Refusal>
+        ensures { result ≡ judged (name_refusal_in self.now link marks) }
+    {
+        if self.archived && self.soname.is_none() {
+            return Err(Refusal::new(25, 0));
+        }
+        if self.as_needed && marks < link.names {
+            return Err(Refusal::new(2, 0));
+        }
+        Ok(())
     }
-    let rows = judge_rows(entries, image, needs, sonamed, soname);
-    if rows.number != 0 {
-        return rows;
+
+    // 22; 1 of the link's counts, then of the library's lists; 25; too few marks 2 at place 0.
+    pub fn check(&self, link: Link, lent: Lent, marks: usize) -> Result<(), Refusal>
+        ensures { result ≡ judged (check_in self.now link lent marks) }
+    {
+        link.judge_change(lent)?;
+        self.judge_rows()?;
+        self.judge_name(link, marks)
     }
-    if is_unnamed(archived, sonamed) {
-        return refuse(25, 0);
-    }
-    if marks_short(asneeded, marks, l.names) {
-        return refuse(2, 0);
-    }
-    refuse(0, 0)
 }

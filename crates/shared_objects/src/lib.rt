@@ -8,7 +8,9 @@ ghost use Rattle.link.specs.Judge.{going_of};
 ghost use Rattle.link.specs.Counts.{lent_of};
 ghost use Rattle.shared_objects.specs.Need.{judged_as};
 ghost use Rattle.shared_objects.specs.Stages.{input_links, library_row_of, lists_of, contents_in, going_before, links_after, links_before, lists_after, lists_before, loaded_in};
-ghost use Rattle.shared_objects.specs.Load.{ended_as, cells_in, library_in, link_before, named_in, outcome_after, want_in};
+ghost use Rattle.shared_objects.specs.Load.{ended_as, cells_in, library_in, link_before, outcome_after};
+ghost use Rattle.shared_objects.specs.Library.{soname_from};
+ghost use Rattle.shared_objects.specs.LoadIn.{want_of_in, named_of_in};
 ghost use Rattle.shared_objects.specs.Contract.{LoadMeets};
 
 mod checks;
@@ -17,18 +19,31 @@ mod need;
 mod symbols;
 
 use link::{Interned, Lent, Link, Refusal, Stage};
+use need::View;
+
+// A library as it is lent: the entries of its symbol table (rows of 8 cells, as an object's), its string table, the offsets of its dependencies'
+// names, the library name, unless it lies in an archive, and its soname's offset, if it has one.
+#[derive(Clone, Copy)]
+pub struct Library<'a> {
+    pub entries: &'a [u64],
+    pub file: &'a [u8],
+    pub needs: &'a [u64],
+    pub path: &'a [u8],
+    pub archived: bool,
+    pub soname: Option<usize>,
+    pub as_needed: bool,
+}
 
 #[derive(Clone, Copy)]
-pub enum Answer {
+pub enum Load {
     Loaded,
     NotNeeded,
-    Refused { refusal: Refusal },
 }
 
 #[derive(Clone, Copy)]
 pub struct Outcome {
     pub link: Link,
-    pub answer: Answer,
+    pub answer: Result<Load, Refusal>,
 }
 
 // ---- what is loaded
@@ -36,10 +51,7 @@ pub struct Outcome {
 fn span(from: usize, to: usize) -> usize
     ensures { result ≡ to - from }
 {
-    if from <= to {
-        return to - from;
-    }
-    0
+    to.saturating_sub(from)
 }
 
 // The library's own row, taken last: its name, and where its dependencies and its undefined names lie in the lists. These start at `first`, those
@@ -54,14 +66,16 @@ fn input_row(l: Link, inputs: &mut [u64], id: Interned, first: usize, middle: us
         cells::row_store(
             inputs,
             n,
-            crate::need::LIBRARY,
-            id.0 as u64,
-            middle as u64,
-            dependencies as u64,
-            first as u64,
-            undefined as u64,
-            0,
-            0,
+            [
+                crate::need::LIBRARY,
+                id.0 as u64,
+                middle as u64,
+                dependencies as u64,
+                first as u64,
+                undefined as u64,
+                0,
+                0,
+            ],
         );
         return link::going(link::with_inputs(l, n + 1));
     }
@@ -161,27 +175,11 @@ fn load_library(
 // ---- the call
 
 // Without as-needed every library is loaded, and the marks stay.
-fn is_wanted(
-    asneeded: bool,
-    l: Link,
-    bytes: &[u8],
-    names: &[u64],
-    symbols: &[u64],
-    inputs: &[u64],
-    lists: &[u64],
-    marks: &mut [u64],
-    entries: &[u64],
-    image: &[u8],
-    x: &[u8],
-) -> bool
-    ensures { judged_as marks.new result ≡ want_in asneeded l bytes names symbols inputs lists marks entries image x }
+#[tactic(auto, unfolding(crate::specs::Load::want_of))]
+fn is_wanted(view: &View<'_>, marks: &mut [u64], library: &Library<'_>, x: &[u8]) -> bool
+    ensures { judged_as marks.new result ≡ want_of_in view.now marks.old library.now x.now }
 {
-    if asneeded {
-        return crate::need::is_needed(
-            l, bytes, names, symbols, inputs, lists, marks, entries, image, x,
-        );
-    }
-    true
+    !library.as_needed || view.needs(marks, library, x)
 }
 
 // A refusal inside the library breaks the link.
@@ -192,17 +190,15 @@ fn ended(s: Stage) -> Outcome
     if s.number != 0 {
         return Outcome {
             link: link::broken(l),
-            answer: Answer::Refused {
-                refusal: Refusal {
-                    number: s.number,
-                    place: s.place,
-                },
-            },
+            answer: Err(Refusal {
+                number: s.number,
+                place: s.place,
+            }),
         };
     }
     Outcome {
         link: l,
-        answer: Answer::Loaded,
+        answer: Ok(Load::Loaded),
     }
 }
 
@@ -216,27 +212,46 @@ fn load_named(
     inputs: &mut [u64],
     lists: &mut [u64],
     marks: &mut [u64],
-    entries: &[u64],
-    image: &[u8],
-    needs: &[u64],
+    library: Library<'_>,
     x: &[u8],
-    asneeded: bool,
 ) -> Outcome
     ensures { let c = cells_in bytes names symbols sections inputs lists marks in
-        outcome_after c result ≡ named_in entries image needs asneeded (link_before c l) x }
+        outcome_after c result ≡ named_of_in library.entry (link_before c l) x.now }
 {
-    if is_wanted(
-        asneeded, l, bytes, names, symbols, inputs, lists, marks, entries, image, x,
-    ) {
+    let view = View {
+        link: l,
+        bytes,
+        names,
+        symbols,
+        inputs,
+        lists,
+    };
+    if is_wanted(&view, marks, &library, x) {
         let s = load_library(
-            l, bytes, names, symbols, sections, inputs, lists, entries, image, needs, x,
+            l,
+            bytes,
+            names,
+            symbols,
+            sections,
+            inputs,
+            lists,
+            library.entries,
+            library.file,
+            library.needs,
+            x,
         );
         return ended(s);
     }
     Outcome {
         link: l,
-        answer: Answer::NotNeeded,
+        answer: Ok(Load::NotNeeded),
     }
+}
+
+fn soname_at(sonamed: bool, soname: usize) -> Option<usize>
+    ensures { result ≡ soname_from sonamed soname }
+{
+    sonamed.then_some(soname)
 }
 
 // Loads the library, or answers that it isn't needed, which changes nothing but the marks.
@@ -268,26 +283,31 @@ pub fn load_shared_object<'a>(
         inputs: inputs.len(),
         lists: lists.len(),
     };
-    let h = crate::checks::check(
-        l,
-        lent,
+    let library = Library {
         entries,
         file,
         needs,
+        path,
         archived,
-        sonamed,
-        soname,
-        asneeded,
-        marks.len(),
-    );
-    if h.number != 0 {
+        soname: soname_at(sonamed, soname),
+        as_needed: asneeded,
+    };
+    if let Err(refusal) = library.check(l, lent, marks.len()) {
         return Outcome {
             link: l,
-            answer: Answer::Refused { refusal: h },
+            answer: Err(refusal),
         };
     }
-    let x = crate::need::library_name(file, path, sonamed, soname);
     load_named(
-        l, bytes, names, symbols, sections, inputs, lists, marks, entries, file, needs, x, asneeded,
+        l,
+        bytes,
+        names,
+        symbols,
+        sections,
+        inputs,
+        lists,
+        marks,
+        library,
+        library.name(),
     )
 }

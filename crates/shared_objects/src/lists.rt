@@ -6,16 +6,11 @@ ghost use Rattle.shared_objects.specs.Record.{record_fits, keep_name, record_of,
 use link::{Interned, Link, Stage};
 
 // Is there room for the name, unless it is known, and for its cell?
+#[tactic(auto, unfolding(crate::specs::Record::record_fits))]
 fn record_fits(l: Link, bytes: &[u8], names: &[u64], lists: usize, id: Interned, len: usize) -> bool
     ensures { result ≡ record_fits l bytes.now names.now lists id len }
 {
-    if interner::fits(l, bytes, names, id, len) {
-        if l.lists < lists {
-            return true;
-        }
-        return false;
-    }
-    false
+    interner::fits(l, bytes, names, id, len) && l.lists < lists
 }
 
 // The name is issued, and its id written behind the lists' last.
@@ -67,7 +62,7 @@ fn record_dependency(
     let l = s.link;
     let offset = cells::get(needs, j) as usize;
     let mut found = false;
-    let x = strings::get(image, offset, &mut found);
+    let x = strings::get_found(image, offset, &mut found);
     record_name(l, bytes, names, lists, x, j)
 }
 
@@ -82,16 +77,13 @@ pub fn record_dependencies(
 ) -> Stage
     ensures { recorded_after bytes names lists result ≡ dependencies_of image.now needs.now (recorded_before bytes names lists s) }
 {
-    let rows = needs.len();
     let mut u = s;
-    let mut j = 0;
-    while j < rows {
+    for j in 0..needs.len() {
         u = record_dependency(u, bytes, names, lists, image, needs, j);
         let number = u.number;
         if number != 0 {
             return u;
         }
-        j += 1;
     }
     u
 }

@@ -1,9 +1,10 @@
 // Whether a shared object is needed. The link is only read; lent cells, one for each name, take a mark for every name that an earlier library
 // without this one among its dependencies has recorded, so that each symbol is judged by one lookup.
 ghost use Rattle.std.specs.Prelude.{◌≡◌};
-ghost use Rattle.shared_objects.specs.Need.{library_name, depends_on, mark_names, mark_library, mark_all, provides, clear_mark, clear_all, lacked_by, wanted_in, symbol_wanted, some_wanted, judged_as, need_in, view_in};
+ghost use Rattle.shared_objects.specs.Need.{depends_on, mark_names, lacked_by, judged_as};
 ghost use Rattle.shared_objects.specs.Lists.{has_id};
 
+use crate::Library;
 use link::{Interned, Link};
 use symbol_resolution::Holder;
 
@@ -20,15 +21,15 @@ const UNDEFINED: usize = 4;
 
 const UNDEFINED_COUNT: usize = 5;
 
-// The soname, else the library name.
-pub fn library_name<'a>(file: &'a [u8], path: &'a [u8], sonamed: bool, soname: usize) -> &'a [u8]
-    ensures { result.now ≡ library_name file.now path.now sonamed soname }
-{
-    if sonamed {
-        let mut found = false;
-        return strings::get(file, soname, &mut found);
-    }
-    path
+// What is read of the link to judge a library.
+#[derive(Clone, Copy)]
+pub struct View<'a> {
+    pub link: Link,
+    pub bytes: &'a [u8],
+    pub names: &'a [u64],
+    pub symbols: &'a [u64],
+    pub inputs: &'a [u64],
+    pub lists: &'a [u64],
 }
 
 // ---- the names that earlier libraries lack
@@ -36,224 +37,181 @@ pub fn library_name<'a>(file: &'a [u8], path: &'a [u8], sonamed: bool, soname: u
 fn has_id(part: &[u64], id: usize) -> bool
     ensures { result ≡ has_id part.now id }
 {
-    let mut j = 0;
-    while j < part.len() {
-        if part[j] == id as u64 {
+    for &name in part {
+        if name == id as u64 {
             return true;
         }
-        j += 1;
     }
     false
 }
 
 // Do the dependencies hold the name, of which count are issued? None holds a name that isn't.
+#[tactic(auto, unfolding(crate::specs::Need::depends_on))]
 fn depends(dependencies: &[u64], id: usize, count: usize) -> bool
     ensures { result ≡ depends_on dependencies.now id count }
 {
-    if count <= id {
-        return false;
-    }
-    has_id(dependencies, id)
+    id < count && has_id(dependencies, id)
 }
 
 fn mark_names(marks: &mut [u64], part: &[u64])
     ensures { marks.new ≡ mark_names marks.old part.now }
 {
-    let mut j = 0;
-    while j < part.len() {
-        cells::put(marks, part[j] as usize, 1);
-        j += 1;
+    for &name in part {
+        cells::put(marks, name as usize, 1);
     }
-}
-
-// Input k, if it is a library that doesn't depend on the one named id: the names that it records as undefined.
-fn mark_library(marks: &mut [u64], inputs: &[u64], lists: &[u64], id: usize, count: usize, k: usize)
-    ensures { marks.new ≡ mark_library inputs.now lists.now id count k marks.old }
-{
-    if cells::row_get(inputs, k, INPUT_KIND) != LIBRARY {
-        return;
-    }
-    let first = cells::row_get(inputs, k, DEPENDENCIES);
-    let more = cells::row_get(inputs, k, DEPENDENCY_COUNT);
-    let dependencies = cells::part_of(lists, first as usize, more as usize);
-    if depends(dependencies, id, count) {
-        return;
-    }
-    let from = cells::row_get(inputs, k, UNDEFINED);
-    let len = cells::row_get(inputs, k, UNDEFINED_COUNT);
-    mark_names(marks, cells::part_of(lists, from as usize, len as usize));
-}
-
-fn mark_libraries(
-    marks: &mut [u64],
-    inputs: &[u64],
-    lists: &[u64],
-    id: usize,
-    count: usize,
-    rows: usize,
-)
-    ensures { marks.new ≡ mark_all inputs.now lists.now id count rows marks.old }
-{
-    let mut k = 0;
-    while k < rows {
-        mark_library(marks, inputs, lists, id, count, k);
-        k += 1;
-    }
-}
-
-// ---- the symbols of the library
-
-// Is symbol i defined, global or weak?
-fn is_provided(entries: &[u64], i: usize) -> bool
-    ensures { result ≡ provides entries.now i }
-{
-    if cells::row_get(entries, i, elf_object::ENTRY_SECTION) == upcoming_symbol::SHN_UNDEF {
-        return false;
-    }
-    let binding = cells::row_get(entries, i, elf_object::ENTRY_BINDING);
-    if binding == upcoming_symbol::STB_GLOBAL {
-        return true;
-    }
-    if binding == upcoming_symbol::STB_WEAK {
-        return true;
-    }
-    false
 }
 
 fn is_lacked(symbols: &[u64], holder: Holder) -> bool
     ensures { result ≡ lacked_by symbols.now holder }
 {
     match holder {
-        Holder::Unissued => false,
-        Holder::Nobody => false,
-        Holder::Removed => false,
+        Holder::Unissued | Holder::Nobody | Holder::Removed => false,
         Holder::Known { id } => symbol_resolution::is_strong_undefined(symbols, id),
     }
 }
 
-// Does the table lack the name, or is it marked? Not where it isn't issued.
-fn is_wanted(l: Link, names: &[u64], symbols: &[u64], marks: &[u64], id: Interned) -> bool
-    ensures { result ≡ wanted_in l names.now symbols.now marks.now id.0 }
-{
-    if l.names <= id.0 {
-        return false;
-    }
-    if cells::get(marks, id.0) == 1 {
-        return true;
-    }
-    let holder = symbol_resolution::holder_of(l, names, symbols, id);
-    is_lacked(symbols, holder)
-}
+impl<'a> Library<'a> {
+    ghost use Rattle.shared_objects.specs.Library.{library_name_in, provides_in};
 
-// A symbol whose name is missing provides nothing.
-fn symbol_wanted(
-    l: Link,
-    bytes: &[u8],
-    names: &[u64],
-    symbols: &[u64],
-    marks: &[u64],
-    entries: &[u64],
-    image: &[u8],
-    i: usize,
-) -> bool
-    ensures { result ≡ symbol_wanted (view_in bytes names symbols marks l) entries.now image.now i }
-{
-    if is_provided(entries, i) {
-        let offset = cells::row_get(entries, i, elf_object::ENTRY_NAME) as usize;
-        let mut found = false;
-        let x = strings::get(image, offset, &mut found);
-        if found {
-            let id = interner::find(l, bytes, names, x);
-            return is_wanted(l, names, symbols, marks, id);
+    // The soname, else the library name.
+    #[tactic(auto, unfolding(crate::specs::Need::library_name))]
+    pub fn name(&self) -> &'a [u8]
+        ensures { result.now ≡ library_name_in self.now }
+    {
+        match self.soname {
+            None => self.path,
+            Some(offset) => {
+                let mut found = false;
+                strings::get_found(self.file, offset, &mut found)
+            }
         }
-        return false;
     }
-    false
+
+    // Is symbol i defined, global or weak?
+    #[tactic(auto, unfolding(crate::specs::Need::provides))]
+    fn provides(&self, i: usize) -> bool
+        ensures { result ≡ provides_in self.now i }
+    {
+        cells::row_get(self.entries, i, elf_object::ENTRY_SECTION) != upcoming_symbol::SHN_UNDEF
+            && matches!(
+                cells::row_get(self.entries, i, elf_object::ENTRY_BINDING),
+                upcoming_symbol::STB_GLOBAL | upcoming_symbol::STB_WEAK
+            )
+    }
 }
 
-fn some_wanted(
-    l: Link,
-    bytes: &[u8],
-    names: &[u64],
-    symbols: &[u64],
-    marks: &[u64],
-    entries: &[u64],
-    image: &[u8],
-) -> bool
-    ensures { result ≡ some_wanted (view_in bytes names symbols marks l) entries.now image.now }
-{
-    let rows = entries.len() / elf_object::ROW_WIDTH;
-    let mut i = 0;
-    while i < rows {
-        if symbol_wanted(l, bytes, names, symbols, marks, entries, image, i) {
-            return true;
-        }
-        i += 1;
-    }
-    false
-}
+impl View<'_> {
+    ghost use Rattle.std.specs.Prelude.{◌<◌};
+    ghost use Rattle.shared_objects.specs.Library.{mark_library_in, mark_all_in, wanted_name_in, symbol_wanted_in, some_wanted_in, clear_mark_in, clear_all_in, need_of_in};
 
-fn clear_mark(
-    l: Link,
-    marks: &mut [u64],
-    bytes: &[u8],
-    names: &[u64],
-    entries: &[u64],
-    image: &[u8],
-    i: usize,
-)
-    ensures { marks.new ≡ clear_mark bytes.now names.now l entries.now image.now i marks.old }
-{
-    if is_provided(entries, i) {
-        let offset = cells::row_get(entries, i, elf_object::ENTRY_NAME) as usize;
-        let mut found = false;
-        let x = strings::get(image, offset, &mut found);
-        if found {
-            let id = interner::find(l, bytes, names, x);
-            cells::put(marks, id.0, 0);
+    // Input k, if it is a library that doesn't depend on the one named id: the names that it records as undefined.
+    fn mark_library(&self, marks: &mut [u64], id: usize, k: usize)
+        ensures { marks.new ≡ mark_library_in self.now id k marks.old }
+    {
+        if cells::row_get(self.inputs, k, INPUT_KIND) != LIBRARY {
             return;
         }
-        return;
+        let first = cells::row_get(self.inputs, k, DEPENDENCIES);
+        let more = cells::row_get(self.inputs, k, DEPENDENCY_COUNT);
+        let dependencies = cells::part_of(self.lists, first as usize, more as usize);
+        if depends(dependencies, id, self.link.names) {
+            return;
+        }
+        let from = cells::row_get(self.inputs, k, UNDEFINED);
+        let len = cells::row_get(self.inputs, k, UNDEFINED_COUNT);
+        mark_names(
+            marks,
+            cells::part_of(self.lists, from as usize, len as usize),
+        );
     }
-}
 
-// The marks of the names that the symbols provide: no others are read, so no others have to be cleared.
-fn clear_marks(
-    l: Link,
-    marks: &mut [u64],
-    bytes: &[u8],
-    names: &[u64],
-    entries: &[u64],
-    image: &[u8],
-)
-    ensures { marks.new ≡ clear_all bytes.now names.now l entries.now image.now marks.old }
-{
-    let rows = entries.len() / elf_object::ROW_WIDTH;
-    let mut i = 0;
-    while i < rows {
-        clear_mark(l, marks, bytes, names, entries, image, i);
-        i += 1;
+    fn mark_libraries(&self, marks: &mut [u64], id: usize)
+        ensures { marks.new ≡ mark_all_in self.now id marks.old }
+    {
+        for k in 0..self.link.inputs {
+            self.mark_library(marks, id, k);
+        }
     }
-}
 
-// Is the library named x needed? Of the names that it provides the marks then hold which ones earlier libraries lack; other marks may be stale, and
-// are not read.
-pub fn is_needed(
-    l: Link,
-    bytes: &[u8],
-    names: &[u64],
-    symbols: &[u64],
-    inputs: &[u64],
-    lists: &[u64],
-    marks: &mut [u64],
-    entries: &[u64],
-    image: &[u8],
-    x: &[u8],
-) -> bool
-    ensures { judged_as marks.new result ≡ need_in l bytes names symbols inputs lists marks entries image x }
-{
-    let id = interner::find(l, bytes, names, x);
-    clear_marks(l, marks, bytes, names, entries, image);
-    mark_libraries(marks, inputs, lists, id.0, l.names, l.inputs);
-    some_wanted(l, bytes, names, symbols, marks, entries, image)
+    // ---- the symbols of the library
+
+    // Does the table lack the name, or is it marked? Not where it isn't issued.
+    #[tactic(auto, unfolding(crate::specs::Need::wanted_in))]
+    fn is_wanted(&self, marks: &[u64], id: Interned) -> bool
+        ensures { result ≡ wanted_name_in self.now marks.now id.0 }
+    {
+        if self.link.names <= id.0 {
+            return false;
+        }
+        if cells::get(marks, id.0) == 1 {
+            return true;
+        }
+        let holder = symbol_resolution::holder_of(self.link, self.names, self.symbols, id);
+        is_lacked(self.symbols, holder)
+    }
+
+    // A symbol whose name is missing provides nothing.
+    fn symbol_wanted(&self, marks: &[u64], library: &Library<'_>, i: usize) -> bool
+        ensures { result ≡ symbol_wanted_in self.now marks.now library.now i }
+    {
+        if library.provides(i) {
+            let offset = cells::row_get(library.entries, i, elf_object::ENTRY_NAME) as usize;
+            let mut found = false;
+            let x = strings::get_found(library.file, offset, &mut found);
+            if found {
+                let id = interner::find(self.link, self.bytes, self.names, x);
+                return self.is_wanted(marks, id);
+            }
+            return false;
+        }
+        false
+    }
+
+    fn some_wanted(&self, marks: &[u64], library: &Library<'_>) -> bool
+        ensures { result ≡ some_wanted_in self.now marks.now library.now }
+    {
+        for i in 0..library.entries.len() / elf_object::ROW_WIDTH {
+            if self.symbol_wanted(marks, library, i) {
+                return true;
+            }
+        }
+        false
+    }
+
+    fn clear_mark(&self, marks: &mut [u64], library: &Library<'_>, i: usize)
+        ensures { marks.new ≡ clear_mark_in self.now library.now i marks.old }
+    {
+        if library.provides(i) {
+            let offset = cells::row_get(library.entries, i, elf_object::ENTRY_NAME) as usize;
+            let mut found = false;
+            let x = strings::get_found(library.file, offset, &mut found);
+            if found {
+                let id = interner::find(self.link, self.bytes, self.names, x);
+                cells::put(marks, id.0, 0);
+                return;
+            }
+            return;
+        }
+    }
+
+    // The marks of the names that the symbols provide: no others are read, so no others have to be cleared.
+    fn clear_marks(&self, marks: &mut [u64], library: &Library<'_>)
+        ensures { marks.new ≡ clear_all_in self.now library.now marks.old }
+    {
+        for i in 0..library.entries.len() / elf_object::ROW_WIDTH {
+            self.clear_mark(marks, library, i);
+        }
+    }
+
+    // Is the library named x needed? Of the names that it provides the marks then hold which ones earlier libraries lack; other marks may be stale,
+    // and are not read.
+    #[tactic(auto, unfolding(crate::specs::Need::need_of, crate::specs::Need::marked_of))]
+    pub fn needs(&self, marks: &mut [u64], library: &Library<'_>, x: &[u8]) -> bool
+        ensures { judged_as marks.new result ≡ need_of_in self.now marks.old library.now x.now }
+    {
+        let id = interner::find(self.link, self.bytes, self.names, x);
+        self.clear_marks(marks, library);
+        self.mark_libraries(marks, id.0);
+        self.some_wanted(marks, library)
+    }
 }

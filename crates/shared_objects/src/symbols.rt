@@ -57,11 +57,7 @@ fn plan_definition(
     let id = interner::find(l, bytes, names, x);
     let row = upcoming_symbol::external_row(l.gabi, id, binding, visibility);
     let decision = judged(l, bytes, names, symbols, sections, x.len(), row);
-    Definition {
-        id: id,
-        row: row,
-        decision: decision,
-    }
+    Definition { id, row, decision }
 }
 
 // The row of an accepted symbol.
@@ -172,7 +168,7 @@ fn load_symbol(
     let l = s.link;
     let offset = cells::row_get(entries, i, elf_object::ENTRY_NAME) as usize;
     let mut found = false;
-    let x = strings::get(image, offset, &mut found);
+    let x = strings::get_found(image, offset, &mut found);
     if found {
         return load_named(l, bytes, names, symbols, sections, lists, entries, x, i);
     }
@@ -195,14 +191,12 @@ pub fn load_symbols(
 {
     let rows = entries.len() / elf_object::ROW_WIDTH;
     let mut u = s;
-    let mut i = 0;
-    while i < rows {
+    for i in 0..rows {
         u = load_symbol(u, bytes, names, symbols, sections, lists, entries, image, i);
         let number = u.number;
         if number != 0 {
             return u;
         }
-        i += 1;
     }
     u
 }

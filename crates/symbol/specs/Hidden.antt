@@ -2,7 +2,27 @@
 -- Assumes nothing.
 use Rattle.std.specs.Prelude.{ℕ, Bool, true, false, cond, eqb}
 use Rattle.symbol.specs.declared.Row.{Row}
+use Rattle.symbol.specs.declared.SymbolVisibility.{SymbolVisibility}
+use Rattle.symbol.specs.declared.SymbolVisibility.TheVariants.{Local, Global}
 use Rattle.symbol.specs.Layout.{global, global_hidden, weak, weak_hidden}
+
+-- ---- of a visibility. What isn't global is neither weak nor hidden, and becomes a strong global where it is hidden or shown
+
+abbrev pub weak_in : SymbolVisibility → Bool
+weak_in Local = false
+weak_in (Global w h) = w
+
+abbrev pub hidden_in : SymbolVisibility → Bool
+hidden_in Local = false
+hidden_in (Global w h) = h
+
+abbrev pub hide_in : SymbolVisibility → SymbolVisibility
+hide_in v = Global (weak_in v) true
+
+abbrev pub show_in : SymbolVisibility → SymbolVisibility
+show_in v = Global (weak_in v) false
+
+-- ---- of its code
 
 unfoldable pub hidden_code : ℕ → Bool
 hidden_code v = cond (eqb v global_hidden) true (cond (eqb v weak_hidden) true false)

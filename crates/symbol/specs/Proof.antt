@@ -1,4 +1,3 @@
 pub mod Offset
-pub mod Signed
 pub mod RowLaws
 pub mod Ways

@@ -1,13 +1,12 @@
 -- Theorems over specs/Below.antt.
 -- Assumes nothing.
-use Rattle.std.specs.Prelude.{ℕ, ◌+◌, ◌*◌, ◌<◌, ◌≡◌, List, ◌≢◌, eqb, ltb, set, length}
+use Rattle.std.specs.Prelude.{ℕ, ◌+◌, ◌*◌, ◌<◌, ◌≡◌, List, ◌≢◌, eqb, ltb, set, length, None}
 use Rattle.std.proofs.Common.{arith, sym, ◌∙◌, length-set, get_or-set_same, get_or-set_other, eqb-true, lt-ltb, ltb-true, ltb-false}
 use Rattle.std.proofs.Math.Path.{subst}
 use Rattle.std.proofs.Math.ListN.{get_or-eq_default}
 use Rattle.std.proofs.lemmas.Bool.{eqb-false}
 use Rattle.cells.specs.Proof.Split.{by-test}
 use Rattle.symbol.specs.declared.Row.{Row}
-use Rattle.symbol.specs.declared.SttFile.TheVariants as File
 use Rattle.symbol.specs.Codes.{successor}
 use Rattle.symbol_resolution.specs.declared.rows.Decision.{Decision}
 use Rattle.symbol_resolution.specs.declared.rows.Decision.TheVariants.{Refuse}
@@ -26,9 +25,9 @@ module _ (s : State) (b : Below s) (r : Row) where
   abbrev Fine : Left → Type 0
   Fine o = Below (with_table s o.table)
 
-  decides : (d : Decision) → decided (table s) r ≡ d → Fine (committed_of (table s) r File.None d) → Fine (put_of s r)
+  decides : (d : Decision) → decided (table s) r ≡ d → Fine (committed_of (table s) r None d) → Fine (put_of s r)
   unfolding add_row_of
-  decides d e g = subst (λ (d : Decision). Fine (committed_of (table s) r File.None d)) (sym e) g
+  decides d e g = subst (λ (d : Decision). Fine (committed_of (table s) r None d)) (sym e) g
 
   one_more : Free (table s) r → successor s.link.symbols ≡ s.link.symbols + 1
   unfolding successor
@@ -76,7 +75,7 @@ module _ (s : State) (b : Below s) (r : Row) where
   viewed : View (table s) r → Fine (put_of s r)
   unfolding committed_of apply_of
   viewed (refused n e z) =
-      decides (Refuse n) e (subst (λ (t : Table). Below (with_table s t)) (sym (commit-refused (table s) r File.None n z).0) b)
+      decides (Refuse n) e (subst (λ (t : Table). Below (with_table s t)) (sym (commit-refused (table s) r None n z).0) b)
   viewed (kept e k z o w p) = decides _ e b
   viewed (amended e k z o w) = decides _ e (record { few = b.few; held = b.held })
   viewed (replaced e k z o) = decides _ e (record { few = b.few; held = b.held })

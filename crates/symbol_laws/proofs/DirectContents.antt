@@ -2,7 +2,7 @@
 -- Assumes nothing.
 use Prim.Native.Nat.{ℕ, zero, suc, ◌+◌, ◌-◌, ◌<◌, ◌≤◌}
 use native.Mathlib.Omega.{arith}
-use Rattle.std.specs.Prelude.{◌≡◌, Bool, true, false, ◌&&◌, List, ◌≢◌, ℤ, eqb, leb, get_or}
+use Rattle.std.specs.Prelude.{◌≡◌, Bool, true, false, ◌&&◌, List, ◌≢◌, ℤ, eqb, leb, get_or, Option, None, Some}
 use Rattle.std.proofs.Math.Path.{refl}
 use Rattle.std.proofs.Common.{sym, ap}
 use Rattle.std.proofs.lemmas.Bool.{false≢true}
@@ -12,8 +12,6 @@ use Rattle.gabi.specs.SymbolTable.{stb_weak, shn_undef, shn_abs}
 use Rattle.link.specs.declared.Interned.{Interned}
 use Rattle.link.specs.Said.{number_in}
 use Rattle.symbol.specs.declared.Row.{Row}
-use Rattle.symbol.specs.declared.SttFile.{SttFile}
-use Rattle.symbol.specs.declared.SttFile.TheVariants as File
 use Rattle.symbol.specs.declared.SymbolValue.{SymbolValue}
 use Rattle.symbol.specs.declared.SymbolValue.TheVariants as Val
 use Rattle.symbol.specs.Codes.{type_at, visibility_at, value_at, words_of, successor, file_at, file_cell}
@@ -58,29 +56,29 @@ undefined-back Val.ExternallyDefined = refl
 undefined-back (Val.Undefined true) = refl
 undefined-back (Val.Undefined false) = refl
 
-pub file-back : (file : SttFile) → FileFits file → file_at (file_cell file) ≡ file
+pub file-back : (file : Option Interned) → FileFits file → file_at (file_cell file) ≡ file
 unfolding file_at successor
-file-back File.None h = refl
-file-back (File.Name id) h =
+file-back None h = refl
+file-back (Some id) h =
     let p : id.0 + 1 ≢ 0 = λ z. omega arith in
     let q : id.0 + 1 - 1 ≡ id.0 = omega arith in
     rw (lt-ltb id.0 0xffffffffffffffff h, ne_eqb (id.0 + 1) 0 p, q)
 
-no-file : (r : Row) (name : Interned) → r.name ≡ name → r.file ≡ 0 → Labelled r name File.None
+no-file : (r : Row) (name : Interned) → r.name ≡ name → r.file ≡ 0 → Labelled r name None
 unfolding file_at
 no-file r name e z = record { named = e; filed = λ h. rw z }
 
-committed-passes : (t : Table) (r : Row) (d : Decision) → number_in (committed_of t r File.None d).said ≡ 0 → refusal_of d ≡ 0
+committed-passes : (t : Table) (r : Row) (d : Decision) → number_in (committed_of t r None d).said ≡ 0 → refusal_of d ≡ 0
 unfolding committed_of
 committed-passes t r d z =
     by-test (eqb (refusal_of d) 21) (λ a. let q : ◌≡◌ {A = ℕ} 21 0 = rw a at z in absurd (omega arith))
     (λ a. by-test (eqb (refusal_of d) 0) (λ b. eqb-true _ _ b) (λ b. rw (a, b) at z))
 
-pub row-passes : (t : Table) (r : Row) → number_in (add_row_of t r File.None).said ≡ 0 → (scope_refused r ≡ false) × (value_refused r ≡ false)
+pub row-passes : (t : Table) (r : Row) → number_in (add_row_of t r None).said ≡ 0 → (scope_refused r ≡ false) × (value_refused r ≡ false)
 unfolding add_row_of decided_of
 row-passes t r z =
-    decided-passes t.link t.symbols t.sections r (direct_holder_of t.link t.names t.symbols r.name File.None)
-    (committed-passes t r (decided_of t r File.None) z)
+    decided-passes t.link t.symbols t.sections r (direct_holder_of t.link t.names t.symbols r.name None)
+    (committed-passes t r (decided_of t r None) z)
 
 reference-value : (b : ℕ) → value_at (undefined_of b) ≡ Val.Undefined (eqb b stb_weak)
 unfolding undefined_of value_at
@@ -128,7 +126,7 @@ module _ (conversion : List ℕ) (empty : Bool) (e : ElfSymbol) where
 
 -- an accepted add that isn't local
 module _ (t : Table) (gabi : Bool) (conversion : List ℕ) (empty : Bool) where
-  pub from-add : (u : UpcomingSymbol) → number_in (add_row_of t (row_of gabi conversion u empty) File.None).said ≡ 0 → (row_of gabi conversion u empty).visibility ≢ 0
+  pub from-add : (u : UpcomingSymbol) → number_in (add_row_of t (row_of gabi conversion u empty) None).said ≡ 0 → (row_of gabi conversion u empty).visibility ≢ 0
       → FromAdd gabi conversion empty (row_of gabi conversion u empty) u
   unfolding external_row_of elf_row_of type_at value_at visibility_at
   from-add Up.Null z g = absurd (g refl)

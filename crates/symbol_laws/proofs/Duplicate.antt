@@ -1,6 +1,6 @@
 -- A second strong definition: refusal 17 exactly where the gABI sees a duplicate.
 -- Assumes nothing.
-use Rattle.std.specs.Prelude.{ℕ, ◌+◌, ◌≤◌, ◌<◌, List, [], ◌∷◌, ◌++◌, ◌≢◌}
+use Rattle.std.specs.Prelude.{ℕ, ◌+◌, ◌≤◌, ◌<◌, List, [], ◌∷◌, ◌++◌, ◌≢◌, None}
 use native.Mathlib.Omega.{arith}
 use Rattle.std.proofs.Math.Path.{◌≡◌, sym, ap, subst}
 use Rattle.std.proofs.Common.{◌∙◌}
@@ -13,7 +13,6 @@ use Rattle.gabi.specs.SymbolTable.{Sym}
 use Rattle.gabi.specs.Resolution as Gabi
 use Rattle.gabi.specs.Resolution.{defined, duplicate, unresolved, zero_value, is_global_definition, is_weak_definition, is_global_reference, has, resolve}
 use Rattle.symbol.specs.declared.Row.{Row}
-use Rattle.symbol.specs.declared.SttFile.TheVariants as File
 use Rattle.symbol.specs.Row.{scope_refused, value_refused}
 use Rattle.link.specs.declared.SymbolId.{SymbolId}
 use Rattle.symbol_resolution.specs.declared.rows.Holder.TheVariants.{Known}
@@ -36,7 +35,7 @@ use Rattle.symbol_laws.proofs.Agreement.{strong-match}
 
 -- the number answered is the decision's
 pub put-number : (s : State) (r : Row) → number_in (put_of s r).said ≡ refusal_of (decided (table s) r)
-put-number s r = added-number (table s) r File.None
+put-number s r = added-number (table s) r None
 
 -- a global add of a row that passes, under a name that has a row
 module _ (s : State) (past : List Entry) (inv : Inv s past) (r : Row) (x : Entry) (xs : List Entry) (e : only r.name.0 past ≡ x ∷ xs)
@@ -50,14 +49,14 @@ module _ (s : State) (past : List Entry) (inv : Inv s past) (r : Row) (x : Entry
   found : Resolved s.link.gabi s r.name.0 x xs
   found = resolved s past inv r.name.0 x xs e
 
-  holder : direct_holder_of s.link s.names s.symbols r.name File.None ≡ Known (record { 0 = x.id })
+  holder : direct_holder_of s.link s.names s.symbols r.name None ≡ Known (record { 0 = x.id })
   unfolding direct_holder_of issued_of
   holder = rw (lt-leb s.link.names r.name.0 found.issued) (holder_known s past inv r.name.0 x xs e)
 
   abbrev id : SymbolId
   id = record { 0 = x.id }
 
-  meets : Meets r (direct_holder_of s.link s.names s.symbols r.name File.None) id
+  meets : Meets r (direct_holder_of s.link s.names s.symbols r.name None) id
   meets = record { global = ne_eqb r.visibility 0 global; known = holder }
 
   -- hidden doesn't enter the rank of the row that the name has
@@ -69,20 +68,20 @@ module _ (s : State) (past : List Entry) (inv : Inv s past) (r : Row) (x : Entry
   second-strong a b =
       put-number s r
       ∙ ap (λ (d : Decision). refusal_of d)
-      (known_twice s.link s.symbols s.sections r fine (direct_holder_of s.link s.names s.symbols r.name File.None) id meets valued
+      (known_twice s.link s.symbols s.sections r fine (direct_holder_of s.link s.names s.symbols r.name None) id meets valued
       (ap (λ (k : ℕ). ltb k (ranked s.link.gabi r)) held-rank ∙ rw (strong-rank old s.link.gabi b, strong-rank r s.link.gabi a)) (rw (strong-rank r s.link.gabi a)))
 
   -- 17 has no other cause
   pub seventeen : number ≡ 17 → (strong_definition r ≡ true) × (strong_definition old ≡ true)
   unfolding decided_of
   seventeen q =
-      let t = seventeen-twice s.link s.symbols s.sections r (direct_holder_of s.link s.names s.symbols r.name File.None) fine valued (sym (put-number s r) ∙ q) in
+      let t = seventeen-twice s.link s.symbols s.sections r (direct_holder_of s.link s.names s.symbols r.name None) fine valued (sym (put-number s r) ∙ q) in
       let a : ranked s.link.gabi r ≡ 4 = eqb-true _ _ t.strong in
       let y : ltb (ranked s.link.gabi old) (ranked s.link.gabi r) ≡ false =
       ap (λ (k : ℕ). ltb k (ranked s.link.gabi r)) (sym held-rank) ∙ subst (λ (i : SymbolId). ltb (held_rank s.link.gabi s.symbols i) (ranked s.link.gabi r) ≡ false) (one-holder t.id t.meets.known) t.stays in
       (rank-strong r s.link.gabi a, rank-strong old s.link.gabi (omega (arith, a, ltb-false (ranked s.link.gabi old) (ranked s.link.gabi r) y, rank_most old s.link.gabi)))
     where
-      one-holder : (i : SymbolId) → direct_holder_of s.link s.names s.symbols r.name File.None ≡ Known i → i ≡ id
+      one-holder : (i : SymbolId) → direct_holder_of s.link s.names s.symbols r.name None ≡ Known i → i ≡ id
       one-holder i e = let p : Known i ≡ Known id = sym e ∙ holder in cc
 
   -- ---- the same in the gABI's terms

@@ -1,6 +1,6 @@
 -- No call changes a link's profile.
 -- Assumes nothing.
-use Rattle.std.specs.Prelude.{ℕ, ◌≡◌, refl, Bool, List, [], ◌∷◌, eqb, ltb, length}
+use Rattle.std.specs.Prelude.{ℕ, ◌≡◌, refl, Bool, List, [], ◌∷◌, eqb, ltb, length, None}
 use Rattle.std.proofs.Common.{arith, ap, ◌∙◌, eqb-true}
 use Rattle.std.proofs.lemmas.Bool.{eqb-false}
 use Rattle.cells.specs.Proof.Split.{by-test}
@@ -11,7 +11,6 @@ use Rattle.link.specs.Bounds.{symbol_rows}
 use Rattle.interner.specs.Names.{Store, room_of, keep_of}
 use Rattle.interner.specs.Calls as Names
 use Rattle.symbol.specs.declared.Row.{Row}
-use Rattle.symbol.specs.declared.SttFile.TheVariants as File
 use Rattle.symbol_resolution.specs.declared.rows.Decision.{Decision}
 use Rattle.symbol_resolution.specs.Apply.{Table, append_of, apply_of}
 use Rattle.symbol_resolution.specs.Proof.Outcomes.{decision-left}
@@ -27,8 +26,8 @@ pub applied-profile : (t : Table) (r : Row) (d : Decision) → (apply_of t r d).
 unfolding append_of
 applied-profile t r d = decision-left (λ (u : Table). u.link.gabi ≡ t.link.gabi) t r refl refl (λ id x. refl) d
 
-put-profile : (t : Table) (r : Row) → (add_row_of t r File.None).table.link.gabi ≡ t.link.gabi
-put-profile t r = added-left t r File.None (λ (u : Table). u.link.gabi ≡ t.link.gabi) refl (applied-profile t r (decided_of t r File.None))
+put-profile : (t : Table) (r : Row) → (add_row_of t r None).table.link.gabi ≡ t.link.gabi
+put-profile t r = added-left t r None (λ (u : Table). u.link.gabi ≡ t.link.gabi) refl (applied-profile t r (decided_of t r None))
 
 pub keep-profile : (s : Store) (id : Interned) (x : List ℕ) → (keep_of s id x).link.gabi ≡ s.link.gabi
 unfolding keep_of

@@ -1,6 +1,6 @@
 -- A row added under an issued name keeps what holds of every link.
 -- Assumes nothing.
-use Rattle.std.specs.Prelude.{ℕ, ◌+◌, ◌*◌, ◌≤◌, ◌<◌, ◌≡◌, Bool, true, false, ◌≢◌, eqb, ltb, set}
+use Rattle.std.specs.Prelude.{ℕ, ◌+◌, ◌*◌, ◌≤◌, ◌<◌, ◌≡◌, Bool, true, false, ◌≢◌, eqb, ltb, set, None}
 use Rattle.std.proofs.Common.{arith, sym, ◌∙◌}
 use Rattle.std.proofs.Math.Path.{refl, ap, subst}
 use mathlib.Core.List.{List, [], ◌∷◌, ◌++◌, append-nil}
@@ -13,7 +13,6 @@ use Rattle.link.specs.declared.Interned.{Interned}
 use Rattle.link.specs.declared.SymbolId.{SymbolId}
 use Rattle.symbol.specs.Proof.RowLaws.{length-set_row}
 use Rattle.symbol.specs.declared.Row.{Row}
-use Rattle.symbol.specs.declared.SttFile.TheVariants as File
 use Rattle.symbol.specs.Codes.{successor}
 use Rattle.symbol.specs.Row.{state_at, set_row}
 use Rattle.symbol.specs.Hidden.{pass_hidden}
@@ -302,9 +301,9 @@ module _ (s : State) (past : List Entry) (inv : Inv s past) (r : Row) (from : So
   abbrev Good : Left → Type 0
   Good o = Inv (with_table s o.table) (past ++ noted r from o.said)
 
-  decides : (d : Decision) → decided (table s) r ≡ d → Good (committed_of (table s) r File.None d) → Good (put_of s r)
+  decides : (d : Decision) → decided (table s) r ≡ d → Good (committed_of (table s) r None d) → Good (put_of s r)
   unfolding add_row_of
-  decides d e g = subst (λ (d : Decision). Good (committed_of (table s) r File.None d)) (sym e) g
+  decides d e g = subst (λ (d : Decision). Good (committed_of (table s) r None d)) (sym e) g
 
   idle : (o : Left) → o.table ≡ table s → noted r from o.said ≡ [] → Good o
   idle o e q =
@@ -325,8 +324,8 @@ module _ (s : State) (past : List Entry) (inv : Inv s past) (r : Row) (from : So
   viewed : View (table s) r → Good (put_of s r)
   unfolding committed_of apply_of replaced_in amended_in
   viewed (refused n e z) =
-      let (a, b) = commit-refused (table s) r File.None n z in
-      decides (Refuse n) e (idle (committed_of (table s) r File.None (Refuse n)) a (noted-refused r from _ b))
+      let (a, b) = commit-refused (table s) r None n z in
+      decides (Refuse n) e (idle (committed_of (table s) r None (Refuse n)) a (noted-refused r from _ b))
   viewed (kept e k z o w p) = decides _ e (logged _ _ k.global (on-kept s past inv r from k z (rw o p) w))
   viewed (amended e k z o w) = decides _ e (logged _ _ k.global (on-amended s past inv r from k z o w))
   viewed (replaced e k z o) = decides _ e (logged _ _ k.global (on-replaced s past inv r from k z o))

@@ -1,6 +1,6 @@
 -- What a refusal leaves: everything.
 -- Assumes nothing.
-use Rattle.std.specs.Prelude.{ℕ, refl, true, false, List, ◌≢◌, eqb, leb, length}
+use Rattle.std.specs.Prelude.{ℕ, refl, true, false, List, ◌≢◌, eqb, leb, length, Option, None}
 use Rattle.std.proofs.Common.{arith, sym, ◌∙◌}
 use Rattle.std.proofs.Math.Path.{◌≡◌, ap}
 use Rattle.std.proofs.lemmas.Bool.{false≢true}
@@ -16,8 +16,6 @@ use Rattle.link.specs.Judge.{change_of}
 use Rattle.interner.specs.Names.{Store, find_of, fits_of, keep_of}
 use Rattle.interner.specs.Calls as Names
 use Rattle.symbol.specs.declared.Row.{Row}
-use Rattle.symbol.specs.declared.SttFile.{SttFile}
-use Rattle.symbol.specs.declared.SttFile.TheVariants as File
 use Rattle.upcoming_symbol.specs.declared.UpcomingSymbol.{UpcomingSymbol}
 use Rattle.symbol_resolution.specs.declared.rows.Holder.TheVariants.{Unissued}
 use Rattle.symbol_resolution.specs.declared.rows.Decision.{Decision}
@@ -33,7 +31,7 @@ use Rattle.symbol_laws.proofs.ViewLemmas.{unissued-refused}
 
 -- ---- adds
 
-module _ (t : Table) (r : Row) (file : SttFile) where
+module _ (t : Table) (r : Row) (file : Option Interned) where
   pub commit-refused : (n : ℕ) → n ≢ 0 → ((committed_of t r file (Refuse n)).table ≡ t) × (number_in (committed_of t r file (Refuse n)).said ≢ 0)
   unfolding committed_of
   commit-refused n z =
@@ -50,16 +48,16 @@ module _ (t : Table) (r : Row) (file : SttFile) where
   row-refused z = commit-leaves (decided_of t r file) z
 
   -- an accepted add doesn't look at its file
-  commit-accepted : (d : Decision) → number_in (committed_of t r file d).said ≡ 0 → committed_of t r file d ≡ committed_of t r File.None d
+  commit-accepted : (d : Decision) → number_in (committed_of t r file d).said ≡ 0 → committed_of t r file d ≡ committed_of t r None d
   unfolding committed_of
   commit-accepted d e =
       by-test (eqb (refusal_of d) 21) (λ a. let q : ◌≡◌ {A = ℕ} 21 0 = rw a at e in absurd (omega arith)) (λ a. rw a)
 
-  issued : issued_of t.link r.name file ≡ true → issued_of t.link r.name File.None ≡ true
+  issued : issued_of t.link r.name file ≡ true → issued_of t.link r.name None ≡ true
   unfolding issued_of
   issued e = by-test (leb t.link.names r.name.0) (λ a. absurd (false≢true (rw a at e))) (λ a. rw a)
 
-  decided-same : issued_of t.link r.name file ≡ true → decided_of t r file ≡ decided_of t r File.None
+  decided-same : issued_of t.link r.name file ≡ true → decided_of t r file ≡ decided_of t r None
   unfolding decided_of direct_holder_of
   decided-same e = rw (e, issued e)
 
@@ -67,11 +65,11 @@ module _ (t : Table) (r : Row) (file : SttFile) where
   unfolding decided_of direct_holder_of
   decided-not e = rw e
 
-  pub row-accepted : number_in (add_row_of t r file).said ≡ 0 → add_row_of t r file ≡ add_row_of t r File.None
+  pub row-accepted : number_in (add_row_of t r file).said ≡ 0 → add_row_of t r file ≡ add_row_of t r None
   unfolding add_row_of
   row-accepted e =
       by-test (issued_of t.link r.name file)
-      (λ a. commit-accepted (decided_of t r file) e ∙ ap (committed_of t r File.None) (decided-same a))
+      (λ a. commit-accepted (decided_of t r file) e ∙ ap (committed_of t r None) (decided-same a))
       (λ a.
       let no : Refuses (decide_of t.link t.symbols t.sections r Unissued) = unissued-refused t r in
       absurd ((commit-refused no.number no.real).1 (ap (λ (d : Decision). number_in (committed_of t r file d).said) (sym (decided-not a ∙ no.is)) ∙ e)))
@@ -88,7 +86,7 @@ module _ (t : Table) (conversion : List ℕ) (u : UpcomingSymbol) where
       by-test (eqb (judge_add_of t.link (lent t) u).number 0) (λ a. rw a (row-refused t row (file_of u) (rw a at z))) (λ a. rw a)
 
   -- an accepted add is the add of its row
-  pub add-accepted : number_in (add_of t conversion u).said ≡ 0 → add_of t conversion u ≡ add_row_of t row File.None
+  pub add-accepted : number_in (add_of t conversion u).said ≡ 0 → add_of t conversion u ≡ add_row_of t row None
   unfolding add_of
   add-accepted e =
       by-test (eqb (judge_add_of t.link (lent t) u).number 0) (λ a. rw a (row-accepted t row (file_of u) (rw a at e)))

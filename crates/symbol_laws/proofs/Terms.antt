@@ -1,6 +1,6 @@
 -- The statements of the terms of acceptance about the symbol table. Their proofs stand in the other files.
 -- Assumes nothing.
-use Rattle.std.specs.Prelude.{ℕ, ◌<◌, ◌≡◌, Bool, true, false, List, [], ◌∷◌, ◌++◌, ◌≢◌}
+use Rattle.std.specs.Prelude.{ℕ, ◌<◌, ◌≡◌, Bool, true, false, List, [], ◌∷◌, ◌++◌, ◌≢◌, Ok}
 use Rattle.std.proofs.Common.{sym, ap, ◌∙◌, subst}
 use Rattle.link.specs.Said.{number_in, value_in}
 use Rattle.gabi.specs.SymbolTable.{Sym}
@@ -11,7 +11,6 @@ use Rattle.symbol.specs.declared.Row.{Row}
 use Rattle.symbol.specs.Row.{field, scope_refused, value_refused}
 use Rattle.symbol_resolution.specs.Holder.{global_at}
 use Rattle.symbol_resolution.specs.Apply.{Table}
-use Rattle.symbols.specs.declared.Found.TheVariants as Fd
 use Rattle.symbols.specs.New.{new_of}
 use Rattle.symbols.specs.Lookup.{not_found, get_global_of}
 use Rattle.upcoming_symbol.specs.declared.UpcomingSymbol.{UpcomingSymbol}
@@ -90,10 +89,10 @@ module _ (key : ℕ) (gabi : Bool) (bytes names symbols sections : List ℕ) (ne
 
     -- what a lookup by the name then answers
     pub lookup-row : (n : ℕ) (x : Entry) (xs : List Entry) → adds n ≡ x ∷ xs
-        → get_global_of end.link end.names end.symbols (record { 0 = n }) ≡ Fd.Row (symbol_of (record { 0 = x.id }) (hidden_by gabi (rows (x ∷ xs)) (first_by_rank gabi x.row (rows xs))))
+        → get_global_of end.link end.names end.symbols (record { 0 = n }) ≡ Ok (symbol_of (record { 0 = x.id }) (hidden_by gabi (rows (x ∷ xs)) (first_by_rank gabi x.row (rows xs))))
     lookup-row n x xs e =
         Within.lookup-row end _ kept within n x xs e
-        ∙ ap (λ (g : Bool). Fd.Row (symbol_of (record { 0 = x.id }) (hidden_by g (rows (x ∷ xs)) (first_by_rank g x.row (rows xs))))) profile
+        ∙ ap (λ (g : Bool). Ok (symbol_of (record { 0 = x.id }) (hidden_by g (rows (x ∷ xs)) (first_by_rank g x.row (rows xs))))) profile
 
     -- a name without accepted global add has no row, issued or not
     pub no_row : (n : ℕ) → adds n ≡ [] → n < end.link.names → global_at end.names n ≡ 0

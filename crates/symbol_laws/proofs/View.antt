@@ -1,6 +1,6 @@
 -- What is decided on a row under its name, with what is known where it is decided so.
 -- Assumes nothing.
-use Rattle.std.specs.Prelude.{ℕ, ◌+◌, ◌*◌, ◌/◌, ◌≤◌, ◌<◌, ◌≡◌, Bool, true, false, ◌≢◌, eqb, ltb, leb}
+use Rattle.std.specs.Prelude.{ℕ, ◌+◌, ◌*◌, ◌/◌, ◌≤◌, ◌<◌, ◌≡◌, Bool, true, false, ◌≢◌, eqb, ltb, leb, None}
 use native.Mathlib.Omega.{arith}
 use Rattle.std.proofs.Common.{sym, ap, ◌∙◌, subst}
 use Rattle.std.proofs.lemmas.Bool.{false≢true}
@@ -9,7 +9,6 @@ use borrow.Author.Tests.{ltb-true, ltb-false, leb-true, leb-false, eqb-true, eqb
 use Rattle.cells.specs.Proof.Split.{by-test}
 use Rattle.link.specs.Bounds.{lesser, symbol_rows}
 use Rattle.symbol.specs.declared.Row.{Row}
-use Rattle.symbol.specs.declared.SttFile.TheVariants as File
 use Rattle.symbol.specs.Row.{state_at, scope_refusal, value_refusal}
 use Rattle.symbol.specs.Hidden.{hidden_code, passes, pass_hidden}
 use Rattle.link.specs.declared.SymbolId.{SymbolId}
@@ -45,7 +44,7 @@ module _ (t : Table) (r : Row) where
   held = global_at t.names r.name.0
 
   abbrev pub decided : Decision
-  decided = decided_of t r File.None
+  decided = decided_of t r None
 
   abbrev pub yields : Bool
   yields = ltb (ranked t.link.gabi (row_at t.symbols held)) (ranked t.link.gabi r)
@@ -81,7 +80,7 @@ module _ (t : Table) (r : Row) where
   -- ---- by who holds the name
 
   abbrev pub holder : Holder
-  holder = direct_holder_of t.link t.names t.symbols r.name File.None
+  holder = direct_holder_of t.link t.names t.symbols r.name None
 
   -- an issued name: held by no row, by one past the count, by a removed or a present one
   pub data Holds : Type 0 where

@@ -1,6 +1,6 @@
 -- Counts within their bounds: after direct calls a lookup is never refused with 1.
 -- Assumes nothing.
-use Rattle.std.specs.Prelude.{ℕ, ◌+◌, ◌-◌, ◌*◌, ◌/◌, ◌<◌, ◌≤◌, ◌≡◌, refl, Bool, true, List, [], ◌∷◌, eqb, ltb, leb, length, ◌≢◌}
+use Rattle.std.specs.Prelude.{ℕ, ◌+◌, ◌-◌, ◌*◌, ◌/◌, ◌<◌, ◌≤◌, ◌≡◌, refl, Bool, true, List, [], ◌∷◌, eqb, ltb, leb, length, ◌≢◌, None, Ok}
 use Rattle.std.proofs.Common.{arith, ap, ◌∙◌, length-set}
 use Rattle.std.proofs.lemmas.Bool.{false≢true}
 use borrow.Author.Tests.{eq-eqb, ne_eqb, ltb-false, eqb-false, lt-leb, le-leb}
@@ -16,7 +16,6 @@ use Rattle.interner.specs.Calls as Names
 use Rattle.symbol.specs.Row.{state_at, symbol_at}
 use Rattle.symbol.specs.RowLaws.{symbol_of}
 use Rattle.symbol.specs.declared.Row.{Row}
-use Rattle.symbol.specs.declared.SttFile.TheVariants as File
 use Rattle.symbol_resolution.specs.declared.rows.Decision.{Decision}
 use Rattle.symbol_resolution.specs.declared.rows.Holder.{Holder}
 use Rattle.symbol_resolution.specs.declared.rows.Holder.TheVariants.{Nobody, Known}
@@ -28,7 +27,6 @@ use Rattle.link.specs.Counts.{no_names}
 use Rattle.interner.specs.Hash.{head_of}
 use Rattle.interner_laws.proofs.Written.{linked_long}
 use Rattle.interner_laws.proofs.Interns.{cleared-long, keeps}
-use Rattle.symbols.specs.declared.Found.TheVariants as Fd
 use Rattle.symbols.specs.Calls.{lent_of}
 use Rattle.symbols.specs.Add.{decided_of, add_row_of}
 use Rattle.symbols.specs.Proof.AddOutcomes.{added-left}
@@ -74,8 +72,8 @@ applied-within t r d w =
     })
     (λ id x. w) d
 
-put-within : (t : Table) (r : Row) → Within t.link t.names → Within (add_row_of t r File.None).table.link (add_row_of t r File.None).table.names
-put-within t r w = added-left t r File.None (λ (u : Table). Within u.link u.names) w (applied-within t r (decided_of t r File.None) w)
+put-within : (t : Table) (r : Row) → Within t.link t.names → Within (add_row_of t r None).table.link (add_row_of t r None).table.names
+put-within t r w = added-left t r None (λ (u : Table). Within u.link u.names) w (applied-within t r (decided_of t r None) w)
 
 room-bytes : (s : Store) (n : ℕ) → room_of s n ≡ true → s.link.bytes + n ≤ 1048576
 unfolding room_of
@@ -219,7 +217,7 @@ module _ (s : State) (f : Fits s) (w : Within s.link s.names) where
       Link.over-rest s.link (lent_of s.link.chains (length s.symbols) s.link.slots) none none _ none sections-judged refl
       refl (lesser-most 65535 (length s.symbols / 8) s.link.symbols f.few (omega (arith, f.room))) unlent-judged refl lists-judged
 
-  pub got-present : (id : SymbolId) → id.0 < s.link.symbols → state_at s.symbols id.0 ≢ 2 → get_of s.link s.symbols id ≡ Fd.Row (symbol_at s.symbols id)
+  pub got-present : (id : SymbolId) → id.0 < s.link.symbols → state_at s.symbols id.0 ≢ 2 → get_of s.link s.symbols id ≡ Ok (symbol_at s.symbols id)
   unfolding get_of found_at
   got-present id h n = simp (← symbols-judged, lt-leb _ _ h, ne_eqb _ _ n)
 
@@ -234,10 +232,10 @@ module _ (s : State) (f : Fits s) (w : Within s.link s.names) where
 
 module _ (s : State) (past : List Entry) (inv : Inv s past) (w : Within s.link s.names) where
   pub lookup-row : (n : ℕ) (x : Entry) (xs : List Entry) → only n past ≡ x ∷ xs
-      → get_global_of s.link s.names s.symbols (record { 0 = n }) ≡ Fd.Row (symbol_of (record { 0 = x.id }) (hidden_by s.link.gabi (rows (x ∷ xs)) (first_by_rank s.link.gabi x.row (rows xs))))
+      → get_global_of s.link s.names s.symbols (record { 0 = n }) ≡ Ok (symbol_of (record { 0 = x.id }) (hidden_by s.link.gabi (rows (x ∷ xs)) (first_by_rank s.link.gabi x.row (rows xs))))
   lookup-row n x xs e =
       looked s (inv-fits s past inv) w n (Known (record { 0 = x.id })) (holder_known s past inv n x xs e)
-      ∙ ap Fd.Row (means s.symbols (record { 0 = x.id }) ∙ ap (symbol_of (record { 0 = x.id })) (resolved s past inv n x xs e).terms)
+      ∙ ap Ok (means s.symbols (record { 0 = x.id }) ∙ ap (symbol_of (record { 0 = x.id })) (resolved s past inv n x xs e).terms)
 
   pub lookup-none : (n : ℕ) → only n past ≡ [] → get_global_of s.link s.names s.symbols (record { 0 = n }) ≡ not_found 23 0
   lookup-none n e = looked s (inv-fits s past inv) w n Nobody (holder-none s past inv n e)

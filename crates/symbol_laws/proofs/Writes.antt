@@ -1,6 +1,6 @@
 -- Theorems over specs/Writes.antt.
 -- Assumes nothing.
-use Rattle.std.specs.Prelude.{ℕ, zero, suc, ◌+◌, ◌*◌, ◌≤◌, ◌<◌, ◌≡◌, refl, Bool, List, ◌≢◌, eqb, get_or, length}
+use Rattle.std.specs.Prelude.{ℕ, zero, suc, ◌+◌, ◌*◌, ◌≤◌, ◌<◌, ◌≡◌, refl, Bool, List, ◌≢◌, eqb, get_or, length, Option, None}
 use Rattle.std.proofs.Common.{arith, sym, ◌∙◌, eqb-true}
 use Rattle.std.proofs.Math.Path.{ap, subst}
 use Rattle.std.proofs.lemmas.Bool.{eqb-false}
@@ -11,8 +11,6 @@ use Rattle.link.specs.declared.Interned.{Interned}
 use Rattle.symbol.specs.Proof.RowLaws.{field-same, field-other}
 use Rattle.symbol.specs.declared.Row.{Row}
 use Rattle.symbol.specs.declared.Words.{Words}
-use Rattle.symbol.specs.declared.SttFile.{SttFile}
-use Rattle.symbol.specs.declared.SttFile.TheVariants as File
 use Rattle.symbol.specs.Row.{field, state_at, row_at, cells_of}
 use Rattle.symbol.specs.Hidden.{pass_hidden}
 use Rattle.symbol_resolution.specs.declared.rows.Decision.{Decision}
@@ -28,14 +26,14 @@ module _ (t : Table) (r : Row) where
   abbrev OneRow : Left → Type 0
   OneRow o = (j f : ℕ) → f < 8 → j ≢ value_in o.said → field o.table.symbols j f ≡ field t.symbols j f
 
-  decides : (d : Decision) → decided t r ≡ d → OneRow (committed_of t r File.None d) → OneRow (add_row_of t r File.None)
+  decides : (d : Decision) → decided t r ≡ d → OneRow (committed_of t r None d) → OneRow (add_row_of t r None)
   unfolding add_row_of
-  decides d e g = subst (λ (d : Decision). OneRow (committed_of t r File.None d)) (sym e) g
+  decides d e g = subst (λ (d : Decision). OneRow (committed_of t r None d)) (sym e) g
 
-  viewed : View t r → OneRow (add_row_of t r File.None)
+  viewed : View t r → OneRow (add_row_of t r None)
   unfolding committed_of apply_of append_of replaced_in amended_in
   viewed (refused n e z) =
-      decides (Refuse n) e (λ j f h u. ap (λ (t : Table). field t.symbols j f) (commit-refused t r File.None n z).0)
+      decides (Refuse n) e (λ j f h u. ap (λ (t : Table). field t.symbols j f) (commit-refused t r None n z).0)
   viewed (kept e k z o w p) = decides _ e (λ j f h u. refl)
   viewed (amended e k z o w) = decides _ e (λ j f h u. field-other t.symbols _ _ j f h u)
   viewed (replaced e k z o) = decides _ e (λ j f h u. field-other t.symbols _ _ j f h u)
@@ -43,7 +41,7 @@ module _ (t : Table) (r : Row) where
   viewed (local e f v) = decides _ e (λ j f h u. field-other t.symbols _ r j f h u)
 
   -- an add writes no symbol row but the one whose id it answers
-  pub one-row : (file : SttFile) → OneRow (add_row_of t r file)
+  pub one-row : (file : Option Interned) → OneRow (add_row_of t r file)
   one-row file =
       by-test (eqb (number_in (add_row_of t r file).said) 0)
       (λ a. subst OneRow (sym (row-accepted t r file (eqb-true _ _ a))) (viewed (view t r)))

@@ -1,6 +1,6 @@
 -- Laws of the definitions of Writes.antt.
 -- Assumes nothing.
-use Rattle.std.specs.Prelude.{ℕ, ◌+◌, ◌*◌, ◌/◌, ◌%◌, ◌≤◌, ◌<◌, ◌≡◌, refl, List, [], ◌∷◌, ◌++◌, ◌≢◌, eqb, ltb, leb, get_or, length}
+use Rattle.std.specs.Prelude.{ℕ, ◌+◌, ◌*◌, ◌/◌, ◌%◌, ◌≤◌, ◌<◌, ◌≡◌, refl, List, [], ◌∷◌, ◌++◌, ◌≢◌, eqb, ltb, leb, get_or, length, None}
 use Rattle.std.proofs.Common.{arith, mod-lt, div-add-mod', sym, ap, ◌∙◌, get_or-set_other, eqb-true, leb-false, lt-ltb}
 use Rattle.std.proofs.Math.Path.{subst}
 use Rattle.std.proofs.Math.Seq.{set_out}
@@ -15,7 +15,6 @@ use Rattle.link.specs.Judge.{change_of}
 use Rattle.interner.specs.Names.{Store, room_of, added, keep_of}
 use Rattle.symbol.specs.Proof.RowLaws.{field-other}
 use Rattle.symbol.specs.declared.Row.{Row}
-use Rattle.symbol.specs.declared.SttFile.TheVariants as File
 use Rattle.symbol.specs.Codes.{successor}
 use Rattle.symbol.specs.Row.{field, state_at, set_row}
 use Rattle.symbol_resolution.specs.declared.rows.Decision.{Decision}
@@ -104,15 +103,15 @@ module _ (s : State) (b : Below s) where
     Past : Left → Type 0
     Past o = Untouched s (with_table s o.table)
 
-    past-decides : (d : Decision) → decided (table s) r ≡ d → Past (committed_of (table s) r File.None d) → Past (put_of s r)
+    past-decides : (d : Decision) → decided (table s) r ≡ d → Past (committed_of (table s) r None d) → Past (put_of s r)
     unfolding add_row_of
-    past-decides d e g = subst (λ (d : Decision). Past (committed_of (table s) r File.None d)) (sym e) g
+    past-decides d e g = subst (λ (d : Decision). Past (committed_of (table s) r None d)) (sym e) g
 
     past-viewed : View (table s) r → Past (put_of s r)
     unfolding Past committed_of apply_of replaced_in amended_in
     past-viewed (refused n e z) =
         past-decides (Refuse n) e
-        (subst (λ (t : Table). Untouched s (with_table s t)) (sym (commit-refused (table s) r File.None n z).0) (untouched s))
+        (subst (λ (t : Table). Untouched s (with_table s t)) (sym (commit-refused (table s) r None n z).0) (untouched s))
     past-viewed (kept e k z o w p) = past-decides _ e (untouched s)
     past-viewed (amended e k z o w) = past-decides _ e (written-past k z _)
     past-viewed (replaced e k z o) = past-decides _ e (written-past k z _)

@@ -1,15 +1,13 @@
 -- What a direct add says of the row that it makes, in document 01's words, kind of symbol by kind. Null and `Section` are local, so not here.
 -- Assumes nothing.
 use Prim.Native.Nat.{ℕ, ◌+◌, ◌<◌}
-use Rattle.std.specs.Prelude.{◌≡◌, Bool, true, false, ◌&&◌, List, ◌≢◌, ℤ, eqb, get_or}
+use Rattle.std.specs.Prelude.{◌≡◌, Bool, true, false, ◌&&◌, List, ◌≢◌, ℤ, eqb, get_or, Option, None, Some}
 use Rattle.std.proofs.Common.{SFits}
 use Rattle.std.specs.Int.{w64}
 use Rattle.gabi.specs.SymbolTable.{Sym, stb_weak, stv_hidden, shn_undef, shn_abs}
 use Rattle.link.specs.declared.Interned.{Interned}
 use Rattle.link.specs.Bounds.{not_lent}
 use Rattle.symbol.specs.declared.Row.{Row}
-use Rattle.symbol.specs.declared.SttFile.{SttFile}
-use Rattle.symbol.specs.declared.SttFile.TheVariants as File
 use Rattle.symbol.specs.declared.SymbolType.TheVariants as Ty
 use Rattle.symbol.specs.declared.SymbolVisibility.TheVariants.{Global}
 use Rattle.symbol.specs.declared.SymbolValue.{SymbolValue}
@@ -56,20 +54,20 @@ abbrev pub symbol_of : ℕ → ℕ → ℕ → ℕ → ℕ → Sym
 symbol_of b t v s x = record { binding = b; type = t; visibility = v; section = s; value = x }
 
 -- an id of a file's name is a number of 64 bits that has a successor
-abbrev pub FileFits : SttFile → Type 0
-FileFits File.None = Unit {0}
-FileFits (File.Name id) = id.0 < not_lent
+abbrev pub FileFits : Option Interned → Type 0
+FileFits None = Unit {0}
+FileFits (Some id) = id.0 < not_lent
 
 -- its name is the one given, and so is its file's; a kind of symbol that comes without a file has none
-pub record Labelled (r : Row) (name : Interned) (file : SttFile) : Type 0 where
+pub record Labelled (r : Row) (name : Interned) (file : Option Interned) : Type 0 where
   pub named : r.name ≡ name
   pub filed : FileFits file → file_at r.file ≡ file
 
 -- gabi: the profile of the link that it is made on
 pub data FromAdd (gabi : Bool) (conversion : List ℕ) (empty : Bool) (r : Row) : UpcomingSymbol → Type 0 where
-  unknown : (name : Interned) → Labelled r name File.None → type_at r.kind ≡ Ty.NoType → visibility_at r.visibility ≡ Global false false → value_at r.value ≡ Val.Undefined false → FromAdd gabi conversion empty r (Up.GlobalUnknown name)
-  hidden : (name : Interned) (value : SymbolValue) → Labelled r name File.None → type_at r.kind ≡ Ty.NoType → visibility_at r.visibility ≡ Global false true → (Fitting value → value_at r.value ≡ value) → is_undefined (value_at r.value) ≡ is_undefined value → FromAdd gabi conversion empty r (Up.GlobalHidden name value)
-  external : (name : Interned) (visibility binding : ℕ) → Admitted (symbol_of binding 0 visibility shn_abs 0) → Labelled r name File.None → type_at r.kind ≡ Ty.NoType → visibility_at r.visibility ≡ shows (shared_entry gabi (symbol_of binding 0 visibility shn_abs 0)) → value_at r.value ≡ Val.ExternallyDefined
+  unknown : (name : Interned) → Labelled r name None → type_at r.kind ≡ Ty.NoType → visibility_at r.visibility ≡ Global false false → value_at r.value ≡ Val.Undefined false → FromAdd gabi conversion empty r (Up.GlobalUnknown name)
+  hidden : (name : Interned) (value : SymbolValue) → Labelled r name None → type_at r.kind ≡ Ty.NoType → visibility_at r.visibility ≡ Global false true → (Fitting value → value_at r.value ≡ value) → is_undefined (value_at r.value) ≡ is_undefined value → FromAdd gabi conversion empty r (Up.GlobalHidden name value)
+  external : (name : Interned) (visibility binding : ℕ) → Admitted (symbol_of binding 0 visibility shn_abs 0) → Labelled r name None → type_at r.kind ≡ Ty.NoType → visibility_at r.visibility ≡ shows (shared_entry gabi (symbol_of binding 0 visibility shn_abs 0)) → value_at r.value ≡ Val.ExternallyDefined
       → FromAdd gabi conversion empty r (Up.ExternallyDefined name visibility binding)
-  elf : (e : ElfSymbol) (name : Interned) (file : SttFile) → Admitted (symbol_of e.binding e.kind e.visibility e.section e.value) → Labelled r name file → IsType e.kind (type_at r.kind) → visibility_at r.visibility ≡ Global (eqb e.binding stb_weak) (eqb e.visibility stv_hidden) → ElfValue conversion empty e (value_at r.value)
+  elf : (e : ElfSymbol) (name : Interned) (file : Option Interned) → Admitted (symbol_of e.binding e.kind e.visibility e.section e.value) → Labelled r name file → IsType e.kind (type_at r.kind) → visibility_at r.visibility ≡ Global (eqb e.binding stb_weak) (eqb e.visibility stv_hidden) → ElfValue conversion empty e (value_at r.value)
       → FromAdd gabi conversion empty r (Up.Elf e name file)

@@ -1,6 +1,6 @@
 -- Histories of calls on a link, and the log of accepted global adds.
 -- Assumes nothing.
-use Rattle.std.specs.Prelude.{ℕ, ◌≡◌, cond, List, [], ◌∷◌, ◌++◌, eqb}
+use Rattle.std.specs.Prelude.{ℕ, ◌≡◌, cond, List, [], ◌∷◌, ◌++◌, eqb, None}
 use Rattle.link.specs.Said.{Said, number_in, value_in}
 use Rattle.link.specs.declared.Link.{Link}
 use Rattle.link.specs.declared.Interned.{Interned}
@@ -8,7 +8,6 @@ use Rattle.link.specs.declared.SymbolId.{SymbolId}
 use Rattle.interner.specs.Names.{Store, store_of, find_of, keep_of}
 use Rattle.interner.specs.Calls as Names
 use Rattle.symbol.specs.declared.Row.{Row}
-use Rattle.symbol.specs.declared.SttFile.TheVariants as File
 use Rattle.upcoming_symbol.specs.declared.UpcomingSymbol.{UpcomingSymbol}
 use Rattle.upcoming_symbol.specs.Upcoming.{name_of, row_of}
 use Rattle.symbol_resolution.specs.Apply.{Table, table_of}
@@ -90,7 +89,7 @@ pub data Part : Type 0 where
   put : Row → Source → Part
 
 abbrev pub put_of : State → Row → Left
-put_of s r = add_row_of (table s) r File.None
+put_of s r = add_row_of (table s) r None
 
 abbrev pub id_of : State → List ℕ → Interned
 id_of s x = record { 0 = find_of s.bytes s.names s.link x }

@@ -1,6 +1,6 @@
 -- The decision on a row under a name of which it is told who holds it. Document 01, "Symbols": "Add checks in this order".
 -- Assumes nothing.
-use Rattle.std.specs.Prelude.{ℕ, ◌+◌, ◌*◌, Bool, true, false, cond, List, eqb, ltb, leb, length}
+use Rattle.std.specs.Prelude.{ℕ, ◌+◌, ◌*◌, Bool, true, false, cond, List, eqb, ltb, leb, length, Result, Ok, Err}
 use Rattle.gabi.specs.SymbolTable.{stt_file}
 use Rattle.link.specs.declared.Link.{Link}
 use Rattle.link.specs.declared.SymbolId.{SymbolId}
@@ -11,8 +11,28 @@ use Rattle.symbol.specs.Layout.{local, weak, weak_hidden, section_kind, undefine
 use Rattle.symbol.specs.Hidden.{hidden_code, passes}
 use Rattle.symbol_resolution.specs.declared.rows.Holder.{Holder}
 use Rattle.symbol_resolution.specs.declared.rows.Holder.TheVariants.{Unissued, Nobody, Removed, Known}
+use Rattle.symbol_resolution.specs.declared.Rank.{Rank}
+use Rattle.symbol_resolution.specs.declared.Rank.TheVariants as By
+use Rattle.symbol_resolution.specs.declared.rows.Resolution.{Resolution}
+use Rattle.symbol_resolution.specs.declared.rows.Resolution.TheVariants as To
 use Rattle.symbol_resolution.specs.declared.rows.Decision.{Decision}
 use Rattle.symbol_resolution.specs.declared.rows.Decision.TheVariants.{Refuse, Nothing, Keep, Append, Replace, Amend}
+
+-- ---- what the code answers, as a decision, a rank's number, the number of a refusal
+
+abbrev pub decision_of : Result Resolution ℕ → Decision
+decision_of (Err n) = Refuse n
+decision_of (Ok To.Nothing) = Nothing
+decision_of (Ok (To.Keep id)) = Keep id
+decision_of (Ok To.Append) = Append
+decision_of (Ok (To.Replace id)) = Replace id
+decision_of (Ok (To.Amend id)) = Amend id
+
+-- 0: the type is fine
+unfoldable pub typed : ℕ → Result Unit ℕ
+typed n = cond (eqb n 0) (Ok tt) (Err n)
+
+-- ---- the decision
 
 unfoldable pub weak_of : ℕ → Bool
 weak_of v = cond (eqb v weak) true (cond (eqb v weak_hidden) true false)
@@ -27,6 +47,12 @@ weak_rank = 2
 
 abbrev pub strong_rank : ℕ
 strong_rank = 4
+
+abbrev pub rank_number : Rank → ℕ
+rank_number By.Reference = 0
+rank_number By.StrongReference = 1
+rank_number By.WeakDefinition = weak_rank
+rank_number By.StrongDefinition = strong_rank
 
 unfoldable pub rank_of : Bool → ℕ → ℕ → ℕ
 rank_of gabi visibility value = cond (eqb value undefined_kind) (reference_rank gabi visibility) (cond (weak_of visibility) weak_rank strong_rank)

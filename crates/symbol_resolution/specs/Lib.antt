@@ -2,4 +2,5 @@ pub mod Holder
 pub mod RowsUndefined
 pub mod Decide
 pub mod Apply
+pub mod Lent
 pub mod Proof

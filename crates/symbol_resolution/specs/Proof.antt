@@ -1,4 +1,2 @@
-pub mod Undefined
 pub mod DecideWays
-pub mod ApplyWays
 pub mod Outcomes

@@ -1,192 +1,192 @@
 // What an add decides on a row under its name's holder; nothing is written.
 #![tactic(auto)]
 
-ghost use Rattle.std.specs.Prelude.{◌≡◌};
-ghost use Rattle.symbol_resolution.specs.Decide.{weak_of, reference_rank, rank_of, type_refusal, room_of, new_of, replace_of, kept_of, known_of, global_of, local_of, decide_of};
+ghost use Rattle.std.specs.Prelude.{◌≡◌, ◌≢◌, IfErr};
+ghost use Rattle.symbol_resolution.specs.Decide.{typed, rank_number, decision_of, weak_of, rank_of, type_refusal, room_of, new_of, kept_of, known_of, global_of, local_of, decide_of};
 
 mod rows;
 mod write;
 
 use link::{Link, SectionId, SymbolId};
 pub use rows::{
-    Decision, Holder, clear_section_symbol, holder_of, id_of, is_strong_undefined, refusal_of,
-    section_cell,
+    Decision, Holder, Resolution, clear_section_symbol, holder_of, id_of, is_strong_undefined,
+    refusal_of, section_cell,
 };
-use symbol::Row;
-pub use write::apply;
+use symbol::{Row, SymbolVisibility};
+pub use write::{Table, apply};
 
+#[tactic(auto, using(crate::specs::Proof::DecideWays::weak_same))]
 fn is_weak(visibility: u64) -> bool
     ensures { result ≡ weak_of visibility }
 {
-    if visibility == symbol::WEAK {
-        return true;
-    }
-    if visibility == symbol::WEAK_HIDDEN {
-        return true;
-    }
-    false
+    SymbolVisibility::from(visibility).is_weak()
 }
 
-// In the gABI profile a strong reference stands above a weak one.
-fn reference_rank(gabi: bool, visibility: u64) -> u64
-    ensures { result ≡ reference_rank gabi visibility }
-{
-    if gabi {
-        if is_weak(visibility) {
-            return 0;
+// A row yields to an add of a greater rank. In the gABI profile a strong reference stands above a weak one.
+#[derive(Clone, Copy, Debug, PartialEq, Eq, PartialOrd, Ord)]
+enum Rank {
+    Reference,
+    StrongReference,
+    WeakDefinition,
+    StrongDefinition,
+}
+
+impl Rank {
+    #[tactic(auto, unfolding(crate::specs::Decide::rank_of, crate::specs::Decide::reference_rank))]
+    fn of(gabi: bool, visibility: u64, value: u64) -> Rank
+        ensures { rank_number result ≡ rank_of gabi visibility value }
+    {
+        match (value == symbol::KIND_UNDEFINED, is_weak(visibility)) {
+            (true, false) if gabi => Rank::StrongReference,
+            (true, _) => Rank::Reference,
+            (false, true) => Rank::WeakDefinition,
+            (false, false) => Rank::StrongDefinition,
         }
-        return 1;
     }
-    0
 }
 
-// A row yields to an add of a greater rank: a reference (0 or 1), a weak definition, a strong one.
-const WEAK_RANK: u64 = 2;
-
-const STRONG_RANK: u64 = 4;
-
-fn rank(gabi: bool, visibility: u64, value: u64) -> u64
-    ensures { result ≡ rank_of gabi visibility value }
-{
-    if value == symbol::KIND_UNDEFINED {
-        return reference_rank(gabi, visibility);
-    }
-    if is_weak(visibility) {
-        return WEAK_RANK;
-    }
-    STRONG_RANK
-}
-
-fn type_refusal(kind: u64) -> u64
-    ensures { result ≡ type_refusal kind }
+#[tactic(auto, unfolding(crate::specs::Decide::typed, crate::specs::Decide::type_refusal))]
+fn check_type(kind: u64) -> Result<(), u64>
+    ensures answer { result ≡ typed (type_refusal kind) }
+    ensures number { IfErr result (λ n. n ≢ 0) }
 {
     if kind < symbol::STT_FILE {
-        return 0;
+        Ok(())
+    } else if kind == symbol::STT_FILE {
+        Err(15)
+    } else {
+        Err(16)
     }
-    if kind == symbol::STT_FILE {
-        return 15;
-    }
-    16
 }
 
 // A free row, and for a local section symbol the cell of its section.
+#[tactic(auto, unfolding(crate::specs::Decide::room_of, crate::specs::Decide::section_room))]
 fn room(l: Link, symbols: &[u64], sections: &[u64], row: Row) -> bool
     ensures { result ≡ room_of l symbols.now sections.now row }
 {
     if link::symbol_rows(symbols.len()) <= l.symbols {
         return false;
     }
-    let v = row.value;
-    if row.visibility != symbol::LOCAL {
+    if row.visibility != symbol::LOCAL || row.value.kind != symbol::KIND_SECTION {
         return true;
     }
-    if v.kind != symbol::KIND_SECTION {
-        return true;
-    }
-    if crate::rows::section_cell(l, sections.len(), SectionId(v.a as usize)) < sections.len() {
-        return true;
-    }
-    false
+    section_cell(l, sections.len(), SectionId(row.value.a as usize)) < sections.len()
 }
 
 // A local or a new name: value, type, a free row.
-fn decide_new(l: Link, symbols: &[u64], sections: &[u64], row: Row) -> Decision
-    ensures { result ≡ new_of l symbols.now sections.now row }
+#[tactic(auto, unfolding(crate::specs::Decide::new_of, crate::specs::Decide::typed))]
+fn decide_new(l: Link, symbols: &[u64], sections: &[u64], row: Row) -> Result<Resolution, u64>
+    ensures decision { decision_of result ≡ new_of l symbols.now sections.now row }
+    ensures number { IfErr result (λ n. n ≢ 0) }
 {
-    let v = row.value;
-    if symbol::NO_KIND <= v.kind {
-        return Decision::Refuse { number: v.kind };
+    if symbol::NO_KIND <= row.value.kind {
+        return Err(row.value.kind);
     }
-    let t = type_refusal(row.kind);
-    if t != 0 {
-        return Decision::Refuse { number: t };
-    }
+    check_type(row.kind)?;
     if room(l, symbols, sections, row) {
-        return Decision::Append;
+        Ok(Resolution::Append)
+    } else {
+        Err(2)
     }
-    Decision::Refuse { number: 2 }
-}
-
-fn decide_replace(row: Row, id: SymbolId) -> Decision
-    ensures { result ≡ replace_of row id }
-{
-    let t = type_refusal(row.kind);
-    if t != 0 {
-        return Decision::Refuse { number: t };
-    }
-    Decision::Replace { id: id }
 }
 
 // A row that stays, by its and the add's visibility.
-fn decide_kept(gabi: bool, old: u64, new: u64, id: SymbolId) -> Decision
-    ensures { result ≡ kept_of gabi old new id }
+#[tactic(auto, using(symbol::specs::Proof::Ways::hidden_same), unfolding(crate::specs::Decide::kept_of))]
+fn keep(gabi: bool, old: u64, new: u64, id: SymbolId) -> Resolution
+    ensures { decision_of (Ok result) ≡ kept_of gabi old new id }
 {
-    if symbol::passes_hidden(gabi, new) {
-        if symbol::is_hidden(old) {
-            return Decision::Keep { id: id };
-        }
-        return Decision::Amend { id: id };
+    if symbol::passes_hidden(gabi, new) && !SymbolVisibility::from(old).is_hidden() {
+        Resolution::Amend { id }
+    } else {
+        Resolution::Keep { id }
     }
-    Decision::Keep { id: id }
 }
 
 // A known name: value, then by rank.
-fn decide_known(gabi: bool, symbols: &[u64], row: Row, id: SymbolId) -> Decision
-    ensures { result ≡ known_of gabi symbols.now row id }
+#[tactic(auto, unfolding(crate::specs::Decide::known_of, crate::specs::Decide::ranked_of, crate::specs::Decide::replace_of, crate::specs::Decide::typed))]
+fn decide_known(gabi: bool, symbols: &[u64], row: Row, id: SymbolId) -> Result<Resolution, u64>
+    ensures decision { decision_of result ≡ known_of gabi symbols.now row id }
+    ensures number { IfErr result (λ n. n ≢ 0) }
 {
-    let v = row.value;
-    if symbol::NO_KIND <= v.kind {
-        return Decision::Refuse { number: v.kind };
+    if symbol::NO_KIND <= row.value.kind {
+        return Err(row.value.kind);
     }
-    let new = rank(gabi, row.visibility, v.kind);
-    let shown = cells::row_get(symbols, id.0, symbol::CELL_SCOPE);
-    let old = rank(
+    let new = Rank::of(gabi, row.visibility, row.value.kind);
+    let scope = cells::row_get(symbols, id.0, symbol::CELL_SCOPE);
+    let old = Rank::of(
         gabi,
-        shown,
+        scope,
         cells::row_get(symbols, id.0, symbol::CELL_KIND),
     );
     if old < new {
-        return decide_replace(row, id);
+        check_type(row.kind)?;
+        return Ok(Resolution::Replace { id });
     }
-    if new == STRONG_RANK {
-        return Decision::Refuse { number: 17 };
+    if new == Rank::StrongDefinition {
+        return Err(17);
     }
-    decide_kept(gabi, shown, row.visibility, id)
+    Ok(keep(gabi, scope, row.visibility, id))
 }
 
-fn decide_named(l: Link, symbols: &[u64], sections: &[u64], row: Row, holder: Holder) -> Decision
-    ensures { result ≡ global_of l symbols.now sections.now row holder }
+fn decide_named(
+    l: Link,
+    symbols: &[u64],
+    sections: &[u64],
+    row: Row,
+    holder: Holder,
+) -> Result<Resolution, u64>
+    ensures decision { decision_of result ≡ global_of l symbols.now sections.now row holder }
+    ensures number { IfErr result (λ n. n ≢ 0) }
 {
     match holder {
-        Holder::Unissued => Decision::Refuse { number: 21 },
-        Holder::Removed => Decision::Refuse { number: 21 },
+        Holder::Unissued | Holder::Removed => Err(21),
         Holder::Nobody => decide_new(l, symbols, sections, row),
         Holder::Known { id } => decide_known(l.gabi, symbols, row, id),
     }
 }
 
-fn decide_local(l: Link, symbols: &[u64], sections: &[u64], row: Row, holder: Holder) -> Decision
-    ensures { result ≡ local_of l symbols.now sections.now row holder }
+fn decide_local(
+    l: Link,
+    symbols: &[u64],
+    sections: &[u64],
+    row: Row,
+    holder: Holder,
+) -> Result<Resolution, u64>
+    ensures decision { decision_of result ≡ local_of l symbols.now sections.now row holder }
+    ensures number { IfErr result (λ n. n ≢ 0) }
 {
     match holder {
-        Holder::Unissued => Decision::Refuse { number: 21 },
-        Holder::Removed => decide_new(l, symbols, sections, row),
-        Holder::Nobody => decide_new(l, symbols, sections, row),
-        Holder::Known { id: _ } => decide_new(l, symbols, sections, row),
+        Holder::Unissued => Err(21),
+        Holder::Nobody | Holder::Removed | Holder::Known { .. } => {
+            decide_new(l, symbols, sections, row)
+        }
     }
 }
 
-// On a row under a name of which it is told who holds it.
+// On a row under a name of which it is told who holds it: what the add does to the table, or the number that refuses it.
+#[tactic(auto, unfolding(crate::specs::Decide::decide_of))]
+pub fn resolve(
+    l: Link,
+    symbols: &[u64],
+    sections: &[u64],
+    row: Row,
+    holder: Holder,
+) -> Result<Resolution, u64>
+    ensures decision { decision_of result ≡ decide_of l symbols.now sections.now row holder }
+    ensures number { IfErr result (λ n. n ≢ 0) }
+{
+    if symbol::NO_SCOPE <= row.visibility {
+        Err(row.visibility)
+    } else if row.visibility == symbol::LOCAL {
+        decide_local(l, symbols, sections, row, holder)
+    } else {
+        decide_named(l, symbols, sections, row, holder)
+    }
+}
+
+// The same as a Decision, until its callers have moved.
 pub fn decide(l: Link, symbols: &[u64], sections: &[u64], row: Row, holder: Holder) -> Decision
     ensures { result ≡ decide_of l symbols.now sections.now row holder }
 {
-    if symbol::NO_SCOPE <= row.visibility {
-        return Decision::Refuse {
-            number: row.visibility,
-        };
-    }
-    if row.visibility == symbol::LOCAL {
-        return decide_local(l, symbols, sections, row, holder);
-    }
-    decide_named(l, symbols, sections, row, holder)
+    Decision::from(resolve(l, symbols, sections, row, holder))
 }

@@ -2,7 +2,7 @@
 ghost use Rattle.std.specs.Prelude.{◌≡◌};
 ghost use Rattle.symbol_resolution.specs.Holder.{holder_of};
 ghost use Rattle.symbol_resolution.specs.RowsUndefined.{strong_undefined};
-ghost use Rattle.symbol_resolution.specs.Decide.{section_cell, refusal_of, id_of};
+ghost use Rattle.symbol_resolution.specs.Decide.{section_cell, refusal_of, id_of, decision_of};
 ghost use Rattle.symbol_resolution.specs.Apply.{set_section_symbol};
 
 use link::{Interned, Link, SectionId, SymbolId};
@@ -15,7 +15,31 @@ pub enum Holder {
     Known { id: SymbolId },
 }
 
-// Nothing: the symbol gets no id, and nothing is written. Keep writes nothing; Amend passes hidden to the row that stays.
+// What an accepted add does to the table. Nothing: the symbol gets no id, and nothing is written. Keep writes nothing; Amend passes hidden to the
+// row that stays.
+#[derive(Clone, Copy)]
+pub enum Resolution {
+    Nothing,
+    Keep { id: SymbolId },
+    Append,
+    Replace { id: SymbolId },
+    Amend { id: SymbolId },
+}
+
+impl Resolution {
+    // The id of the symbol, in a table of that many rows.
+    pub fn id(self, count: usize) -> SymbolId
+        ensures { result ≡ id_of (decision_of (Ok self)) count }
+    {
+        match self {
+            Resolution::Nothing => SymbolId(0),
+            Resolution::Append => SymbolId(count),
+            Resolution::Keep { id } | Resolution::Replace { id } | Resolution::Amend { id } => id,
+        }
+    }
+}
+
+// A refusal's number beside them, until its users have moved.
 #[derive(Clone, Copy)]
 pub enum Decision {
     Refuse { number: u64 },
@@ -26,9 +50,25 @@ pub enum Decision {
     Amend { id: SymbolId },
 }
 
+impl From<Result<Resolution, u64>> for Decision {
+    ghost from_gives = { λ r d. d ≡ decision_of r };
+
+    fn from(resolved: Result<Resolution, u64>) -> Decision {
+        match resolved {
+            Err(number) => Decision::Refuse { number },
+            Ok(Resolution::Nothing) => Decision::Nothing,
+            Ok(Resolution::Keep { id }) => Decision::Keep { id },
+            Ok(Resolution::Append) => Decision::Append,
+            Ok(Resolution::Replace { id }) => Decision::Replace { id },
+            Ok(Resolution::Amend { id }) => Decision::Amend { id },
+        }
+    }
+}
+
 // ---- who holds a name
 
 // Who holds the name: nobody a name that is to be issued. A row past the count isn't the link's, whatever the name's row says.
+#[tactic(auto, unfolding(crate::specs::Holder::holder_of, crate::specs::Holder::held_by))]
 pub fn holder_of(l: Link, names: &[u64], symbols: &[u64], name: Interned) -> Holder
     ensures { result ≡ holder_of l names.now symbols.now name }
 {
@@ -36,10 +76,7 @@ pub fn holder_of(l: Link, names: &[u64], symbols: &[u64], name: Interned) -> Hol
         return Holder::Nobody;
     }
     let id = cells::row_get(names, name.0, symbol::NAME_SYMBOL) as usize;
-    if id == 0 {
-        return Holder::Nobody;
-    }
-    if l.symbols <= id {
+    if id == 0 || l.symbols <= id {
         return Holder::Nobody;
     }
     if cells::row_get(symbols, id, symbol::CELL_STATE) == symbol::REMOVED {
@@ -49,6 +86,7 @@ pub fn holder_of(l: Link, names: &[u64], symbols: &[u64], name: Interned) -> Hol
 }
 
 // Is the row undefined, global and not weak?
+#[tactic(auto, unfolding(crate::specs::RowsUndefined::strong_undefined))]
 pub fn is_strong_undefined(symbols: &[u64], id: SymbolId) -> bool
     ensures { result ≡ strong_undefined symbols.now id }
 {
@@ -56,13 +94,7 @@ pub fn is_strong_undefined(symbols: &[u64], id: SymbolId) -> bool
         return false;
     }
     let scope = cells::row_get(symbols, id.0, symbol::CELL_SCOPE);
-    if scope == symbol::GLOBAL {
-        return true;
-    }
-    if scope == symbol::GLOBAL_HIDDEN {
-        return true;
-    }
-    false
+    matches!(scope, symbol::GLOBAL | symbol::GLOBAL_HIDDEN)
 }
 
 // ---- what is decided
@@ -72,11 +104,7 @@ pub fn refusal_of(d: Decision) -> u64
 {
     match d {
         Decision::Refuse { number } => number,
-        Decision::Nothing => 0,
-        Decision::Keep { id: _ } => 0,
-        Decision::Append => 0,
-        Decision::Replace { id: _ } => 0,
-        Decision::Amend { id: _ } => 0,
+        _ => 0,
     }
 }
 
@@ -85,18 +113,17 @@ pub fn id_of(d: Decision, count: usize) -> SymbolId
     ensures { result ≡ id_of d count }
 {
     match d {
-        Decision::Refuse { number: _ } => SymbolId(0),
-        Decision::Nothing => SymbolId(0),
-        Decision::Keep { id } => id,
+        Decision::Refuse { .. } | Decision::Nothing => SymbolId(0),
         Decision::Append => SymbolId(count),
-        Decision::Replace { id } => id,
-        Decision::Amend { id } => id,
+        Decision::Keep { id } | Decision::Replace { id } | Decision::Amend { id } => id,
     }
 }
 
 // ---- the symbols of sections
 
 // The cell for the symbol of a section, behind all rows of a slice of that length; the length where the section has none.
+// Kept: a number and no Option, since a cell past the end is what `cells` takes for one that isn't there.
+#[tactic(auto, unfolding(crate::specs::Decide::section_cell))]
 pub fn section_cell(l: Link, len: usize, s: SectionId) -> usize
     ensures { result ≡ section_cell l len s.0 }
 {
@@ -111,6 +138,7 @@ pub fn section_cell(l: Link, len: usize, s: SectionId) -> usize
 }
 
 // The cell's content, 0 for none; nothing is written where the section has no cell.
+#[tactic(auto, unfolding(crate::specs::Apply::set_section_symbol))]
 fn put_section_symbol(l: Link, sections: &mut [u64], s: SectionId, symbol: u64)
     ensures { sections.new ≡ set_section_symbol l sections.old s.0 symbol }
 {

@@ -1,80 +1,110 @@
-// What a decision on an add writes.
-ghost use Rattle.std.specs.Prelude.{◌≡◌};
-ghost use Rattle.symbol_resolution.specs.Apply.{note_name, note_section, append_of, replaced_in, amended_in, apply_of, table_after, table_before};
+// What an accepted add writes.
+ghost use Rattle.std.specs.Prelude.{◌≡◌, Ok};
+ghost use Rattle.symbol_resolution.specs.Apply.{note_name, note_section, append_of, replaced_in, amended_in, applied, apply_of, table_after, table_before};
+ghost use Rattle.symbol_resolution.specs.Decide.{decision_of};
+ghost use Rattle.symbol_resolution.specs.Lent.{same_loans, table_in};
 
-use crate::rows::Decision;
+use crate::rows::{Decision, Resolution};
 use link::{Link, SectionId, SymbolId};
 use symbol::Row;
 
+// The lent cells that an add may write, and the counts.
+#[derive(Drop)]
+pub struct Table<'a> {
+    pub link: Link,
+    pub names: &'a mut [u64],
+    pub symbols: &'a mut [u64],
+    pub sections: &'a mut [u64],
+}
+
+#[tactic(auto, unfolding(crate::specs::Apply::note_name))]
 fn note_name(names: &mut [u64], row: Row, id: usize)
     ensures { names.new ≡ note_name names.old row id }
 {
     if row.visibility != symbol::LOCAL {
-        let name = row.name;
-        cells::row_put(names, name.0, symbol::NAME_SYMBOL, id as u64);
+        cells::row_put(names, row.name.0, symbol::NAME_SYMBOL, id as u64);
     }
 }
 
 // A local section symbol becomes its section's symbol.
+#[tactic(auto, unfolding(crate::specs::Apply::note_section))]
 fn note_section(l: Link, sections: &mut [u64], row: Row, id: usize)
     ensures { sections.new ≡ note_section l sections.old row id }
 {
-    let v = row.value;
-    if row.visibility == symbol::LOCAL {
-        if v.kind == symbol::KIND_SECTION {
-            crate::rows::set_section_symbol(l, sections, SectionId(v.a as usize), SymbolId(id));
-        }
+    if row.visibility == symbol::LOCAL && row.value.kind == symbol::KIND_SECTION {
+        let section = SectionId(row.value.a as usize);
+        crate::rows::set_section_symbol(l, sections, section, SymbolId(id));
     }
 }
 
-fn append(l: Link, names: &mut [u64], symbols: &mut [u64], sections: &mut [u64], row: Row) -> Link
-    ensures { table_after names symbols sections result ≡ append_of (table_before names symbols sections l) row }
-{
-    let id = l.symbols;
-    symbol::set_row(symbols, SymbolId(id), row);
-    note_name(names, row, id);
-    note_section(l, sections, row, id);
-    link::with_symbols(l, symbol::next(id))
-}
-
 // The add takes the row.
+#[tactic(auto, unfolding(crate::specs::Apply::replaced_in))]
 fn replace(gabi: bool, symbols: &mut [u64], row: Row, id: SymbolId)
     ensures { symbols.new ≡ replaced_in gabi symbols.old row id }
 {
     let old = cells::row_get(symbols, id.0, symbol::CELL_SCOPE);
-    symbol::set_row(symbols, id, symbol::pass_hidden(gabi, old, row));
+    row.pass_hidden(gabi, old).store(symbols, id);
 }
 
 // The row stays, and takes hidden from the add.
+#[tactic(auto, unfolding(crate::specs::Apply::amended_in))]
 fn amend(gabi: bool, symbols: &mut [u64], row: Row, id: SymbolId)
     ensures { symbols.new ≡ amended_in gabi symbols.old row id }
 {
-    let old = symbol::row_in(symbols, id);
-    symbol::set_row(symbols, id, symbol::pass_hidden(gabi, row.visibility, old));
+    let old = Row::at(symbols, id);
+    old.pass_hidden(gabi, row.visibility).store(symbols, id);
 }
 
+impl Table<'_> {
+    #[tactic(auto, unfolding(crate::specs::Apply::append_of))]
+    fn append(&mut self, row: Row)
+        ensures same { same_loans self.old self.new }
+        ensures appended { table_in self.new ≡ append_of (table_in self.old) row }
+    {
+        let id = self.link.symbols;
+        row.store(self.symbols, SymbolId(id));
+        note_name(self.names, row, id);
+        note_section(self.link, self.sections, row, id);
+        self.link.symbols = symbol::next(id);
+    }
+
+    // What the add of the row does.
+    pub fn apply(&mut self, row: Row, resolution: Resolution)
+        ensures same { same_loans self.old self.new }
+        ensures done { table_in self.new ≡ applied (table_in self.old) row (decision_of (Ok resolution)) }
+    {
+        match resolution {
+            Resolution::Nothing | Resolution::Keep { .. } => {}
+            Resolution::Append => self.append(row),
+            Resolution::Replace { id } => replace(self.link.gabi, self.symbols, row, id),
+            Resolution::Amend { id } => amend(self.link.gabi, self.symbols, row, id),
+        }
+    }
+}
+
+// The same of a Decision, until its callers have moved.
+#[tactic(auto, unfolding(crate::specs::Apply::apply_of))]
 pub fn apply(
-    l: Link,
+    link: Link,
     names: &mut [u64],
     symbols: &mut [u64],
     sections: &mut [u64],
     row: Row,
     d: Decision,
 ) -> Link
-    ensures { table_after names symbols sections result ≡ apply_of (table_before names symbols sections l) row d }
+    ensures { table_after names symbols sections result ≡ apply_of (table_before names symbols sections link) row d }
 {
+    let mut table = Table {
+        link,
+        names,
+        symbols,
+        sections,
+    };
     match d {
-        Decision::Refuse { number: _ } => l,
-        Decision::Nothing => l,
-        Decision::Keep { id: _ } => l,
-        Decision::Append => append(l, names, symbols, sections, row),
-        Decision::Replace { id } => {
-            replace(l.gabi, symbols, row, id);
-            l
-        }
-        Decision::Amend { id } => {
-            amend(l.gabi, symbols, row, id);
-            l
-        }
+        Decision::Refuse { .. } | Decision::Nothing | Decision::Keep { .. } => {}
+        Decision::Append => table.apply(row, Resolution::Append),
+        Decision::Replace { id } => table.apply(row, Resolution::Replace { id }),
+        Decision::Amend { id } => table.apply(row, Resolution::Amend { id }),
     }
+    table.link
 }

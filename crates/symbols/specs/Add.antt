@@ -1,6 +1,6 @@
 -- A direct add. 22; 1; then the decision on the row that the symbol would become; what it writes.
 -- Assumes nothing.
-use Rattle.std.specs.Prelude.{ℕ, ◌+◌, ◌*◌, Bool, true, false, cond, List, eqb, leb, get_or, length}
+use Rattle.std.specs.Prelude.{ℕ, ◌+◌, ◌*◌, Bool, true, false, cond, List, eqb, leb, get_or, length, Option, None, Some}
 use Rattle.link.specs.declared.Link.{Link}
 use Rattle.link.specs.declared.Lent.{Lent}
 use Rattle.link.specs.declared.Interned.{Interned}
@@ -9,8 +9,6 @@ use Rattle.link.specs.Bounds.{name_rows, section_slots}
 use Rattle.link.specs.Judge.{refused, change_of}
 use Rattle.symbol.specs.declared.Row.{Row}
 use Rattle.symbol.specs.Layout.{length_cell}
-use Rattle.symbol.specs.declared.SttFile.{SttFile}
-use Rattle.symbol.specs.declared.SttFile.TheVariants as File
 use Rattle.upcoming_symbol.specs.declared.UpcomingSymbol.{UpcomingSymbol}
 use Rattle.upcoming_symbol.specs.declared.UpcomingSymbol.TheVariants.{Null, GlobalUnknown, GlobalHidden, Section, ExternallyDefined, Elf}
 use Rattle.upcoming_symbol.specs.Judge.{in_range}
@@ -29,39 +27,51 @@ unfoldable pub judge_add_of : Link → Lent → UpcomingSymbol → Refusal
 judge_add_of l n u =
     cond (eqb (change_of l n).number 0) (cond (in_range u) (change_of l n) (refused 1 0)) (refused (change_of l n).number 0)
 
-abbrev pub file_of : UpcomingSymbol → SttFile
-file_of Null = File.None
-file_of (GlobalUnknown name) = File.None
-file_of (GlobalHidden name value) = File.None
-file_of (Section section) = File.None
-file_of (ExternallyDefined name visibility binding) = File.None
+abbrev pub file_of : UpcomingSymbol → Option Interned
+file_of Null = None
+file_of (GlobalUnknown name) = None
+file_of (GlobalHidden name value) = None
+file_of (Section section) = None
+file_of (ExternallyDefined name visibility binding) = None
 file_of (Elf elf name file) = file
 
 -- "a name id never issued": the symbol's, then its file's
-abbrev pub file_issued : Link → SttFile → Bool
-file_issued l File.None = true
-file_issued l (File.Name id) = cond (leb l.names id.0) false true
+abbrev pub file_issued : Link → Option Interned → Bool
+file_issued l None = true
+file_issued l (Some id) = cond (leb l.names id.0) false true
 
-unfoldable pub issued_of : Link → Interned → SttFile → Bool
+unfoldable pub issued_of : Link → Interned → Option Interned → Bool
 issued_of l name file = cond (leb l.names name.0) false (file_issued l file)
 
-unfoldable pub direct_holder_of : Link → List ℕ → List ℕ → Interned → SttFile → Holder
+unfoldable pub direct_holder_of : Link → List ℕ → List ℕ → Interned → Option Interned → Holder
 direct_holder_of l names symbols name file = cond (issued_of l name file) (holder_of l names symbols name) Unissued
 
 -- "21's id: the name's for an add"
-abbrev pub unissued_file : Link → Interned → SttFile → ℕ
-unissued_file l name File.None = name.0
-unissued_file l name (File.Name id) = cond (leb l.names id.0) id.0 name.0
+abbrev pub unissued_file : Link → Interned → Option Interned → ℕ
+unissued_file l name None = name.0
+unissued_file l name (Some id) = cond (leb l.names id.0) id.0 name.0
 
-unfoldable pub place_of : Link → Interned → SttFile → ℕ
+unfoldable pub place_of : Link → Interned → Option Interned → ℕ
 place_of l name file = cond (leb l.names name.0) name.0 (unissued_file l name file)
 
-unfoldable pub decided_of : Table → Row → SttFile → Decision
+-- by the first of the two ids that isn't issued
+abbrev pub is_issued : Option Interned → Bool
+is_issued None = true
+is_issued (Some id) = false
+
+abbrev pub place_in : Option Interned → Interned → ℕ
+place_in None name = name.0
+place_in (Some id) name = id.0
+
+abbrev pub refused_place : Link → Row → Option Interned → ℕ → ℕ
+refused_place l r file number = cond (eqb number 21) (place_of l r.name file) 0
+
+unfoldable pub decided_of : Table → Row → Option Interned → Decision
 decided_of t r file =
     decide_of t.link t.symbols t.sections r (direct_holder_of t.link t.names t.symbols r.name file)
 
 -- a refusal leaves everything, at place 0 "as for a direct add but 21"
-unfoldable pub committed_of : Table → Row → SttFile → Decision → Left
+unfoldable pub committed_of : Table → Row → Option Interned → Decision → Left
 committed_of t r file d =
     cond (eqb (refusal_of d) 21) (left t (refusing (refused 21 (place_of t.link r.name file))))
     (cond (eqb (refusal_of d) 0) (left (apply_of t r d) (accepted (id_of d t.link.symbols).0)) (left t (refusing (refused (refusal_of d) 0))))
@@ -70,7 +80,7 @@ committed_of t r file d =
 abbrev pub empty_at : List ℕ → Interned → Bool
 empty_at names name = eqb (get_or names (name.0 * 8 + length_cell) 0) 0
 
-unfoldable pub add_row_of : Table → Row → SttFile → Left
+unfoldable pub add_row_of : Table → Row → Option Interned → Left
 add_row_of t r file = committed_of t r file (decided_of t r file)
 
 abbrev pub lent : Table → Lent

@@ -1,6 +1,8 @@
 -- What the table's calls answer, in document 01's terms, and what they leave.
 -- Assumes nothing.
-use Rattle.std.specs.Prelude.{ℕ, List}
+use Rattle.link.specs.declared.Refusal.{Refusal}
+use Rattle.link.specs.declared.SymbolId.{SymbolId}
+use Rattle.std.specs.Prelude.{ℕ, List, Result, Ok, Err}
 use Rattle.link.specs.declared.Link.{Link}
 use Rattle.link.specs.declared.Lent.{Lent}
 use Rattle.link.specs.Judge.{refused}
@@ -9,14 +11,12 @@ use Rattle.link.specs.Said.{Said, accepted, refusing}
 use Rattle.link.specs.Counts.{lent_rows}
 use Rattle.symbol_resolution.specs.Apply.{Table, table_of}
 use Rattle.cells.specs.Slice.{SliceMut}
-use Rattle.symbols.specs.declared.Answer.{Answer}
-use Rattle.symbols.specs.declared.Answer.TheVariants.{Symbol, Refused}
 use Rattle.symbols.specs.declared.Outcome.{Outcome}
 
 -- the symbol's id, or the refusal
-abbrev pub said : Answer → Said
-said (Symbol id) = accepted id.0
-said (Refused r) = refusing r
+abbrev pub said : Result SymbolId Refusal → Said
+said (Ok id) = accepted id.0
+said (Err r) = refusing r
 
 -- every lent cell, the counts and the answer after a call
 pub record Left : Type 0 where
@@ -33,8 +33,11 @@ outcome names symbols sections r = left (table_of names symbols sections r.table
 abbrev pub outcome_after : SliceMut → SliceMut → SliceMut → Outcome → Left
 outcome_after names symbols sections r = outcome names.exit.now symbols.exit.now sections.exit.now r
 
+abbrev pub refused_by : Link → Refusal → Outcome
+refused_by l r = record { table = record { link = l }; answer = Err r }
+
 abbrev pub refused_of : Link → ℕ → ℕ → Outcome
-refused_of l number place = record { table = record { link = l }; answer = Refused (refused number place) }
+refused_of l number place = record { table = record { link = l }; answer = Err (refused number place) }
 
 -- the rows of names and sections, the length of the symbols
 abbrev pub lent_of : ℕ → ℕ → ℕ → Lent

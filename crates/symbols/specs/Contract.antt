@@ -1,7 +1,9 @@
 -- The contracts of the table's calls, and of lookups: what a caller sees of a call, its result and every cell that it lent to be written, against the
 -- call's definition.
 -- Assumes nothing.
-use Rattle.std.specs.Prelude.{ℕ, ◌≡◌, Bool, List}
+use Rattle.link.specs.declared.Refusal.{Refusal}
+use Rattle.symbol.specs.declared.Symbol.{Symbol}
+use Rattle.std.specs.Prelude.{ℕ, ◌≡◌, Bool, List, Option, Result}
 use Rattle.cells.specs.Slice.{SliceMut}
 use Rattle.link.specs.declared.Link.{Link}
 use Rattle.link.specs.declared.Interned.{Interned}
@@ -10,8 +12,6 @@ use Rattle.link.specs.declared.SectionId.{SectionId}
 use Rattle.upcoming_symbol.specs.declared.UpcomingSymbol.{UpcomingSymbol}
 use Rattle.symbol_resolution.specs.Apply.{Table}
 use Rattle.symbols.specs.declared.Outcome.{Outcome}
-use Rattle.symbols.specs.declared.Found.{Found}
-use Rattle.symbols.specs.declared.SectionSymbol.{SectionSymbol}
 use Rattle.symbols.specs.Calls.{outcome}
 use Rattle.symbols.specs.New.{new_outcome, new_of}
 use Rattle.symbols.specs.Add.{add_of}
@@ -64,11 +64,11 @@ RemoveMeets l x id e = remove_outcome e.symbols e.sections e.result ≡ remove_o
 
 -- ---- `get`, `get_global`, `section_symbol_id`, which write nothing
 
-abbrev pub GetMeets : Link → List ℕ → SymbolId → Found → Type 0
+abbrev pub GetMeets : Link → List ℕ → SymbolId → Result Symbol Refusal → Type 0
 GetMeets l symbols id r = r ≡ get_of l symbols id
 
-abbrev pub GetGlobalMeets : Link → List ℕ → List ℕ → Interned → Found → Type 0
+abbrev pub GetGlobalMeets : Link → List ℕ → List ℕ → Interned → Result Symbol Refusal → Type 0
 GetGlobalMeets l names symbols name r = r ≡ get_global_of l names symbols name
 
-abbrev pub SectionSymbolMeets : Link → List ℕ → SectionId → SectionSymbol → Type 0
+abbrev pub SectionSymbolMeets : Link → List ℕ → SectionId → Option SymbolId → Type 0
 SectionSymbolMeets l sections s r = r ≡ section_symbol_of l sections s

@@ -1,115 +1,55 @@
 // The direct add to a symbol table: the first checks, the row, what is decided and what is written.
-ghost use Rattle.std.specs.Prelude.{◌≡◌};
-ghost use Rattle.link.specs.Bounds.{name_rows, section_slots};
+ghost use Rattle.std.specs.Prelude.{◌≡◌, ◌≢◌, IfErr};
+ghost use Rattle.link.specs.Judge.{judged};
 ghost use Rattle.upcoming_symbol.specs.Upcoming.{name_of, row_of};
 ghost use Rattle.symbol_resolution.specs.Apply.{table_before, table_of};
-ghost use Rattle.symbols.specs.Calls.{lent_of, outcome_after};
-ghost use Rattle.symbols.specs.Add.{judge_add_of, file_of, file_issued, issued_of, unissued_file, place_of, direct_holder_of, decided_of, committed_of, empty_at, add_row_of};
+ghost use Rattle.symbol_resolution.specs.Decide.{decision_of};
+ghost use Rattle.symbol_resolution.specs.Lent.{same_loans, table_in};
+ghost use Rattle.symbols.specs.Calls.{left, said, outcome_after};
+ghost use Rattle.symbols.specs.Add.{judge_add_of, file_of, is_issued, place_in, issued_of, place_of, refused_place, direct_holder_of, decided_of, committed_of, empty_at, add_row_of};
 ghost use Rattle.symbols.specs.Contract.{add_exit, AddMeets};
 
-use crate::{Answer, Outcome, Symbols};
-use link::{Interned, Link, Refusal};
-use symbol::{Row, SttFile};
-use symbol_resolution::{Decision, Holder};
+use crate::{Outcome, Symbols};
+use link::{Interned, Lent, Link, Refusal, SymbolId};
+use symbol::Row;
+use symbol_resolution::{Holder, Resolution, Table};
 use upcoming_symbol::UpcomingSymbol;
 
-// 22, then 1 of the link's counts, then 1 of the symbol's own fields.
-fn judge_add(
-    l: Link,
-    names: usize,
-    symbols: usize,
-    sections: usize,
-    upcoming: UpcomingSymbol,
-) -> Refusal
-    ensures { result ≡ judge_add_of l (lent_of (name_rows names) symbols (section_slots sections)) upcoming }
+// 22, then 1 of the link's counts, then 1 of the symbol's own fields; all at place 0.
+#[tactic(auto, unfolding(crate::specs::Add::judge_add_of, link::specs::Judge::judged))]
+fn judge_add(l: Link, lent: Lent, upcoming: UpcomingSymbol) -> Result<(), Refusal>
+    ensures { result ≡ judged (judge_add_of l lent upcoming) }
 {
-    let lent = crate::lent_rows(
-        names / link::NAME_CELLS,
-        symbols,
-        sections / link::SECTION_CELLS,
-    );
-    let head = link::judge_change(l, lent);
-    if head.number != 0 {
-        return Refusal {
-            number: head.number,
-            place: 0,
-        };
+    if let Err(refusal) = l.judge_change(lent) {
+        return Err(Refusal::new(refusal.number, 0));
     }
-    if upcoming_symbol::in_range(upcoming) {
-        return head;
+    if !upcoming.in_range() {
+        return Err(Refusal::new(1, 0));
     }
-    Refusal {
-        number: 1,
-        place: 0,
-    }
+    Ok(())
 }
 
-// Are the ids of the name and of the file's name issued?
-fn issued(l: Link, name: Interned, file: SttFile) -> bool
-    ensures { result ≡ issued_of l name file }
+// The first id that isn't issued, of the name's and the file's name's.
+#[tactic(auto, unfolding(crate::specs::Add::issued_of, crate::specs::Add::place_of))]
+fn unissued(l: Link, name: Interned, file: Option<Interned>) -> Option<Interned>
+    ensures issued { is_issued result ≡ issued_of l name file }
+    ensures place { place_in result name ≡ place_of l name file }
 {
     if l.names <= name.0 {
-        return false;
+        return Some(name);
     }
-    file_issued(l, file)
-}
-
-fn file_issued(l: Link, file: SttFile) -> bool
-    ensures { result ≡ file_issued l file }
-{
     match file {
-        SttFile::None => true,
-        SttFile::Name { id } => {
-            if l.names <= id.0 {
-                return false;
-            }
-            true
-        }
+        Some(id) if l.names <= id.0 => Some(id),
+        _ => None,
     }
 }
 
-// The name's id, or the file's where only that one isn't issued.
-fn place_of(l: Link, name: Interned, file: SttFile) -> usize
-    ensures { result ≡ place_of l name file }
-{
-    if l.names <= name.0 {
-        return name.0;
-    }
-    unissued_file(l, name, file)
-}
-
-fn unissued_file(l: Link, name: Interned, file: SttFile) -> usize
-    ensures { result ≡ unissued_file l name file }
-{
-    match file {
-        SttFile::None => name.0,
-        SttFile::Name { id } => {
-            if l.names <= id.0 {
-                return id.0;
-            }
-            name.0
-        }
-    }
-}
-
-fn file_of(u: UpcomingSymbol) -> SttFile
+fn file_of(u: UpcomingSymbol) -> Option<Interned>
     ensures { result ≡ file_of u }
 {
     match u {
-        UpcomingSymbol::Null => SttFile::None,
-        UpcomingSymbol::GlobalUnknown { name: _ } => SttFile::None,
-        UpcomingSymbol::GlobalHidden { name: _, value: _ } => SttFile::None,
-        UpcomingSymbol::Section { section: _ } => SttFile::None,
-        UpcomingSymbol::ExternallyDefined {
-            name: _,
-            visibility: _,
-            binding: _,
-        } => SttFile::None,
-        UpcomingSymbol::Elf {
-            elf: _,
-            name: _,
-            file,
-        } => file,
+        UpcomingSymbol::Elf { file, .. } => file,
+        _ => None,
     }
 }
 
@@ -117,79 +57,101 @@ fn file_of(u: UpcomingSymbol) -> SttFile
 fn upcoming_row(gabi: bool, names: &[u64], conversion: &[u64], upcoming: UpcomingSymbol) -> Row
     ensures { result ≡ row_of gabi conversion.now upcoming (empty_at names.now (name_of upcoming)) }
 {
-    let name = upcoming_symbol::name_of(upcoming);
-    let empty = cells::row_get(names, name.0, symbol::NAME_LENGTH) == 0;
-    upcoming_symbol::row_of(gabi, conversion, upcoming, empty)
+    let empty = cells::row_get(names, upcoming.name().0, symbol::NAME_LENGTH) == 0;
+    upcoming.row(gabi, conversion, empty)
 }
 
-fn direct_holder(l: Link, names: &[u64], symbols: &[u64], name: Interned, file: SttFile) -> Holder
+#[tactic(auto, unfolding(crate::specs::Add::direct_holder_of))]
+fn direct_holder(
+    l: Link,
+    names: &[u64],
+    symbols: &[u64],
+    name: Interned,
+    file: Option<Interned>,
+) -> Holder
     ensures { result ≡ direct_holder_of l names.now symbols.now name file }
 {
-    if issued(l, name, file) {
-        return symbol_resolution::holder_of(l, names, symbols, name);
+    match unissued(l, name, file) {
+        None => symbol_resolution::holder_of(l, names, symbols, name),
+        Some(_) => Holder::Unissued,
     }
-    Holder::Unissued
 }
 
 // The row that is to be added, under its name's holder: what is decided.
+#[tactic(auto, unfolding(crate::specs::Add::decided_of))]
 fn decide(
     l: Link,
     names: &[u64],
     symbols: &[u64],
     sections: &[u64],
     row: Row,
-    file: SttFile,
-) -> Decision
-    ensures { result ≡ decided_of (table_of names.now symbols.now sections.now l) row file }
+    file: Option<Interned>,
+) -> Result<Resolution, u64>
+    ensures decision { decision_of result ≡ decided_of (table_of names.now symbols.now sections.now l) row file }
+    ensures number { IfErr result (λ n. n ≢ 0) }
 {
-    let name = row.name;
-    let holder = direct_holder(l, names, symbols, name, file);
-    symbol_resolution::decide(l, symbols, sections, row, holder)
+    let holder = direct_holder(l, names, symbols, row.name, file);
+    symbol_resolution::resolve(l, symbols, sections, row, holder)
 }
 
-// Writes what was decided; a refusal's place is 0, but for 21 the id of a name.
+// Of a refusal the place is 0, but for 21 the id of a name.
+fn place_of(l: Link, row: Row, file: Option<Interned>, number: u64) -> usize
+    ensures { result ≡ refused_place l row file number }
+{
+    match number {
+        21 => unissued(l, row.name, file).unwrap_or(row.name).0,
+        _ => 0,
+    }
+}
+
+// Writes what was decided.
+#[tactic(auto, unfolding(crate::specs::Add::committed_of, symbol_resolution::specs::Apply::apply_of))]
 fn commit(
-    l: Link,
-    names: &mut [u64],
-    symbols: &mut [u64],
-    sections: &mut [u64],
+    table: &mut Table<'_>,
     row: Row,
-    file: SttFile,
-    d: Decision,
-) -> Outcome
-    ensures { outcome_after names symbols sections result ≡ committed_of (table_before names symbols sections l) row file d }
+    file: Option<Interned>,
+    resolved: Result<Resolution, u64>,
+) -> Result<SymbolId, Refusal>
+    requires { IfErr resolved (λ n. n ≢ 0) }
+    ensures same { same_loans table.old table.new }
+    ensures answer { left (table_in table.new) (said result) ≡ committed_of (table_in table.old) row file (decision_of resolved) }
 {
-    let number = symbol_resolution::refusal_of(d);
-    if number == 21 {
-        let name = row.name;
-        return crate::refused(l, 21, place_of(l, name, file) as u64);
-    }
-    if number != 0 {
-        return crate::refused(l, number, 0);
-    }
-    let done = symbol_resolution::apply(l, names, symbols, sections, row, d);
-    Outcome {
-        table: Symbols { link: done },
-        answer: Answer::Symbol {
-            id: symbol_resolution::id_of(d, l.symbols),
-        },
+    match resolved {
+        Err(number) => Err(Refusal::new(number, place_of(table.link, row, file, number))),
+        Ok(resolution) => {
+            let id = resolution.id(table.link.symbols);
+            table.apply(row, resolution);
+            Ok(id)
+        }
     }
 }
 
+#[tactic(auto, unfolding(crate::specs::Add::add_row_of))]
 fn add_row(
     l: Link,
     names: &mut [u64],
     symbols: &mut [u64],
     sections: &mut [u64],
     row: Row,
-    file: SttFile,
+    file: Option<Interned>,
 ) -> Outcome
     ensures { outcome_after names symbols sections result ≡ add_row_of (table_before names symbols sections l) row file }
 {
-    let d = decide(l, names, symbols, sections, row, file);
-    commit(l, names, symbols, sections, row, file, d)
+    let resolved = decide(l, names, symbols, sections, row, file);
+    let mut table = Table {
+        link: l,
+        names,
+        symbols,
+        sections,
+    };
+    let answer = commit(&mut table, row, file, resolved);
+    Outcome {
+        table: Symbols { link: table.link },
+        answer,
+    }
 }
 
+#[tactic(auto, unfolding(crate::specs::Add::add_of, link::specs::Judge::judged))]
 pub fn add(
     table: Symbols,
     names: &mut [u64],
@@ -201,11 +163,14 @@ pub fn add(
     ensures { AddMeets (table_before names symbols sections table.link) conversion.now upcoming (add_exit names symbols sections result) }
 {
     let l = table.link;
-    let head = judge_add(l, names.len(), symbols.len(), sections.len(), upcoming);
-    if head.number != 0 {
-        return crate::refused(l, head.number, head.place);
+    let lent = crate::lent_rows(
+        names.len() / link::NAME_CELLS,
+        symbols.len(),
+        sections.len() / link::SECTION_CELLS,
+    );
+    if let Err(refusal) = judge_add(l, lent, upcoming) {
+        return crate::refused(l, refusal);
     }
     let row = upcoming_row(l.gabi, names, conversion, upcoming);
-    let file = file_of(upcoming);
-    add_row(l, names, symbols, sections, row, file)
+    add_row(l, names, symbols, sections, row, file_of(upcoming))
 }

@@ -3,7 +3,7 @@
 
 ghost use Rattle.std.specs.Prelude.{◌≡◌, List, ℕ};
 ghost use Rattle.interner.specs.Names.{store_of};
-ghost use Rattle.symbols.specs.Calls.{refused_of, lent_of};
+ghost use Rattle.symbols.specs.Calls.{refused_by, lent_of};
 ghost use Rattle.symbols.specs.New.{new_outcome, null_of, null_row, one_symbol, clear_symbols};
 ghost use Rattle.symbols.specs.Contract.{NewMeets, new_exit};
 
@@ -15,7 +15,7 @@ pub use adds::add;
 use link::{Interned, Lent, Link, Refusal, SymbolId};
 pub use lookups::{get, get_global, section_symbol_id};
 pub use removal::{remove, remove_row};
-use symbol::{Row, Symbol, Words};
+use symbol::{Row, SymbolValue};
 
 #[derive(Clone, Copy)]
 pub struct Symbols {
@@ -23,27 +23,9 @@ pub struct Symbols {
 }
 
 #[derive(Clone, Copy)]
-pub enum Answer {
-    Symbol { id: SymbolId },
-    Refused { refusal: Refusal },
-}
-
-#[derive(Clone, Copy)]
 pub struct Outcome {
     pub table: Symbols,
-    pub answer: Answer,
-}
-
-#[derive(Clone, Copy)]
-pub enum Found {
-    Row { symbol: Symbol },
-    Refused { refusal: Refusal },
-}
-
-#[derive(Clone, Copy)]
-pub enum SectionSymbol {
-    None,
-    Symbol { id: SymbolId },
+    pub answer: Result<SymbolId, Refusal>,
 }
 
 // The rows of names and sections, the length of the symbols.
@@ -51,26 +33,21 @@ pub fn lent_rows(names: usize, symbols: usize, sections: usize) -> Lent
     ensures { result ≡ lent_of names symbols sections }
 {
     Lent {
-        names: names,
+        names,
         bytes: link::NOT_LENT,
-        symbols: symbols,
-        sections: sections,
+        symbols,
+        sections,
         inputs: link::NOT_LENT,
         lists: link::NOT_LENT,
     }
 }
 
-pub fn refused(l: Link, number: u64, place: u64) -> Outcome
-    ensures { result ≡ refused_of l number place }
+fn refused(l: Link, refusal: Refusal) -> Outcome
+    ensures { result ≡ refused_by l refusal }
 {
     Outcome {
         table: Symbols { link: l },
-        answer: Answer::Refused {
-            refusal: Refusal {
-                number: number,
-                place: place,
-            },
-        },
+        answer: Err(refusal),
     }
 }
 
@@ -84,15 +61,12 @@ fn null_row() -> Row
         kind: symbol::STT_NOTYPE,
         file: 0,
         visibility: symbol::LOCAL,
-        value: Words {
-            kind: symbol::KIND_NULL,
-            a: 0,
-            b: 0,
-        },
+        value: SymbolValue::Null.into(),
     }
 }
 
 // No section has a symbol.
+#[tactic(auto, unfolding(crate::specs::New::clear_symbols))]
 fn clear_section_symbols(sections: &mut [u64])
     ensures { sections.new ≡ clear_symbols sections.old }
 {
@@ -101,6 +75,7 @@ fn clear_section_symbols(sections: &mut [u64])
 }
 
 // One symbol, and cells for that many sections' symbols.
+// Kept: one field set after the other, since a literal of all of a link's fields takes more instructions.
 fn one_symbol(gabi: bool, l: Link, slots: usize) -> Link
     ensures { result ≡ one_symbol gabi l slots }
 {
@@ -112,22 +87,21 @@ fn one_symbol(gabi: bool, l: Link, slots: usize) -> Link
 }
 
 // The null symbol over the names' counts l, where the empty name was issued; whatever the names' bytes and rows are.
+#[tactic(auto, unfolding(crate::specs::New::null_of))]
 fn null_table(gabi: bool, l: Link, symbols: &mut [u64], sections: &mut [u64]) -> Outcome
     ensures { (bytes names : List ℕ) → new_outcome bytes names symbols.new sections.new result ≡ null_of gabi symbols.old sections.old (store_of bytes names l) }
 {
     if l.names == 0 {
-        return refused(l, 2, 0);
+        return refused(l, Refusal::new(2, 0));
     }
     let slots = link::section_slots(sections.len());
     clear_section_symbols(sections);
-    symbol::set_row(symbols, Symbols::NULL_SYMBOL_ID, null_row());
+    null_row().store(symbols, Symbols::NULL_SYMBOL_ID);
     Outcome {
         table: Symbols {
             link: one_symbol(gabi, l, slots),
         },
-        answer: Answer::Symbol {
-            id: Symbols::NULL_SYMBOL_ID,
-        },
+        answer: Ok(Symbols::NULL_SYMBOL_ID),
     }
 }
 
@@ -137,6 +111,7 @@ impl Symbols {
     pub const NULL_SYMBOL_ID: SymbolId = SymbolId(0);
 
     // A table with the null symbol alone, and the empty name, in the old or the gABI profile. What the lent cells held before doesn't matter. Any number is a key of the names' hash.
+    #[tactic(auto, unfolding(crate::specs::New::new_of))]
     pub fn new(
         key: usize,
         gabi: bool,
@@ -148,7 +123,7 @@ impl Symbols {
         ensures { NewMeets key gabi bytes.old names.old symbols.old sections.old (new_exit bytes names symbols sections result) }
     {
         if link::symbol_rows(symbols.len()) == 0 {
-            return refused(link::no_names(0, 0), 2, 0);
+            return refused(link::no_names(0, 0), Refusal::new(2, 0));
         }
         let named = interner::new(key, bytes, names);
         null_table(gabi, named.link, symbols, sections)

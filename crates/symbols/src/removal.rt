@@ -3,10 +3,11 @@ ghost use Rattle.std.specs.Prelude.{◌≡◌};
 ghost use Rattle.symbols.specs.Remove.{drop_section, remove_row_of, rows_after, rows_before};
 ghost use Rattle.symbols.specs.Contract.{remove_exit, RemoveMeets};
 
-use crate::{Answer, Outcome, Symbols};
-use link::{Link, SectionId, SymbolId};
+use crate::{Outcome, Symbols};
+use link::{Link, Refusal, SectionId, SymbolId};
 
 // A removed section symbol leaves its section without one.
+#[tactic(auto, unfolding(crate::specs::Remove::drop_section))]
 fn drop_section(l: Link, sections: &mut [u64], kind: u64, section: u64)
     ensures { sections.new ≡ drop_section l sections.old kind section }
 {
@@ -16,6 +17,7 @@ fn drop_section(l: Link, sections: &mut [u64], kind: u64, section: u64)
 }
 
 // The row's state becomes removed, and every other cell of it stays.
+#[tactic(auto, unfolding(crate::specs::Remove::remove_row_of))]
 pub fn remove_row(l: Link, symbols: &mut [u64], sections: &mut [u64], id: SymbolId)
     ensures { rows_after symbols sections ≡ remove_row_of l (rows_before symbols sections) id }
 {
@@ -30,27 +32,22 @@ pub fn remove_row(l: Link, symbols: &mut [u64], sections: &mut [u64], id: Symbol
 }
 
 // A global name is never forgotten; a removed id is accepted and changes nothing.
+#[tactic(auto, unfolding(crate::specs::Remove::remove_of, link::specs::Judge::judged))]
 pub fn remove(table: Symbols, symbols: &mut [u64], sections: &mut [u64], id: SymbolId) -> Outcome
     ensures { RemoveMeets table.link (rows_before symbols sections) id (remove_exit symbols sections result) }
 {
     let l = table.link;
-    let head = link::judge_change(
-        l,
-        crate::lent_rows(
-            l.chains,
-            symbols.len(),
-            sections.len() / link::SECTION_CELLS,
-        ),
-    );
-    if head.number != 0 {
-        return crate::refused(l, head.number, head.place);
+    let slots = sections.len() / link::SECTION_CELLS;
+    let lent = crate::lent_rows(l.chains, symbols.len(), slots);
+    if let Err(refusal) = l.judge_change(lent) {
+        return crate::refused(l, refusal);
     }
     if l.symbols <= id.0 {
-        return crate::refused(l, 21, id.0 as u64);
+        return crate::refused(l, Refusal::new(21, id.0));
     }
     remove_row(l, symbols, sections, id);
     Outcome {
-        table: table,
-        answer: Answer::Symbol { id: id },
+        table,
+        answer: Ok(id),
     }
 }

@@ -5,3 +5,5 @@ pub mod Unread
 pub mod Line
 pub mod Next
 pub mod Text
+pub mod Digits
+pub mod Writing

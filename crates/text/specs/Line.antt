@@ -1,10 +1,9 @@
 -- The next line of what is in the buffer.
 -- Assumes nothing.
-use Rattle.std.specs.Prelude.{ℕ, zero, suc, ◌+◌, ◌-◌, Bool, true, false, cond, List, eqb, ltb, leb, get_or, length}
+use Rattle.std.specs.Prelude.{ℕ, zero, suc, ◌+◌, ◌-◌, Bool, true, false, cond, List, eqb, ltb, leb, get_or, length, Option, Some, None}
 use Rattle.text.specs.declared.lines.Lines.{Lines}
 use Rattle.text.specs.declared.lines.Taken.{Taken}
-use Rattle.text.specs.declared.lines.Taken.TheVariants.{Line, Long, End, More}
-use Rattle.text.specs.declared.lines.Step.{Step}
+use Rattle.text.specs.declared.lines.Taken.TheVariants.{Line, Long, End}
 use Rattle.text.specs.Unread.{lines_at}
 
 abbrev pub line_end : ℕ
@@ -26,29 +25,32 @@ span_of from to len = cond (ltb to from) End (cond (ltb len to) End (Line from (
 unfoldable pub rest_of : Lines → ℕ → Taken
 rest_of l len = cond (leb l.end l.start) End (span_of l.start l.end len)
 
--- no line end is in the buffer
-unfoldable pub unended_of : Lines → ℕ → Taken
-unended_of l len = cond l.over (rest_of l len) (cond (eqb l.start 0) (cond (leb len l.end) Long More) More)
+-- no line end is in the buffer; none: more has to be read first
+unfoldable pub unended_of : Lines → ℕ → Option Taken
+unended_of l len = cond l.over (Some (rest_of l len)) (cond (eqb l.start 0) (cond (leb len l.end) (Some Long) None) None)
 
 -- what is left behind a last line: nothing
 unfoldable pub left_of : Lines → ℕ
 left_of l = cond l.over l.end l.start
 
-abbrev pub step_of : Lines → Taken → Step
+-- what is left of the input, and what was taken of it; none: more has to be read first
+pub record Step : Type 0 where
+  pub lines : Lines
+  pub taken : Option Taken
+
+abbrev pub step_of : Lines → Option Taken → Step
 step_of l t = record { lines = l; taken = t }
 
 -- at: where its line end is
 unfoldable pub settled_at : ℕ → Lines → ℕ → Step
 settled_at len l at =
-    cond (ltb at l.end) (step_of (lines_at (at + 1) (at + 1) l.end l.over l.failed) (span_of l.start at len))
+    cond (ltb at l.end) (step_of (lines_at (at + 1) (at + 1) l.end l.over l.failed) (Some (span_of l.start at len)))
     (step_of (lines_at (left_of l) l.end l.end l.over l.failed) (unended_of l len))
 
 unfoldable pub settle_of : List ℕ → Lines → Step
 settle_of b l = settled_at (length b) l (end_in b l.seen l.end)
 
 -- has more to be read first?
-abbrev pub is_more : Taken → Bool
-is_more (Line from len) = false
-is_more Long = false
-is_more End = false
-is_more More = true
+abbrev pub is_more : Option Taken → Bool
+is_more (Some t) = false
+is_more None = true

@@ -3,9 +3,8 @@
 use Rattle.std.specs.Prelude.{ℕ, ◌+◌, ◌-◌, ◌<◌, ◌≤◌, ◌≡◌, Bool, true, false, cond, List, ltb, length, take, drop}
 use Rattle.std.proofs.Math.Seq.{paste}
 use Rattle.text.specs.declared.lines.Lines.{Lines}
-use Rattle.text.specs.declared.lines.Step.{Step}
 use Rattle.text.specs.Unread.{lines_at}
-use Rattle.text.specs.Line.{end_in, settle_of, is_more}
+use Rattle.text.specs.Line.{Step, end_in, settle_of, is_more}
 
 -- ---- what isn't handed out yet, at the front of the buffer
 

@@ -1,2 +1,4 @@
 pub mod Ways
 pub mod LinesWays
+pub mod DigitsWays
+pub mod WritingWays

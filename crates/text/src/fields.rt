@@ -1,59 +1,43 @@
 // Fields of a line: the bytes between runs of spaces and tabs; and the number that a field spells.
-ghost use Rattle.std.specs.Prelude.{◌≡◌};
-ghost use Rattle.text.specs.Fields.{class_of, run_end, next_field, start_of, field_of, without_cr};
-ghost use Rattle.text.specs.Decimal.{digit_of, more_of, decimal_from, decimal_of};
-ghost use Rattle.text.specs.declared.fields.Number.TheVariants.{Value};
-
-#[derive(Clone, Copy)]
-pub enum Number {
-    None,
-    Value { value: u64 },
-}
+ghost use Rattle.std.specs.Prelude.{◌≡◌, true};
+ghost use Rattle.text.specs.Fields.{is_separator, run_end, next_field, start_of, field_of, without_cr};
+ghost use Rattle.text.specs.Decimal.{digit_of, decimal_of};
 
 // ---- fields
 
-// 1 for a byte that separates fields, 0 for a byte of a field.
-fn class_of(b: u8) -> u64
-    ensures { result ≡ class_of b }
+#[tactic(auto, unfolding(crate::specs::Fields::is_separator))]
+fn is_separator(b: u8) -> bool
+    ensures { result ≡ is_separator b }
 {
-    if b == 32 {
-        return 1;
-    }
-    if b == 9 {
-        return 1;
-    }
-    0
+    b == b' ' || b == b'\t'
 }
 
-// Where the bytes of that class that begin at the place end.
-fn run_end(line: &[u8], at: usize, class: u64) -> usize
-    ensures { result ≡ run_end line.now at class }
+// Where the separators, or the bytes of a field, that begin at the place end.
+fn run_end(line: &[u8], at: usize, separators: bool) -> usize
+    ensures { result ≡ run_end line.now at separators }
 {
-    let mut i = at;
-    while i < line.len() {
-        if class_of(line[i]) != class {
+    for i in at..line.len() {
+        if is_separator(line[i]) != separators {
             return i;
         }
-        i += 1;
     }
-    i
+    at.max(line.len())
 }
 
+#[tactic(auto, unfolding(crate::specs::Fields::next_field))]
 fn next_field(line: &[u8], at: usize) -> usize
     ensures { result ≡ next_field line.now at }
 {
-    run_end(line, run_end(line, at, 0), 1)
+    run_end(line, run_end(line, at, false), true)
 }
 
 // Where field k begins; the end where there is none.
 fn start_of(line: &[u8], k: usize) -> usize
-    ensures { result ≡ start_of line.now (run_end line.now 0 1) k }
+    ensures { result ≡ start_of line.now (run_end line.now 0 true) k }
 {
-    let mut at = run_end(line, 0, 1);
-    let mut left = k;
-    while 0 < left {
+    let mut at = run_end(line, 0, true);
+    for _ in 0..k {
         at = next_field(line, at);
-        left -= 1;
     }
     at
 }
@@ -64,72 +48,49 @@ pub fn field(line: &[u8], k: usize) -> &[u8]
     ensures place { result.ref_ptr.0 ≡ line.entry.ref_ptr.0 }
 {
     let start = start_of(line, k);
-    let end = run_end(line, start, 0);
+    let end = run_end(line, start, false);
     byte_slices::part_of(line, start, end - start)
 }
 
 // The line without a carriage return at its end.
+#[tactic(auto, unfolding(crate::specs::Fields::without_cr))]
 pub fn without_cr(line: &[u8]) -> &[u8]
     ensures result_value { result.now ≡ without_cr line.now }
     ensures place { result.ref_ptr.0 ≡ line.entry.ref_ptr.0 }
 {
-    let n = line.len();
-    if n == 0 {
+    let Some(&last) = line.last() else {
         return line;
+    };
+    if last == b'\r' {
+        &line[..line.len() - 1]
+    } else {
+        line
     }
-    let last = n - 1;
-    if line[last] == 13 {
-        return byte_slices::part_of(line, 0, last);
-    }
-    line
 }
 
 // ---- numbers
 
 // One digit more, as far as 64 bits hold the number.
-fn digit_of(n: u64, b: u8) -> Number
+#[tactic(auto, unfolding(crate::specs::Decimal::digit_of, crate::specs::Decimal::below64))]
+fn digit_of(n: u64, b: u8) -> Option<u64>
     ensures { result ≡ digit_of n b }
 {
-    if b < 48 {
-        return Number::None;
+    if !b.is_ascii_digit() {
+        return None;
     }
-    if 57 < b {
-        return Number::None;
-    }
-    let d = (b - 48) as u64;
-    if (0xffff_ffff_ffff_ffff - d) / 10 < n {
-        return Number::None;
-    }
-    Number::Value { value: n * 10 + d }
-}
-
-fn more_of(m: Number, b: u8) -> Number
-    ensures { result ≡ more_of m b }
-{
-    match m {
-        Number::None => Number::None,
-        Number::Value { value } => digit_of(value, b),
-    }
-}
-
-fn decimal_from(x: &[u8]) -> Number
-    ensures { result ≡ decimal_from (Value 0) x.now }
-{
-    let mut m = Number::Value { value: 0 };
-    let mut i = 0;
-    while i < x.len() {
-        m = more_of(m, x[i]);
-        i += 1;
-    }
-    m
+    n.checked_mul(10)?.checked_add(u64::from(b - b'0'))
 }
 
 // The number that decimal digits spell; none where there is another byte, no digit, or no room in 64 bits.
-pub fn decimal(x: &[u8]) -> Number
+pub fn decimal(x: &[u8]) -> Option<u64>
     ensures { result ≡ decimal_of x.now }
 {
-    if x.len() == 0 {
-        return Number::None;
+    if x.is_empty() {
+        return None;
     }
-    decimal_from(x)
+    let mut n = 0;
+    for &b in x {
+        n = digit_of(n, b)?;
+    }
+    Some(n)
 }

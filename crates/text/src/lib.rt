@@ -1,10 +1,10 @@
-// Text for the programs: fields and decimal numbers of a line, lines of any input, text put into a buffer.
+// Text for the programs: fields and decimal numbers of a line, lines of any input, text put together in lent bytes.
 #![tactic(auto)]
 
 mod fields;
 mod lines;
 mod out;
 
-pub use fields::{Number, decimal, field, without_cr};
-pub use lines::{Lines, Step, Taken, new, next_line, skip_line};
-pub use out::{put, put_decimal};
+pub use fields::{decimal, field, without_cr};
+pub use lines::{Lines, Taken};
+pub use out::Writer;

@@ -1,25 +1,50 @@
-// Text put into a buffer, and numbers in decimal.
-ghost use Rattle.std.specs.Prelude.{◌≡◌, ◌+◌, length};
-ghost use Rattle.text.specs.Text.{text_of, put_of, PutDecimal};
+// Text put together in lent bytes, and numbers in decimal.
+ghost use Rattle.std.specs.Prelude.{◌≡◌, [], ◌∷◌};
+ghost use Rattle.text.specs.Text.{text_of, PutDecimal};
+ghost use Rattle.text.specs.Writing.{written, Puts};
+ghost use Rattle.text.specs.Digits.{decimal};
 
-// Puts x behind the text of n bytes, and answers its new length; nothing where not all of it has room.
-pub fn put(buf: &mut [u8], n: usize, x: &[u8]) -> usize
-    ensures { text_of buf.new result ≡ put_of buf.old n x.now }
-{
-    if buf.len() < n {
-        return n;
-    }
-    if buf.len() - n < x.len() {
-        return n;
-    }
-    byte_slices::copy_in(buf, n, x);
-    n + x.len()
+// Lent bytes, of which the first `len` are text.
+// Kept: (1) the bytes are lent, and a put can't fail; a String or a Vec would ask for memory.
+#[derive(Drop)]
+pub struct Writer<'a> {
+    pub bytes: &'a mut [u8],
+    pub len: usize,
 }
 
-pub fn put_decimal(buf: &mut [u8], n: usize, v: u64) -> usize
-    ensures { PutDecimal buf.old n v (text_of buf.new result) }
-{
-    let mut digits = [0u8; 20];
-    let k = io::decimal(v, &mut digits);
-    put(buf, n, &digits[..k])
+impl<'a> Writer<'a> {
+    // Behind the text of that length.
+    pub fn after(bytes: &'a mut [u8], len: usize) -> Writer<'a>
+        ensures same { result.bytes.ghost_name ≡ bytes.entry.ghost_name }
+        ensures text { written result ≡ text_of bytes.old len }
+    {
+        Writer { bytes, len }
+    }
+
+    pub fn new(bytes: &'a mut [u8]) -> Writer<'a>
+        ensures same { result.bytes.ghost_name ≡ bytes.entry.ghost_name }
+        ensures text { written result ≡ text_of bytes.old 0 }
+    {
+        Writer::after(bytes, 0)
+    }
+
+    // Puts x behind the text; nothing where not all of it has room.
+    pub fn put(&mut self, x: &[u8])
+        ensures { Puts self.old self.new (x.now ∷ []) }
+    {
+        if self.bytes.len().saturating_sub(self.len) < x.len() {
+            return;
+        }
+        byte_slices::copy_in(self.bytes, self.len, x);
+        self.len += x.len();
+    }
+
+    pub fn put_decimal(&mut self, v: u64)
+        ensures pieces { Puts self.old self.new (decimal v ∷ []) }
+        ensures fewest { PutDecimal self.old.bytes.now self.old.len v (written self.new) }
+    {
+        let mut digits = [0u8; 20];
+        let k = io::decimal(v, &mut digits);
+        self.put(&digits[..k]);
+    }
 }

@@ -1,207 +1,184 @@
-// The row that an upcoming symbol would become: its name, binding and visibility, value.
+// The row that a symbol would become, by its kind: binding and visibility, then value. What is refused stands as its number in the row.
 ghost use Rattle.std.specs.Prelude.{◌≡◌};
-ghost use Rattle.upcoming_symbol.specs.Judge.{shown_of, hidden_of, judge_of};
-ghost use Rattle.upcoming_symbol.specs.Upcoming.{name_of, in_section, converted_of, value_of, row_are, elf_row_of, library_code, external_row_of, row_of};
+ghost use Rattle.symbol.specs.Codes.{words_of};
+ghost use Rattle.upcoming_symbol.specs.Judge.{scope_of, shown_of, hidden_of, judge_of};
+ghost use Rattle.upcoming_symbol.specs.Upcoming.{words_or, in_section, converted_of, value_of, elf_row_of, library_code, external_row_of, local_row, global_row};
 
-use crate::{Conversion, ElfSymbol, UpcomingSymbol};
+use crate::{Conversion, ElfSymbol};
 use link::Interned;
-use symbol::{Row, Words};
+use symbol::{Row, SymbolValue, SymbolVisibility, Words};
 
-// By visibility first, then by binding: the scope of the symbol's row, or the number of the refusal.
-fn shown(binding: u64) -> u64
-    ensures { result ≡ shown_of binding }
+// The scope of the symbol's row, by its binding.
+#[tactic(auto, unfolding(crate::specs::Judge::shown_of))]
+fn shown(binding: u64) -> Result<SymbolVisibility, u64>
+    ensures { scope_of result ≡ shown_of binding }
 {
-    if binding == crate::STB_LOCAL {
-        return symbol::LOCAL;
+    match binding {
+        crate::STB_LOCAL => Ok(SymbolVisibility::Local),
+        crate::STB_GLOBAL => Ok(SymbolVisibility::Global {
+            weak: false,
+            hidden: false,
+        }),
+        crate::STB_WEAK => Ok(SymbolVisibility::Global {
+            weak: true,
+            hidden: false,
+        }),
+        _ => Err(12),
     }
-    if binding == crate::STB_GLOBAL {
-        return symbol::GLOBAL;
-    }
-    if binding == crate::STB_WEAK {
-        return symbol::WEAK;
-    }
-    12
 }
 
-fn hidden(binding: u64) -> u64
-    ensures { result ≡ hidden_of binding }
+#[tactic(auto, unfolding(crate::specs::Judge::hidden_of))]
+fn hidden(binding: u64) -> Result<SymbolVisibility, u64>
+    ensures { scope_of result ≡ hidden_of binding }
 {
-    if binding == crate::STB_LOCAL {
-        return 11;
+    match binding {
+        crate::STB_LOCAL => Err(11),
+        crate::STB_GLOBAL => Ok(SymbolVisibility::Global {
+            weak: false,
+            hidden: true,
+        }),
+        crate::STB_WEAK => Ok(SymbolVisibility::Global {
+            weak: true,
+            hidden: true,
+        }),
+        _ => Err(12),
     }
-    if binding == crate::STB_GLOBAL {
-        return symbol::GLOBAL_HIDDEN;
-    }
-    if binding == crate::STB_WEAK {
-        return symbol::WEAK_HIDDEN;
-    }
-    12
 }
 
-fn judge(binding: u64, visibility: u64) -> u64
-    ensures { result ≡ judge_of binding visibility }
+// By visibility first, then by binding.
+#[tactic(auto, unfolding(crate::specs::Judge::judge_of))]
+fn judge(binding: u64, visibility: u64) -> Result<SymbolVisibility, u64>
+    ensures { scope_of result ≡ judge_of binding visibility }
 {
-    if visibility == crate::STV_DEFAULT {
-        return shown(binding);
+    match visibility {
+        crate::STV_DEFAULT => shown(binding),
+        crate::STV_HIDDEN => hidden(binding),
+        _ => Err(10),
     }
-    if visibility == crate::STV_HIDDEN {
-        return hidden(binding);
-    }
-    10
 }
 
+// The scope's code, or the number of the refusal.
+fn scope(judged: Result<SymbolVisibility, u64>) -> u64
+    ensures { result ≡ scope_of judged }
+{
+    match judged {
+        Ok(visibility) => visibility.into(),
+        Err(number) => number,
+    }
+}
+
+#[tactic(auto, unfolding(crate::specs::Upcoming::in_section))]
 fn in_section(section: u64, empty: bool, value: u64) -> Words
     ensures { result ≡ in_section section empty value }
 {
-    if empty {
-        if value == 0 {
-            return symbol::words_at(symbol::KIND_SECTION, section, 0);
-        }
-        return symbol::words_at(symbol::KIND_RELATIVE, section, value);
+    if empty && value == 0 {
+        Words::new(symbol::KIND_SECTION, section, 0)
+    } else {
+        Words::new(symbol::KIND_RELATIVE, section, value)
     }
-    symbol::words_at(symbol::KIND_RELATIVE, section, value)
 }
 
-fn converted(c: Conversion, empty: bool, value: u64) -> Words
-    ensures { result ≡ converted_of c empty value }
+#[tactic(auto, unfolding(crate::specs::Upcoming::converted_of))]
+fn converted(c: Conversion, empty: bool, value: u64) -> Result<Words, u64>
+    ensures { words_or result ≡ converted_of c empty value }
 {
     match c {
-        Conversion::Nothing => symbol::words_at(14, 0, 0),
-        Conversion::NotLoaded => symbol::words_at(symbol::KIND_NOT_LOADED, 0, 0),
-        Conversion::Section { id } => in_section(id.0 as u64, empty, value),
+        Conversion::Nothing => Err(14),
+        Conversion::NotLoaded => Ok(Words::from(SymbolValue::SectionNotLoaded)),
+        Conversion::Section { id } => Ok(in_section(id.0 as u64, empty, value)),
     }
 }
 
-fn value_of(c: Conversion, e: ElfSymbol, empty: bool) -> Words
-    ensures { result ≡ value_of c e empty }
+#[tactic(auto, unfolding(crate::specs::Upcoming::value_of, crate::specs::Upcoming::undefined_of))]
+fn value_of(c: Conversion, e: ElfSymbol, empty: bool) -> Result<Words, u64>
+    ensures { words_or result ≡ value_of c e empty }
 {
-    let section = e.section;
-    if section == crate::SHN_UNDEF {
-        if e.binding == crate::STB_WEAK {
-            return symbol::words_at(symbol::KIND_UNDEFINED, 1, 0);
-        }
-        return symbol::words_at(symbol::KIND_UNDEFINED, 0, 0);
+    match e.section {
+        crate::SHN_UNDEF => Ok(Words::from(SymbolValue::Undefined {
+            zero: e.binding == crate::STB_WEAK,
+        })),
+        crate::SHN_ABS => Ok(Words::from(SymbolValue::Absolute { value: e.value })),
+        crate::SHN_COMMON => Err(13),
+        _ => converted(c, empty, e.value),
     }
-    if section == crate::SHN_ABS {
-        return symbol::words_at(symbol::KIND_ABSOLUTE, e.value, 0);
-    }
-    if section == crate::SHN_COMMON {
-        return symbol::words_at(13, 0, 0);
-    }
-    converted(c, empty, e.value)
 }
 
-fn row_at(name: Interned, kind: u64, file: u64, visibility: u64, value: Words) -> Row
-    ensures { result ≡ row_are name kind file visibility value }
+// The value's words, or the number of the refusal in the place of their kind.
+fn words(value: Result<Words, u64>) -> Words
+    ensures { result ≡ words_or value }
 {
-    Row {
-        name: name,
-        kind: kind,
-        file: file,
-        visibility: visibility,
-        value: value,
+    match value {
+        Ok(words) => words,
+        Err(number) => Words::new(number, 0, 0),
     }
 }
 
 // Of an ELF symbol, by what its section number stands for, under a name that has or would get this id.
+#[tactic(auto, unfolding(crate::specs::Upcoming::elf_row_of))]
 pub fn elf_row(c: Conversion, e: ElfSymbol, name: Interned, empty: bool, file: u64) -> Row
     ensures { result ≡ elf_row_of c e name empty file }
 {
-    let visibility = judge(e.binding, e.visibility);
-    let value = value_of(c, e, empty);
-    row_at(name, e.kind, file, visibility, value)
+    Row {
+        name,
+        kind: e.kind,
+        file,
+        visibility: scope(judge(e.binding, e.visibility)),
+        value: words(value_of(c, e, empty)),
+    }
 }
 
 // In the gABI profile a shared object hides no row.
+#[tactic(auto, using(symbol::specs::Proof::Ways::show_same), unfolding(crate::specs::Upcoming::library_code))]
 fn library_code(gabi: bool, code: u64) -> u64
     ensures { result ≡ library_code gabi code }
 {
     if symbol::passes_hidden(gabi, code) {
-        return symbol::show(code);
+        SymbolVisibility::from(code).show().into()
+    } else {
+        code
     }
-    code
 }
 
 // Of a symbol that a shared object defines.
+#[tactic(auto, unfolding(crate::specs::Upcoming::external_row_of))]
 pub fn external_row(gabi: bool, name: Interned, binding: u64, visibility: u64) -> Row
     ensures { result ≡ external_row_of gabi name binding visibility }
 {
-    row_at(
+    Row {
         name,
-        symbol::STT_NOTYPE,
-        0,
-        library_code(gabi, judge(binding, visibility)),
-        symbol::words_at(symbol::KIND_EXTERNAL, 0, 0),
-    )
-}
-
-// The null symbol's and a section symbol's name is the empty one, issued by a new table as id 0.
-pub fn name_of(u: UpcomingSymbol) -> Interned
-    ensures { result ≡ name_of u }
-{
-    match u {
-        UpcomingSymbol::Null => Interned(0),
-        UpcomingSymbol::GlobalUnknown { name } => name,
-        UpcomingSymbol::GlobalHidden { name, value: _ } => name,
-        UpcomingSymbol::Section { section: _ } => Interned(0),
-        UpcomingSymbol::ExternallyDefined {
-            name,
-            visibility: _,
-            binding: _,
-        } => name,
-        UpcomingSymbol::Elf {
-            elf: _,
-            name,
-            file: _,
-        } => name,
+        kind: symbol::STT_NOTYPE,
+        file: 0,
+        visibility: library_code(gabi, scope(judge(binding, visibility))),
+        value: SymbolValue::ExternallyDefined.into(),
     }
 }
 
-pub fn row_of(gabi: bool, conversion: &[u64], u: UpcomingSymbol, empty: bool) -> Row
-    ensures { result ≡ row_of gabi conversion.now u empty }
+// Of a symbol without a name.
+pub(super) fn local(kind: u64, value: SymbolValue) -> Row
+    ensures { result ≡ local_row kind (words_of value) }
 {
-    match u {
-        UpcomingSymbol::Null => row_at(
-            Interned(0),
-            symbol::STT_NOTYPE,
-            0,
-            symbol::LOCAL,
-            symbol::words_at(symbol::KIND_NULL, 0, 0),
-        ),
-        UpcomingSymbol::GlobalUnknown { name } => row_at(
-            name,
-            symbol::STT_NOTYPE,
-            0,
-            symbol::GLOBAL,
-            symbol::words_at(symbol::KIND_UNDEFINED, 0, 0),
-        ),
-        UpcomingSymbol::GlobalHidden { name, value } => {
-            row_at(
-                name,
-                symbol::STT_NOTYPE,
-                0,
-                symbol::GLOBAL_HIDDEN,
-                symbol::words_of(value),
-            )
+    Row {
+        name: Interned(0),
+        kind,
+        file: 0,
+        visibility: symbol::LOCAL,
+        value: value.into(),
+    }
+}
+
+// Of a strong global without a type.
+pub(super) fn global(name: Interned, hidden: bool, value: SymbolValue) -> Row
+    ensures { result ≡ global_row name hidden (words_of value) }
+{
+    Row {
+        name,
+        kind: symbol::STT_NOTYPE,
+        file: 0,
+        visibility: SymbolVisibility::Global {
+            weak: false,
+            hidden,
         }
-        UpcomingSymbol::Section { section } => {
-            row_at(
-                Interned(0),
-                symbol::STT_SECTION,
-                0,
-                symbol::LOCAL,
-                symbol::words_at(symbol::KIND_SECTION, section.0 as u64, 0),
-            )
-        }
-        UpcomingSymbol::ExternallyDefined {
-            name,
-            visibility,
-            binding,
-        } => external_row(gabi, name, binding, visibility),
-        UpcomingSymbol::Elf { elf, name, file } => {
-            let cell = cells::get(conversion, elf.section as usize);
-            let c = crate::conversion_from(cell);
-            elf_row(c, elf, name, empty, symbol::file_cell(file))
-        }
+        .into(),
+        value: value.into(),
     }
 }

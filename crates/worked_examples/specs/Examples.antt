@@ -1,7 +1,8 @@
 -- Document 01, "Marked for proof", with the add sheet and the example of "Bounds": rows of one list, and one theorem over it. Groups, and the
 -- crates of the laws of walks and collections, say what their rows mean.
 -- Assumes nothing.
-use Rattle.std.specs.Prelude.{ℕ, zero, suc, ◌+◌, ◌*◌, ◌-◌, ◌^◌, ◌≡◌, Bool, true, false, List, [], ◌∷◌, ℤ, pos, negsuc, length, replicate}
+use Rattle.link.specs.declared.Refusal.{Refusal}
+use Rattle.std.specs.Prelude.{ℕ, zero, suc, ◌+◌, ◌*◌, ◌-◌, ◌^◌, ◌≡◌, Bool, true, false, List, [], ◌∷◌, ℤ, pos, negsuc, length, replicate, Result, None, Ok}
 use Rattle.link.specs.Said.{Said, accepted, refusing}
 use Rattle.link.specs.Judge as Judge
 use Rattle.symbol.specs.declared.Symbol.{Symbol}
@@ -11,12 +12,9 @@ use Rattle.symbol.specs.declared.SymbolVisibility.{SymbolVisibility}
 use Rattle.symbol.specs.declared.SymbolVisibility.TheVariants.{Local, Global}
 use Rattle.symbol.specs.declared.SymbolValue.{SymbolValue}
 use Rattle.symbol.specs.declared.SymbolValue.TheVariants as Val
-use Rattle.symbol.specs.declared.SttFile.TheVariants as File
 use Rattle.symbol.specs.Offset.{offset_of}
 use Rattle.upcoming_symbol.specs.declared.UpcomingSymbol.{UpcomingSymbol}
 use Rattle.upcoming_symbol.specs.declared.UpcomingSymbol.TheVariants.{Elf, ExternallyDefined}
-use Rattle.symbols.specs.declared.Found.{Found}
-use Rattle.symbols.specs.declared.Found.TheVariants as Fd
 use Rattle.symbols.specs.Calls.{Left}
 use Rattle.symbols.specs.New.{new_of}
 use Rattle.symbols.specs.Lookup.{get_of}
@@ -52,7 +50,7 @@ gabi = true
 
 -- name, binding, visibility, type, section, value
 abbrev pub line : ℕ → ℕ → ℕ → ℕ → ℕ → ℕ → UpcomingSymbol
-line n b v k s x = Elf (record { binding = b; visibility = v; kind = k; section = s; value = x }) (record { 0 = n }) File.None
+line n b v k s x = Elf (record { binding = b; visibility = v; kind = k; section = s; value = x }) (record { 0 = n }) None
 
 -- what a shared object defines: name, binding, visibility
 abbrev pub shared : ℕ → ℕ → ℕ → UpcomingSymbol
@@ -74,13 +72,13 @@ abbrev pub after : List UpcomingSymbol → State → State
 after [] s = s
 after (u ∷ us) s = after us (with_table s (added u s).table)
 
-abbrev pub rows_from : ℕ → ℕ → State → List Found
+abbrev pub rows_from : ℕ → ℕ → State → List (Result Symbol Refusal)
 rows_from i zero s = []
 rows_from i (suc n) s = get_of s.link s.symbols (record { 0 = i }) ∷ rows_from (i + 1) n s
 
-abbrev pub found : List Symbol → List Found
+abbrev pub found : List Symbol → List (Result Symbol Refusal)
 found [] = []
-found (x ∷ xs) = Fd.Row x ∷ found xs
+found (x ∷ xs) = Ok x ∷ found xs
 
 -- ---- the list
 
@@ -110,7 +108,7 @@ Right (collection e) = Collections.Right e
 Right (plain_collection e) = PlainCollections.Right e
 
 abbrev pub symbol : ℕ → ℕ → SymbolType → SymbolVisibility → SymbolValue → Symbol
-symbol i n k w v = record { id = record { 0 = i }; name = record { 0 = n }; kind = k; file = File.None; visibility = w; value = v }
+symbol i n k w v = record { id = record { 0 = i }; name = record { 0 = n }; kind = k; file = None; visibility = w; value = v }
 
 abbrev pub null : Symbol
 null = symbol 0 0 Ty.NoType Local Val.Null

@@ -1,10 +1,9 @@
 -- Document 01's example of a group, P8, computed from the definition of `add_group`.
 -- Assumes nothing.
-use Rattle.std.specs.Prelude.{ℕ, ◌≡◌, [], ◌∷◌, replicate}
+use Rattle.std.specs.Prelude.{ℕ, ◌≡◌, [], ◌∷◌, replicate, Err}
 use Rattle.link.specs.Judge as Judge
 use Rattle.link.specs.Counts.{no_names, with_names, with_symbols}
 use Rattle.section_groups.specs.Group.{Object, object_of, State, state_of}
-use Rattle.section_groups.specs.declared.alone.Answer.TheVariants.{Refused}
 use Rattle.section_groups.specs.AddGroup.{left_of, add_group_of}
 
 -- an object whose section 1 is a group with these flags (8 is COMDAT) and so many sections
@@ -27,7 +26,7 @@ table =
 abbrev pub Right : Example → Type 0
 Right e =
     add_group_of (object_with e.flags e.sections) table 1
-    ≡ left_of table.bytes table.names table.work (record { link = table.link; answer = Refused (Judge.refused e.number 1) })
+    ≡ left_of table.bytes table.names table.work (record { link = table.link; answer = Err (Judge.refused e.number 1) })
 
 -- P8: non-COMDAT, zero sections: 4
 abbrev pub p8 : Example

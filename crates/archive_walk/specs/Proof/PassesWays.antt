@@ -1,62 +1,33 @@
 -- The ways through the functions that look a name up and note what ties.
 -- Assumes nothing.
 use Prim.Native.Nat.{ℕ, ◌+◌, ◌*◌, ◌-◌, ◌/◌, ◌%◌, ◌<◌, ◌≤◌}
-use Rattle.std.proofs.Common.{arith, ap, ◌∙◌, get_or-set_same, get_or-set_other}
-use Rattle.std.specs.Prelude.{◌≡◌, refl, Bool, true, false, cond, ltb, length}
+use Rattle.std.proofs.Common.{arith, sub-eq-zero_of_le, ap, ◌∙◌, get_or-set_same, get_or-set_other}
+use Rattle.std.specs.Prelude.{◌≡◌, refl, Bool, true, false, cond, ltb, length, Result, Ok, Err}
 use Rattle.std.proofs.Math.Path.{sym, subst}
 use mathlib.Core.List.{List}
 use Rattle.std.proofs.Math.Dec.{eqb}
-use Rattle.std.proofs.Math.ListN.{get_or, set, get_or-eq_default}
-use Rattle.std.proofs.Math.Seq.{set_out}
-use borrow.Author.Tests.{ltb-true, ltb-false, eqb-true, eqb-false}
+use Rattle.std.proofs.Math.ListN.{get_or, set, length-set}
+use borrow.Author.Tests.{lt-ltb, le-ltb, ltb-true, ltb-false, eqb-true, eqb-false}
 use Rattle.cells.specs.Proof.Split.{by-test}
 use Rattle.byte_slices.specs.Proof.Ways.{pick, apart}
-use Rattle.link.specs.declared.SymbolId.{SymbolId}
+use Rattle.link.specs.declared.Refusal.{Refusal}
+use Rattle.link.specs.Judge.{refused}
 use Rattle.symbol_resolution.specs.declared.rows.Holder.{Holder}
-use Rattle.symbol_resolution.specs.declared.rows.Holder.TheVariants.{Known}
+use Rattle.symbol_resolution.specs.declared.rows.Holder.TheVariants.{Unissued, Nobody, Removed, Known}
 use Rattle.archive_index.specs.Rows.{member_at, pass_at, head_at, stored_name}
 use Rattle.archive_index.specs.Proof.Ways.{one_more}
 use Rattle.archive_walk.specs.Names.{chained, chain_at, headed_of, noted_of}
-use Rattle.archive_walk.specs.Look.{Table, name_holder, was_removed, removed_name, ties_row, ties, tied_name}
-use Rattle.archive_walk.specs.Walk.{Queue, queue_of, marked, enqueue, tie_of, removed_of}
-use Rattle.archive_walk.specs.Notes.{entry_holder, is_noted, note_tie, Noted}
-
--- ---- a name's holder
-
-pub ties-known : (gabi : Bool) (symbols : List ℕ) (h : Holder) (y : Bool) (id : SymbolId) → h ≡ Known id → y ≡ ties_row gabi symbols id → y ≡ ties gabi symbols h
-ties-known gabi symbols h y id e q = q ∙ sym (rw e)
-
-pub tied_is : (t : Table) (x : List ℕ) (h : Holder) (y : Bool) → h ≡ name_holder t x → y ≡ ties t.link.gabi t.symbols h → y ≡ tied_name t x
-unfolding tied_name
-tied_is t x h y e q = q ∙ rw e
-
-pub entry-is : (s l : List ℕ) (t : Table) (k : ℕ) (x : List ℕ) (h : Holder) → x ≡ stored_name s l k → h ≡ name_holder t x → h ≡ entry_holder s l t k
-unfolding entry_holder
-entry-is s l t k x h e q = q ∙ rw e
+use Rattle.archive_walk.specs.Look.{Table, name_holder, was_removed, removed_name, ties, tied_name}
+use Rattle.archive_walk.specs.Walk.{Queue, queue_of, marked, enqueue, tie_of, removed_of, search_judged}
+use Rattle.archive_walk.specs.Notes.{is_noted, note_tie, Noted}
 
 -- ---- the notes
 
-module _ (gabi : Bool) (symbols : List ℕ) (h : Holder) (notes m : List ℕ) (k : ℕ) (b : Bool) where
-  pub note-not : b ≡ ties gabi symbols h → b ≡ false → m ≡ notes → m ≡ note_tie gabi symbols h notes k
-  unfolding note_tie
-  note-not e f q = q ∙ sym (rw (← e, f))
-
-  pub note-out : b ≡ ties gabi symbols h → b ≡ true → length notes ≤ k % 4096 → m ≡ notes → m ≡ note_tie gabi symbols h notes k
-  unfolding note_tie
-  note-out e f o q = q ∙ sym (rw (← e, f) (set_out notes (k % 4096) 1 o))
-
-  pub note-put : b ≡ ties gabi symbols h → b ≡ true → m ≡ set notes (k % 4096) 1 → m ≡ note_tie gabi symbols h notes k
-  unfolding note_tie
-  note-put e f q = q ∙ sym (rw (← e, f))
-
-module _ (notes : List ℕ) (k : ℕ) (b : Bool) where
-  pub noted_read : b ≡ eqb (get_or notes (k % 4096) 0) 1 → b ≡ is_noted notes k
-  unfolding is_noted
-  noted_read q = q
-
-  pub noted-out : length notes ≤ k % 4096 → b ≡ false → b ≡ is_noted notes k
-  unfolding is_noted
-  noted-out h q = let g : get_or notes (k % 4096) 0 ≡ 0 = get_or-eq_default notes 0 h in q ∙ sym (rw g)
+stays : (h : Holder) → (h ≡ Removed → ⊥) → was_removed h ≡ false
+stays Unissued n = refl
+stays Nobody n = refl
+stays Removed n = absurd (n refl)
+stays (Known id) n = refl
 
 module _ (s l : List ℕ) (t : Table) where
   pub noted-none : (notes : List ℕ) → Noted s l t 0 notes
@@ -69,13 +40,21 @@ module _ (s l : List ℕ) (t : Table) where
   noted-enough x c notes h n = record { noted = λ k g e. n.noted k (omega arith) e }
 
   -- an entry before k keeps its note, and entry k has one if it ties
-  module _ (k : ℕ) (h : Holder) (notes m : List ℕ) where
-    pub noted_more : length notes ≡ 4096 → h ≡ entry_holder s l t k → m ≡ note_tie t.link.gabi t.symbols h notes k → Noted s l t k notes
+  module _ (k : ℕ) (x : List ℕ) (h : Holder) (notes m : List ℕ) where
+    pub noted_more : length m ≡ 4096 → x ≡ stored_name s l k → h ≡ name_holder t x → m ≡ note_tie t.link.gabi t.symbols h notes k → Noted s l t k notes
         → Noted s l t (k + 1) m
-    unfolding note_tie is_noted tied_name entry_holder
-    noted_more len e q n =
+    unfolding note_tie is_noted tied_name
+    noted_more len y f q n =
         record { noted = λ j g i. subst (λ (z : List ℕ). eqb (get_or z (j % 4096) 0) 1 ≡ true) (sym q) (go j g i (ties t.link.gabi t.symbols h) refl) }
       where
+        e : h ≡ name_holder t (stored_name s l k)
+        e = f ∙ rw y
+
+        whole : length notes ≡ 4096
+        whole =
+            sym (pick (λ (z : List ℕ). m ≡ z → length m ≡ length notes) (ties t.link.gabi t.symbols h) _ _
+            (λ a b. ap length b ∙ simp length-set) (λ a b. ap length b) q) ∙ len
+
         earlier : (j : ℕ) → j < k + 1 → (j ≡ k → ⊥) → j < k
         earlier j g i = by-test (ltb j k) (λ a. ltb-true j k a) (λ a. absurd (i (omega (arith, ltb-false j k a))))
 
@@ -83,7 +62,7 @@ module _ (s l : List ℕ) (t : Table) where
             → eqb (get_or (cond b (set notes (k % 4096) 1) notes) (j % 4096) 0) 1 ≡ true
         go j g i true a =
             by-test (eqb (j % 4096) (k % 4096))
-            (λ c. rw (eqb-true (j % 4096) (k % 4096) c, get_or-set_same notes (k % 4096) 1 0 (omega arith)))
+            (λ c. rw (eqb-true (j % 4096) (k % 4096) c, get_or-set_same notes (k % 4096) 1 0 (omega (arith, whole))))
             (λ c.
             let d : j % 4096 ≡ k % 4096 → ⊥ = eqb-false (j % 4096) (k % 4096) c in
             rw (get_or-set_other notes (k % 4096) (j % 4096) 1 0 d) (n.noted j (earlier j g (λ y. d (ap (λ (z : ℕ). z % 4096) y))) i))
@@ -92,15 +71,27 @@ module _ (s l : List ℕ) (t : Table) where
             n.noted j (earlier j g (λ y. apart (sym d ∙ sym (ap (λ (z : ℕ). tied_name t (stored_name s l z)) y) ∙ i))) i
 
   -- the search for a removed name
-  module _ (c k w : ℕ) (h : Holder) (b : Bool) where
-    pub survey-hit : k < c → h ≡ entry_holder s l t k → b ≡ was_removed h → b ≡ true → w ≡ removed_of s l t (c - k) k → k ≡ w
-    unfolding removed_of removed_name entry_holder
-    survey-hit a e g i q = sym (q ∙ rw (one_more c k a) (simp (← e, ← g, i)))
+  module _ (c k w : ℕ) (x : List ℕ) (h : Holder) where
+    pub survey-hit : (r : Result Unit Refusal) → k < c → x ≡ stored_name s l k → h ≡ name_holder t x → h ≡ Removed → w ≡ removed_of s l t (c - k) k
+        → r ≡ Err (refused 21 k) → r ≡ search_judged w c
+    unfolding removed_of removed_name
+    survey-hit r a y e g q i =
+        let n : was_removed (name_holder t (stored_name s l k)) ≡ true = rw (← y, ← e, g) refl in
+        let j : k ≡ w = sym (q ∙ rw (one_more c k a) (simp n)) in
+        i ∙ rw j (sym (rw (lt-ltb _ _ (rw j at a))))
 
-    pub survey-on : k < c → h ≡ entry_holder s l t k → b ≡ was_removed h → b ≡ false → w ≡ removed_of s l t (c - k) k
+    pub survey-on : k < c → x ≡ stored_name s l k → h ≡ name_holder t x → (h ≡ Removed → ⊥) → w ≡ removed_of s l t (c - k) k
         → w ≡ removed_of s l t (c - (k + 1)) (k + 1)
-    unfolding removed_of removed_name entry_holder
-    survey-on a e g i q = q ∙ rw (one_more c k a) (simp (← e, ← g, i))
+    unfolding removed_of removed_name
+    survey-on a y e g q =
+        let n : was_removed (name_holder t (stored_name s l k)) ≡ false = rw (← y, ← e) (stays h g) in
+        q ∙ rw (one_more c k a) (simp n)
+
+  pub survey-end : (c k w : ℕ) (r : Result Unit Refusal) → c ≤ k → k ≤ c → w ≡ removed_of s l t (c - k) k → r ≡ Ok tt → r ≡ search_judged w c
+  unfolding removed_of
+  survey-end c k w r h g q i =
+      let j : k ≡ w = sym (q ∙ rw (sub-eq-zero_of_le h)) in
+      i ∙ sym (rw (le-ltb w c (rw j at h)))
 
 -- ---- an entry of a pass
 

@@ -1,13 +1,14 @@
 -- Laws of the definitions of Rows.antt.
 -- Assumes nothing.
 use Prim.Native.Nat.{ℕ, zero, suc, ◌+◌, ◌*◌, ◌<◌, ◌≤◌}
-use Rattle.std.specs.Prelude.{◌≡◌, refl, List, [], ◌∷◌, ◌≢◌, ltb, get_or, set, length}
-use Rattle.std.proofs.Common.{sym, ap, ◌∙◌, add-zero, add-suc, suc-add, le_of_suc-le-suc, not-suc-le-zero, length-set, get_or-set_same, get_or-set_other, ltb-true, ltb-false}
+use Rattle.std.specs.Prelude.{◌≡◌, refl, List, [], ◌∷◌, ◌++◌, ◌≢◌, ltb, get_or, set, take, length}
+use Rattle.std.proofs.lemmas.List.{take_more}
+use Rattle.std.proofs.Common.{take_all, length-take-le, sym, ap, ◌∙◌, add-zero, add-suc, suc-add, le_of_suc-le-suc, not-suc-le-zero, length-set, get_or-set_same, get_or-set_other, ltb-true, ltb-false}
 use native.Mathlib.Omega.{arith}
 use Rattle.std.proofs.lemmas.List.Edits.{sets}
 use Rattle.std.proofs.Math.Seq.{length-sets}
 use Rattle.cells.specs.Proof.Split.{by-test}
-use Rattle.cells.specs.Rows.{put_row, front_of, back_of}
+use Rattle.cells.specs.Rows.{put_row}
 
 low : (vs l : List ℕ) (a k : ℕ) → k < a → get_or (sets l a vs) k 0 ≡ get_or l k 0
 low [] l a k h = refl
@@ -44,27 +45,21 @@ row_other l i vs j f e h n =
     below : (j i : ℕ) → j ≢ i → i ≤ j → i < j
     below j i n h = by-test (ltb i j) (λ t. ltb-true i j t) (λ t. absurd (n (omega (arith, ltb-false i j t))))
 
-module _ (l m0 m1 m2 m3 : List ℕ) (i x0 x1 x2 x3 : ℕ) where
-  pub front-stored : m0 ≡ set l (i * 8 + 0) x0 → m1 ≡ set m0 (i * 8 + 1) x1 → m2 ≡ set m1 (i * 8 + 2) x2 → m3 ≡ set m2 (i * 8 + 3) x3 → m3 ≡ front_of l i x0 x1 x2 x3
-  unfolding front_of
-  front-stored q0 q1 q2 q3 = simp (q3, q2, q1, q0)
+-- one cell more
+sets-more : (vs l : List ℕ) (a v : ℕ) → sets l a (vs ++ v ∷ []) ≡ set (sets l a vs) (a + length vs) v
+sets-more [] l a v = rw (add-zero a)
+sets-more (w ∷ vs) l a v = sets-more vs (set l a w) (suc a) v ∙ ap (λ (k : ℕ). set (sets (set l a w) (suc a) vs) k v) (suc-add a (length vs) ∙ sym (add-suc a (length vs)))
 
-  pub back-stored : m0 ≡ set l (i * 8 + 4) x0 → m1 ≡ set m0 (i * 8 + 5) x1 → m2 ≡ set m1 (i * 8 + 6) x2 → m3 ≡ set m2 (i * 8 + 7) x3 → m3 ≡ back_of l i x0 x1 x2 x3
-  unfolding back_of
-  back-stored q0 q1 q2 q3 = simp (q3, q2, q1, q0)
+pub put_row-none : (l : List ℕ) (i : ℕ) (vs : List ℕ) → l ≡ put_row l i (take 0 vs)
+unfolding put_row
+put_row-none l i vs = refl
 
--- both together are the row
-module _ (l m t : List ℕ) (i x0 x1 x2 x3 x4 x5 x6 x7 : ℕ) where
-  pub row-stored : m ≡ front_of l i x0 x1 x2 x3 → t ≡ back_of m i x4 x5 x6 x7 → t ≡ put_row l i (x0 ∷ x1 ∷ x2 ∷ x3 ∷ x4 ∷ x5 ∷ x6 ∷ x7 ∷ [])
-  unfolding put_row front_of back_of
-  row-stored p q =
-      let a = i * 8 in
-      let e0 : i * 8 + 0 ≡ a = omega arith in
-      let e1 : i * 8 + 1 ≡ suc a = omega arith in
-      let e2 : i * 8 + 2 ≡ suc (suc a) = omega arith in
-      let e3 : i * 8 + 3 ≡ suc (suc (suc a)) = omega arith in
-      let e4 : i * 8 + 4 ≡ suc (suc (suc (suc a))) = omega arith in
-      let e5 : i * 8 + 5 ≡ suc (suc (suc (suc (suc a)))) = omega arith in
-      let e6 : i * 8 + 6 ≡ suc (suc (suc (suc (suc (suc a))))) = omega arith in
-      let e7 : i * 8 + 7 ≡ suc (suc (suc (suc (suc (suc (suc a)))))) = omega arith in
-      q ∙ rw (p, e0, e1, e2, e3, e4, e5, e6, e7)
+pub put_row-more : (l : List ℕ) (i : ℕ) (vs : List ℕ) (f v : ℕ) → f < length vs → v ≡ get_or vs f 0 → set (put_row l i (take f vs)) (i * 8 + f) v ≡ put_row l i (take (f + 1) vs)
+unfolding put_row
+put_row-more l i vs f v h e =
+    let n : length (take f vs) ≡ f = length-take-le f vs (omega arith) in
+    rw (take_more vs f 0 h, sets-more (take f vs) l (i * 8) (get_or vs f 0), n, e)
+
+pub put_row-all : (l : List ℕ) (i : ℕ) (vs : List ℕ) (f : ℕ) → f ≡ length vs → put_row l i (take f vs) ≡ put_row l i vs
+unfolding put_row
+put_row-all l i vs f e = rw (e, take_all (length vs) vs (omega arith))

@@ -1,5 +1,5 @@
-use Rattle.ffi_archive.specs.Proof.Ways.{start-told}
+use Rattle.ffi_archive.specs.Proof.Ways.{start-made}
 use Rattle.ffi_archive.proofs.start_fit.Goals as goal
 
 pub returns : goal.returns
-returns c = search start-told
+returns c = search start-made

@@ -1,14 +1,16 @@
 -- The ways through the functions.
 -- Assumes nothing.
-use Rattle.std.specs.Prelude.{ℕ, ◌<◌, ◌≤◌, ◌≡◌, Bool, List, get_or, set, length}
+use Rattle.archive_walk.specs.declared.Offer.{Offer}
+use Rattle.link.specs.declared.Refusal.{Refusal}
+use Rattle.std.specs.Prelude.{ℕ, ◌<◌, ◌≤◌, ◌≡◌, refl, Bool, List, get_or, set, length, Result, Ok, Err}
+use Rattle.std.specs.Result.{result_unwrap_or}
+use Rattle.std.proofs.Common.{◌∙◌}
 use borrow.Author.Tests.{lt-ltb, le-ltb}
 use Rattle.link.specs.declared.Link.{Link}
 use Rattle.archive_walk.specs.declared.Walk.{Walk}
-use Rattle.archive_walk.specs.declared.Begun.{Begun}
-use Rattle.archive_walk.specs.declared.Offer.{Offer}
 use Rattle.archive_walk.specs.Look.{table_of}
-use Rattle.archive_walk.specs.Walk.{Start, start_of, Step, next_of}
-use Rattle.object_requirement.specs.declared.Admission.{Admission}
+use Rattle.archive_walk.specs.Walk.{started_of, Start, start_left, start_of, Step, next_of}
+use Rattle.archive_walk.specs.Walk
 use Rattle.object_requirement.specs.Matches.{matches_of}
 use Rattle.ffi_cells.specs.declared.header.Reply.{Reply}
 use Rattle.ffi_cells.specs.Header.{is_set, flag_of, is_short, link_in, refusal_of, Told, told, answer_of}
@@ -37,13 +39,18 @@ module _ (c : List ℕ) where
 
 -- ---- answers
 
-pub begun-known : (a : Begun) (t : Reply) (k : Begun) → a ≡ k → t ≡ begun_reply k → t ≡ begun_reply a
+pub begun-known : (a : Result Walk Refusal) (t : Reply) (k : Result Walk Refusal) → a ≡ k → t ≡ begun_reply (started_of k).begun → t ≡ begun_reply (started_of a).begun
 begun-known a t k e q = simp (q, e)
 
-pub offered-known : (a : Offer) (t : Reply) (k : Offer) → a ≡ k → t ≡ offered_reply k → t ≡ offered_reply a
+-- the walk that is left by a start, made or not
+walk-left : (z : Result Walk Refusal) → result_unwrap_or z Rattle.archive_walk.specs.Walk.no_walk ≡ (started_of z).walk
+walk-left (Ok w) = refl
+walk-left (Err r) = refl
+
+pub offered-known : (a : Result Offer Refusal) (t : Reply) (k : Result Offer Refusal) → a ≡ k → t ≡ offered_reply k → t ≡ offered_reply a
 offered-known a t k e q = simp (q, e)
 
-pub admitted-known : (a : Admission) (t : Reply) (k : Admission) → a ≡ k → t ≡ admitted_reply k → t ≡ admitted_reply a
+pub admitted-known : (a : Result Bool Refusal) (t : Reply) (k : Result Bool Refusal) → a ≡ k → t ≡ admitted_reply k → t ≡ admitted_reply a
 admitted-known a t k e q = simp (q, e)
 
 -- ---- the calls
@@ -53,6 +60,12 @@ module _ (h c : List ℕ) (key : ℕ) (index rows : List ℕ) (t : WalkLeft) whe
       → y ≡ answer_of h r → t ≡ walk_left y m s.cells → t ≡ start_fit h c key index rows
   unfolding start_fit
   start-told s m r y e f g i q = simp (q, i, g, f, ← e)
+
+  pub start-made : (z : Result Walk Refusal) (n w : Walk) (l m : List ℕ) (r : Reply) (y : Told) → start_left l (started_of z) ≡ start_of key index rows → n ≡ Rattle.archive_walk.specs.Walk.no_walk
+      → w ≡ result_unwrap_or z n → m ≡ walk_out c w → r ≡ begun_reply (started_of z).begun → y ≡ answer_of h r → t ≡ walk_left y m l → t ≡ start_fit h c key index rows
+  start-made z n w l m r y e f g i j k q =
+      let v : w ≡ (started_of z).walk = g ∙ rw f (walk-left z) in
+      start-told (start_left l (started_of z)) m r y e (i ∙ rw v refl) j k q
 
   pub start-short : length h < 24 → t ≡ walk_left (told 1 h) c rows → t ≡ start_call h c key index rows
   unfolding start_call is_short
@@ -94,7 +107,7 @@ module _ (h c index rows : List ℕ) (entry : ℕ) (headers entries contents fil
   unfolding matches_call is_short no_walk
   matches-none r i j e q = simp (q, e, le-ltb _ _ i, lt-ltb _ _ j)
 
-  pub matches-told : (l : Link) (w : Walk) (a : Admission) (r : Reply) → 24 ≤ length h → 7 ≤ length c → l ≡ link_in h → w ≡ walk_in c → a ≡ matches_of l headers entries contents file index rows w entry
+  pub matches-told : (l : Link) (w : Walk) (a : Result Bool Refusal) (r : Reply) → 24 ≤ length h → 7 ≤ length c → l ≡ link_in h → w ≡ walk_in c → a ≡ matches_of l headers entries contents file index rows w entry
       → r ≡ admitted_reply a → t ≡ answer_of h r → t ≡ matches_call h c index rows entry headers entries contents file
   unfolding matches_call is_short no_walk
   matches-told l w a r i j k e f g q = simp (q, g, le-ltb _ _ i, le-ltb _ _ j, ← k, ← e, ← f)

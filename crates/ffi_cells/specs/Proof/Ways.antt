@@ -1,6 +1,6 @@
 -- The ways through the functions.
 -- Assumes nothing.
-use Rattle.std.specs.Prelude.{ℕ, ◌<◌, ◌≤◌, ◌≡◌, Bool, true, false, List, [], ◌∷◌, get_or, set, length}
+use Rattle.std.specs.Prelude.{ℕ, ◌<◌, ◌≤◌, ◌≡◌, Bool, true, false, List, [], ◌∷◌, get_or, set, length, Option}
 use borrow.Author.Tests.{eq-eqb, ne_eqb, lt-ltb, le-ltb}
 use Rattle.cells.specs.Rows.{put_row}
 use Rattle.link.specs.declared.Interned.{Interned}
@@ -8,7 +8,6 @@ use Rattle.link.specs.declared.SymbolId.{SymbolId}
 use Rattle.symbol.specs.declared.Symbol.{Symbol}
 use Rattle.symbol.specs.declared.SymbolValue.{SymbolValue}
 use Rattle.symbol.specs.declared.SymbolVisibility.{SymbolVisibility}
-use Rattle.symbol.specs.declared.SttFile.{SttFile}
 use Rattle.symbol.specs.declared.Row.{Row}
 use Rattle.symbol.specs.declared.Words.{Words}
 use Rattle.symbol.specs.Codes.{file_at, file_cell, value_at, words_of}
@@ -97,7 +96,7 @@ module _ (item : List ℕ) where
     unfolding item_in
     item-external n a b e k f g i q = simp (q, f, g, i, ← e, k)
 
-    pub item-elf : (s : ElfSymbol) (n : Interned) (c : ℕ) (f : SttFile) → v ≡ get_or item 0 0 → v ≡ 5 → s ≡ elf_in item → n ≡ name_in item 6 → c ≡ get_or item 7 0
+    pub item-elf : (s : ElfSymbol) (n : Interned) (c : ℕ) (f : Option Interned) → v ≡ get_or item 0 0 → v ≡ 5 → s ≡ elf_in item → n ≡ name_in item 6 → c ≡ get_or item 7 0
         → f ≡ file_at c → t ≡ Elf s n f → t ≡ item_in item
     unfolding item_in
     item-elf s n c f e k g i j m q = simp (q, g, i, m, j, ← e, k)

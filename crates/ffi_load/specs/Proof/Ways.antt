@@ -1,15 +1,16 @@
 -- The ways through the functions.
 -- Assumes nothing.
-use Rattle.std.specs.Prelude.{ℕ, ◌<◌, ◌≤◌, ◌≡◌, List, length}
+use Rattle.link.specs.declared.Refusal.{Refusal}
+use Rattle.shared_objects.specs.declared.Load.{Load}
+use Rattle.std.specs.Prelude.{ℕ, ◌<◌, ◌≤◌, ◌≡◌, List, length, Result}
 use borrow.Author.Tests.{lt-ltb, le-ltb}
 use Rattle.link.specs.declared.Link.{Link}
-use Rattle.shared_objects.specs.declared.Answer.{Answer}
 use Rattle.shared_objects.specs.Load.{said_of, Input, Left, load_of}
 use Rattle.ffi_cells.specs.declared.header.Reply.{Reply}
 use Rattle.ffi_cells.specs.Header.{is_short, link_in, saying, Told, told, tell_of}
 use Rattle.ffi_load.specs.Calls.{Rows, rows_in, with_link, LoadLeft, load_left, load_call}
 
-pub said-known : (a : Answer) (t : Reply) (k : Answer) → a ≡ k → t ≡ saying (said_of k) → t ≡ saying (said_of a)
+pub said-known : (a : Result Load Refusal) (t : Reply) (k : Result Load Refusal) → a ≡ k → t ≡ saying (said_of k) → t ≡ saying (said_of a)
 said-known a t k e q = simp (q, e)
 
 module _ (h : List ℕ) (o : Input) (m : Rows) (t : LoadLeft) where

@@ -1,22 +1,21 @@
 -- The ways through the functions.
 -- Assumes nothing.
-use Rattle.std.specs.Prelude.{ℕ, ◌<◌, ◌≤◌, ◌≡◌, List, length}
+use Rattle.link.specs.declared.Refusal.{Refusal}
+use Rattle.std.specs.Prelude.{ℕ, ◌<◌, ◌≤◌, ◌≡◌, List, length, Result}
 use borrow.Author.Tests.{lt-ltb, le-ltb}
 use Rattle.link.specs.declared.Link.{Link}
 use Rattle.section_groups.specs.Group as Group
-use Rattle.section_groups.specs.declared.alone.Answer as GroupAnswer
 use Rattle.section_groups.specs.AddGroup as AddGroup
 use Rattle.merge_stages.specs.Stages.{Object}
-use Rattle.merge_elf.specs.declared.Answer as MergeAnswer
 use Rattle.merge_elf.specs.Merge as Merge
 use Rattle.ffi_cells.specs.declared.header.Reply.{Reply}
 use Rattle.ffi_cells.specs.Header.{is_short, link_in, refused_of, Told, told, tell_of}
 use Rattle.ffi_merge.specs.Calls.{GroupLeft, group_left, group_call, Rows, rows_in, with_link, MergeLeft, merge_left, merge_call}
 
-pub grouped-known : (a : GroupAnswer.Answer) (t : Reply) (k : GroupAnswer.Answer) → a ≡ k → t ≡ refused_of (AddGroup.refusal_of k) → t ≡ refused_of (AddGroup.refusal_of a)
+pub grouped-known : (a : Result Unit Refusal) (t : Reply) (k : Result Unit Refusal) → a ≡ k → t ≡ refused_of (AddGroup.refusal_of k) → t ≡ refused_of (AddGroup.refusal_of a)
 grouped-known a t k e q = simp (q, e)
 
-pub merged-known : (a : MergeAnswer.Answer) (t : Reply) (k : MergeAnswer.Answer) → a ≡ k → t ≡ refused_of (Merge.refusal_of k) → t ≡ refused_of (Merge.refusal_of a)
+pub merged-known : (a : Result Unit Refusal) (t : Reply) (k : Result Unit Refusal) → a ≡ k → t ≡ refused_of (Merge.refusal_of k) → t ≡ refused_of (Merge.refusal_of a)
 merged-known a t k e q = simp (q, e)
 
 module _ (h : List ℕ) (o : Group.Object) (b n w : List ℕ) (section : ℕ) (t : GroupLeft) where

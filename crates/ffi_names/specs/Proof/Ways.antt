@@ -1,20 +1,20 @@
 -- The ways through the functions.
 -- Assumes nothing.
-use Rattle.std.specs.Prelude.{ℕ, ◌+◌, ◌*◌, ◌<◌, ◌≤◌, ◌≡◌, List, get_or, length}
+use Rattle.link.specs.declared.Interned.{Interned}
+use Rattle.std.specs.Prelude.{ℕ, ◌+◌, ◌*◌, ◌<◌, ◌≤◌, ◌≡◌, List, get_or, length, Result}
 use borrow.Author.Tests.{eq-eqb, ne_eqb, lt-ltb, le-ltb}
 use Rattle.link.specs.declared.Link.{Link}
 use Rattle.link.specs.declared.Lent.{Lent}
 use Rattle.link.specs.declared.Refusal.{Refusal}
 use Rattle.link.specs.Bounds.{lesser}
 use Rattle.link.specs.Judge.{judge_of}
-use Rattle.interner.specs.declared.Answer.{Answer}
 use Rattle.interner.specs.Names.{Store, store_of, find_of}
 use Rattle.interner.specs.Calls.{Left, said, lent, intern_of, Resolved, resolve_of}
 use Rattle.ffi_cells.specs.declared.header.Reply.{Reply}
 use Rattle.ffi_cells.specs.Header.{is_short, link_in, result_of, refusal_of, refused_of, saying, Told, told, tell_of, answer_of}
 use Rattle.ffi_names.specs.Calls.{InternLeft, intern_left, intern_call, first_byte, part_reply, resolve_reply, resolve_call, found_reply, find_reply, find_call}
 
-pub said-known : (a : Answer) (t : Reply) (k : Answer) → a ≡ k → t ≡ saying (said k) → t ≡ saying (said a)
+pub said-known : (a : Result Interned Refusal) (t : Reply) (k : Result Interned Refusal) → a ≡ k → t ≡ saying (said k) → t ≡ saying (said a)
 said-known a t k e q = simp (q, e)
 
 module _ (h b n x : List ℕ) (t : InternLeft) where

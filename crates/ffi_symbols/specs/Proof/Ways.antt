@@ -1,11 +1,12 @@
 -- The ways through the calls.
 -- Assumes nothing.
-use Rattle.std.specs.Prelude.{ℕ, ◌<◌, ◌≤◌, ◌≡◌, Bool, true, false, List, length}
+use Rattle.link.specs.declared.Refusal.{Refusal}
+use Rattle.link.specs.declared.SymbolId.{SymbolId}
+use Rattle.std.specs.Prelude.{ℕ, ◌<◌, ◌≤◌, ◌≡◌, Bool, true, false, List, length, Result}
 use borrow.Author.Tests.{eq-eqb, ne_eqb, lt-ltb, le-ltb}
 use Rattle.link.specs.declared.Link.{Link}
 use Rattle.upcoming_symbol.specs.declared.UpcomingSymbol.{UpcomingSymbol}
 use Rattle.symbol_resolution.specs.Apply.{table_of}
-use Rattle.symbols.specs.declared.Answer.{Answer}
 use Rattle.symbols.specs.Calls as Table
 use Rattle.symbols.specs.New as New
 use Rattle.symbols.specs.Add.{add_of}
@@ -15,7 +16,7 @@ use Rattle.ffi_cells.specs.Header.{is_short, link_in, refusal_of, saying, Told, 
 use Rattle.ffi_cells.specs.Cells.{is_item, item_in}
 use Rattle.ffi_symbols.specs.Calls.{NewLeft, new_left, new_told, new_call, AddLeft, add_left, add_known, add_call, RemoveLeft, remove_left, remove_call}
 
-pub said-known : (a : Answer) (t : Reply) (k : Answer) → a ≡ k → t ≡ saying (Table.said k) → t ≡ saying (Table.said a)
+pub said-known : (a : Result SymbolId Refusal) (t : Reply) (k : Result SymbolId Refusal) → a ≡ k → t ≡ saying (Table.said k) → t ≡ saying (Table.said a)
 said-known a t k e q = simp (q, e)
 
 module _ (h b n s x : List ℕ) (key : ℕ) (t : NewLeft) where

@@ -1,14 +1,13 @@
 -- The two passes of the sweep as loops that write one value: which cells they write is settled before they begin.
 -- Assumes nothing.
+use Rattle.link.specs.declared.SectionId.{SectionId}
 use Prim.Native.Nat.{ℕ, ◌+◌, ◌*◌}
-use Rattle.std.specs.Prelude.{Bool, List, eqb, ltb, get_or}
+use Rattle.std.specs.Prelude.{Bool, List, eqb, ltb, get_or, Option, None, Some}
 use Rattle.std.proofs.Math.Bool.{false, cond}
 use Rattle.link.specs.declared.Link.{Link}
 use Rattle.symbol.specs.Row as Symbol
 use Rattle.symbols.specs.Remove.{Rows, remove_row_of}
 use Rattle.sections.specs.Rows.{is_built}
-use Rattle.gc_sections.specs.declared.Lead.{Lead}
-use Rattle.gc_sections.specs.declared.Lead.TheVariants.{Nowhere, Section}
 use Rattle.gc_sections.specs.Each.{each}
 use Rattle.gc_sections.specs.Roots.{symbol_id, lead_of}
 use Rattle.gc_sections.specs.Sweep.{Swept, swept_of, Purged, purged_of}
@@ -33,9 +32,9 @@ sections_after p k i s =
 -- ---- the pass over the symbols
 
 -- a symbol goes if p takes the section that it lies in
-abbrev pub taken : (ℕ → Bool) → Lead → Bool
-taken p Nowhere = false
-taken p (Section x) = p x.0
+abbrev pub taken : (ℕ → Bool) → Option SectionId → Bool
+taken p None = false
+taken p (Some x) = p x.0
 
 unfoldable pub gone : (ℕ → Bool) → List ℕ → ℕ → ℕ → Bool
 gone p symbols count i = taken p (lead_of symbols count (symbol_id i))

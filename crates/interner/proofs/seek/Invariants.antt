@@ -1,9 +1,6 @@
-use mathlib.Core.Path.{◌≡◌}
-use Rattle.interner.specs.Names.{seek_of, chase}
+use Rattle.std.proofs.Common.{◌≡◌, ◌-◌, ℕ}
+use Rattle.interner.specs.Names.{chase, seek_of}
 use Rattle.interner.proofs.seek.Given as goal
 
-abbrev pub invariant-loop-left : goal.invariant-loop-left
-invariant-loop-left l = seek_of l.bytes l.names l.count l.head l.x ≡ chase l.bytes l.names l.count l.x l.at l.left
-
-abbrev pub decreases-loop-left : goal.decreases-loop-left
-decreases-loop-left l = l.left
+abbrev pub invariant-loop : goal.invariant-loop
+invariant-loop l = (count : ℕ) → seek_of l.bytes l.names count l.head l.x ≡ chase l.bytes l.names count l.x l.at (l.rows - l.counter)

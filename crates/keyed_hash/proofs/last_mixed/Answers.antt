@@ -7,5 +7,5 @@ mixed-requires-clause-w_bound c = search word_small
 pub returns-then-i-x : goal.returns-then-i-x
 returns-then-i-x c = search last_word
 
-pub returns : goal.returns
-returns c = search last_none
+pub returns-else-i-x : goal.returns-else-i-x
+returns-else-i-x c = search last_none

@@ -6,5 +6,5 @@ use Rattle.keyed_hash.proofs.point.Goals as goal
 pub returns-then-r-eq0 : goal.returns-then-r-eq0
 returns-then-r-eq0 c = record { value = search point-base; small = search rules }
 
-pub returns : goal.returns
-returns c = record { value = search point-own; small = search point-small }
+pub returns-else-r-eq0 : goal.returns-else-r-eq0
+returns-else-r-eq0 c = record { value = search point-own; small = search point-small }

@@ -1,7 +1,7 @@
 -- Laws of the definitions of Ways.antt.
 -- Assumes nothing.
 use Rattle.std.specs.Prelude.{ℕ, zero, suc, ◌+◌, ◌*◌, ◌-◌, ◌/◌, ◌%◌, ◌<◌, ◌≤◌, ◌≡◌, refl, List, ltb, length}
-use Rattle.std.proofs.Common.{arith, mul-le-mul, ap, ◌∙◌, ne_eqb, lt-ltb, le-ltb, ltb-true, ltb-false, Fits}
+use Rattle.std.proofs.Common.{arith, subst, mul-le-mul, ap, ◌∙◌, ne_eqb, lt-ltb, le-ltb, ltb-true, ltb-false, Fits}
 use Rattle.std.proofs.Math.Nat.{sub-zero}
 use Rattle.std.proofs.Math.Path.{sym}
 use Rattle.std.specs.Int.{w64}
@@ -41,9 +41,6 @@ pub word_small : (x : List ℕ) (i w : ℕ) → w ≡ word_at x i → Bytes x i 
 unfolding word_at
 word_small x i w e (a, b, c, d) = omega (arith, e)
 
-pub four-small : (a b c d : ℕ) → a < 256 → b < 256 → c < 256 → d < 256 → a + b * 0x100 + c * 0x10000 + d * 0x1000000 < 0x100000000
-four-small a b c d h k m n = omega arith
-
 pub rest_all : (r : ℕ) (x : List ℕ) → Rest r x 0 (length x % 0x100000000)
 unfolding Rest
 rest_all r x = ap (λ (n : ℕ). hash_from r x (n / 4) 0 (length x % 0x100000000)) (sym (sub-zero (length x + 3)))
@@ -54,8 +51,10 @@ rest-on r x i h w t l e g q =
     let more : words (length x) i ≡ suc (words (length x) (i + 4)) = omega arith in
     q ∙ rw more (rw (g, e) refl)
 
-pub rest-whole : (r : ℕ) (x : List ℕ) (i h w t : ℕ) → 3 < length x - i → w ≡ word_at x i → t ≡ mixed r h w → Rest r x i h → Rest r x (i + 4) t
-rest-whole r x i h w t l = rest-on r x i h w t (omega arith)
+-- word k, all of whose bytes are there
+pub rest-word : (r : ℕ) (x : List ℕ) (k h w t : ℕ) → k < length x / 4 → w ≡ word_at x (k * 4) → t ≡ mixed r h w → Rest r x (k * 4) h → Rest r x ((k + 1) * 4) t
+rest-word r x k h w t l e g q =
+    let next : k * 4 + 4 ≡ (k + 1) * 4 = omega arith in subst (λ (i : ℕ). Rest r x i t) next (rest-on r x (k * 4) h w t (omega arith) e g q)
 
 module _ (r h : ℕ) (x : List ℕ) (i t : ℕ) where
   pub last_word : (w : ℕ) → i < length x → w ≡ word_at x i → t ≡ mixed r h w → t ≡ last_mixed r h x i
@@ -75,11 +74,14 @@ last-is r h x i l q =
     (λ e. let k : i < length x = ltb-true _ _ e in let one : words (length x) i ≡ suc zero = omega arith in q ∙ rw one)
     (λ e. let k : length x ≤ i = ltb-false _ _ e in let none : words (length x) i ≡ 0 = omega arith in q ∙ rw none)
 
-pub hash-end : (key : ℕ) (x : List ℕ) (r i h u t v : ℕ) → r ≡ point_of key 0x9e3779b → length x - i ≤ 3 → Rest r x i h → u ≡ last_mixed r h x i → v ≡ folded u
-    → t ≡ v % 0x200000000 / 2 → t ≡ hash_of key x
+pub hash-end : (key : ℕ) (x : List ℕ) (r k h u t v : ℕ) → r ≡ point_of key 0x9e3779b → k ≤ length x / 4 → length x / 4 ≤ k → Rest r x (k * 4) h
+    → u ≡ last_mixed r h x (length x / 4 * 4) → v ≡ folded u → t ≡ v % 0x200000000 / 2 → t ≡ hash_of key x
 unfolding hash_of
-hash-end key x r i h u t v a l q f g p =
-    let done : hash_from r x ((length x + 3) / 4) 0 (length x % 0x100000000) ≡ u = last-is r h x i l q ∙ sym f in
+hash-end key x r k h u t v a m n q f g p =
+    let all : k ≡ length x / 4 = omega arith in
+    let left : length x - length x / 4 * 4 ≤ 3 = omega arith in
+    let done : hash_from r x ((length x + 3) / 4) 0 (length x % 0x100000000) ≡ u =
+    last-is r h x (length x / 4 * 4) left (subst (λ (j : ℕ). Rest r x (j * 4) h) all q) ∙ sym f in
     p ∙ sym (rw (← a, done, ← g))
 
 pub start_small : (n : ℕ) → n % 0x100000000 < 0x400000000

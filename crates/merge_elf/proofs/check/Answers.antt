@@ -1,17 +1,22 @@
-use Rattle.merge_elf.specs.Proof.Ways.{head-counts, head_rows, head-work, head-ids, head-fine}
+use Rattle.std.proofs.Common.{sym, ap, ◌∙◌, Err}
+use Rattle.std.proofs.lemmas.Result.{err_from_is_err_and}
+use Rattle.link.specs.Proof.Judged.{first-stops, first-goes}
+use Rattle.merge_elf.specs.Merge.{rows_refusal, check_of}
 use Rattle.merge_elf.proofs.check.Goals as goal
 
-pub returns-then-counts-ne0 : goal.returns-then-counts-ne0
-returns-then-counts-ne0 c = search head-counts
+pub returns-in_err-judge_change : goal.returns-in_err-judge_change
+unfolding check_of rows_refusal
+returns-in_err-judge_change c =
+    let p = err_from_is_err_and c.from_residual.result c.from_residual.ensures.1 in
+    first-stops _ _ _ _ (p.1 ∙ ap Err p.2) (sym c.judge_change.ensures ∙ c.in_err-judge_change.was)
 
-pub returns-then-rows-ne0 : goal.returns-then-rows-ne0
-returns-then-rows-ne0 c = search head_rows
-
-pub returns-then-work-headers : goal.returns-then-work-headers
-returns-then-work-headers c = search head-work
-
-pub returns-then-ids-entries : goal.returns-then-ids-entries
-returns-then-ids-entries c = search head-ids
+pub returns-in_err-judge : goal.returns-in_err-judge
+unfolding check_of rows_refusal
+returns-in_err-judge c =
+    let p = err_from_is_err_and c.from_residual-in_err-judge.result c.from_residual-in_err-judge.ensures.1 in
+    first-goes _ _ _ _ (first-stops _ _ _ _ (p.1 ∙ ap Err p.2) (sym c.judge.ensures ∙ c.in_err-judge.was)) (sym c.judge_change.ensures ∙ c.in_ok-judge_change.was)
 
 pub returns : goal.returns
-returns c = search head-fine
+unfolding check_of rows_refusal
+returns c =
+    first-goes _ _ _ _ (first-goes _ _ _ _ c.check_work.ensures (sym c.judge.ensures ∙ c.in_ok-judge.was)) (sym c.judge_change.ensures ∙ c.in_ok-judge_change.was)

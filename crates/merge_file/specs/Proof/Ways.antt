@@ -1,6 +1,6 @@
 -- The ways through the functions.
 -- Assumes nothing.
-use Rattle.std.specs.Prelude.{ℕ, ◌+◌, ◌*◌, ◌≤◌, ◌≡◌, refl, true, false, List, eqb, leb, ltb, take, drop}
+use Rattle.std.specs.Prelude.{ℕ, ◌+◌, ◌*◌, ◌≤◌, ◌≡◌, refl, Bool, true, false, cond, List, eqb, leb, ltb, take, drop, Result, Ok, Err}
 use Rattle.std.proofs.Common.{arith, ◌∙◌}
 use Rattle.std.proofs.Math.Path.{sym, ap}
 use Rattle.std.proofs.Math.ListN.{length}
@@ -8,17 +8,18 @@ use borrow.Author.Tests.{eq-eqb, ne_eqb, eqb-true, ltb-true, ltb-false, leb-true
 use Rattle.cells.specs.Proof.Split.{by-test}
 use Rattle.byte_slices.specs.Proof.Ways.{apart}
 use Rattle.link.specs.Judge.{refused}
+use Rattle.link.specs.declared.Refusal.{Refusal}
 use Rattle.merge_stages.specs.Stages.{All, Object, object_of}
-use Rattle.merge_elf.specs.declared.Outcome.{Outcome}
-use Rattle.merge_elf.specs.Merge.{Left, leave_as, merge_of}
+use Rattle.merge_elf.specs.Merge.{Left, leave, merge_of}
 use Rattle.gabi.specs.File.{section_count, header_table}
 use Rattle.elf_file.specs.Check.{file_refusal}
 use Rattle.elf_file.specs.Rows.{entry_count, content_count}
-use Rattle.elf_file.specs.declared.reading.Reading.{Reading}
-use Rattle.elf_file.specs.Read.{Done, done, read_as, read_of}
+use Rattle.elf_file.specs.Read.{Reading, Done, done, read_as, read_of}
+use Rattle.elf_file.specs.declared.reading.Written.{Written}
+use Rattle.elf_file.specs.Contract.{Exit, exit, exit_of, answer_of, written_as}
 use Rattle.elf_laws.specs.Object.{rows_of, cells_of, laid}
 use Rattle.elf_laws.proofs.Terms.{read-refused, read_short, read-rows, laid-long, headers-part, entries-part, contents-part}
-use Rattle.merge_file.specs.MergeFile.{FileLeft, file_left, unread, file_head_of, merge_file_of, refused_as, cut_of, merge_read_of}
+use Rattle.merge_file.specs.MergeFile.{FileLeft, file_left, unread, file_head_of, merge_file_of, cut_of, reading_of, merge_read_of}
 
 -- ---- the rows that a read wrote
 
@@ -66,19 +67,48 @@ module _ (file rows : List ℕ) where
   cut-rows =
       same_object _ _ _ _ _ _ file (rows_of file).section_names (headers-part file rows) (entries-part file rows) (contents-part file rows) ∙ whole file
 
--- ---- what is merged after a read
+-- ---- what a read answered
 
-module _ (file rows : List ℕ) (r : Reading) (a : All) (t : Left) where
-  pub read-stopped : (o : Outcome) → (r.number ≡ 0 → ⊥) → o ≡ refused_as a.stage.link r.number r.place → t ≡ leave_as a o → t ≡ merge_read_of file rows r a
-  unfolding merge_read_of
-  read-stopped o h p q = simp (q, p, ne_eqb _ _ h)
+ok-answer : (r : Reading) (w : Written) → Ok w ≡ answer_of r → (r.number ≡ 0) × (w ≡ written_as r.sections r.entries r.contents r.strings)
+ok-answer r w e = go (eqb r.number 0) refl e
+  where
+    go : (t : Bool) → eqb r.number 0 ≡ t
+        → Ok w ≡ cond {A = Result Written Refusal} t (Ok (written_as r.sections r.entries r.contents r.strings)) (Err (refused r.number r.place))
+        → (r.number ≡ 0) × (w ≡ written_as r.sections r.entries r.contents r.strings)
+    go true d f = (eqb-true _ _ d, cc)
+    go false d f = absurd (cc)
 
-  pub read-merged : (headers entries contents : List ℕ) → r.number ≡ 0 → headers ≡ take (r.sections * 8) (drop 0 rows)
-      → entries ≡ take (r.entries * 8) (drop (r.sections * 8) rows)
-      → contents ≡ take r.contents (drop ((r.sections + r.entries) * 8) rows)
-      → t ≡ merge_of (object_of headers entries contents file r.strings) a → t ≡ merge_read_of file rows r a
-  unfolding merge_read_of
-  read-merged headers entries contents z p q s e = e ∙ sym (rw (eq-eqb _ _ z, ← p, ← q, ← s))
+err-answer : (r : Reading) (e : Refusal) → Err e ≡ answer_of r → (r.number ≡ 0 → ⊥) × (e ≡ refused r.number r.place)
+err-answer r e q = go (eqb r.number 0) refl q
+  where
+    go : (t : Bool) → eqb r.number 0 ≡ t
+        → Err e ≡ cond {A = Result Written Refusal} t (Ok (written_as r.sections r.entries r.contents r.strings)) (Err (refused r.number r.place))
+        → (r.number ≡ 0 → ⊥) × (e ≡ refused r.number r.place)
+    go true d f = absurd (cc)
+    go false d f = (λ z. apart (sym d ∙ eq-eqb _ _ z), cc)
+
+ok-read : (d : Done) (l : List ℕ) (w : Written) → exit l (Ok w) ≡ exit_of d
+    → (l ≡ d.cells) × ((d.answer.number ≡ 0) × (w ≡ written_as d.answer.sections d.answer.entries d.answer.contents d.answer.strings))
+ok-read d l w p = (ap (λ (e : Exit). e.cells) p, ok-answer d.answer w (ap (λ (e : Exit). e.answer) p))
+
+err-read : (d : Done) (l : List ℕ) (e : Refusal) → exit l (Err e) ≡ exit_of d → (l ≡ d.cells) × ((d.answer.number ≡ 0 → ⊥) × (e ≡ refused d.answer.number d.answer.place))
+err-read d l e p = (ap (λ (x : Exit). x.cells) p, err-answer d.answer e (ap (λ (x : Exit). x.answer) p))
+
+-- the parts that the counts cut lie in the cells
+pub written-room : (file rows l : List ℕ) (w : Written) → exit l (Ok w) ≡ exit_of (read_of file rows) → w.sections * 8 + w.entries * 8 + w.contents ≤ length l
+written-room file rows l w p =
+    let k = ok-read (read_of file rows) l w p in
+    rw (k.1.1) (read-room file rows l (read_of file rows).answer (ap (λ (x : List ℕ). done x (read_of file rows).answer) k.0))
+
+merged-same : (file l : List ℕ) (w : Written) (r : Reading) (a : All) → r.number ≡ 0 → w ≡ written_as r.sections r.entries r.contents r.strings
+    → merge_of (cut_of file l (reading_of w)) a ≡ merge_read_of file l r a
+unfolding merge_read_of
+merged-same file l w r a z e = rw e (simp (eq-eqb _ _ z))
+
+unread-same : (file l : List ℕ) (e : Refusal) (r : Reading) (a : All) → (r.number ≡ 0 → ⊥) → e ≡ refused r.number r.place
+    → leave a a.stage.link (Err e) ≡ merge_read_of file l r a
+unfolding merge_read_of
+unread-same file l e r a n q = rw q (simp (ne_eqb _ _ n))
 
 -- ---- the call
 
@@ -107,12 +137,23 @@ module _ (file rows : List ℕ) (a : All) where
       let h : (file_refusal file).number ≡ 0 → ⊥ = λ e. apart (sym c ∙ eq-eqb _ _ e) in
       ap after (read-refused file rows h) ∙ stopped-is (file_refusal file).number (file_refusal file).place h ∙ sym (rw (b, c, c)))
 
-  module _ (t : FileLeft) where
-    pub file-broken : (o : Outcome) → a.stage.link.broken ≡ true → o ≡ refused_as a.stage.link 22 0 → t ≡ file_left rows (leave_as a o)
-        → t ≡ merge_file_of file rows a
-    unfolding merge_file_of file_head_of
-    file-broken o b p q = simp (q, p, b)
+  pub file-broken : a.stage.link.broken ≡ true → unread rows a (refused 22 0) ≡ merge_file_of file rows a
+  unfolding merge_file_of file_head_of
+  file-broken b = simp b
 
-    pub file-read : (l : List ℕ) (r : Reading) (m : Left) → a.stage.link.broken ≡ false → done l r ≡ read_of file rows → m ≡ merge_read_of file l r a
-        → t ≡ file_left l m → t ≡ merge_file_of file rows a
-    file-read l r m b p q e = e ∙ ap (file_left l) q ∙ ap after p ∙ read_is b
+  file-read : (l : List ℕ) (r : Reading) → a.stage.link.broken ≡ false → done l r ≡ read_of file rows → file_left l (merge_read_of file l r a) ≡ merge_file_of file rows a
+  file-read l r b p = ap after p ∙ read_is b
+
+  module _ (l : List ℕ) (b : a.stage.link.broken ≡ false) where
+    pub file-merged : (w : Written) (m : Left) → exit l (Ok w) ≡ exit_of (read_of file rows) → m ≡ merge_of (cut_of file l (reading_of w)) a
+        → file_left l m ≡ merge_file_of file rows a
+    file-merged w m p q =
+        let k = ok-read (read_of file rows) l w p in
+        ap (file_left l) (q ∙ merged-same file l w (read_of file rows).answer a k.1.0 k.1.1)
+        ∙ file-read l (read_of file rows).answer b (ap (λ (x : List ℕ). done x (read_of file rows).answer) k.0)
+
+    pub file-unread : (e : Refusal) → exit l (Err e) ≡ exit_of (read_of file rows) → unread l a e ≡ merge_file_of file rows a
+    file-unread e p =
+        let k = err-read (read_of file rows) l e p in
+        ap (file_left l) (unread-same file l e (read_of file rows).answer a k.1.0 k.1.1)
+        ∙ file-read l (read_of file rows).answer b (ap (λ (x : List ℕ). done x (read_of file rows).answer) k.0)

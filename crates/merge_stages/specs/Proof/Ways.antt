@@ -1,72 +1,104 @@
--- The ways through the functions.
+-- The ways through the stages.
 -- Assumes nothing.
-use Rattle.std.specs.Prelude.{ℕ, ◌<◌, ◌≤◌, ◌≡◌, List}
-use Rattle.std.proofs.Common.{◌∙◌}
-use Rattle.std.proofs.Math.Path.{ap}
+use Rattle.std.specs.Prelude.{ℕ, ◌+◌, ◌-◌, ◌<◌, ◌≤◌, ◌≡◌, refl, List, [], Some}
+use Rattle.std.proofs.Common.{ap, ◌∙◌, arith}
 use borrow.Author.Tests.{eq-eqb, ne_eqb, lt-ltb, le-ltb}
-use Rattle.link.specs.declared.Stage.{Stage}
 use Rattle.link.specs.Judge as Link
-use Rattle.elf_object.specs.Rows.{rows_in, link_at, section_of, table_entries}
-use Rattle.merge_sections.specs.Reserve as Reserve
-use Rattle.merge_sections.specs.Notes.{note_tables_of, clear_all_of}
+use Rattle.elf_object.specs.Rows.{rows_in, first_at, count_at, entries_from, section_of, table_entries}
+use Rattle.merge_sections.specs.Reserve.{table_cell}
+use Rattle.merge_sections.specs.Proof.Ways.{table_cell-some}
 use Rattle.section_groups.specs.Group as Group
 use Rattle.section_groups.specs.Filter.{filter_of}
-use Rattle.merge_symbols.specs.Stage as Symbols
-use Rattle.merge_build.specs.Finish.{BuildLinks, build_links, built_of}
-use Rattle.merge_stages.specs.Stages.{All, all_of, Object, SymbolLinks, symbol_links, Tabled, table_of, build_object, build_stage, merge_table_of, put_symbols, symbols_in, filtered_of, filter_stage, after_groups, group_object, merge_groups_of, after_sections, group_stage, reserved_stages, stages_of}
+use Rattle.merge_build.specs.Finish.{build_links, built_of}
+use Rattle.merge_stages.specs.Stages.{All, Object, SymbolLinks, Tabled, table_of, build_object, build_stage, merge_table_of, symbol_stage, after_symbols, with_built, put_symbols, symbols_in, stop, filtered_of, filter_stage, after_groups, group_object, merge_groups_of, after_sections, noted, tabled, group_stage, reserved_stages, section_stage, stages_of}
 
-module _ (o : Tabled) (work : List ℕ) (s t : SymbolLinks) (strings : ℕ) (m : Symbols.State) where
-  pub table-stopped : (stage : Stage) → strings ≡ link_at o.headers o.table
-      → m ≡ Symbols.symbols_of (Symbols.object_of o.headers o.entries o.image work strings) (Symbols.state_of s.bytes s.names s.symbols s.sections s.ids (Symbols.stage_of s.stage.link 0 0 0))
-      → (m.stage.number ≡ 0 → ⊥) → stage ≡ Link.stopped_of m.stage.link m.stage.number m.stage.place
-      → t ≡ symbol_links m.bytes m.names m.symbols m.sections s.inputs s.lists m.ids stage → t ≡ merge_table_of o work s
-  unfolding merge_table_of build_stage
-  table-stopped stage d e n f q = simp (q, f, ← d, ← e, ne_eqb _ _ n)
+-- ---- the loaded symbol table
 
-  pub table-built : (stage : Stage) (b : BuildLinks) → strings ≡ link_at o.headers o.table
-      → m ≡ Symbols.symbols_of (Symbols.object_of o.headers o.entries o.image work strings) (Symbols.state_of s.bytes s.names s.symbols s.sections s.ids (Symbols.stage_of s.stage.link 0 0 0))
-      → m.stage.number ≡ 0 → stage ≡ Link.going_of m.stage.link
-      → b ≡ built_of (build_object o work m.ids) (build_links m.bytes m.names m.sections s.inputs s.lists stage)
-      → t ≡ symbol_links b.bytes b.names m.symbols b.sections b.inputs b.lists m.ids b.stage → t ≡ merge_table_of o work s
-  unfolding merge_table_of build_stage
-  table-built stage b d e z f g q = simp (q, g, f, ← d, ← e, eq-eqb _ _ z)
+module _ (o : Object) where
+  pub loaded-some : (t : ℕ) (own : List ℕ) → t < 0xffffffffffffffff → own ≡ entries_from o.entries (first_at o.headers t) (count_at o.headers t)
+      → table_of o.headers own o.contents o.image o.section_names t ≡ tabled o (table_cell (Some t))
+  unfolding table_entries section_of
+  loaded-some t own h e =
+      let n : t + 1 ≡ 0 → ⊥ = λ z. omega (arith, z) in
+      let m : t + 1 - 1 ≡ t = omega arith in
+      rw (table_cell-some t h) (simp (e, ne_eqb _ _ n, m))
 
-module _ (o : Tabled) (a t : All) where
-  pub filter-refused : (a.stage.number ≡ 0 → ⊥) → t ≡ a → t ≡ filter_stage o a
+  pub loaded-none : table_of o.headers [] o.contents o.image o.section_names 0 ≡ tabled o 0
+  unfolding table_entries section_of
+  loaded-none = refl
+
+-- ---- the symbols, and then what is built
+
+module _ (o : Tabled) (work : List ℕ) (t : SymbolLinks) where
+  build-stopped : (t.stage.number ≡ 0 → ⊥) → t ≡ build_stage o work t
+  unfolding build_stage
+  build-stopped n = simp (ne_eqb _ _ n)
+
+  build-going : t.stage.number ≡ 0
+      → with_built t (built_of (build_object o work t.ids) (build_links t.bytes t.names t.sections t.inputs t.lists (Link.going_of t.stage.link))) ≡ build_stage o work t
+  unfolding build_stage
+  build-going z = simp (eq-eqb _ _ z)
+
+module _ (o : Tabled) (work : List ℕ) (s t : SymbolLinks) (q : t ≡ after_symbols s (symbol_stage o work s)) where
+  pub table-stopped : (t.stage.number ≡ 0 → ⊥) → t ≡ merge_table_of o work s
+  unfolding merge_table_of
+  table-stopped n = build-stopped o work t n ∙ ap (build_stage o work) q
+
+  pub table-built : (x : SymbolLinks) → t.stage.number ≡ 0
+      → x ≡ with_built t (built_of (build_object o work t.ids) (build_links t.bytes t.names t.sections t.inputs t.lists (Link.going_of t.stage.link))) → x ≡ merge_table_of o work s
+  unfolding merge_table_of
+  table-built x z p = p ∙ build-going o work t z ∙ ap (build_stage o work) q
+
+-- ---- the groups, and then all that asks which sections they removed
+
+module _ (o : Tabled) (t : All) where
+  filter-stopped : (t.stage.number ≡ 0 → ⊥) → t ≡ filter_stage o t
   unfolding filter_stage
-  filter-refused n q = simp (q, ne_eqb _ _ n)
+  filter-stopped n = simp (ne_eqb _ _ n)
 
-  module _ (i : ℕ) where
-    pub filter-local : (stage : Stage) → a.stage.number ≡ 0 → i ≡ filter_of a.work o.entries → i < rows_in o.entries → stage ≡ Link.stopped_of a.stage.link 8 i
-        → t ≡ all_of a.bytes a.names a.symbols a.sections a.inputs a.lists a.work a.ids stage → t ≡ filter_stage o a
+  module _ (z : t.stage.number ≡ 0) where
+    filter-local : (i : ℕ) → i ≡ filter_of t.work o.entries → i < rows_in o.entries → stop t 8 i ≡ filter_stage o t
     unfolding filter_stage filtered_of
-    filter-local stage z e h f q = simp (q, f, eq-eqb _ _ z, ← e, lt-ltb _ _ h)
+    filter-local i e h = simp (eq-eqb _ _ z, ← e, lt-ltb _ _ h)
 
-    pub filter-passed : (s : SymbolLinks) → a.stage.number ≡ 0 → i ≡ filter_of a.work o.entries → rows_in o.entries ≤ i
-        → s ≡ merge_table_of o a.work (symbols_in a) → t ≡ put_symbols a s → t ≡ filter_stage o a
+    filter-passed : (i : ℕ) → i ≡ filter_of t.work o.entries → rows_in o.entries ≤ i → put_symbols t (merge_table_of o t.work (symbols_in t)) ≡ filter_stage o t
     unfolding filter_stage filtered_of
-    filter-passed s z e h f q = simp (q, f, eq-eqb _ _ z, ← e, le-ltb _ _ h)
+    filter-passed i e h = simp (eq-eqb _ _ z, ← e, le-ltb _ _ h)
 
-  pub groups-done : (stage : Stage) (g : Group.Step) → stage ≡ Link.going_of a.stage.link
-      → g ≡ Group.groups_of (group_object o) (Group.step_of a.bytes a.names a.work stage) → t ≡ filter_stage o (after_groups a g) → t ≡ merge_groups_of o a
+module _ (o : Tabled) (a t : All) (q : t ≡ after_groups a (Group.groups_of (group_object o) (Group.step_of a.bytes a.names a.work (Link.going_of a.stage.link)))) where
+  pub groups-stopped : (t.stage.number ≡ 0 → ⊥) → t ≡ merge_groups_of o a
   unfolding merge_groups_of
-  groups-done stage g e f q = simp (q, f, e)
+  groups-stopped n = filter-stopped o t n ∙ ap (filter_stage o) q
 
-module _ (o : Object) (a t : All) (r : Reserve.State) where
-  pub reserved-stopped : (stage : Stage) → (r.reserved.number ≡ 0 → ⊥) → stage ≡ Link.stopped_of r.reserved.link r.reserved.number r.reserved.place
-      → t ≡ all_of a.bytes a.names a.symbols r.sections a.inputs a.lists r.work a.ids stage → t ≡ reserved_stages o a r
-  unfolding reserved_stages group_stage
-  reserved-stopped stage n f q = simp (q, f, ne_eqb _ _ n)
+  module _ (z : t.stage.number ≡ 0) where
+    pub groups-filtered : (i : ℕ) → i ≡ filter_of t.work o.entries → i < rows_in o.entries → stop t 8 i ≡ merge_groups_of o a
+    unfolding merge_groups_of
+    groups-filtered i e h = filter-local o t z i e h ∙ ap (filter_stage o) q
 
-  pub reserved-done : (noted cleared own : List ℕ) (section : ℕ) → r.reserved.number ≡ 0 → noted ≡ note_tables_of o.headers r.work
-      → cleared ≡ clear_all_of (rows_in o.headers) o.entries noted → own ≡ table_entries o.headers o.entries r.reserved.table → section ≡ section_of r.reserved.table
-      → t ≡ merge_groups_of (table_of o.headers own o.contents o.image o.section_names section)
-      (all_of a.bytes a.names a.symbols r.sections a.inputs a.lists cleared a.ids (Link.going_of r.reserved.link))
-      → t ≡ reserved_stages o a r
-  unfolding reserved_stages group_stage
-  reserved-done noted cleared own section z e f g h q = simp (q, h, g, f, e, eq-eqb _ _ z)
+    pub groups-passed : (x : All) → rows_in o.entries ≡ filter_of t.work o.entries → x ≡ put_symbols t (merge_table_of o t.work (symbols_in t)) → x ≡ merge_groups_of o a
+    unfolding merge_groups_of
+    groups-passed x e p =
+        let h : rows_in o.entries ≤ rows_in o.entries = omega arith in
+        p ∙ filter-passed o t z (rows_in o.entries) e h ∙ ap (filter_stage o) q
 
-  pub stages-done : r ≡ Reserve.reserve_all_of o.headers (Reserve.state_of a.sections a.work (Reserve.reserved_of a.stage.link 0 0 0))
-      → t ≡ reserved_stages o (all_of a.bytes a.names a.symbols r.sections a.inputs a.lists r.work a.ids (Link.going_of r.reserved.link)) r → t ≡ stages_of o a
+-- ---- all stages
+
+module _ (o : Object) (table : ℕ) (t : All) where
+  group-stopped : (t.stage.number ≡ 0 → ⊥) → t ≡ group_stage o table t
+  unfolding group_stage
+  group-stopped n = simp (ne_eqb _ _ n)
+
+  group-going : t.stage.number ≡ 0 → merge_groups_of (tabled o table) (noted o t) ≡ group_stage o table t
+  unfolding group_stage
+  group-going z = simp (eq-eqb _ _ z)
+
+module _ (o : Object) (a t : All) (q : t ≡ after_sections a (section_stage o a)) where
+  pub stages-stopped : (t.stage.number ≡ 0 → ⊥) → t ≡ stages_of o a
   unfolding stages_of reserved_stages
-  stages-done e q = q ∙ ap (λ (x : Reserve.State). group_stage o x.reserved.table (after_sections a x)) e
+  stages-stopped n = group-stopped o (section_stage o a).reserved.table t n ∙ ap (group_stage o (section_stage o a).reserved.table) q
+
+  pub stages-done : (x : All) (table : ℕ) → t.stage.number ≡ 0 → table ≡ (section_stage o a).reserved.table → x ≡ merge_groups_of (tabled o table) (noted o t) → x ≡ stages_of o a
+  unfolding stages_of reserved_stages
+  stages-done x table z e p =
+      p ∙ ap (λ (m : ℕ). merge_groups_of (tabled o m) (noted o t)) e ∙ group-going o (section_stage o a).reserved.table t z
+      ∙ ap (group_stage o (section_stage o a).reserved.table) q

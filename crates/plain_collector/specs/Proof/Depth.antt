@@ -1,16 +1,15 @@
 -- A visit leaves no more sections unvisited than before; and any bound on the depth that isn't below their number gives the same.
 -- Assumes nothing.
+use Rattle.link.specs.declared.SectionId.{SectionId}
 use Prim.Native.Nat.{ℕ, zero, suc, ◌+◌, ◌-◌, ◌<◌, ◌≤◌}
 use Rattle.std.proofs.Math.Decide.{ℕ_discrete}
 use Rattle.std.proofs.Common.{not-suc-le-zero, arith, sym, ◌∙◌, eqb-true, leb-false, length-set, get_or-set_same, get_or-set_other}
-use Rattle.std.specs.Prelude.{◌≡◌, Bool, true, false, cond, List, eqb, leb, get_or, set, length}
+use Rattle.std.specs.Prelude.{◌≡◌, Bool, true, false, cond, List, eqb, leb, get_or, set, length, Option, None, Some}
 use Rattle.std.proofs.Math.Path.{refl, ap}
 use Rattle.cells.specs.Proof.Split.{by-test}
 use Rattle.byte_slices.specs.Proof.Ways.{apart}
 use Rattle.link.specs.declared.Link.{Link}
 use Rattle.sections.specs.Rows.{first_at, count_at, is_built}
-use Rattle.gc_sections.specs.declared.Lead.{Lead}
-use Rattle.gc_sections.specs.declared.Lead.TheVariants.{Nowhere, Section}
 use Rattle.gc_sections.specs.Each.{each}
 use Rattle.gc_sections.specs.Roots.{section_id}
 use Rattle.gc_sections.specs.Reach.{lower_of, end_of}
@@ -48,7 +47,7 @@ module _ (l : Link) (symbols sections lists : List ℕ) where
   abbrev n : ℕ
   n = l.sections
 
-  abbrev visit_to : ℕ → Lead → Visited → Visited
+  abbrev visit_to : ℕ → Option SectionId → Visited → Visited
   visit_to = visit_of l symbols sections lists
 
   abbrev pub relocation_to : ℕ → ℕ → Visited → Visited
@@ -62,7 +61,7 @@ module _ (l : Link) (symbols sections lists : List ℕ) where
   follow zero y s = s
   follow (suc depth) y s = through depth y s
 
-  pub visit-is : (depth : ℕ) (k : Lead) (s : Visited) → visit_to depth k s ≡ enter_lead sections n (follow depth) k s
+  pub visit-is : (depth : ℕ) (k : Option SectionId) (s : Visited) → visit_to depth k s ≡ enter_lead sections n (follow depth) k s
   unfolding visit_of
   visit-is zero k s = refl
   visit-is (suc depth) k s = refl
@@ -98,11 +97,11 @@ module _ (l : Link) (symbols sections lists : List ℕ) where
       go true false e d = (refl, omega arith)
       go false c e d = (refl, omega arith)
 
-  lead-less : (g : ℕ → Visited → Visited) → ((y : ℕ) → Lessens (g y)) → (k : Lead) → Lessens (enter_lead sections n g k)
-  lead-less g more Nowhere s h = (refl, omega arith)
-  lead-less g more (Section id) s h = enter-less g more id.0 s h
+  lead-less : (g : ℕ → Visited → Visited) → ((y : ℕ) → Lessens (g y)) → (k : Option SectionId) → Lessens (enter_lead sections n g k)
+  lead-less g more None s h = (refl, omega arith)
+  lead-less g more (Some id) s h = enter-less g more id.0 s h
 
-  pub visit-less : (depth : ℕ) (k : Lead) → Lessens (visit_to depth k)
+  pub visit-less : (depth : ℕ) (k : Option SectionId) → Lessens (visit_to depth k)
   visit-less zero k s h = rw (visit-is zero k s) (lead-less (follow zero) (λ y t i. (refl, omega arith)) k s h)
   visit-less (suc depth) k s h =
       rw (visit-is (suc depth) k s)
@@ -140,16 +139,16 @@ module _ (l : Link) (symbols sections lists : List ℕ) where
 
   lead-alike : (a b : ℕ) (f g : ℕ → Visited → Visited)
       → ((y : ℕ) (s : Visited) → n ≤ length s.work → suc (unvisited n s.work) ≤ a → suc (unvisited n s.work) ≤ b → f y s ≡ g y s)
-      → (k : Lead) → Alike (enter_lead sections n f k) (enter_lead sections n g k) a b
-  lead-alike a b f g one Nowhere s h p q = refl
-  lead-alike a b f g one (Section id) s h p q = enter-alike a b f g one id.0 s h p q
+      → (k : Option SectionId) → Alike (enter_lead sections n f k) (enter_lead sections n g k) a b
+  lead-alike a b f g one None s h p q = refl
+  lead-alike a b f g one (Some id) s h p q = enter-alike a b f g one id.0 s h p q
 
-  alike : (a b : ℕ) (k : Lead)
+  alike : (a b : ℕ) (k : Option SectionId)
       → ((y : ℕ) (s : Visited) → n ≤ length s.work → suc (unvisited n s.work) ≤ a → suc (unvisited n s.work) ≤ b → follow a y s ≡ follow b y s)
       → Alike (visit_to a k) (visit_to b k) a b
   alike a b k one s h p q = visit-is a k s ∙ lead-alike a b (follow a) (follow b) one k s h p q ∙ sym (visit-is b k s)
 
-  pub depths : (a b : ℕ) (k : Lead) → Alike (visit_to a k) (visit_to b k) a b
+  pub depths : (a b : ℕ) (k : Option SectionId) → Alike (visit_to a k) (visit_to b k) a b
   depths zero b k = alike zero b k (λ y s h p q. absurd (not-suc-le-zero p))
   depths (suc a) zero k = alike (suc a) zero k (λ y s h p q. absurd (not-suc-le-zero q))
   depths (suc a) (suc b) k =

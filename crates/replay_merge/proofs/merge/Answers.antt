@@ -1,19 +1,10 @@
-use mathlib.Core.Path.{refl}
-use Rattle.replay_words.specs.Proof.LendWays.{lent_length}
-use Rattle.replay_merge.specs.Proof.Ways.{stores-done}
+use Rattle.std.proofs.Common.{refl}
+use Rattle.replay_merge.specs.Proof.Ways.{merged-done}
 use Rattle.replay_merge.proofs.merge.Goals as goal
 
-pub slice_bounds-merge_lent-end-2 : goal.slice_bounds-merge_lent-end-2
-slice_bounds-merge_lent-end-2 c = search lent_length
-
-pub slice_bounds-merge_lent-end-4 : goal.slice_bounds-merge_lent-end-4
-slice_bounds-merge_lent-end-4 c = search lent_length
-
-pub slice_bounds-merge_lent-end-6 : goal.slice_bounds-merge_lent-end-6
-slice_bounds-merge_lent-end-6 c = search lent_length
-
-pub slice_bounds-merge_lent-end-8 : goal.slice_bounds-merge_lent-end-8
-slice_bounds-merge_lent-end-8 c = search lent_length
-
-pub returns : goal.returns
-returns c = stores-done _ _ _ _ _ _ _ _ _ _ _ c.cells-b.ensures.exact c.wide_rows-n.ensures.exact c.rows-s.ensures.exact c.wide_rows-t.ensures.exact c.merge_lent.ensures refl
+pub returns-clause-done : goal.returns-clause-done
+returns-clause-done c =
+    merged-done _ _ _ _ _ _ _ _ _ _ _ _ _ _ _ _ _ _ _ _ c.cells-bytes.ensures.exact c.wide_rows-names.ensures.exact
+    c.rows-symbols.ensures.exact c.wide_rows-sections.ensures.exact c.rows-inputs.ensures.exact c.cells-lists.ensures.exact
+    c.rows-work.ensures.exact c.cells-ids.ensures.exact c.headers_of.ensures c.entries_of.ensures c.contents_of.ensures
+    c.part_of.ensures.result_value c.merge_elf.ensures c.merged.ensures refl

@@ -4,6 +4,3 @@ use Rattle.replay_object.proofs.put_list.Given as goal
 
 abbrev pub invariant-loop-j : goal.invariant-loop-j
 invariant-loop-j l = (list_from l.count l.initial.cells l.at l.line 0 ≡ list_from (l.count - l.j) l.cells l.at l.line l.j) × (length l.cells ≡ length l.initial.cells)
-
-abbrev pub decreases-loop-j : goal.decreases-loop-j
-decreases-loop-j l = l.count - l.j

@@ -1,8 +1,7 @@
-use Rattle.replay_text.specs.Proof.Ways.{file-none, file-named}
+use Rattle.text.specs.Proof.WritingWays.{puts_then}
+use Rattle.replay_text.specs.Answers.{file_text}
 use Rattle.replay_text.proofs.put_file.Goals as goal
 
-pub returns-in-None : goal.returns-in-None
-returns-in-None c = search file-none
-
-pub returns-in-Name : goal.returns-in-Name
-returns-in-Name c = search file-named
+pub returns-in-Some : goal.returns-in-Some
+unfolding file_text
+returns-in-Some c = rw c.in-Some.is (puts_then _ _ _ _ _ c.put-in-Some.ensures c.put_name.ensures)

@@ -1,5 +1,7 @@
-use Rattle.replay_text.specs.Proof.Ways.{numbered-done}
+use Rattle.text.specs.Proof.WritingWays.{puts_then}
+use Rattle.replay_text.specs.Answers.{numbered}
 use Rattle.replay_text.proofs.put_numbered.Goals as goal
 
 pub returns : goal.returns
-returns c = search numbered-done
+unfolding numbered
+returns c = puts_then _ _ _ _ _ c.put.ensures c.put_decimal.ensures.pieces

@@ -1,5 +1,7 @@
-use Rattle.replay_text.specs.Proof.Ways.{refusal-done}
+use Rattle.text.specs.Proof.WritingWays.{puts_then}
+use Rattle.replay_text.specs.Answers.{refusal_text}
 use Rattle.replay_text.proofs.put_refusal.Goals as goal
 
 pub returns : goal.returns
-returns c = search refusal-done
+unfolding refusal_text
+returns c = puts_then _ _ _ _ _ c.put_numbered.ensures c.put_numbered-2.ensures

@@ -1,30 +1,22 @@
+use Rattle.std.specs.Prelude.{◌≡◌, ℕ, ℤ}
 use Rattle.std.proofs.Common.{rules}
-use Rattle.replay_text.specs.Proof.Ways.{value-null, value-absolute, value-section, value-relative, value-address, value-unloaded, value-external, value-zero, value-undefined}
+use Rattle.symbol.specs.Offset.{word_of}
+use Rattle.text.specs.Writing.{Puts}
+use Rattle.text.specs.declared.out.Writer.{Writer}
+use Rattle.text.specs.Proof.WritingWays.{puts_then}
+use Rattle.replay_text.specs.Answers.{value_text, signed_text}
 use Rattle.replay_text.proofs.put_value.Goals as goal
 
-pub returns-then-zero : goal.returns-then-zero
-returns-then-zero c = search value-zero
-
-pub returns-in-Null : goal.returns-in-Null
-returns-in-Null c = search value-null
-
-pub returns-in-Absolute : goal.returns-in-Absolute
-returns-in-Absolute c = search value-absolute
-
-pub returns-in-Section : goal.returns-in-Section
-returns-in-Section c = search value-section
+offset-put : (a b : Writer) (w : ℕ) (y z : ℤ) → w ≡ word_of y → y ≡ z → Puts a b (signed_text w) → Puts a b (signed_text (word_of z))
+offset-put a b w y z e f p = rw (← f, ← e) p
 
 pub returns-in-SectionRelative : goal.returns-in-SectionRelative
-returns-in-SectionRelative c = search (value-relative, rules)
+unfolding value_text
+returns-in-SectionRelative c =
+    rw c.in-SectionRelative.is (puts_then _ _ _ _ _ c.put_numbered-in-SectionRelative.ensures (offset-put _ _ _ _ _ c.word_of.ensures (search rules) c.put_offset.ensures))
 
 pub returns-in-SectionVirtualAddress : goal.returns-in-SectionVirtualAddress
-returns-in-SectionVirtualAddress c = search value-address
-
-pub returns-in-SectionNotLoaded : goal.returns-in-SectionNotLoaded
-returns-in-SectionNotLoaded c = search value-unloaded
-
-pub returns-in-ExternallyDefined : goal.returns-in-ExternallyDefined
-returns-in-ExternallyDefined c = search value-external
-
-pub returns-else-zero : goal.returns-else-zero
-returns-else-zero c = search value-undefined
+unfolding value_text
+returns-in-SectionVirtualAddress c =
+    rw c.in-SectionVirtualAddress.is
+    (puts_then _ _ _ _ _ c.put_numbered-in-SectionVirtualAddress.ensures c.put_numbered-in-SectionVirtualAddress-2.ensures)

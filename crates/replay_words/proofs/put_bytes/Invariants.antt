@@ -4,6 +4,3 @@ use Rattle.replay_words.proofs.put_bytes.Given as goal
 
 abbrev pub invariant-loop-k : goal.invariant-loop-k
 invariant-loop-k l = (put_from l.count l.initial.to l.at l.word 0 ≡ put_from (l.count - l.k) l.to l.at l.word l.k) × (length l.to ≡ length l.initial.to)
-
-abbrev pub decreases-loop-k : goal.decreases-loop-k
-decreases-loop-k l = l.count - l.k

@@ -5,30 +5,17 @@ use Rattle.std.proofs.Math.Nat.{sub-zero}
 use native.Mathlib.Omega.{arith}
 use Rattle.std.proofs.Math.Path.{sym}
 use Rattle.std.proofs.Common.{◌∙◌}
-use borrow.Author.Tests.{eq-eqb, ne_eqb, lt-ltb, le-ltb}
+use borrow.Author.Tests.{eq-eqb, ne_eqb}
 use Rattle.strings.specs.Lookup.{Looked, look_up}
 use Rattle.link.specs.declared.Link.{Link}
 use Rattle.link.specs.declared.Stage.{Stage}
 use Rattle.link.specs.declared.Interned.{Interned}
 use Rattle.link.specs.Judge.{going_of, stopped_of}
 use Rattle.link.specs.Counts.{with_lists}
-use Rattle.interner.specs.Names.{Store, store_of, find_of, fits_of, keep_of}
+use Rattle.interner.specs.Names.{Store, store_of, find_of, keep_of}
 use Rattle.symbol.specs.Codes.{successor}
 use Rattle.elf_object.specs.Proof.Ways.{one_less}
 use Rattle.shared_objects.specs.Record.{Recorded, recorded_of, record_fits, keep_name, record_as, record_of, dependency_of, dependencies_from, dependencies_of}
-
-module _ (l : Link) (bytes names : List ℕ) (lists : ℕ) (id : Interned) (n : ℕ) (t b : Bool) where
-  pub fits-nameless : b ≡ fits_of (store_of bytes names l) id n → b ≡ false → t ≡ false → t ≡ record_fits l bytes names lists id n
-  unfolding record_fits
-  fits-nameless e f q = simp (q, ← e, f)
-
-  pub fits-full : b ≡ fits_of (store_of bytes names l) id n → b ≡ true → lists ≤ l.lists → t ≡ false → t ≡ record_fits l bytes names lists id n
-  unfolding record_fits
-  fits-full e f h q = simp (q, ← e, f, le-ltb _ _ h)
-
-  pub fits_both : b ≡ fits_of (store_of bytes names l) id n → b ≡ true → l.lists < lists → t ≡ true → t ≡ record_fits l bytes names lists id n
-  unfolding record_fits
-  fits_both e f h q = simp (q, ← e, f, lt-ltb _ _ h)
 
 pub kept-done : (s t : Recorded) (x : List ℕ) (id : Interned) (k : Store) (lists : List ℕ) (more : ℕ) (l : Link) (stage : Stage)
     → k ≡ keep_of (store_of s.bytes s.names s.stage.link) id x → lists ≡ set s.lists s.stage.link.lists id.0

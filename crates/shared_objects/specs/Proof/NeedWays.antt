@@ -6,29 +6,18 @@ use Rattle.std.proofs.Math.Nat.{sub-zero}
 use native.Mathlib.Omega.{arith}
 use Rattle.std.proofs.Math.Path.{refl, sym}
 use Rattle.std.proofs.Math.Bool.{true, false}
-use borrow.Author.Tests.{eq-eqb, ne_eqb, lt-leb, le-leb}
+use borrow.Author.Tests.{eq-eqb, ne_eqb}
 use Rattle.byte_slices.specs.Bytes.{part}
 use Rattle.gabi.specs.StringTable.{has_name}
 use Rattle.strings.specs.Lookup.{Looked, look_up}
 use Rattle.link.specs.declared.Link.{Link}
 use Rattle.interner.specs.Names.{find_of}
-use Rattle.symbol_resolution.specs.declared.rows.Holder.{Holder}
-use Rattle.symbol_resolution.specs.Holder.{holder_of}
 use Rattle.elf_object.specs.Rows.{rows_in, field}
 use Rattle.elf_object.specs.Proof.Ways.{one_less}
 use Rattle.cells.specs.Search.{any_from}
 use Rattle.cells.specs.Proof.Search.{any-start}
 use Rattle.shared_objects.specs.Lists.{has_id}
-use Rattle.shared_objects.specs.Need.{library_name, input_kind_at, depends_on, mark_names, mark_library, mark_from, mark_all, provides, clear_named, clear_mark, clear_from, clear_all, lacked_by, wanted_in, View, view_of, name_wanted, symbol_wanted, some_wanted, Judged, judged_as, marked_of, need_of}
-
-module _ (file path : List ℕ) (sonamed : Bool) (soname : ℕ) (t : List ℕ) where
-  pub name-soname : (x : Looked) → sonamed ≡ true → x ≡ look_up file soname → t ≡ x.name → t ≡ library_name file path sonamed soname
-  unfolding library_name
-  name-soname x e f q = simp (q, e, f)
-
-  pub name-path : sonamed ≡ false → t ≡ path → t ≡ library_name file path sonamed soname
-  unfolding library_name
-  name-path e q = simp (q, e)
+use Rattle.shared_objects.specs.Need.{input_kind_at, depends_on, mark_names, mark_library, mark_from, mark_all, provides, clear_named, clear_mark, clear_from, clear_all, wanted_in, View, name_wanted, symbol_wanted, some_wanted}
 
 -- ---- lists of ids
 
@@ -47,15 +36,6 @@ module _ (l : List ℕ) (id : ℕ) (w : Bool) (j : ℕ) where
   pub has_on : w ≡ has_id (drop j l) id → j < length l → (get_or l j 0 ≡ id → ⊥) → w ≡ has_id (drop (j + 1) l) id
   unfolding has_id
   has_on q h e = q ∙ rw (next l j h) (simp (ne_eqb _ _ e))
-
-module _ (dependencies : List ℕ) (id count : ℕ) (t : Bool) where
-  pub depends-unissued : count ≤ id → t ≡ false → t ≡ depends_on dependencies id count
-  unfolding depends_on
-  depends-unissued h q = simp (q, le-leb _ _ h)
-
-  pub depends-listed : id < count → t ≡ has_id dependencies id → t ≡ depends_on dependencies id count
-  unfolding depends_on
-  depends-listed h q = simp (q, lt-leb _ _ h)
 
 -- ---- marks
 
@@ -113,44 +93,6 @@ module _ (inputs lists : List ℕ) (id count rows : ℕ) (start : List ℕ) wher
     marked-on more q h f = q ∙ rw (one_less rows k h) (simp f)
 
 -- ---- symbols
-
-module _ (entries : List ℕ) (i : ℕ) (t : Bool) (section : ℕ) where
-  pub provides-undefined : section ≡ field entries i 4 → section ≡ 0 → t ≡ false → t ≡ provides entries i
-  unfolding provides
-  provides-undefined e f q = simp (q, ← e, eq-eqb _ _ f)
-
-  module _ (binding : ℕ) where
-    pub provides-global : section ≡ field entries i 4 → (section ≡ 0 → ⊥) → binding ≡ field entries i 1 → binding ≡ 1 → t ≡ true → t ≡ provides entries i
-    unfolding provides
-    provides-global e f g h q = simp (q, ← e, ne_eqb _ _ f, ← g, eq-eqb _ _ h)
-
-    pub provides-weak : section ≡ field entries i 4 → (section ≡ 0 → ⊥) → binding ≡ field entries i 1 → (binding ≡ 1 → ⊥) → binding ≡ 2 → t ≡ true
-        → t ≡ provides entries i
-    unfolding provides
-    provides-weak e f g h a q = simp (q, ← e, ne_eqb _ _ f, ← g, ne_eqb _ _ h, eq-eqb _ _ a)
-
-    pub provides-other : section ≡ field entries i 4 → (section ≡ 0 → ⊥) → binding ≡ field entries i 1 → (binding ≡ 1 → ⊥) → (binding ≡ 2 → ⊥) → t ≡ false
-        → t ≡ provides entries i
-    unfolding provides
-    provides-other e f g h a q = simp (q, ← e, ne_eqb _ _ f, ← g, ne_eqb _ _ h, ne_eqb _ _ a)
-
-pub lacked-held : (symbols : List ℕ) (h k : Holder) (t : Bool) → h ≡ k → t ≡ lacked_by symbols k → t ≡ lacked_by symbols h
-lacked-held symbols h k t e q = simp (q, e)
-
-module _ (l : Link) (names symbols marks : List ℕ) (id : ℕ) (t : Bool) where
-  pub wanted-unissued : l.names ≤ id → t ≡ false → t ≡ wanted_in l names symbols marks id
-  unfolding wanted_in
-  wanted-unissued h q = simp (q, le-leb _ _ h)
-
-  module _ (mark : ℕ) where
-    pub wanted-marked : id < l.names → mark ≡ get_or marks id 0 → mark ≡ 1 → t ≡ true → t ≡ wanted_in l names symbols marks id
-    unfolding wanted_in
-    wanted-marked h e f q = simp (q, lt-leb _ _ h, ← e, eq-eqb _ _ f)
-
-    pub wanted-lacked : (holder : Holder) → id < l.names → mark ≡ get_or marks id 0 → (mark ≡ 1 → ⊥) → holder ≡ holder_of l names symbols (record { 0 = id })
-        → t ≡ lacked_by symbols holder → t ≡ wanted_in l names symbols marks id
-    unfolding wanted_in
-    wanted-lacked holder h e f g q = simp (q, lt-leb _ _ h, ← e, ne_eqb _ _ f, g)
 
 module _ (v : View) (entries file : List ℕ) (i : ℕ) (t b : Bool) where
   pub symbol-unprovided : b ≡ provides entries i → b ≡ false → t ≡ false → t ≡ symbol_wanted v entries file i
@@ -216,10 +158,3 @@ module _ (bytes names : List ℕ) (l : Link) (entries file start : List ℕ) whe
         → Cleared (i + 1) bytes names l entries file rows start more
     unfolding Cleared clear_from
     cleared-on more q h f = q ∙ rw (one_less rows i h) (simp f)
-
-pub need-judged : (l : Link) (bytes names symbols inputs lists marks entries file x : List ℕ) (id : ℕ) (clear marked : List ℕ) (b : Bool) (t : Judged)
-    → id ≡ find_of bytes names l x → clear ≡ clear_all bytes names l entries file marks → marked ≡ mark_all inputs lists id l.names l.inputs clear
-    → b ≡ some_wanted (view_of bytes names symbols marked l) entries file → t ≡ judged_as marked b
-    → t ≡ need_of l bytes names symbols inputs lists marks entries file x
-unfolding need_of marked_of
-need-judged l bytes names symbols inputs lists marks entries file x id clear marked b t e c f g q = simp (q, g, f, c, e)

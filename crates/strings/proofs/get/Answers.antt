@@ -1,12 +1,13 @@
-use mathlib.Core.Path.{sym, refl, ◌∙◌}
-use Rattle.gabi.proofs.StringTableLaws.{has_ended}
-use Rattle.strings.specs.Proof.Ways.{empty-looked, empty-front, as-ended}
+use Rattle.std.proofs.Common.{◌∙◌, sym, ap, eq-eqb, ne_eqb, []}
+use Rattle.strings.specs.Lookup.{looked}
+use Rattle.strings.specs.Proof.Ways.{empty-looked, as-ended}
 use Rattle.strings.proofs.get.Goals as goal
 
-pub returns-then-table-eq0 : goal.returns-then-table-eq0
-returns-then-table-eq0 c = let h = c.if-table-eq0.true in
-    record { string_meets = empty-looked _ _ h; place = λ f. (refl, empty-front _ _ _ h f) }
+pub returns-clause-string_meets : goal.returns-clause-string_meets
+returns-clause-string_meets c = as-ended _ _ _ c.if-table-eq0.false c.ended.ensures.ended_meets
 
-pub returns : goal.returns
-returns c = let n = c.if-table-eq0.false in
-    record { string_meets = as-ended _ _ _ n c.ended.ensures.ended_meets; place = λ f. c.ended.ensures.place (sym (has_ended _ _ n) ∙ f) }
+pub returns-then-offset-eq0-clause-string_meets : goal.returns-then-offset-eq0-clause-string_meets
+returns-then-offset-eq0-clause-string_meets c = ap (looked []) (sym (eq-eqb _ _ c.if-offset-eq0.true)) ∙ empty-looked _ _ c.if-table-eq0.true
+
+pub returns-else-offset-eq0-clause-string_meets : goal.returns-else-offset-eq0-clause-string_meets
+returns-else-offset-eq0-clause-string_meets c = ap (looked []) (sym (ne_eqb _ _ c.if-offset-eq0.false)) ∙ empty-looked _ _ c.if-table-eq0.true

@@ -1,5 +1,5 @@
 use Rattle.symbol.specs.Proof.Ways.{cell-named}
 use Rattle.symbol.proofs.file_cell.Goals as goal
 
-pub returns-in-Name : goal.returns-in-Name
-returns-in-Name c = search cell-named
+pub returns-in-Some : goal.returns-in-Some
+returns-in-Some c = search cell-named

@@ -1,17 +1,17 @@
 -- What a direct add of a row leaves and answers, by the decision on it.
 -- Assumes nothing.
-use Rattle.std.specs.Prelude.{◌≡◌, eqb}
+use Rattle.link.specs.declared.Interned.{Interned}
+use Rattle.std.specs.Prelude.{◌≡◌, eqb, Option}
 use Rattle.std.proofs.Common.{sym, eqb-true}
 use Rattle.cells.specs.Proof.Split.{by-test}
 use Rattle.link.specs.Said.{number_in}
 use Rattle.symbol.specs.declared.Row.{Row}
-use Rattle.symbol.specs.declared.SttFile.{SttFile}
 use Rattle.symbol_resolution.specs.declared.rows.Decision.{Decision}
 use Rattle.symbol_resolution.specs.Decide.{refusal_of}
 use Rattle.symbol_resolution.specs.Apply.{Table, apply_of}
 use Rattle.symbols.specs.Add.{decided_of, committed_of, add_row_of}
 
-module _ (t : Table) (r : Row) (file : SttFile) where
+module _ (t : Table) (r : Row) (file : Option Interned) where
   abbrev d : Decision
   d = decided_of t r file
 

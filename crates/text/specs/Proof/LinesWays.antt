@@ -1,42 +1,19 @@
--- The ways through the functions.
+-- The ways through the functions on lines.
 -- Assumes nothing.
 use Prim.Native.Nat.{ℕ, zero, suc, ◌+◌, ◌-◌, ◌<◌, ◌≤◌}
-use Rattle.std.proofs.Common.{add-one, subst, ◌∙◌, true≢false, length-drop, take-append-drop, get_or-drop, get_or-take, take_at, take-take, length-take-le}
+use Rattle.std.proofs.Common.{subst, ◌∙◌, get_or-take, take_at, take-take, length-take-le}
 use native.Mathlib.Omega.{arith}
-use Rattle.std.specs.Prelude.{◌≡◌, refl, Bool, false, cond, List, ◌++◌, eqb, ltb, leb, get_or, set}
+use Rattle.std.specs.Prelude.{◌≡◌, refl, Bool, false, cond, List, ◌++◌, eqb, ltb, leb, get_or, Option, None}
 use Rattle.std.proofs.Math.Path.{sym, ap}
 use Rattle.std.proofs.Math.Bool.{true}
 use Rattle.std.proofs.lemmas.Bool.{false≢true}
-use Rattle.std.proofs.Math.ListN.{length, take, drop}
-use Rattle.std.proofs.Math.Seq.{set_out, paste, paste-zero, paste-suc}
-use Rattle.std.proofs.lemmas.List.Edits.{drop-paste}
-use borrow.Author.Tests.{eq-eqb, ne_eqb, lt-ltb, le-ltb, le-leb, lt-leb, ltb-false, leb-false}
-use Rattle.byte_slices.specs.Bytes.{copied}
-use Rattle.io.specs.Digits.{last_digits, IsDigitCount}
+use Rattle.std.proofs.Math.ListN.{length, take}
+use borrow.Author.Tests.{eq-eqb, ne_eqb, le-ltb, ltb-false, leb-false}
 use Rattle.text.specs.declared.lines.Lines.{Lines}
 use Rattle.text.specs.declared.lines.Taken.{Taken}
-use Rattle.text.specs.declared.lines.Taken.TheVariants.{Line, Long, End, More}
-use Rattle.text.specs.declared.lines.Step.{Step}
 use Rattle.text.specs.Unread.{lines_at}
-use Rattle.text.specs.Line.{line_end, end_from, end_in, span_of, rest_of, unended_of, left_of, step_of, settled_at, settle_of, is_more}
+use Rattle.text.specs.Line.{Step, step_of, line_end, end_from, end_in, rest_of, unended_of, left_of, settled_at, settle_of, is_more}
 use Rattle.text.specs.Next.{Front, front_as, front_of, longer_of, ReadOn, ReadLine, NextBy, NextLine, past_at, past_of, Skipped}
-use Rattle.text.specs.Text.{Text, text_of, put_of, PutDecimal}
-
-module _ (b x e : List ℕ) (n : ℕ) (t : Text) where
-  pub put-past : length b < n → t ≡ text_of b n → t ≡ put_of b n x
-  unfolding put_of
-  put-past h q = q ∙ sym (simp (lt-leb (n + length x) (length b) (omega arith)))
-
-  pub put-short : n ≤ length b → length b - n < length x → t ≡ text_of b n → t ≡ put_of b n x
-  unfolding put_of
-  put-short g h q = q ∙ sym (simp (lt-leb (n + length x) (length b) (omega arith)))
-
-  pub put_whole : n ≤ length b → length x ≤ length b - n → e ≡ copied b n x → t ≡ text_of e (n + length x) → t ≡ put_of b n x
-  unfolding put_of copied
-  put_whole g h a q = q ∙ (rw a (simp (le-leb (n + length x) (length b) (omega arith))))
-
-pub put-digits : (b d : List ℕ) (n v k : ℕ) (t : Text) → IsDigitCount 10 1 v k → take k d ≡ last_digits 10 k v → t ≡ put_of b n (take k d) → PutDecimal b n v t
-put-digits b d n v k t f e q = record { count = k; fewest = f; put = q ∙ ap (put_of b n) e }
 
 by-test : {P : Type 0} (b : Bool) → (b ≡ true → P) → (b ≡ false → P) → P
 by-test true f g = f refl
@@ -44,98 +21,23 @@ by-test false f g = g refl
 
 -- ---- a line
 
-pub put-out : (b t : List ℕ) (i v : ℕ) → length b ≤ i → t ≡ b → t ≡ set b i v
-put-out b t i v h q = q ∙ sym (set_out b i v h)
-
 one_less : (n i : ℕ) → i < n → n - i ≡ suc (n - (i + 1))
 one_less n i h = omega arith
 
-module _ (b : List ℕ) (to w i : ℕ) where
-  pub end_none : w ≡ end_in b i to → to ≤ i → i ≡ w
+module _ (b : List ℕ) (to i : ℕ) where
+  pub end_none : to ≤ i → end_in b i to ≡ i
   unfolding end_from
-  end_none q h = let z : to - i ≡ 0 = omega arith in sym (q ∙ rw z)
+  end_none h = let z : to - i ≡ 0 = omega arith in rw z
 
-  module _ (x : ℕ) where
-    pub end-here : w ≡ end_in b i to → i < to → x ≡ get_or b i 0 → x ≡ line_end → i ≡ w
-    unfolding end_from
-    end-here q h e f = sym (q ∙ rw (one_less to i h) (simp (← e, eq-eqb _ _ f)))
+  pub end-here : i < to → get_or b i 0 ≡ line_end → end_in b i to ≡ i
+  unfolding end_from
+  end-here h e = rw (one_less to i h) (simp (eq-eqb _ _ e))
 
-    pub end_on : w ≡ end_in b i to → i < to → x ≡ get_or b i 0 → (x ≡ line_end → ⊥) → w ≡ end_in b (i + 1) to
-    unfolding end_from
-    end_on q h e f = q ∙ rw (one_less to i h) (simp (← e, ne_eqb _ _ f))
+  pub end_on : i < to → (get_or b i 0 ≡ line_end → ⊥) → end_in b i to ≡ end_in b (i + 1) to
+  unfolding end_from
+  end_on h e = rw (one_less to i h) (simp (ne_eqb _ _ e))
 
-module _ (from to len : ℕ) (t : Taken) where
-  pub span-back : to < from → t ≡ End → t ≡ span_of from to len
-  unfolding span_of
-  span-back h q = simp (q, lt-ltb _ _ h)
-
-  pub span-past : from ≤ to → len < to → t ≡ End → t ≡ span_of from to len
-  unfolding span_of
-  span-past h g q = simp (q, le-ltb _ _ h, lt-ltb _ _ g)
-
-  pub span-in : from ≤ to → to ≤ len → t ≡ Line from (to - from) → t ≡ span_of from to len
-  unfolding span_of
-  span-in h g q = simp (q, le-ltb _ _ h, le-ltb _ _ g)
-
-module _ (l : Lines) (len : ℕ) (t : Taken) where
-  pub rest-none : l.end ≤ l.start → t ≡ End → t ≡ rest_of l len
-  unfolding rest_of
-  rest-none h q = simp (q, le-leb _ _ h)
-
-  pub rest_some : l.start < l.end → t ≡ span_of l.start l.end len → t ≡ rest_of l len
-  unfolding rest_of
-  rest_some h q = simp (q, lt-leb _ _ h)
-
-  pub unended-over : l.over ≡ true → t ≡ rest_of l len → t ≡ unended_of l len
-  unfolding unended_of
-  unended-over e q = simp (q, e)
-
-  pub unended-long : l.over ≡ false → l.start ≡ 0 → len ≤ l.end → t ≡ Long → t ≡ unended_of l len
-  unfolding unended_of
-  unended-long e f h q = simp (q, e, eq-eqb _ _ f, le-leb _ _ h)
-
-  pub unended-room : l.over ≡ false → l.start ≡ 0 → l.end < len → t ≡ More → t ≡ unended_of l len
-  unfolding unended_of
-  unended-room e f h q = simp (q, e, eq-eqb _ _ f, lt-leb _ _ h)
-
-  pub unended-behind : l.over ≡ false → (l.start ≡ 0 → ⊥) → t ≡ More → t ≡ unended_of l len
-  unfolding unended_of
-  unended-behind e f q = simp (q, e, ne_eqb _ _ f)
-
-module _ (l : Lines) (t : ℕ) where
-  pub left_over : l.over ≡ true → t ≡ l.end → t ≡ left_of l
-  unfolding left_of
-  left_over e q = simp (q, e)
-
-  pub left-start : l.over ≡ false → t ≡ l.start → t ≡ left_of l
-  unfolding left_of
-  left-start e q = simp (q, e)
-
-module _ (b : List ℕ) (l m : Lines) (at : ℕ) (x : Taken) (t : Step) where
-  pub settle-found : at ≡ end_in b l.seen l.end → at < l.end → m ≡ lines_at (at + 1) (at + 1) l.end l.over l.failed
-      → x ≡ span_of l.start at (length b) → t ≡ step_of m x → t ≡ settle_of b l
-  unfolding settle_of settled_at
-  settle-found e h f g q = simp (q, f, g, ← e, lt-ltb _ _ h)
-
-  pub settle-none : (left : ℕ) → at ≡ end_in b l.seen l.end → l.end ≤ at → x ≡ unended_of l (length b) → left ≡ left_of l
-      → m ≡ lines_at left l.end l.end l.over l.failed → t ≡ step_of m x → t ≡ settle_of b l
-  unfolding settle_of settled_at
-  settle-none left e h g k f q = simp (q, f, k, g, ← e, le-ltb _ _ h)
-
--- ---- to the front
-
-module _ (end more len t : ℕ) where
-  pub longer-past : len < end → t ≡ end → t ≡ longer_of end more len
-  unfolding longer_of
-  longer-past h q = simp (q, lt-ltb _ _ h)
-
-  pub longer-all : end ≤ len → len - end < more → t ≡ len → t ≡ longer_of end more len
-  unfolding longer_of
-  longer-all h g q = simp (q, le-ltb _ _ h, lt-ltb _ _ g)
-
-  pub longer-some : end ≤ len → more ≤ len - end → t ≡ end + more → t ≡ longer_of end more len
-  unfolding longer_of
-  longer-some h g q = simp (q, le-ltb _ _ h, le-ltb _ _ g)
+-- ---- reads
 
 pub longer-grows : (end more len : ℕ) → end < len → (more ≡ 0 → ⊥) → end < longer_of end more len
 unfolding longer_of
@@ -143,104 +45,33 @@ longer-grows end more len h g =
     by-test (ltb (len - end) more) (λ a. rw (le-ltb len end (omega arith), a) h)
     (λ a. rw (le-ltb len end (omega arith), a) (let p : 0 < more = omega (arith, g) in omega arith))
 
-abbrev pub moved : List ℕ → ℕ → ℕ → List ℕ
-moved b start n = paste b 0 (drop start b) n
-
-module _ (b₀ b : List ℕ) (start end from to : ℕ) where
-  pub move_start : b ≡ moved b start 0
-  move_start = paste-zero b 0 (drop start b)
-
-  -- the byte that is read hasn't been written yet
-  pub move-on : (v : ℕ) (t : List ℕ) → b ≡ moved b₀ start to → start + to ≡ from → from < end → end ≤ length b₀ → v ≡ get_or b from 0 → t ≡ set b to v
-      → t ≡ moved b₀ start (to + 1)
-  move-on v t e f h g k q =
-      let room : to < length (drop start b₀) = simp length-drop (omega arith) in
-      let zero-to : to ≡ 0 + to = omega arith in
-      let there : from ≡ 0 + to + start = omega arith in
-      let here : 0 + to + start ≡ start + to = omega arith in
-      let m : List ℕ = moved b₀ start to in
-      let read : get_or b from 0 ≡ get_or (drop start b₀) to 0 =
-      ap (λ (x : List ℕ). get_or x from 0) e ∙ ap (λ (i : ℕ). get_or m i 0) there ∙ sym (get_or-drop (0 + to) m start 0)
-      ∙ ap (λ (x : List ℕ). get_or x start 0) (drop-paste b₀ 0 (drop start b₀) to (omega arith) (omega arith)) ∙ get_or-drop (0 + to) b₀ start 0
-      ∙ ap (λ (i : ℕ). get_or b₀ i 0) here ∙ sym (get_or-drop start b₀ to 0) in
-      q ∙ ap (λ (x : List ℕ). set x to v) e ∙ ap (λ (x : ℕ). set m to x) (k ∙ read) ∙ ap (λ (i : ℕ). set m i (get_or (drop start b₀) to 0)) zero-to
-      ∙ paste-suc b₀ 0 (drop start b₀) to 0 (omega arith) room ∙ ap (moved b₀ start) (sym (add-one to))
-
-  pub move-end : b ≡ moved b₀ start to → start + to ≡ from → from ≤ end → end ≤ from → b ≡ moved b₀ start (end - start)
-  move-end e f g h = let z : to ≡ end - start = omega arith in e ∙ ap (moved b₀ start) z
-
-module _ (b : List ℕ) (l r : Lines) (t : Front) where
-  pub front-back : l.end < l.start → r ≡ lines_at 0 0 0 true l.failed → t ≡ front_as b r → t ≡ front_of b l
-  unfolding front_of
-  front-back h e q = simp (q, e, lt-ltb _ _ h)
-
-  pub front-past : l.start ≤ l.end → length b < l.end → r ≡ lines_at 0 0 0 true l.failed → t ≡ front_as b r → t ≡ front_of b l
-  unfolding front_of
-  front-past h g e q = simp (q, e, le-ltb _ _ h, lt-ltb _ _ g)
-
-  module _ (n : ℕ) where
-    pub front-moved : (d : List ℕ) → l.start ≤ l.end → l.end ≤ length b → n ≡ l.end - l.start → d ≡ moved b l.start (l.end - l.start)
-        → r ≡ lines_at 0 n n l.over l.failed → t ≡ front_as d r → t ≡ front_of b l
-    unfolding front_of
-    front-moved d h g k f e q = simp (q, e, k, f, le-ltb _ _ h, le-ltb _ _ g)
-
-    pub front-there : l.start ≡ 0 → l.start ≤ l.end → l.end ≤ length b → n ≡ l.end - l.start → r ≡ lines_at 0 n n l.over l.failed
-        → t ≡ front_as b r → t ≡ front_of b l
-    unfolding front_of
-    front-there z h g k e q =
-        let n : ℕ = l.end - l.start in
-        let zero-n : n ≡ 0 + n = omega arith in
-        let same : b ≡ moved b l.start n =
-        sym (take-append-drop n b) ∙ ap (λ (i : ℕ). take n (drop i b) ++ drop n b) (sym z) ∙ ap (λ (i : ℕ). take n (drop l.start b) ++ drop i b) zero-n in
-        front-moved b h g k same e q
-
--- ---- reads
+longer-keeps : (end more len : ℕ) → end ≤ longer_of end more len
+unfolding longer_of
+longer-keeps end more len =
+    by-test (ltb len end) (λ a. rw a (omega arith))
+    (λ a. by-test (ltb (len - end) more) (λ c. rw (a, c) (ltb-false _ _ a)) (λ c. rw (a, c) (omega arith)))
 
 pub kept-before : (b rest : List ℕ) (n : ℕ) → n < length b → take n (take n b ++ rest) ≡ take n b
 kept-before b rest n h = take_at (take n b) rest n (length-take-le n b (omega arith))
 
-module _ (b b' : List ℕ) (l r : Lines) (failed : Bool) where
-  pub read_none : r ≡ lines_at l.start l.seen l.end true failed → take l.end b' ≡ take l.end b → ReadOn b l b' r
-  read_none q e =
-      record {
-        start = ap (λ (x : Lines). x.start) q;
-        seen = ap (λ (x : Lines). x.seen) q;
-        before = e;
-        behind = let z : r.end ≡ l.end = ap (λ (x : Lines). x.end) q in omega arith;
-        grown = λ o. absurd (true≢false (sym (ap (λ (x : Lines). x.over) q) ∙ o));
-      }
-
-  pub read_some : (n more len : ℕ) → (more ≡ 0 → ⊥) → n ≡ longer_of l.end more len → l.end < len
-      → r ≡ lines_at l.start l.seen n false failed → take l.end b' ≡ take l.end b → ReadOn b l b' r
-  read_some n more len m k h q e =
-      let g = longer-grows l.end more len h m in
-      let z : r.end ≡ longer_of l.end more len = ap (λ (x : Lines). x.end) q ∙ k in
-      record {
-        start = ap (λ (x : Lines). x.start) q;
-        seen = ap (λ (x : Lines). x.seen) q;
-        before = e;
-        behind = omega arith;
-        grown = λ o. omega arith;
-      }
-
-pub read-full : (b : List ℕ) (l r : Lines) (failed : Bool) → r ≡ lines_at l.start l.seen l.end true failed → ReadOn b l b r
-read-full b l r failed q = read_none b b l r failed q refl
+pub read-ok : (b b' : List ℕ) (l : Lines) (n more len : ℕ) → n ≡ longer_of l.end more len → l.end < len → take l.end b' ≡ take l.end b
+    → ReadOn b l b' (lines_at l.start l.seen n (eqb more 0) false)
+read-ok b b' l n more len k h e =
+    let behind : l.end ≤ longer_of l.end more len = longer-keeps l.end more len in
+    record {
+      start = refl;
+      seen = refl;
+      before = e;
+      behind = omega arith;
+      grown = λ o. let g : l.end < longer_of l.end more len = longer-grows l.end more len h (λ z. false≢true (sym o ∙ eq-eqb _ _ z)) in omega arith;
+    }
 
 -- ---- a line passed over
 
-module _ (b : List ℕ) (n at : ℕ) (over failed : Bool) (t : Lines) where
-  pub past-found : at ≡ end_in b 0 n → at < n → t ≡ lines_at (at + 1) (at + 1) n over failed → t ≡ past_of b n over failed
-  unfolding past_of past_at
-  past-found e h q = simp (q, ← e, lt-ltb _ _ h)
-
-  pub past-none : at ≡ end_in b 0 n → n ≤ at → t ≡ lines_at 0 0 0 over failed → t ≡ past_of b n over failed
-  unfolding past_of past_at
-  past-none e h q = simp (q, ← e, le-ltb _ _ h)
-
 -- before the first read nothing is there
-pub skipped-none : (b : List ℕ) (over failed : Bool) (t : Lines) → t ≡ lines_at 0 0 0 over failed → Skipped b t
-unfolding end_from
-skipped-none b over failed t q = record { end = 0; over = over; failed = failed; past = past-none b 0 0 over failed t refl (omega arith) q }
+pub skipped-none : (b : List ℕ) (over failed : Bool) → Skipped b (lines_at 0 0 0 over failed)
+unfolding past_of past_at end_from
+skipped-none b over failed = record { end = 0; over = over; failed = failed; past = refl }
 
 pub skipped-on : (b : List ℕ) (l t : Lines) → t ≡ past_of b l.end l.over l.failed → Skipped b t
 skipped-on b l t q = record { end = l.end; over = l.over; failed = l.failed; past = q }
@@ -274,14 +105,6 @@ ends-within b i zero = omega arith
 ends-within b i (suc k) =
     by-test (eqb (get_or b i 0) line_end) (λ a. rw a (omega arith)) (λ a. rw a (let h = ends-within b (i + 1) k in omega arith))
 
-span-ends : (from to len : ℕ) → is_more (span_of from to len) ≡ false
-unfolding span_of
-span-ends from to len = by-test (ltb to from) (λ a. rw a) (λ a. by-test (ltb len to) (λ b. rw (a, b)) (λ b. rw (a, b)))
-
-rest-ends : (l : Lines) (len : ℕ) → is_more (rest_of l len) ≡ false
-unfolding rest_of
-rest-ends l len = by-test (leb l.end l.start) (λ a. rw a) (λ a. rw a (span-ends l.start l.end len))
-
 -- more has to be read where there is room and no line end
 record Wanting (b : List ℕ) (n end : ℕ) (over failed : Bool) (s : Step) : Type 0 where
   going : over ≡ false
@@ -297,9 +120,9 @@ module _ (b : List ℕ) (n end : ℕ) (over failed : Bool) where
   unfolding settle_of settled_at unended_of left_of
   wanting-at e =
       by-test (ltb (end_in b n end) end)
-      (λ a. absurd (false≢true (sym (span-ends 0 (end_in b n end) (length b)) ∙ (rw a at e))))
+      (λ a. absurd (false≢true (rw a at e)))
       (λ a.
-      by-test over (λ o. absurd (false≢true (sym (rest-ends (lines_at 0 n end true failed) (length b)) ∙ (rw (a, o) at e))))
+      by-test over (λ o. absurd (false≢true (rw (a, o) at e)))
       (λ o.
       by-test (leb (length b) end) (λ h. absurd (false≢true (rw (a, o, h) at e)))
       (λ h.
@@ -374,6 +197,17 @@ module _ (b₀ b b' : List ℕ) (n : ℕ) (s t : Step) (r : Lines) (more : Bool)
       let room : end < length b = w.room in
       let longer : s.lines.end ≤ r.end = o.behind in
       by-test r.over (λ a. rw (over, a, going) (omega arith)) (λ a. let g = o.grown a in rw (over, a, going) (omega arith))
+
+module _ (b₀ b b' : List ℕ) (n : ℕ) (l m r : Lines) (more : Option Taken) where
+  pub read-on : ReadLine b₀ n b (settle_of b l) → step_of m more ≡ settle_of b l → more ≡ None → ReadOn b m b' r → ReadLine b₀ n b' (settle_of b' r)
+  read-on i e z o =
+      line_on b₀ b b' n (step_of m more) (settle_of b' r) r true (subst (ReadLine b₀ n b) (sym e) i) (ap is_more (sym z)) refl o refl
+
+  pub read-less : ReadLine b₀ n b (settle_of b l) → step_of m more ≡ settle_of b l → more ≡ None → ReadOn b m b' r → length b' ≡ length b
+      → reads_left b' (settle_of b' r) < reads_left b (settle_of b l)
+  read-less i e z o h =
+      subst (λ (s : Step). reads_left b' (settle_of b' r) < reads_left b s) e
+      (line-less b₀ b b' n (step_of m more) (settle_of b' r) r true (subst (ReadLine b₀ n b) (sym e) i) (ap is_more (sym z)) refl o h refl)
 
 module _ (b b' : List ℕ) (l : Lines) (s r : Step) (m : Bool) where
   pub next-there : s ≡ settle_of b l → m ≡ is_more s.taken → m ≡ false → r ≡ s → b' ≡ b → NextLine b l b' r

@@ -1,5 +1,10 @@
-use Rattle.cells.specs.Proof.Rows.{row-stored}
+use Rattle.std.proofs.Common.{arith, ◌∙◌, refl}
+use Rattle.cells.specs.Proof.Rows.{put_row-none, put_row-more}
 use Rattle.cells.proofs.writes.row_store.Goals as goal
 
-pub returns : goal.returns
-returns c = search row-stored
+pub loop-f-init : goal.loop-f-init
+loop-f-init c = put_row-none _ _ c.args.row
+
+pub loop-f-preserved : goal.loop-f-preserved
+loop-f-preserved c =
+    c.row_put.ensures ∙ rw c.loop-f.invariant (put_row-more _ _ _ _ _ (omega arith) refl)

@@ -1,5 +1,5 @@
 use Rattle.std.proofs.Common.{rules}
-use Rattle.elf_file.specs.Proof.ReadingWays.{symbols-start, symbols-on, symbols-end}
+use Rattle.elf_file.specs.Proof.LoopWays.{symbols-start, symbols-on, symbols-end}
 use Rattle.elf_file.proofs.reading.symbols.Goals as goal
 
 pub loop-j-init : goal.loop-j-init

@@ -1,20 +1,29 @@
-use Rattle.elf_file.specs.Proof.RowsWays.{kept-start, kept_on, room-short, room-entries, room-contents, room_fits}
+use Rattle.std.proofs.Common.{sym, ◌∙◌}
+use Rattle.elf_file.specs.Proof.LoopWays.{kept-start, kept_on, entries_room, contents_room, room-short, room-past, room_fits}
 use Rattle.elf_file.proofs.rows.room_for.Goals as goal
 
-pub returns-then-cells-n : goal.returns-then-cells-n
-returns-then-cells-n c = search room-short
+pub returns-in_err-left : goal.returns-in_err-left
+returns-in_err-left c = c.from_residual.ensures ∙ room-short _ _ _ (sym (c.in_err-left.was) ∙ c.left_after.ensures)
 
 pub loop-i-init : goal.loop-i-init
-loop-i-init c = search kept-start
+loop-i-init c = kept-start _ _ _ _ (sym (c.in_ok-left.was) ∙ c.left_after.ensures)
 
-pub returns-then-left-x : goal.returns-then-left-x
-returns-then-left-x c = search room-entries
+pub returns-in_err-left-2 : goal.returns-in_err-left-2
+returns-in_err-left-2 c =
+    c.from_residual-in_err-left-2.ensures
+    ∙ room-past _ _ _ _ _ _ _ _ _ c.loop-i.invariant c.loop-i-test.true c.at-h.ensures c.entries-entries.ensures c.contents-contents.ensures
+    (sym (c.in_err-left-2.was) ∙ c.left_after-in-loop-i.ensures)
 
-pub returns-then-left-x-2 : goal.returns-then-left-x-2
-returns-then-left-x-2 c = search room-contents
+pub overflow_add-room : goal.overflow_add-room
+overflow_add-room c = entries_room _ _ _ _ _ _ _ _ _ c.loop-i.invariant (sym (c.in_ok-left-2.was) ∙ c.left_after-in-loop-i.ensures) c.ranges.cells
+
+pub overflow_add-room-in-loop-i : goal.overflow_add-room-in-loop-i
+overflow_add-room-in-loop-i c = contents_room _ _ _ _ _ _ _ _ _ c.loop-i.invariant (sym (c.in_ok-left-2.was) ∙ c.left_after-in-loop-i.ensures) c.ranges.cells
 
 pub loop-i-preserved : goal.loop-i-preserved
-loop-i-preserved c = search kept_on
+loop-i-preserved c =
+    kept_on _ _ _ _ _ _ _ _ _ _ c.loop-i.invariant c.loop-i-test.true c.at-h.ensures c.entries-entries.ensures c.contents-contents.ensures
+    (sym (c.in_ok-left-2.was) ∙ c.left_after-in-loop-i.ensures)
 
 pub returns : goal.returns
-returns c = search room_fits
+returns c = room_fits _ _ _ _ _ _ c.loop-i.invariant c.loop-i-test.false

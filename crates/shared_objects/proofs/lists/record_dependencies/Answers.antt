@@ -9,7 +9,7 @@ pub returns-then-number-ne0 : goal.returns-then-number-ne0
 returns-then-number-ne0 c = search listed-stop
 
 pub loop-j-preserved : goal.loop-j-preserved
-loop-j-preserved c = (search listed-on, search rules, search rules, search rules, search rules)
+loop-j-preserved c = (search listed-on, search rules, search rules, search rules)
 
 pub returns : goal.returns
 returns c = search listed-end

@@ -5,5 +5,5 @@ use Rattle.text.proofs.fields.field.Goals as goal
 pub overflow_sub-end : goal.overflow_sub-end
 overflow_sub-end c = search run-forward
 
-pub returns : goal.returns
-returns c = search (rules, field-part)
+pub returns-clause-result_value : goal.returns-clause-result_value
+returns-clause-result_value c = search (rules, field-part)

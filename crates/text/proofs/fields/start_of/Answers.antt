@@ -1,11 +1,9 @@
-use Rattle.text.specs.Proof.Ways.{start_first, start-on, start-end}
+use Rattle.std.proofs.Common.{sym, ◌∙◌}
+use Rattle.text.specs.Proof.Ways.{start-on, start-end}
 use Rattle.text.proofs.fields.start_of.Goals as goal
 
-pub loop-left-init : goal.loop-left-init
-loop-left-init c = search start_first
-
-pub loop-left-preserved : goal.loop-left-preserved
-loop-left-preserved c = search start-on
+pub loop-preserved : goal.loop-preserved
+loop-preserved c = c.loop.invariant ∙ start-on _ _ _ _ c.loop-test.true ∙ rw c.next_field-at.ensures
 
 pub returns : goal.returns
-returns c = search start-end
+returns c = sym (c.loop.invariant ∙ start-end _ _ _ _ c.loop-test.false)

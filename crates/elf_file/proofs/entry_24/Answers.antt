@@ -1,7 +1,0 @@
-use Prim.Native.Nat.{◌*◌}
-use Rattle.std.proofs.Common.{arith}
-use Rattle.cells.specs.Proof.Part.{part-past}
-use Rattle.elf_file.proofs.entry_24.Goals as goal
-
-pub returns : goal.returns
-returns c = let a = c.args in part-past a.table.now (a.i * 24) 24 (omega arith)

@@ -1,7 +1,0 @@
-use Rattle.replay.proofs.dump.next_signature.Goals as goal
-
-pub loop-id-init : goal.loop-id-init
-loop-id-init c = tt
-
-pub loop-id-preserved : goal.loop-id-preserved
-loop-id-preserved c = tt

@@ -1,0 +1,221 @@
+// A link as a list makes it: what the list told, the calls that it asks for, and their answers.
+use crate::dump::Dump;
+use crate::line::{Input, Operation, Step};
+use crate::memory::Memory;
+use crate::told::Told;
+use archive_index::Rows;
+use archive_walk::{Offer, Table, Walk};
+use link::{Link, Refusal};
+use replay_archive::Entries;
+use replay_stores::Stores;
+use replay_text::{Changed, Reply, View};
+use std::alloc::{AllocError, Global};
+use symbols::Symbols;
+use text::Writer;
+
+#[derive(Drop)]
+pub(crate) struct State {
+    pub(crate) alloc: Global,
+    pub(crate) table: Symbols,
+    pub(crate) memory: Memory,
+    pub(crate) told: Told,
+}
+
+impl State {
+    // Before the first link there is an empty one, which has no room.
+    pub(crate) fn new(alloc: Global) -> Result<Self, AllocError> {
+        Ok(State {
+            alloc,
+            table: Symbols {
+                link: link::no_names(0, 0),
+            },
+            memory: Memory::new(alloc)?,
+            told: Told::new(alloc)?,
+        })
+    }
+
+    // An operation that is replayed; its answers are put behind the text.
+    pub(crate) fn run(
+        &mut self,
+        operation: Operation,
+        line: &[u8],
+        out: &mut Writer<'_>,
+    ) -> Result<(), AllocError> {
+        match operation {
+            Operation::Tell(subject) => self.told.tell(subject, line),
+            Operation::Change(change) => replay_text::put_reply(out, self.change(change, line)),
+            Operation::Take(input) => replay_text::put_reply(out, self.take(input)),
+            Operation::Collect => {
+                let lend = self.told.lend;
+                let link = self.memory.collect(self.table.link, lend, line, out);
+                self.table = Symbols { link };
+            }
+            Operation::Walk(Step::Start) => self.start(out),
+            Operation::Walk(Step::Next) => self.next(out),
+            Operation::Walk(Step::Admit) => self.admit(out),
+            Operation::Look => self.view().look(line, out),
+            Operation::Dump => self.dump().put(self.alloc, out)?,
+            Operation::Member | Operation::Unknown => {}
+        }
+        Ok(())
+    }
+
+    // A merge or a load.
+    fn take(&mut self, input: Input) -> Result<Reply, Refusal> {
+        let memory = &mut self.memory;
+        let changed = take(
+            self.table.link,
+            &self.told,
+            input,
+            &mut memory.names.bytes,
+            &mut memory.names.cells,
+            &mut memory.symbols,
+            &mut memory.sections,
+            &mut memory.inputs,
+            &mut memory.lists,
+            &mut memory.work,
+            &mut memory.ids,
+        );
+        self.table = changed.table;
+        changed.reply
+    }
+
+    // ---- a walk
+
+    fn start(&mut self, out: &mut Writer<'_>) {
+        let index = byte_slices::part_of(&self.told.index, 0, self.told.archive.length);
+        let started = Walk::start(0, index, &mut self.told.walk_cells);
+        self.told.walk = started.unwrap_or(Walk::none());
+        match started {
+            Ok(_) => out.put(b"started"),
+            Err(refusal) => replay_text::put_refusal(out, refusal),
+        }
+    }
+
+    fn next(&mut self, out: &mut Writer<'_>) {
+        let told = &mut self.told;
+        let lend = told.lend;
+        let index = byte_slices::part_of(&told.index, 0, told.archive.length);
+        let names = self.memory.names.lent(lend);
+        let symbols = replay_words::rows(lend.symbols, self.memory.symbols.len());
+        let mut rows = Rows {
+            index,
+            cells: &mut told.walk_cells,
+        };
+        let table = Table {
+            link: self.table.link,
+            bytes: names.bytes,
+            names: names.cells,
+            symbols: &self.memory.symbols[..symbols],
+        };
+        let offer = told.walk.next(&mut rows, table);
+        let entries = Entries {
+            index,
+            rows: &told.walk_cells,
+            count: told.walk.entries,
+        };
+        replay_archive::put_offer(out, entries, offer);
+        match offer {
+            Ok(Offer::Member { entry, .. }) => told.archive.offered = Some(entry),
+            Ok(Offer::Done { passes: _ }) => {}
+            Err(_) => told.archive.offered = None,
+        }
+    }
+
+    // Whether the object told last is let in, by the names required of the member offered last.
+    fn admit(&self, out: &mut Writer<'_>) {
+        let told = &self.told;
+        let object = told.object;
+        let admission = object_requirement::matches(
+            self.table.link,
+            object.headers_of(&told.object_cells),
+            object.entries_of(&told.object_cells),
+            object.contents_of(&told.object_cells),
+            byte_slices::part_of(&told.object_bytes, 0, object.bytes),
+            told.walk,
+            byte_slices::part_of(&told.index, 0, told.archive.length),
+            &told.walk_cells,
+            told.archive.offered.unwrap_or(0),
+        );
+        match admission {
+            Ok(true) => out.put(b"yes"),
+            Ok(false) => out.put(b"no"),
+            Err(refusal) => replay_text::put_refusal(out, refusal),
+        }
+    }
+
+    // ---- lookups and dumps
+
+    fn view(&self) -> View<'_> {
+        let lend = self.told.lend;
+        let memory = &self.memory;
+        let symbols = replay_words::rows(lend.symbols, memory.symbols.len());
+        let sections = replay_words::wide_rows(lend.sections, memory.sections.len());
+        View {
+            table: self.table,
+            names: memory.names.lent(lend),
+            symbols: &memory.symbols[..symbols],
+            sections: &memory.sections[..sections],
+        }
+    }
+
+    fn dump(&self) -> Dump<'_> {
+        let lists = replay_words::cells(self.told.lend.lists, self.memory.lists.len());
+        Dump {
+            view: self.view(),
+            inputs: &self.memory.inputs,
+            lists: &self.memory.lists[..lists],
+        }
+    }
+}
+
+// Kept: slices side by side, since the borrow checker doesn't cover a struct of parts of several Vec's that is made where they are lent (tried).
+fn take(
+    link: Link,
+    told: &Told,
+    input: Input,
+    bytes: &mut [u8],
+    names: &mut [u64],
+    symbols: &mut [u64],
+    sections: &mut [u64],
+    inputs: &mut [u64],
+    lists: &mut [u64],
+    work: &mut [u64],
+    ids: &mut [u64],
+) -> Changed {
+    let mut stores = Stores {
+        bytes,
+        names,
+        symbols,
+        sections,
+        inputs,
+        lists,
+        work,
+        ids,
+    };
+    let lend = told.lend;
+    match input {
+        Input::Object => {
+            let rows = &told.object_cells;
+            replay_merge::merge(
+                link,
+                lend,
+                told.object,
+                &mut stores,
+                rows,
+                &told.object_bytes,
+            )
+        }
+        Input::Library => {
+            let rows = &told.library_cells;
+            replay_load::load(
+                link,
+                lend,
+                told.library,
+                &mut stores,
+                rows,
+                &told.library_bytes,
+            )
+        }
+    }
+}

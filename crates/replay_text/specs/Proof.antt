@@ -1,3 +1,0 @@
-pub mod Decimal
-pub mod Ways
-pub mod RepliesWays
