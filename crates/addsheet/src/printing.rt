@@ -61,7 +61,7 @@ impl Sheet {
         Ok(())
     }
 
-    pub fn print(&self, out: &mut impl Write) -> io::Result<()> {
+    pub(crate) fn print(&self, out: &mut impl Write) -> io::Result<()> {
         writeln!(out, "id name weak kind value")?;
         self.print_rows(out)?;
         for Refused { line, number } in &self.refused {
