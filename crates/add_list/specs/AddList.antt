@@ -1,7 +1,7 @@
 -- Request 2026-05, "Adds by the sheet": a whole list of adds in a single call, under one conversion.
 -- Assumes nothing.
 use Rattle.std.specs.Prelude.{ℕ, zero, suc, ◌+◌, cond, List, [], ◌∷◌, eqb, ltb, set, length}
-use Rattle.link.specs.declared.Refusal.{Refusal}
+use Rattle.link.specs.declared.cause.Refusal.{Refusal}
 use Rattle.link.specs.Judge.{refused, none}
 use Rattle.link.specs.Said.{Said, accepted, refusing}
 use Rattle.symbol.specs.Codes.{file_at}

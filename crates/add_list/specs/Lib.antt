@@ -1,3 +1,4 @@
+pub mod Listed
 pub mod AddList
 pub mod Contract
 pub mod Proof

@@ -3,13 +3,15 @@
 // file these are the cells of an object's symbol row (elf_object).
 #![tactic(auto)]
 
-ghost use Rattle.std.specs.Prelude.{◌≡◌, ◌≢◌, IfErr};
-ghost use Rattle.symbol_resolution.specs.Apply.{table_before};
+ghost use Rattle.std.specs.Prelude.{◌≡◌, ◌≢◌, IfErr, Err};
+ghost use Rattle.link.specs.Cause.{number_of};
+ghost use Rattle.link.specs.Judge.{refused};
+ghost use Rattle.symbol_resolution.specs.Lent.{same_loans, table_in};
 ghost use Rattle.add_list.specs.AddList.{item_at, items_of, turn_of, adds_of};
-ghost use Rattle.add_list.specs.Contract.{list_exit, ListMeets, listed_after, turn_before, turn_after};
+ghost use Rattle.add_list.specs.Contract.{list_exit, ListMeets, listed_in, turn_before, turn_after};
 
-use link::{Interned, Refusal};
-use symbols::Symbols;
+use link::{Cause, Interned, Refusal};
+use symbol_resolution::Table;
 use upcoming_symbol::UpcomingSymbol;
 
 pub const ROW_CELLS: usize = 8;
@@ -18,12 +20,11 @@ const NAME: usize = 0;
 
 const FILE: usize = 7;
 
-// The table, the first refusal (number 0: none), and how many adds before it were accepted.
-// Kept: a refusal and no Result, since its number and place are what the caller is told beside the position, of a list that is accepted too.
+// The first refusal, if there is one, and how many adds before it were accepted.
+// Kept: the position beside a Result, since it is told of an accepted list too.
 #[derive(Clone, Copy)]
 pub struct Listed {
-    pub table: Symbols,
-    pub refusal: Refusal,
+    pub answer: Result<(), Refusal>,
     pub position: usize,
 }
 
@@ -38,90 +39,64 @@ fn item_at(adds: &[u64], k: usize) -> UpcomingSymbol
 }
 
 // The add at position k, to the table that the adds before it left. An accepted add's id goes to its cell; a refused one leaves all cells.
+// Kept: loose parameters, as the public call has them, and the position.
 #[tactic(auto, unfolding(crate::specs::AddList::turn_of))]
 fn turn(
-    table: &mut Symbols,
-    names: &mut [u64],
-    symbols: &mut [u64],
-    sections: &mut [u64],
+    table: &mut Table<'_>,
     conversion: &[u64],
     adds: &[u64],
     ids: &mut [u64],
     k: usize,
 ) -> Result<(), Refusal>
-    ensures left { turn_after names symbols sections ids table.new result k
-        ≡ turn_of conversion.now (item_at adds.now k) (turn_before names symbols sections ids table.old) k }
+    ensures same { same_loans table.old table.new }
+    ensures left { turn_after table.new ids result k ≡ turn_of conversion.now (item_at adds.now k) (turn_before table.old ids) k }
     ensures number { IfErr result (λ r. r.number ≢ 0) }
 {
-    let added = symbols::add(
-        *table,
-        names,
-        symbols,
-        sections,
-        conversion,
-        item_at(adds, k),
-    );
-    *table = added.table;
-    let id = added.answer?;
+    let id = symbols::add(table, conversion, item_at(adds, k))?;
     cells::put(ids, k, id.0 as u64);
     Ok(())
 }
 
-fn add_rows(
-    mut table: Symbols,
-    names: &mut [u64],
-    symbols: &mut [u64],
-    sections: &mut [u64],
-    conversion: &[u64],
-    adds: &[u64],
-    ids: &mut [u64],
-) -> Listed
-    ensures { listed_after names symbols sections ids result
-        ≡ adds_of conversion.now (items_of adds.now) (turn_before names symbols sections ids table) 0 }
+fn add_rows(table: &mut Table<'_>, conversion: &[u64], adds: &[u64], ids: &mut [u64]) -> Listed
+    ensures same { same_loans table.old table.new }
+    ensures left { listed_in table.new ids result ≡ adds_of conversion.now (items_of adds.now) (turn_before table.old ids) 0 }
+    ensures numbered { IfErr result.answer (λ r. r.number ≢ 0) }
 {
     let rows = adds.len() / ROW_CELLS;
     for k in 0..rows {
-        if let Err(refusal) = turn(
-            &mut table, names, symbols, sections, conversion, adds, ids, k,
-        ) {
+        if let Err(refusal) = turn(table, conversion, adds, ids, k) {
             return Listed {
-                table,
-                refusal,
+                answer: Err(refusal),
                 position: k,
             };
         }
     }
     Listed {
-        table,
-        refusal: Refusal::new(0, 0),
+        answer: Ok(()),
         position: rows,
     }
 }
 
-pub fn add_list(
-    table: Symbols,
-    names: &mut [u64],
-    symbols: &mut [u64],
-    sections: &mut [u64],
-    conversion: &[u64],
-    adds: &[u64],
-    ids: &mut [u64],
-) -> Listed
-    ensures { ListMeets (table_before names symbols sections table.link) conversion.now adds.now ids.old (list_exit names symbols sections ids result) }
+// A refusal before the first add.
+fn refused(cause: Cause) -> Listed
+    ensures { result ≡ record { answer = Err (refused (number_of cause) 0); position = 0 } }
+{
+    Listed {
+        answer: Err(Refusal::new(cause, 0)),
+        position: 0,
+    }
+}
+
+pub fn add_list(table: &mut Table<'_>, conversion: &[u64], adds: &[u64], ids: &mut [u64]) -> Listed
+    ensures same { same_loans table.old table.new }
+    ensures left { ListMeets (table_in table.old) conversion.now adds.now ids.old (list_exit table.new ids result) }
+    ensures numbered { IfErr result.answer (λ r. r.number ≢ 0) }
 {
     if table.link.broken {
-        return Listed {
-            table,
-            refusal: Refusal::new(22, 0),
-            position: 0,
-        };
+        return refused(Cause::BrokenLink);
     }
     if ids.len() < adds.len() / ROW_CELLS {
-        return Listed {
-            table,
-            refusal: Refusal::new(2, 0),
-            position: 0,
-        };
+        return refused(Cause::NoRoom);
     }
-    add_rows(table, names, symbols, sections, conversion, adds, ids)
+    add_rows(table, conversion, adds, ids)
 }

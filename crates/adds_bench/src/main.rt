@@ -8,11 +8,8 @@ use owned_table::{OwnedTable, Room};
 use std::alloc::{AllocError, Global};
 use std::io;
 use std::time::CpuClock;
-use upcoming_symbol::ElfSymbol;
-
-const STRONG: u64 = 1;
-
-const WEAK: u64 = 2;
+use symbol::STT_FUNC;
+use upcoming_symbol::{ElfSymbol, SHN_ABS, STB_GLOBAL, STB_WEAK, STV_DEFAULT};
 
 const ADDS: u32 = 650_000;
 
@@ -21,13 +18,13 @@ const NAME_BYTES: usize = 393_216;
 // Anew with an absolute symbol for each name: weak ones, then strong ones.
 fn fill(table: &mut OwnedTable, names: &[String]) -> Result<(), Refusal> {
     table.restart()?;
-    for binding in [WEAK, STRONG] {
+    for binding in [STB_WEAK, STB_GLOBAL] {
         for (n, name) in names.iter().enumerate() {
             let elf = ElfSymbol {
                 binding,
-                visibility: 0,
-                kind: 2,
-                section: 0xfff1,
+                visibility: STV_DEFAULT,
+                kind: STT_FUNC,
+                section: SHN_ABS,
                 value: n as u64,
             };
             table.add_elf(&[0], name.as_bytes(), elf)?;

@@ -6,6 +6,7 @@
 
 mod printing;
 
+use link::{Cause, Refusal};
 use owned_table::{OwnedTable, Room};
 use std::alloc::{AllocError, Global};
 use std::fmt;
@@ -28,8 +29,6 @@ const LINE_BYTES: usize = 589_824;
 
 // Sections 1 to 9 have ids 1 to 9.
 const CONVERSION: [u64; 10] = [0, 3, 4, 5, 6, 7, 8, 9, 10, 11];
-
-const NO_ROOM_FOR_NAMES: u64 = 2;
 
 // ---- what stops a sheet
 
@@ -108,11 +107,10 @@ fn name_in(line: &[u8]) -> &[u8] {
 
 // ---- the sheet
 
-// A line, and the number of its refusal.
 #[derive(Clone, Copy)]
 struct Refused {
     line: u64,
-    number: u64,
+    refusal: Refusal,
 }
 
 // Blank: the first of the lines without fields just before.
@@ -132,11 +130,11 @@ impl Sheet {
         })
     }
 
-    fn refuse(&mut self, line: u64, number: u64) -> Result<(), Fault> {
+    fn refuse(&mut self, line: u64, refusal: Refusal) -> Result<(), Fault> {
         if self.refused.len() == KEPT {
             return Err(Fault::TooManyRefused);
         }
-        let kept = self.refused.push(Refused { line, number });
+        let kept = self.refused.push(Refused { line, refusal });
         kept.map_err(|_| Fault::TooManyRefused)
     }
 
@@ -144,7 +142,7 @@ impl Sheet {
         let elf = symbol_in(text)?;
         match self.table.add_elf(&CONVERSION, name_in(text), elf) {
             Ok(_) => Ok(()),
-            Err(refusal) => self.refuse(line, refusal.number),
+            Err(refusal) => self.refuse(line, refusal),
         }
     }
 
@@ -169,7 +167,7 @@ impl Sheet {
             return Err(Fault::TooLong);
         }
         self.blank = None;
-        self.refuse(line, NO_ROOM_FOR_NAMES)
+        self.refuse(line, Refusal::new(Cause::NoRoom, 0))
     }
 
     // The line of names before the data lines says nothing, but has to be there.
@@ -217,7 +215,7 @@ impl Input {
             Taken::End => None,
             Taken::Long => Some(Line::Start(&self.buffer)),
             Taken::Line { from, len } => {
-                Some(Line::Whole(byte_slices::part_of(&self.buffer, from, len)))
+                Some(Line::Whole(cells::part_of(&self.buffer, from, len)))
             }
         }
     }

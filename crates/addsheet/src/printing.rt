@@ -64,8 +64,8 @@ impl Sheet {
     pub(crate) fn print(&self, out: &mut impl Write) -> io::Result<()> {
         writeln!(out, "id name weak kind value")?;
         self.print_rows(out)?;
-        for Refused { line, number } in &self.refused {
-            writeln!(out, "refused {line} {number}")?;
+        for Refused { line, refusal } in &self.refused {
+            writeln!(out, "refused {line} {}", refusal.number)?;
         }
         Ok(())
     }

@@ -3,10 +3,12 @@
 
 use archive_index::Rows;
 use archive_walk::{Offer, Table, Walk};
+use elf_object::{DYNAMIC_SYMBOLS, NULL, PROGRAM, STRING_TABLE, SYMBOL_TABLE};
 use link::{Link, Refusal, SymbolId};
 use owned_table::{OwnedTable, Room};
 use std::io;
-use upcoming_symbol::ElfSymbol;
+use symbol::STT_NOTYPE;
+use upcoming_symbol::{ElfSymbol, SHN_UNDEF, STB_GLOBAL, STB_LOCAL, STB_WEAK, STV_DEFAULT};
 
 // Cells for five entries.
 const CELLS: usize = 40;
@@ -22,8 +24,9 @@ const CUT_SHORT: [&[u8]; 4] = [
 // a to 10, b to 20, c to 10.
 const TIED: &[u8] = b"\0\0\0\x03\0\0\0\x0a\0\0\0\x14\0\0\0\x0aa\0b\0c\0";
 
+// Kept: the same line as archive_list's: they are two programs, and a library of one line would be longer.
 fn print_refusal(rt: &impl Print, refusal: Refusal) -> io::Result<()> {
-    println!(rt; "refused {} {}", refusal.number, refusal.place)
+    println!(rt; "refused {refusal}")
 }
 
 // ---- the table
@@ -38,10 +41,10 @@ const ROOM: Room = Room {
 
 // A strong reference.
 const REFERENCE: ElfSymbol = ElfSymbol {
-    binding: 1,
-    visibility: 0,
-    kind: 0,
-    section: 0,
+    binding: STB_GLOBAL,
+    visibility: STV_DEFAULT,
+    kind: STT_NOTYPE,
+    section: SHN_UNDEF,
     value: 0,
 };
 
@@ -150,11 +153,11 @@ struct Asked {
 const STRONG: Asked = Asked {
     what: "strong definition",
     gabi: false,
-    table: 3,
-    strings: 4,
+    table: SYMBOL_TABLE,
+    strings: STRING_TABLE,
     flags: 0,
     name: 1,
-    binding: 1,
+    binding: STB_GLOBAL,
     section: 1,
     entry: 1,
     cells: CELLS,
@@ -171,17 +174,17 @@ const ADMISSIONS: [Asked; 19] = [
     STRONG,
     Asked {
         what: "weak definition",
-        binding: 2,
+        binding: STB_WEAK,
         ..STRONG
     },
     Asked {
         what: "local definition",
-        binding: 0,
+        binding: STB_LOCAL,
         ..STRONG
     },
     Asked {
         what: "strong reference",
-        section: 0,
+        section: SHN_UNDEF,
         ..STRONG
     },
     Asked {
@@ -201,12 +204,12 @@ const ADMISSIONS: [Asked; 19] = [
     },
     Asked {
         what: "dynamic symbol table",
-        table: 10,
+        table: DYNAMIC_SYMBOLS,
         ..STRONG
     },
     Asked {
         what: "names in no string table",
-        strings: 1,
+        strings: PROGRAM,
         ..STRONG
     },
     Asked {
@@ -232,23 +235,23 @@ const ADMISSIONS: [Asked; 19] = [
     GABI,
     Asked {
         what: "gABI, weak definition",
-        binding: 2,
+        binding: STB_WEAK,
         ..GABI
     },
     Asked {
         what: "gABI, local definition",
-        binding: 0,
+        binding: STB_LOCAL,
         ..GABI
     },
     Asked {
         what: "gABI, strong reference",
-        section: 0,
+        section: SHN_UNDEF,
         ..GABI
     },
     Asked {
         what: "gABI, weak reference",
-        binding: 2,
-        section: 0,
+        binding: STB_WEAK,
+        section: SHN_UNDEF,
         ..GABI
     },
     Asked {
@@ -260,31 +263,11 @@ const ADMISSIONS: [Asked; 19] = [
 
 impl Asked {
     fn admit(&self, link: Link, cells: &[u64]) -> Result<bool, Refusal> {
+        // Of each section: kind, name, flags, link, info, and of its contents the first and how many.
         let headers = [
-            0,
-            0,
-            0,
-            0,
-            0,
-            0,
-            0,
-            0, // the null section
-            self.table,
-            0,
-            self.flags,
-            2,
-            0,
-            0,
-            1,
-            0, //
-            self.strings,
-            0,
-            self.flags,
-            0,
-            0,
-            0,
-            5,
-            0,
+            [NULL, 0, 0, 0, 0, 0, 0, 0],
+            [self.table, 0, self.flags, 2, 0, 0, 1, 0],
+            [self.strings, 0, self.flags, 0, 0, 0, 5, 0],
         ];
         let entries = [self.name, self.binding, 0, 0, self.section, 0, 0, 0];
         let walk = Walk {
@@ -301,7 +284,7 @@ impl Asked {
                 gabi: self.gabi,
                 ..link
             },
-            &headers,
+            headers.as_flattened(),
             &entries,
             &[0],
             b"\0b\0z\0",

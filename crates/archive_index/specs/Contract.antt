@@ -1,7 +1,7 @@
 -- What a caller sees of an opened index: the cells and the answer; and that a method of the rows keeps what it was lent.
 -- Assumes nothing.
 use Rattle.std.specs.Prelude.{ℕ, ◌≡◌, List, Result}
-use Rattle.link.specs.declared.Refusal.{Refusal}
+use Rattle.link.specs.declared.cause.Refusal.{Refusal}
 use Rattle.archive_index.specs.declared.Rows.{Rows}
 use Rattle.archive_index.specs.Open.{Left, answer_in}
 

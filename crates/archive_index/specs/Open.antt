@@ -3,7 +3,7 @@
 use Rattle.std.specs.Prelude.{ℕ, ◌-◌, ◌/◌, cond, List, Result, Ok, Err, eqb, ltb, length}
 use Rattle.link.specs.Bounds.{lesser}
 use Rattle.link.specs.Judge.{refused}
-use Rattle.link.specs.declared.Refusal.{Refusal}
+use Rattle.link.specs.declared.cause.Refusal.{Refusal}
 use Rattle.archive_index.specs.Index.{count_of, names_at, cut_of, word_bytes}
 use Rattle.archive_index.specs.Rows.{rows_of, rows_in}
 

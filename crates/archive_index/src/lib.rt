@@ -1,7 +1,7 @@
 // The System V index of an archive, and a row of lent cells for each of its entries.
 #![tactic(auto)]
 
-ghost use Rattle.std.specs.Prelude.{◌≡◌, ◌+◌, ◌*◌, ◌<◌, get_or, length};
+ghost use Rattle.std.specs.Prelude.{◌≡◌, ◌+◌, ◌*◌, ◌<◌, length};
 ghost use Rattle.archive_index.specs.Index.{word_at, count_of, offset_of, after_in};
 ghost use Rattle.archive_index.specs.Rows.{stored_name, rows_in, field_at, no_heads};
 
@@ -29,6 +29,7 @@ pub const MEMBER: usize = 1;
 pub const EVEN: usize = 2;
 
 // From then on: the link in a chain of required names, and the head of a chain.
+// Kept: chains, and the tree, are places in lent cells and no Box, since the library has no heap and C lends the memory.
 pub const LINK: usize = 2;
 
 pub const HEAD: usize = 3;
@@ -45,13 +46,6 @@ pub const QUEUE: usize = 7;
 
 // ---- the index
 
-// A byte, and 0 past the end.
-fn byte(s: &[u8], i: usize) -> u8
-    ensures { result ≡ get_or s.now i 0 }
-{
-    s.get(i).copied().unwrap_or(0)
-}
-
 // A big-endian number; four bytes that lie in the index are read at once.
 fn word(index: &[u8], at: usize) -> u64
     requires { at < 0xfffffffffffffffd }
@@ -62,10 +56,10 @@ fn word(index: &[u8], at: usize) -> u64
         return u32::from_be_bytes(whole) as u64;
     }
     let cut = [
-        byte(index, at),
-        byte(index, at + 1),
-        byte(index, at + 2),
-        byte(index, at + 3),
+        byte_slices::byte_at(index, at),
+        byte_slices::byte_at(index, at + 1),
+        byte_slices::byte_at(index, at + 2),
+        byte_slices::byte_at(index, at + 3),
     ];
     u32::from_be_bytes(cut) as u64
 }
@@ -129,7 +123,7 @@ impl<'i> Entries<'i, '_> {
     {
         let start = self.field(k, START);
         let len = self.field(k, LENGTH);
-        byte_slices::part_of(self.index, start as usize, len as usize)
+        cells::part_of(self.index, start as usize, len as usize)
     }
 }
 
@@ -151,6 +145,7 @@ impl Rows<'_> {
     }
 }
 
+// Kept: for callers with loose slices (archive_list, replay_archive); at each of them the struct would be made for one call.
 pub fn name<'a>(index: &'a [u8], cells: &[u64], k: usize) -> &'a [u8]
     ensures result_value { result.now ≡ stored_name index.now cells.now k }
     ensures place { result.ref_ptr.0 ≡ index.entry.ref_ptr.0 }

@@ -6,9 +6,10 @@ ghost use Rattle.archive_index.specs.Open.{names_judged, open_names_of, open_of}
 ghost use Rattle.archive_index.specs.Contract.{same_rows, Answers};
 
 use crate::{Entries, Rows};
-use link::Refusal;
+use link::{Cause, Refusal};
 
 // Where the search for an entry's member ends in the tree of members: at the member's representative, or at the empty cell of a child.
+// Kept: the tree is places in lent cells and no Box, since the library has no heap and C lends the memory.
 #[derive(Clone, Copy)]
 pub enum Spot {
     Known { entry: usize },
@@ -24,7 +25,7 @@ fn judge_names(index: &[u8], entries: usize, start: usize) -> Result<(), Refusal
     for k in 0..entries {
         match crate::after_name(index, at) {
             Some(after) => at = after,
-            None => return Err(Refusal::new(1, k)),
+            None => return Err(Refusal::new(Cause::OutOfRange, k)),
         }
     }
     Ok(())
@@ -135,7 +136,7 @@ fn open_names(
 {
     judge_names(index, entries, start)?;
     if cells.len() / crate::ROW_WIDTH < entries {
-        return Err(Refusal::new(2, 0));
+        return Err(Refusal::new(Cause::NoRoom, 0));
     }
     let mut rows = Rows { index, cells };
     rows.enter_all(entries, start);
@@ -149,18 +150,18 @@ pub fn open(index: &[u8], cells: &mut [u64]) -> Result<usize, Refusal>
 {
     let n = index.len();
     if n == 0 {
-        return Err(Refusal::new(20, 0));
+        return Err(Refusal::new(Cause::NoIndex, 0));
     }
     if n < crate::WORD_BYTES {
-        return Err(Refusal::new(1, 0));
+        return Err(Refusal::new(Cause::OutOfRange, 0));
     }
     let entries = crate::count(index);
     let whole = (n - crate::WORD_BYTES) / crate::WORD_BYTES;
     if whole < entries {
-        return Err(Refusal::new(1, crate::ENTRY_BOUND.min(whole)));
+        return Err(Refusal::new(Cause::OutOfRange, crate::ENTRY_BOUND.min(whole)));
     }
     if crate::ENTRY_BOUND < entries {
-        return Err(Refusal::new(1, crate::ENTRY_BOUND));
+        return Err(Refusal::new(Cause::OutOfRange, crate::ENTRY_BOUND));
     }
     let start = crate::WORD_BYTES + crate::WORD_BYTES * entries;
     open_names(index, cells, entries, start)

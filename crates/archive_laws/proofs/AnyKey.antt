@@ -2,7 +2,7 @@
 -- are lent to them; and so does admission, over any walk that a start begins.
 -- Assumes nothing.
 use Rattle.archive_walk.specs.declared.Offer.TheVariants.{Done, Member}
-use Rattle.link.specs.declared.Refusal.{Refusal}
+use Rattle.link.specs.declared.cause.Refusal.{Refusal}
 use Rattle.archive_walk.specs.declared.Offer.{Offer}
 use Prim.Native.Nat.{ℕ, zero, suc, ◌+◌, ◌*◌, ◌/◌, ◌<◌, ◌≤◌}
 use Rattle.std.proofs.Math.Decide.{ℕ_discrete}

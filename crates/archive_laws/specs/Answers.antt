@@ -1,7 +1,7 @@
 -- What each answer says: the pass number is the walk's, the offset is the entry's; a refusal leaves the walk and the cells.
 -- Assumes nothing.
 use Rattle.archive_walk.specs.declared.Offer.TheVariants.{Done, Member}
-use Rattle.link.specs.declared.Refusal.{Refusal}
+use Rattle.link.specs.declared.cause.Refusal.{Refusal}
 use Rattle.archive_walk.specs.declared.Offer.{Offer}
 use Rattle.std.specs.Prelude.{ℕ, ◌≡◌, Bool, List, eqb, Result, Ok, Err}
 use Rattle.std.proofs.Math.Bool.{true, false}

@@ -1,7 +1,7 @@
 -- Calls of the contracts' definitions in a row, each over its own table, and what of them the definition's rounds are.
 -- Assumes nothing.
 use Rattle.archive_walk.specs.declared.Offer.TheVariants.{Done, Member}
-use Rattle.link.specs.declared.Refusal.{Refusal}
+use Rattle.link.specs.declared.cause.Refusal.{Refusal}
 use Rattle.archive_walk.specs.declared.Offer.{Offer}
 use Rattle.std.specs.Prelude.{ℕ, zero, suc, true, cond, List, [], ◌∷◌, eqb, Result, Ok, Err}
 use Rattle.archive_index.specs.Rows.{queue_at}

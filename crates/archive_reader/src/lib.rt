@@ -61,14 +61,9 @@ impl<'a> ArchiveIndex<'a> {
     }
 }
 
-// ---- the same with plain parameters
+// ---- a name with plain parameters
 
-pub fn entry_offset(bytes: &[u8], entries: usize, k: usize) -> u64
-    ensures { OffsetMeets bytes.now entries k result }
-{
-    ArchiveIndex::new(bytes, entries).offset(k)
-}
-
+// Kept: for a caller with a loose slice (archive_list), which would make the struct for one call.
 pub fn entry_name(bytes: &[u8], entries: usize, k: usize) -> &[u8]
     ensures { NameMeets bytes.entry entries k result }
 {

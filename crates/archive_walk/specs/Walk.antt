@@ -2,7 +2,7 @@
 -- Assumes nothing.
 use Rattle.archive_walk.specs.declared.Offer.TheVariants.{Done, Member}
 use Rattle.archive_walk.specs.declared.Offer.{Offer}
-use Rattle.link.specs.declared.Refusal.{Refusal}
+use Rattle.link.specs.declared.cause.Refusal.{Refusal}
 use Rattle.std.specs.Prelude.{ℕ, zero, suc, ◌+◌, Bool, true, false, cond, List, [], ◌∷◌, eqb, ltb, set, length, Result, Ok, Err}
 use Rattle.link.specs.Bounds.{not_lent}
 use Rattle.link.specs.Judge.{refused}
@@ -149,6 +149,13 @@ tie_of key c s t p k q = cond (tied_name t (stored_name s q.cells k)) (enqueue k
 unfoldable pub tie_all : ℕ → ℕ → List ℕ → Table → ℕ → ℕ → ℕ → Queue → Queue
 tie_all key c s t p zero k q = q
 tie_all key c s t p (suc n) k q = tie_all key c s t p n (k + 1) (tie_of key c s t p k q)
+
+-- of a walk, in the pass that it makes: entry k, and all its entries
+abbrev pub tied_at : Walk → Table → ℕ → List ℕ → List ℕ → Queue
+tied_at w t k s l = tie_of w.key w.entries s t w.passes k (queue_of l w.queued)
+
+abbrev pub tied_all : Walk → Table → List ℕ → List ℕ → Queue
+tied_all w t s l = tie_all w.key w.entries s t w.passes w.entries 0 (queue_of l w.queued)
 
 -- of the n entries from k on the first whose name's row was removed, else k + n
 unfoldable pub removed_of : List ℕ → List ℕ → Table → ℕ → ℕ → ℕ

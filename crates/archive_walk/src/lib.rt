@@ -60,6 +60,7 @@ impl Walk {
     }
 
     // A walk that fits no index, for a caller who keeps one where no start was made.
+    // Kept: a value and no Option, since C's seven cells always hold a walk.
     pub fn none() -> Walk
         ensures { result ≡ no_walk }
     {

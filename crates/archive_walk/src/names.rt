@@ -43,11 +43,9 @@ impl Asked<'_> {
     {
         let mut at = head;
         for _step in 0..entries.rows() {
-            if at == 0 {
-                return false;
-            }
-            if self.is_borne_by(entries, at - 1) {
-                return true;
+            // The chain's end, or an entry that bears it.
+            if at == 0 || self.is_borne_by(entries, at - 1) {
+                return at != 0;
             }
             at = entries.field(at - 1, archive_index::LINK) as usize;
         }
@@ -56,6 +54,7 @@ impl Asked<'_> {
 }
 
 // Entry k is marked, and goes to the head of chain b; one whose row isn't lent is in no chain.
+// Kept: places in lent cells and no Box, since the library has no heap and C lends the memory.
 #[tactic(auto, unfolding(crate::specs::Names::headed_of))]
 fn put_at_head(cells: &mut [u64], k: usize, b: usize)
     ensures { cells.new ≡ headed_of cells.old k b }

@@ -3,12 +3,12 @@ ghost use Rattle.std.specs.Prelude.{◌≡◌, ◌+◌, ◌<◌, false, length, 
 ghost use Rattle.archive_index.specs.Contract.{same_rows};
 ghost use Rattle.archive_walk.specs.Look.{ties};
 ghost use Rattle.archive_walk.specs.Lent.{as_table, with_queued};
-ghost use Rattle.archive_walk.specs.Walk.{step_of, offer_of, queue_of, marked, enqueue, tie_of, tie_all, removed_of, search_judged, make_of, pass_of, walk_fits, next_of};
+ghost use Rattle.archive_walk.specs.Walk.{step_of, offer_of, queue_of, marked, enqueue, tied_at, tied_all, removed_of, search_judged, make_of, pass_of, walk_fits, next_of};
 ghost use Rattle.archive_walk.specs.Notes.{is_noted, note_tie, Noted};
 
 use crate::{Offer, Table, Walk};
 use archive_index::{Entries, Rows};
-use link::Refusal;
+use link::{Cause, Refusal};
 use symbol_resolution::Holder;
 
 // A byte for each entry, which entries so far apart share.
@@ -17,6 +17,7 @@ const NOTE_BYTES: usize = 4096;
 // ---- notes of which entries may tie
 
 // The entries that may tie, so that no name is looked up twice in a pass.
+// Kept: fixed, since a walk has no heap; bytes of 0 and 1, as the definitions read them.
 #[derive(Drop)]
 struct Notes([u8; NOTE_BYTES]);
 
@@ -51,7 +52,7 @@ impl Notes {
     {
         for k in 0..count {
             match table.holder(entries.name(k)) {
-                Holder::Removed => return Err(Refusal::new(21, k)),
+                Holder::Removed => return Err(Refusal::new(Cause::AbsentId, k)),
                 holder => self.note(table, holder, k),
             }
         }
@@ -63,6 +64,7 @@ impl Notes {
 
 impl Walk {
     // Entry k goes to the end of the queue, and its name is required of its member, which r represents.
+    // Kept: places in lent cells and no Box, since the library has no heap and C lends the memory.
     #[tactic(auto, unfolding(crate::specs::Walk::marked))]
     fn mark(self, rows: &mut Rows<'_>, k: usize, r: usize)
         ensures same { same_rows rows.old rows.new }
@@ -74,6 +76,7 @@ impl Walk {
     }
 
     // Entry k, its name tied, its member represented by r.
+    // Kept: that one more can be counted is asked here and no invariant, since a Walk is plain data of any numbers until `fits` has looked.
     #[tactic(auto, unfolding(crate::specs::Walk::enqueue))]
     fn put_in_queue(&mut self, rows: &mut Rows<'_>, k: usize, r: usize)
         requires { self.old.queued < 0xffffffffffffffff }
@@ -100,7 +103,7 @@ impl Walk {
         ensures same { same_rows rows.old rows.new }
         ensures rest { self.new ≡ with_queued self.old self.new.queued }
         ensures queue { queue_of rows.new.cells.now self.new.queued
-            ≡ tie_of self.old.key self.old.entries rows.old.index.now (as_table table.entry) self.old.passes k (queue_of rows.old.cells.now self.old.queued) }
+            ≡ tied_at self.old (as_table table.entry) k rows.old.index.now rows.old.cells.now }
     {
         if notes.has(k) && table.is_tied(rows.read().name(k)) {
             let r = rows.read().field(k, archive_index::MEMBER) as usize;
@@ -115,7 +118,7 @@ impl Walk {
         ensures same { same_rows rows.old rows.new }
         ensures rest { self.new ≡ with_queued self.old self.new.queued }
         ensures queue { queue_of rows.new.cells.now self.new.queued
-            ≡ tie_all self.old.key self.old.entries rows.old.index.now (as_table table.entry) self.old.passes self.old.entries 0 (queue_of rows.old.cells.now self.old.queued) }
+            ≡ tied_all self.old (as_table table.entry) rows.old.index.now rows.old.cells.now }
     {
         for k in 0..self.entries {
             self.tie(rows, k, table, notes);
@@ -185,7 +188,7 @@ impl Walk {
             });
         }
         if !self.fits(rows.read()) {
-            return Err(Refusal::new(1, 0));
+            return Err(Refusal::new(Cause::OutOfRange, 0));
         }
         if self.offered < self.queued {
             return Ok(self.hand_out(rows.read()));

@@ -4,6 +4,7 @@ ghost use Rattle.link.specs.Judge.{judged};
 ghost use Rattle.archive_walk.specs.Look.{judge_table, name_holder, ties_row, ties, tied_name};
 ghost use Rattle.archive_walk.specs.Lent.{as_table};
 
+use interner::Names;
 use link::{Lent, Link, Refusal, SymbolId};
 use symbol_resolution::Holder;
 
@@ -48,10 +49,16 @@ impl Table<'_> {
     pub fn holder(self, name: &[u8]) -> Holder
         ensures { result ≡ name_holder (as_table self.entry) name.now }
     {
-        let id = interner::find(self.link, self.bytes, self.names, name);
+        let names = Names {
+            link: self.link,
+            bytes: self.bytes,
+            cells: self.names,
+        };
+        let id = names.find(name);
         symbol_resolution::holder_of(self.link, self.names, self.symbols, id)
     }
 
+    // Kept: a match, since a Holder is no Option, and has no `is_some_and`.
     pub fn ties(self, holder: Holder) -> bool
         ensures { result ≡ ties self.entry.link.gabi self.entry.symbols.now holder }
     {

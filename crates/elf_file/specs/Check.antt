@@ -1,7 +1,7 @@
 -- Request 2026-01: refusals 26 and 27 of a file. Sums are sums of numbers: an offset near 2^64 lies past the file's end.
 -- Assumes nothing.
 use Rattle.std.specs.Prelude.{ℕ, ◌+◌, ◌*◌, ◌/◌, ◌%◌, Bool, true, false, cond, List, eqb, ltb, length}
-use Rattle.link.specs.declared.Refusal.{Refusal}
+use Rattle.link.specs.declared.cause.Refusal.{Refusal}
 use Rattle.link.specs.Judge.{refused}
 use Rattle.elf_object.specs.Judge.{first_bad}
 use Rattle.elf_file.specs.declared.Header.{Header}

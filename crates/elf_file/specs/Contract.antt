@@ -1,7 +1,7 @@
 -- The contract of a read: the lent cells after it and its answer, against its definition.
 -- Assumes nothing.
 use Rattle.std.specs.Prelude.{◌≡◌, List, ℕ, cond, eqb, Result, Ok, Err}
-use Rattle.link.specs.declared.Refusal.{Refusal}
+use Rattle.link.specs.declared.cause.Refusal.{Refusal}
 use Rattle.link.specs.Judge.{refused}
 use Rattle.elf_file.specs.declared.reading.Written.{Written}
 use Rattle.elf_file.specs.Read.{Reading, Done, read_of}

@@ -6,9 +6,10 @@ ghost use Rattle.elf_object.specs.Judge.{found_below};
 ghost use Rattle.elf_file.specs.Table.{table_of};
 
 use crate::{Header, Table};
-use link::Refusal;
+use link::{Cause, Refusal};
 
 // The gABI's numbers of a file that can be merged: 0x7f, E, L, F; the 64-bit class, the least byte first, an object.
+// Kept: the file's own numbers, which are only compared.
 const ELF_MAGIC: u64 = 0x464c_457f;
 
 const ELF_CLASS_64: u64 = 2;
@@ -36,10 +37,8 @@ fn headers_fit(len: usize, shoff: u64, n: u64) -> bool
     if shoff == 0 {
         return true;
     }
-    match (len as u64).checked_sub(shoff) {
-        Some(left) => left >= crate::SHDR_BYTES && left / crate::SHDR_BYTES >= n,
-        None => false,
-    }
+    (len as u64).checked_sub(shoff).is_some_and(|left| left >= crate::SHDR_BYTES
+        && left / crate::SHDR_BYTES >= n)
 }
 
 impl Header {
@@ -70,10 +69,8 @@ impl Header {
         let Some(table) = self.table() else {
             return true;
         };
-        match (len as u64).checked_sub(self.offset) {
-            Some(left) => self.size <= left && table.has_whole_entries(self.size),
-            None => false,
-        }
+        (len as u64).checked_sub(self.offset).is_some_and(|left| self.size <= left
+            && table.has_whole_entries(self.size))
     }
 }
 
@@ -101,14 +98,14 @@ pub fn judge(file: &[u8]) -> Result<(), Refusal>
     ensures { result ≡ judged (file_refusal file.now) }
 {
     if !is_object(file) {
-        return Err(Refusal::new(26, 0));
+        return Err(Refusal::new(Cause::NotAnObject, 0));
     }
     let n = crate::section_count(file);
     if !headers_fit(file.len(), crate::xword(file, crate::E_SHOFF), n) {
-        return Err(Refusal::new(27, 0));
+        return Err(Refusal::new(Cause::BadTable, 0));
     }
     match bad_table(file.len(), crate::header_table(file), n as usize) {
-        Some(bad) => Err(Refusal::new(27, bad)),
+        Some(bad) => Err(Refusal::new(Cause::BadTable, bad)),
         None => Ok(()),
     }
 }

@@ -80,18 +80,21 @@ const R_INFO: usize = 8;
 const WORD_SIZE: usize = 4;
 
 // The same sizes, to divide the number in a field by.
-pub const SHDR_BYTES: u64 = 64;
+pub const SHDR_BYTES: u64 = SHDR_SIZE as u64;
 
-pub const SYM_BYTES: u64 = 24;
+pub const SYM_BYTES: u64 = SYM_SIZE as u64;
 
-pub const REL_BYTES: u64 = 16;
+pub const REL_BYTES: u64 = REL_SIZE as u64;
 
-pub const RELA_BYTES: u64 = 24;
+pub const RELA_BYTES: u64 = RELA_SIZE as u64;
 
-pub const WORD_BYTES: u64 = 4;
+pub const WORD_BYTES: u64 = WORD_SIZE as u64;
 
 // Its numbers.
+// Kept: the file's own; a Table or a Kind is made of them in one place each (table.rt, rows.rt).
 const SHN_XINDEX: u64 = 0xffff;
+
+pub const SHT_NULL: u64 = 0;
 
 pub const SHT_PROGBITS: u64 = 1;
 
@@ -101,7 +104,23 @@ pub const SHT_STRTAB: u64 = 3;
 
 pub const SHT_RELA: u64 = 4;
 
+pub const SHT_HASH: u64 = 5;
+
+pub const SHT_DYNAMIC: u64 = 6;
+
+pub const SHT_NOTE: u64 = 7;
+
+pub const SHT_NOBITS: u64 = 8;
+
 pub const SHT_REL: u64 = 9;
+
+pub const SHT_DYNSYM: u64 = 11;
+
+pub const SHT_INIT_ARRAY: u64 = 14;
+
+pub const SHT_FINI_ARRAY: u64 = 15;
+
+pub const SHT_PREINIT_ARRAY: u64 = 16;
 
 pub const SHT_GROUP: u64 = 17;
 
@@ -153,7 +172,7 @@ pub fn entry<const SIZE: usize>(table: &[u8], i: usize) -> &[u8]
     ensures { result.now ≡ part table.now (i * SIZE) SIZE }
 {
     match i.checked_mul(SIZE) {
-        Some(start) => byte_slices::part_of(table, start, SIZE),
+        Some(start) => cells::part_of(table, start, SIZE),
         None => &table[..0],
     }
 }
@@ -206,7 +225,7 @@ impl Header {
         ensures { result ≡ header_of (first_header file.now) }
     {
         let shoff = xword(file, E_SHOFF);
-        Header::of(byte_slices::part_of(file, shoff as usize, SHDR_SIZE))
+        Header::of(cells::part_of(file, shoff as usize, SHDR_SIZE))
     }
 }
 
@@ -226,7 +245,8 @@ pub fn section_count(file: &[u8]) -> u64
     shnum
 }
 
-// The section with the sections' names; 0 for none.
+// The section with the sections' names.
+// Kept: 0 for none, as the gABI says it: section 0 is none.
 #[tactic(auto, unfolding(gabi::specs::File::name_section, crate::specs::File::header_of))]
 pub fn name_section(file: &[u8]) -> u64
     ensures { result ≡ name_section file.now }
@@ -246,7 +266,7 @@ pub fn header_table(file: &[u8]) -> &[u8]
     let shoff = xword(file, E_SHOFF);
     let n = section_count(file);
     if file.len() / SHDR_SIZE < n as usize {
-        return byte_slices::part_of(file, shoff as usize, file.len());
+        return cells::part_of(file, shoff as usize, file.len());
     }
-    byte_slices::part_of(file, shoff as usize, n as usize * SHDR_SIZE)
+    cells::part_of(file, shoff as usize, n as usize * SHDR_SIZE)
 }

@@ -8,7 +8,7 @@ ghost use Rattle.elf_file.specs.Table.{type_of};
 ghost use Rattle.elf_file.specs.Contract.{ReadMeets};
 
 use crate::{Header, Table};
-use link::Refusal;
+use link::{Cause, Refusal};
 
 // How many rows and cells of each sort were written, and the section of the sections' names.
 #[derive(Clone, Copy, Debug, PartialEq, Eq)]
@@ -28,9 +28,12 @@ struct ObjectFile<'a> {
 }
 
 // The sums of what the headers need are below 2^60, as all of it fits into the lent cells.
+// Kept: asked by each function and no invariant of the file, since it depends on the cells lent to the call too.
 impl<'a> ObjectFile<'a> {
     // ---- headers
 
+    // Entries and contents that the headers before it need: e, c.
+    // Kept: loose, since they are counted on while the headers are read.
     #[tactic(auto, unfolding(crate::specs::Rows::header_row_of))]
     fn header_row(self, names: &[u8], rows: &mut [u64], i: usize, h: Header, e: u64, c: u64)
         ensures { rows.new ≡ put_row rows.old i (header_row_of self.entry.bytes.now names.now h e c) }
@@ -169,7 +172,7 @@ pub fn read(file: &[u8], rows: &mut [u64]) -> Result<Written, Refusal>
     };
     let strings = crate::name_section(file);
     let Some(room) = crate::rows::room_for(rows.len(), object.table, object.sections) else {
-        return Err(Refusal::new(2, 0));
+        return Err(Refusal::new(Cause::NoRoom, 0));
     };
     let names = crate::rows::names_of(file, object.table, strings, object.sections);
     object.write(names, rows, room.entries as usize);

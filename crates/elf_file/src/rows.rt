@@ -39,7 +39,7 @@ impl Header {
     pub fn bytes(self, file: &[u8]) -> &[u8]
         ensures { result.now ≡ part file.now self.offset self.size }
     {
-        byte_slices::part_of(file, self.offset as usize, self.size as usize)
+        cells::part_of(file, self.offset as usize, self.size as usize)
     }
 
     // Those of a string table.
@@ -53,24 +53,25 @@ impl Header {
         }
     }
 
-    // Document 01's kind of a section of that sh_type; 14 to 16 are the pointer arrays.
+    // Document 01's kind of a section of that sh_type.
     #[tactic(auto, unfolding(crate::specs::Rows::kind_of))]
     fn typed_kind(self) -> Kind
         ensures { number_of result ≡ kind_of self.kind }
     {
         match self.kind {
-            0 => Kind::Null,
+            crate::SHT_NULL => Kind::Null,
             crate::SHT_PROGBITS => Kind::Program,
             crate::SHT_SYMTAB => Kind::SymbolTable,
             crate::SHT_STRTAB => Kind::StringTable,
             crate::SHT_RELA => Kind::Rela,
-            5 => Kind::Hash,
-            6 => Kind::Dynamic,
-            7 => Kind::Note,
-            8 => Kind::Uninitialized,
+            crate::SHT_HASH => Kind::Hash,
+            crate::SHT_DYNAMIC => Kind::Dynamic,
+            crate::SHT_NOTE => Kind::Note,
+            crate::SHT_NOBITS => Kind::Uninitialized,
             crate::SHT_REL => Kind::Rel,
-            11 => Kind::DynamicSymbols,
-            14 | 15 | 16 => Kind::Program,
+            crate::SHT_DYNSYM => Kind::DynamicSymbols,
+            crate::SHT_INIT_ARRAY | crate::SHT_FINI_ARRAY | crate::SHT_PREINIT_ARRAY =>
+                Kind::Program,
             crate::SHT_GROUP => Kind::Group,
             crate::SHT_GNU_HASH => Kind::GnuHash,
             _ => Kind::Unknown,
@@ -143,6 +144,7 @@ impl Header {
     }
 }
 
+// Kept: a match, since the proof does not close over `is_some_and` (tried).
 fn is_frame_header(names: &[u8], offset: usize) -> bool
     ensures { result ≡ same (name_at names.now offset) eh_frame_hdr }
 {
@@ -154,6 +156,8 @@ fn is_frame_header(names: &[u8], offset: usize) -> bool
 
 // ---- the section names
 
+// Those of n sections, in section s.
+// Kept: 0 for none, as the gABI says it: section 0 is none.
 #[tactic(auto, unfolding(crate::specs::Rows::names_of))]
 pub fn names_of<'a>(file: &'a [u8], table: &[u8], s: u64, n: usize) -> &'a [u8]
     ensures { result.now ≡ names_of file.now table.now s n }
@@ -166,6 +170,7 @@ pub fn names_of<'a>(file: &'a [u8], table: &[u8], s: u64, n: usize) -> &'a [u8]
 }
 
 // Their section's number for the rows' readers: past the sections where there is none.
+// Kept: 0 for none, as the gABI says it: section 0 is none.
 #[tactic(auto, unfolding(crate::specs::Rows::strings_number))]
 pub fn strings_number(s: u64, n: u64) -> u64
     ensures { result ≡ strings_number s n }

@@ -12,7 +12,7 @@ use Rattle.byte_slices.specs.Proof.Ways.{apart}
 use Rattle.gabi.specs.File.{section_count, header_table, name_section}
 use Rattle.elf_file.specs.Check.{file_refusal}
 use Rattle.elf_file.specs.Rows.{entry_count, content_count, room_of, names_of}
-use Rattle.link.specs.declared.Refusal.{Refusal}
+use Rattle.link.specs.declared.cause.Refusal.{Refusal}
 use Rattle.elf_file.specs.declared.reading.Written.{Written}
 use Rattle.elf_file.specs.Contract.{Exit, ReadMeets}
 use Rattle.elf_file.specs.Read.{written_of, Done, done, read_as, roomed_of, read_of}

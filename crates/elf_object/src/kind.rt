@@ -1,4 +1,4 @@
-// A section's kind. Its number lies in the header's row; elsewhere it is this.
+// A section's kind, where one of the fifteen is meant; a header's row holds a number, which may be none of theirs.
 ghost use Rattle.std.specs.Prelude.{◌≡◌};
 ghost use Rattle.elf_object.specs.Kind.{number_of, numbered};
 

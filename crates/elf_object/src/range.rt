@@ -6,7 +6,7 @@ ghost use Rattle.elf_object.specs.Rows.{rows_in};
 ghost use Rattle.elf_object.specs.Judge.{range_ok, contents_ok, header_ok, entry_ok, found_below, bad_header, bad_entry, judge_of};
 
 use crate::{Kind, Object};
-use link::Refusal;
+use link::{Cause, Refusal};
 
 // "sections of an object to 65,280", "symbol rows [..] to 65,535".
 const SECTION_BOUND: usize = 65280;
@@ -46,17 +46,15 @@ impl Lists {
     fn header_ok(self, headers: &[u64], n: usize) -> bool
         ensures { result ≡ header_ok headers.now self.entries self.contents self.image n }
     {
-        let Ok(kind) = Kind::try_from(cells::row_get(headers, n, crate::HEADER_KIND)) else {
-            return false;
-        };
-        if SECTION_BOUND <= n
-            || crate::FLAG_BOUND <= cells::row_get(headers, n, crate::HEADER_FLAGS)
-        {
-            return false;
-        }
+        let flags = cells::row_get(headers, n, crate::HEADER_FLAGS);
         let first = cells::row_get(headers, n, crate::HEADER_FIRST);
         let count = cells::row_get(headers, n, crate::HEADER_COUNT);
-        self.hold(kind, first, count)
+        match Kind::try_from(cells::row_get(headers, n, crate::HEADER_KIND)) {
+            Ok(kind) => {
+                n < SECTION_BOUND && flags < crate::FLAG_BOUND && self.hold(kind, first, count)
+            }
+            Err(_) => false,
+        }
     }
 
     // The first header out of range.
@@ -92,8 +90,9 @@ pub fn first_bad_entry(entries: &[u64]) -> Option<usize>
 }
 
 // Sections, then symbols: 1 at the first row that is out of range.
+// Kept: counts of contents and of the image's bytes, so that any may be asked for, more than a slice can have too.
 #[tactic(auto, unfolding(crate::specs::Judge::judge_of, link::specs::Judge::judged))]
-fn check(headers: &[u64], entries: &[u64], contents: usize, image: usize) -> Result<(), Refusal>
+pub fn judge(headers: &[u64], entries: &[u64], contents: usize, image: usize) -> Result<(), Refusal>
     ensures { result ≡ judged (judge_of headers.now entries.now contents image) }
 {
     let lists = Lists {
@@ -105,7 +104,7 @@ fn check(headers: &[u64], entries: &[u64], contents: usize, image: usize) -> Res
         .bad_header(headers)
         .or_else(|| first_bad_entry(entries))
     {
-        Some(n) => Err(Refusal::new(1, n)),
+        Some(n) => Err(Refusal::new(Cause::OutOfRange, n)),
         None => Ok(()),
     }
 }
@@ -115,30 +114,11 @@ impl Object<'_> {
     pub fn judge(self) -> Result<(), Refusal>
         ensures { let o = self.entry in result ≡ judged (judge_of o.headers.now o.entries.now (length o.contents.now) (length o.image.now)) }
     {
-        check(
+        judge(
             self.headers,
             self.entries,
             self.contents.len(),
             self.image.len(),
         )
     }
-}
-
-// ---- the same as numbers, until their callers have moved
-
-#[tactic(auto, unfolding(crate::specs::Judge::judge_of, link::specs::Judge::judged))]
-pub fn judge(headers: &[u64], entries: &[u64], contents: usize, file: usize) -> Refusal
-    ensures { result ≡ judge_of headers.now entries.now contents file }
-{
-    match check(headers, entries, contents, file) {
-        Ok(()) => Refusal::new(0, 0),
-        Err(refusal) => refusal,
-    }
-}
-
-pub fn bad_entry(entries: &[u64]) -> usize
-    ensures { result ≡ bad_entry entries.now }
-{
-    let rows = entries.len() / crate::ROW_WIDTH;
-    first_bad_entry(entries).unwrap_or(rows)
 }

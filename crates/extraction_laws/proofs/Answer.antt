@@ -1,7 +1,7 @@
 -- What admission answers, over every walk: the answer of `matches` itself, yes or no, against the gABI's extraction; exact, in the old profile with
 -- the two known places as terms of their own, in the gABI's without them.
 -- Assumes nothing.
-use Rattle.link.specs.declared.Refusal.{Refusal}
+use Rattle.link.specs.declared.cause.Refusal.{Refusal}
 use Rattle.std.specs.Prelude.{ℕ, ◌+◌, ◌/◌, ◌<◌, ◌≤◌, ◌≡◌, Bool, true, false, not, ◌&&◌, ◌||◌, ltb, length, Result, Ok}
 use Rattle.std.proofs.Common.{arith, sym, ◌∙◌, subst, eq-eqb, lt-ltb, le-ltb}
 use Rattle.std.proofs.Math.Path.{refl, ap}

@@ -2,7 +2,7 @@
 -- profile (document 02, 2026-02) the same inputs, on which both agree throughout. Computed from the contracts' definitions: a walk over an index
 -- that ties b to one member, and admission of that member's rows.
 -- Assumes nothing.
-use Rattle.link.specs.declared.Refusal.{Refusal}
+use Rattle.link.specs.declared.cause.Refusal.{Refusal}
 use Rattle.std.specs.Prelude.{ℕ, ◌≡◌, Bool, true, false, List, [], ◌∷◌, replicate, Result, Ok}
 use Rattle.gabi.specs.StringTable as Strings
 use Rattle.gabi.specs.Archive.{wants, extracts}

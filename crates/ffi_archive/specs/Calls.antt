@@ -2,14 +2,13 @@
 -- Assumes nothing.
 use Rattle.archive_walk.specs.declared.Offer.TheVariants.{Member, Done}
 use Rattle.archive_walk.specs.declared.Offer.{Offer}
-use Rattle.link.specs.declared.Refusal.{Refusal}
+use Rattle.link.specs.declared.cause.Refusal.{Refusal}
 use Rattle.std.specs.Prelude.{ℕ, Bool, cond, List, ltb, length, Result, Ok, Err, true, false}
 use Rattle.archive_walk.specs.Look.{table_of}
 use Rattle.archive_walk.specs.Walk.{Start, start_of, Step, next_of}
 use Rattle.object_requirement.specs.Matches.{matches_of}
 use Rattle.ffi_cells.specs.declared.header.Reply.{Reply}
 use Rattle.ffi_cells.specs.Header.{is_short, link_in, result_of, refusal_of, refused_of, Told, told, answer_of}
-use Rattle.cells.specs.Slice.{SliceMut}
 use Rattle.ffi_archive.specs.Cells.{walk_in, walk_out}
 
 -- ---- answers
@@ -38,10 +37,6 @@ pub record WalkLeft : Type 0 where
 
 abbrev pub walk_left : Told → List ℕ → List ℕ → WalkLeft
 walk_left t c rows = record { told = t; walk = c; rows = rows }
-
--- of lent slices after the call
-abbrev pub walk_after : ℕ → SliceMut → SliceMut → SliceMut → WalkLeft
-walk_after r h c rows = walk_left (told r h.exit.now) c.exit.now rows.exit.now
 
 -- seven cells for a walk
 unfoldable pub no_walk : List ℕ → Bool

@@ -1,4 +1,3 @@
 pub mod Cells
 pub mod Calls
 pub mod Contract
-pub mod Proof

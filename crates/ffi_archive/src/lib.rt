@@ -1,20 +1,25 @@
 // The walk over an archive's members, and admission, for another language: the answer lies in a header (ffi_cells), the walk in seven cells. A
 // header of fewer than 24 cells gives 1, and nothing is read or written; a walk of fewer than seven gives 1 at place 0 and is left.
+// Kept: slices one by one, as C lends them.
 #![tactic(auto)]
 
 ghost use Rattle.std.specs.Prelude.{◌≡◌};
 ghost use Rattle.archive_walk.specs.Walk.{started_of};
 ghost use Rattle.ffi_cells.specs.Contract.{told_exit};
-ghost use Rattle.ffi_archive.specs.Cells.{walk_in, index_out, counts_out, walk_out};
-ghost use Rattle.ffi_archive.specs.Calls.{begun_reply, offered_reply, admitted_reply, start_fit, next_fit, walk_after};
+ghost use Rattle.ffi_archive.specs.Cells.{walk_in, walk_out};
+ghost use Rattle.ffi_archive.specs.Calls.{begun_reply, offered_reply, admitted_reply};
 ghost use Rattle.ffi_archive.specs.Contract.{walk_exit, StartMeets, NextMeets, MatchesMeets};
 
 use archive_walk::{Offer, Walk};
 use ffi_cells::Reply;
-use link::Refusal;
+use link::{Cause, Refusal};
 
 // ---- a walk
 
+// The cells of a walk: its fields, in their order.
+const WALK_CELLS: usize = 7;
+
+#[tactic(auto, unfolding(crate::specs::Cells::walk_in))]
 pub fn walk_in(walk: &[u64]) -> Walk
     ensures { result ≡ walk_in walk.now }
 {
@@ -29,32 +34,22 @@ pub fn walk_in(walk: &[u64]) -> Walk
     }
 }
 
-fn put_index(walk: &mut [u64], w: Walk)
-    ensures { walk.new ≡ index_out walk.old w }
+#[tactic(auto, unfolding(crate::specs::Cells::walk_out, crate::specs::Cells::index_out, crate::specs::Cells::counts_out))]
+pub fn put_walk(walk: &mut [u64], w: Walk)
+    ensures { walk.new ≡ walk_out walk.old w }
 {
     cells::put(walk, 0, w.key as u64);
     cells::put(walk, 1, w.entries as u64);
     cells::put(walk, 2, w.length as u64);
-}
-
-fn put_counts(walk: &mut [u64], w: Walk)
-    ensures { walk.new ≡ counts_out walk.old w }
-{
     cells::put(walk, 3, w.passes as u64);
     cells::put(walk, 4, w.queued as u64);
     cells::put(walk, 5, w.offered as u64);
-}
-
-pub fn put_walk(walk: &mut [u64], w: Walk)
-    ensures { walk.new ≡ walk_out walk.old w }
-{
-    put_index(walk, w);
-    put_counts(walk, w);
     cells::put(walk, 6, ffi_cells::flag(w.done));
 }
 
 // ---- answers
 
+// Kept: begun, offered and admitted are three functions, as each answer's values are its own.
 fn begun(a: Result<Walk, Refusal>) -> Reply
     ensures { result ≡ begun_reply (started_of a).begun }
 {
@@ -92,21 +87,8 @@ fn admitted(a: Result<bool, Refusal>) -> Reply
 
 // ---- the calls
 
-fn start_fit(
-    header: &mut [u64],
-    walk: &mut [u64],
-    key: usize,
-    index: &[u8],
-    rows: &mut [u64],
-) -> u64
-    ensures { walk_after result header walk rows ≡ start_fit header.old walk.old key index.now rows.old }
-{
-    let started = Walk::start(key, index, rows);
-    put_walk(walk, started.unwrap_or(Walk::none()));
-    ffi_cells::answer(header, begun(started))
-}
-
 // The value is the number of entries; the link isn't looked at. The key may be any number.
+#[tactic(auto, unfolding(crate::specs::Calls::start_call, crate::specs::Calls::start_fit, ffi_cells::specs::Header::is_short, crate::specs::Calls::no_walk))]
 pub fn archive_start(
     header: &mut [u64],
     walk: &mut [u64],
@@ -117,34 +99,21 @@ pub fn archive_start(
     ensures { StartMeets header.old walk.old key index.now rows.old (walk_exit result header walk rows) }
 {
     if header.len() < ffi_cells::HEADER_CELLS {
-        return 1;
+        return ffi_cells::SHORT;
     }
-    if walk.len() < 7 {
-        return ffi_cells::answer(header, ffi_cells::refusal(1, 0));
+    if walk.len() < WALK_CELLS {
+        return ffi_cells::answer(
+            header,
+            ffi_cells::refused(Refusal::new(Cause::OutOfRange, 0)),
+        );
     }
-    start_fit(header, walk, key, index, rows)
-}
-
-fn next_fit(
-    header: &mut [u64],
-    walk: &mut [u64],
-    index: &[u8],
-    rows: &mut [u64],
-    bytes: &[u8],
-    names: &[u64],
-    symbols: &[u64],
-) -> u64
-    ensures { walk_after result header walk rows
-        ≡ next_fit header.old walk.old index.now rows.old bytes.now names.now symbols.now }
-{
-    let l = ffi_cells::link_in(header);
-    let mut moved = walk_in(walk);
-    let offer = pending_archive::next(&mut moved, index, rows, l, bytes, names, symbols);
-    put_walk(walk, moved);
-    ffi_cells::answer(header, offered(offer))
+    let started = Walk::start(key, index, rows);
+    put_walk(walk, started.unwrap_or(Walk::none()));
+    ffi_cells::answer(header, begun(started))
 }
 
 // The values are 1 for a member, its offset, the entry that queued it and the passes made; 0, 0, 0 and the passes where the walk is done.
+#[tactic(auto, unfolding(crate::specs::Calls::next_call, crate::specs::Calls::next_fit, ffi_cells::specs::Header::is_short, crate::specs::Calls::no_walk))]
 pub fn archive_next(
     header: &mut [u64],
     walk: &mut [u64],
@@ -157,15 +126,23 @@ pub fn archive_next(
     ensures { NextMeets header.old walk.old index.now rows.old bytes.now names.now symbols.now (walk_exit result header walk rows) }
 {
     if header.len() < ffi_cells::HEADER_CELLS {
-        return 1;
+        return ffi_cells::SHORT;
     }
-    if walk.len() < 7 {
-        return ffi_cells::answer(header, ffi_cells::refusal(1, 0));
+    if walk.len() < WALK_CELLS {
+        return ffi_cells::answer(
+            header,
+            ffi_cells::refused(Refusal::new(Cause::OutOfRange, 0)),
+        );
     }
-    next_fit(header, walk, index, rows, bytes, names, symbols)
+    let link = ffi_cells::link_in(header);
+    let mut moved = walk_in(walk);
+    let offer = pending_archive::next(&mut moved, index, rows, link, bytes, names, symbols);
+    put_walk(walk, moved);
+    ffi_cells::answer(header, offered(offer))
 }
 
 // The value is 1 where the object is admitted, else 0; of the link its profile alone is looked at.
+#[tactic(auto, unfolding(crate::specs::Calls::matches_call, ffi_cells::specs::Header::is_short, crate::specs::Calls::no_walk))]
 pub fn matches(
     header: &mut [u64],
     walk: &[u64],
@@ -180,13 +157,18 @@ pub fn matches(
     ensures { MatchesMeets header.old walk.now index.now rows.now entry headers.now entries.now contents.now file.now (told_exit result header) }
 {
     if header.len() < ffi_cells::HEADER_CELLS {
-        return 1;
+        return ffi_cells::SHORT;
     }
-    if walk.len() < 7 {
-        return ffi_cells::answer(header, ffi_cells::refusal(1, 0));
+    if walk.len() < WALK_CELLS {
+        return ffi_cells::answer(
+            header,
+            ffi_cells::refused(Refusal::new(Cause::OutOfRange, 0)),
+        );
     }
-    let l = ffi_cells::link_in(header);
-    let w = walk_in(walk);
-    let a = object_requirement::matches(l, headers, entries, contents, file, w, index, rows, entry);
-    ffi_cells::answer(header, admitted(a))
+    let link = ffi_cells::link_in(header);
+    let walk = walk_in(walk);
+    let answer = object_requirement::matches(
+        link, headers, entries, contents, file, walk, index, rows, entry,
+    );
+    ffi_cells::answer(header, admitted(answer))
 }

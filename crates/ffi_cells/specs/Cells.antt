@@ -51,7 +51,7 @@ is_item item =
     cond (ltb (length item) 8) false
     (cond (ltb 5 (get_or item 0 0)) false (cond (eqb (get_or item 0 0) 2) (cond (ltb 7 (get_or item 2 0)) false true) true))
 
-abbrev pub name_in : List ℕ → ℕ → Interned
+unfoldable pub name_in : List ℕ → ℕ → Interned
 name_in item i = record { 0 = get_or item i 0 }
 
 abbrev pub words_in : List ℕ → Words

@@ -3,7 +3,7 @@
 use Rattle.std.specs.Prelude.{ℕ, Bool, true, false, cond, List, [], ◌∷◌, eqb, ltb, get_or, set, length}
 use Rattle.cells.specs.Rows.{put_row}
 use Rattle.link.specs.declared.Link.{Link}
-use Rattle.link.specs.declared.Refusal.{Refusal}
+use Rattle.link.specs.declared.cause.Refusal.{Refusal}
 use Rattle.link.specs.Said.{Said, accepted, refusing}
 use Rattle.ffi_cells.specs.declared.header.Reply.{Reply}
 

@@ -1,4 +1,3 @@
 pub mod Cells
-pub mod Proof
 pub mod Header
 pub mod Contract

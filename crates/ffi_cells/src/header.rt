@@ -1,16 +1,25 @@
 // A link and an answer in the cells of a header, for the calls from another language. Cells 0 to 8 hold the link (names, bytes, symbols, sections,
 // inputs, lists, chains, slots, broken), 15 its key and 16 its profile, 9 the number of the refusal, 10 its place, 11 to 14 the values of the answer.
 ghost use Rattle.std.specs.Prelude.{◌≡◌};
-ghost use Rattle.ffi_cells.specs.Header.{is_set, flag_of, link_with, link_in, result_of, refusal_of, refused_of, reply_in, counts_in, profile_in, told, tell_of, answer_of};
+ghost use Rattle.ffi_cells.specs.Header.{is_set, flag_of, link_in, result_of, refusal_of, refused_of, reply_in, counts_in, told, tell_of, answer_of};
 
 use link::{Link, Refusal};
 
-// Cells of a header, and the one that holds the profile: 0 the old one, else the gABI's. Those behind it are left.
+// Cells of a header. Those behind the profile are left.
 pub const HEADER_CELLS: usize = 24;
 
+// A header of fewer cells: refusal 1, which nothing can be written for.
+pub const SHORT: u64 = 1;
+
+const BROKEN: usize = 8;
+
+const KEY: usize = 15;
+
+// 0 for the old profile, else the gABI's.
 const PROFILE: usize = 16;
 
 // Number 0 is a result, with its values; a refusal has none, but a list of adds, whose first value is the position.
+// Kept: number and place, 0 for none, and no Result: these are the header's cells as C reads them.
 #[derive(Clone, Copy)]
 pub struct Reply {
     pub number: u64,
@@ -24,26 +33,25 @@ pub struct Reply {
 // ---- the header
 
 // A cell that holds yes or no: 0 is no, any other number yes.
+// Kept: public; the laws cite its definition.
+#[tactic(auto, unfolding(crate::specs::Header::is_set))]
 pub fn is_set(cell: u64) -> bool
     ensures { result ≡ is_set cell }
 {
-    if cell == 0 {
-        return false;
-    }
-    true
+    cell != 0
 }
 
+// Kept: public; the laws cite its definition.
+#[tactic(auto, unfolding(crate::specs::Header::flag_of))]
 pub fn flag(b: bool) -> u64
     ensures { result ≡ flag_of b }
 {
-    if b {
-        return 1;
-    }
-    0
+    u64::from(b)
 }
 
-fn link_with(header: &[u64], key: usize, gabi: bool, broken: bool) -> Link
-    ensures { result ≡ link_with header.now key gabi broken }
+#[tactic(auto, unfolding(crate::specs::Header::link_in, crate::specs::Header::link_with))]
+pub fn link_in(header: &[u64]) -> Link
+    ensures { result ≡ link_in header.now }
 {
     Link {
         names: cells::get(header, 0) as usize,
@@ -54,22 +62,14 @@ fn link_with(header: &[u64], key: usize, gabi: bool, broken: bool) -> Link
         lists: cells::get(header, 5) as usize,
         chains: cells::get(header, 6) as usize,
         slots: cells::get(header, 7) as usize,
-        key: key,
-        gabi: gabi,
-        broken: broken,
+        key: cells::get(header, KEY) as usize,
+        gabi: is_set(cells::get(header, PROFILE)),
+        broken: is_set(cells::get(header, BROKEN)),
     }
 }
 
-pub fn link_in(header: &[u64]) -> Link
-    ensures { result ≡ link_in header.now }
-{
-    let key = cells::get(header, 15) as usize;
-    let gabi = is_set(cells::get(header, PROFILE));
-    let broken = is_set(cells::get(header, 8));
-    link_with(header, key, gabi, broken)
-}
-
 // Cells 8 and 15, and the answer.
+#[tactic(auto, unfolding(crate::specs::Header::reply_in))]
 fn put_reply(header: &mut [u64], broken: u64, key: u64, r: Reply)
     ensures { header.new ≡ reply_in header.old broken key r }
 {
@@ -83,15 +83,17 @@ fn put_reply(header: &mut [u64], broken: u64, key: u64, r: Reply)
 }
 
 // The answer of a call that doesn't change a link: its cells stay.
+#[tactic(auto, unfolding(crate::specs::Header::answer_of))]
 pub fn answer(header: &mut [u64], r: Reply) -> u64
     ensures { told result header.new ≡ answer_of header.old r }
 {
-    let broken = cells::get(header, 8);
-    let key = cells::get(header, 15);
+    let broken = cells::get(header, BROKEN);
+    let key = cells::get(header, KEY);
     put_reply(header, broken, key, r);
     r.number
 }
 
+#[tactic(auto, unfolding(crate::specs::Header::counts_in))]
 fn put_counts(header: &mut [u64], l: Link)
     ensures { header.new ≡ counts_in header.old l }
 {
@@ -111,18 +113,13 @@ fn put_counts(header: &mut [u64], l: Link)
     );
 }
 
-fn put_profile(header: &mut [u64], l: Link)
-    ensures { header.new ≡ profile_in header.old l }
-{
-    cells::put(header, PROFILE, flag(l.gabi));
-}
-
 // The link that a call hands back, and its answer.
+#[tactic(auto, unfolding(crate::specs::Header::tell_of, crate::specs::Header::header_of, crate::specs::Header::profile_in))]
 pub fn tell(header: &mut [u64], l: Link, r: Reply) -> u64
     ensures { told result header.new ≡ tell_of header.old l r }
 {
     put_counts(header, l);
-    put_profile(header, l);
+    cells::put(header, PROFILE, flag(l.gabi));
     put_reply(header, flag(l.broken), l.key as u64, r);
     r.number
 }
@@ -135,10 +132,10 @@ pub fn result(first: u64, second: u64, third: u64, fourth: u64) -> Reply
     Reply {
         number: 0,
         place: 0,
-        first: first,
-        second: second,
-        third: third,
-        fourth: fourth,
+        first,
+        second,
+        third,
+        fourth,
     }
 }
 
@@ -146,12 +143,9 @@ pub fn refusal(number: u64, place: u64) -> Reply
     ensures { result ≡ refusal_of number place }
 {
     Reply {
-        number: number,
-        place: place,
-        first: 0,
-        second: 0,
-        third: 0,
-        fourth: 0,
+        number,
+        place,
+        ..result(0, 0, 0, 0)
     }
 }
 

@@ -1,7 +1,7 @@
 -- What the call returns, and every lent cell after it.
 -- Assumes nothing.
 use Rattle.std.specs.Prelude.{ℕ, cond, List}
-use Rattle.link.specs.declared.Refusal.{Refusal}
+use Rattle.link.specs.declared.cause.Refusal.{Refusal}
 use Rattle.symbol_resolution.specs.Apply.{table_of}
 use Rattle.add_list.specs.AddList as Adds
 use Rattle.add_list.specs.AddList.{items_of, add_list_of}

@@ -12,10 +12,10 @@ use ffi_cells::Reply;
 use link::Refusal;
 use shared_objects::Load;
 
-fn loaded(a: Result<Load, Refusal>) -> Reply
-    ensures { result ≡ saying (said_of a) }
+fn loaded(answer: Result<Load, Refusal>) -> Reply
+    ensures { result ≡ saying (said_of answer) }
 {
-    match a {
+    match answer {
         Ok(Load::Loaded) => ffi_cells::result(1, 0, 0, 0),
         Ok(Load::NotNeeded) => ffi_cells::result(0, 0, 0, 0),
         Err(refusal) => ffi_cells::refused(refusal),
@@ -23,6 +23,8 @@ fn loaded(a: Result<Load, Refusal>) -> Reply
 }
 
 // The value is 1 where the library is loaded, 0 where it isn't needed.
+// Kept: slices one by one, as the exported call (ffi) has them, and flags with their values.
+#[tactic(auto, unfolding(crate::specs::Calls::load_call, ffi_cells::specs::Header::is_short))]
 pub fn load_shared_object<'a>(
     header: &mut [u64],
     bytes: &mut [u8],
@@ -44,14 +46,12 @@ pub fn load_shared_object<'a>(
     ensures { LoadMeets header.old (library_in entries file needs path archived sonamed soname asneeded) (link_rows bytes names symbols sections inputs lists marks) (told_exit result header) }
 {
     if header.len() < ffi_cells::HEADER_CELLS {
-        return 1;
+        return ffi_cells::SHORT;
     }
-    let l = ffi_cells::link_in(header);
+    let link = ffi_cells::link_in(header);
     let o = shared_objects::load_shared_object(
-        l, bytes, names, symbols, sections, inputs, lists, marks, entries, file, needs, path,
+        link, bytes, names, symbols, sections, inputs, lists, marks, entries, file, needs, path,
         archived, sonamed, soname, asneeded,
     );
-    let left = o.link;
-    let a = o.answer;
-    ffi_cells::tell(header, left, loaded(a))
+    ffi_cells::tell(header, o.link, loaded(o.answer))
 }

@@ -1,15 +1,17 @@
 // The merge of an object file, and its rows alone, for another language. A merge has the link and the answer in a header (ffi_cells); a header of
 // fewer than 24 cells gives 1, and nothing is read or written. A read has no link: its answer is a row of 8 cells, of which fewer give 1.
+// Kept: slices one by one, as C lends them.
 ghost use Rattle.std.specs.Prelude.{◌≡◌};
 ghost use Rattle.ffi_cells.specs.Contract.{told_exit};
 ghost use Rattle.ffi_merge.specs.FileContract.{read_exit, ReadMeets, lent_rows, FileMeets};
 
 // The answer's cells: the place; how many sections, symbols and cells of contents were written; the section of the sections' names; 0.
+#[tactic(auto, unfolding(crate::specs::FileCalls::read_call, elf_file::specs::Read::read_of, elf_file::specs::Read::roomed_of))]
 pub fn read_file(answer: &mut [u64], rows: &mut [u64], file: &[u8]) -> u64
     ensures { ReadMeets answer.old file.now rows.old (read_exit result answer rows) }
 {
     if answer.len() < 8 {
-        return 1;
+        return ffi_cells::SHORT;
     }
     match elf_file::read(file, rows) {
         Ok(w) => {
@@ -24,6 +26,7 @@ pub fn read_file(answer: &mut [u64], rows: &mut [u64], file: &[u8]) -> u64
     }
 }
 
+#[tactic(auto, unfolding(crate::specs::FileCalls::file_call, ffi_cells::specs::Header::is_short))]
 pub fn merge_file(
     header: &mut [u64],
     bytes: &mut [u8],
@@ -40,11 +43,11 @@ pub fn merge_file(
     ensures { FileMeets header.old file.now (lent_rows bytes names symbols sections inputs lists work ids rows) (told_exit result header) }
 {
     if header.len() < ffi_cells::HEADER_CELLS {
-        return 1;
+        return ffi_cells::SHORT;
     }
-    let l = ffi_cells::link_in(header);
+    let link = ffi_cells::link_in(header);
     let merge = merge_file::merge_file(
-        l, bytes, names, symbols, sections, inputs, lists, work, ids, rows, file,
+        link, bytes, names, symbols, sections, inputs, lists, work, ids, rows, file,
     );
     ffi_cells::tell(header, merge.link, crate::replied(merge.answer))
 }

@@ -1,5 +1,6 @@
 // The merge of an object, and a group added by itself, for another language: the link and the answer lie in a header (ffi_cells). A header of fewer
 // than 24 cells gives 1, and nothing is read or written. There are no values.
+// Kept: slices one by one, as C lends them.
 #![tactic(auto)]
 
 ghost use Rattle.std.specs.Prelude.{◌≡◌};
@@ -14,6 +15,7 @@ use ffi_cells::Reply;
 pub use file::{merge_file, read_file};
 use link::Refusal;
 
+// Kept: a match of its own, as each answer's values are its own.
 pub fn replied(a: Result<(), Refusal>) -> Reply
     ensures { result ≡ refused_of (refusal_in a) }
 {
@@ -24,6 +26,7 @@ pub fn replied(a: Result<(), Refusal>) -> Reply
 }
 
 // The group of section n; t is the section of the object's symbol table, whose entries are lent.
+#[tactic(auto, unfolding(crate::specs::Calls::group_call, ffi_cells::specs::Header::is_short))]
 pub fn add_group(
     header: &mut [u64],
     bytes: &mut [u8],
@@ -39,15 +42,16 @@ pub fn add_group(
     ensures { GroupMeets header.old (group_object headers entries contents image t) bytes.old names.old work.old n (group_exit result header bytes names work) }
 {
     if header.len() < ffi_cells::HEADER_CELLS {
-        return 1;
+        return ffi_cells::SHORT;
     }
-    let l = ffi_cells::link_in(header);
+    let link = ffi_cells::link_in(header);
     let group = section_groups::add_group(
-        l, bytes, names, work, headers, entries, contents, image, t, n,
+        link, bytes, names, work, headers, entries, contents, image, t, n,
     );
     ffi_cells::tell(header, group.link, replied(group.answer))
 }
 
+#[tactic(auto, unfolding(crate::specs::Calls::merge_call, ffi_cells::specs::Header::is_short))]
 pub fn merge_elf(
     header: &mut [u64],
     bytes: &mut [u8],
@@ -67,12 +71,12 @@ pub fn merge_elf(
     ensures { MergeMeets header.old (merge_object headers entries contents image shstrndx) (link_rows bytes names symbols sections inputs lists work ids) (told_exit result header) }
 {
     if header.len() < ffi_cells::HEADER_CELLS {
-        return 1;
+        return ffi_cells::SHORT;
     }
-    let l = ffi_cells::link_in(header);
+    let link = ffi_cells::link_in(header);
     let merge = merge_elf::merge_elf(
-        l, bytes, names, symbols, sections, inputs, lists, work, ids, headers, entries, contents,
-        image, shstrndx,
+        link, bytes, names, symbols, sections, inputs, lists, work, ids, headers, entries,
+        contents, image, shstrndx,
     );
     ffi_cells::tell(header, merge.link, replied(merge.answer))
 }

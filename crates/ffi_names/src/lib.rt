@@ -1,20 +1,21 @@
 // Names, for another language: the link and the answer lie in a header (ffi_cells). A header of fewer than 24 cells gives 1, and nothing is
 // read or written.
+// Kept: slices one by one, as C lends them.
 #![tactic(auto)]
 
-ghost use Rattle.std.specs.Prelude.{◌≡◌, ◌≢◌, length, IfErr};
-ghost use Rattle.interner.specs.Names.{store_of};
-ghost use Rattle.interner.specs.Calls.{said, lent_of};
-ghost use Rattle.interner.specs.Lent.{resolved_in};
+ghost use Rattle.std.specs.Prelude.{◌≡◌};
+ghost use Rattle.interner.specs.Calls.{said, resolve_of};
+ghost use Rattle.interner.specs.Lent.{store_read};
 ghost use Rattle.ffi_cells.specs.Header.{saying};
 ghost use Rattle.ffi_cells.specs.Contract.{told_exit};
-ghost use Rattle.ffi_names.specs.Calls.{first_byte, part_reply, found_reply, find_reply};
+ghost use Rattle.ffi_names.specs.Calls.{first_byte, resolve_reply, found_reply, find_reply};
 ghost use Rattle.ffi_names.specs.Contract.{intern_exit, InternMeets, ResolveMeets, FindMeets};
 
 use ffi_cells::Reply;
-use interner::Names;
-use link::{Interned, Lent, Link, Refusal};
+use interner::{Names, NamesMut};
+use link::{Interned, Refusal};
 
+// Kept: as ffi_symbols' of a symbol's id; each answer's values are its own, and a trait for both ids would be longer.
 fn interned(a: Result<Interned, Refusal>) -> Reply
     ensures { result ≡ saying (said a) }
 {
@@ -25,17 +26,20 @@ fn interned(a: Result<Interned, Refusal>) -> Reply
 }
 
 // The value is the name's id.
+#[tactic(auto, unfolding(crate::specs::Calls::intern_call, ffi_cells::specs::Header::is_short))]
 pub fn intern(header: &mut [u64], bytes: &mut [u8], names: &mut [u64], name: &[u8]) -> u64
     ensures { InternMeets header.old bytes.old names.old name.now (intern_exit result header bytes names) }
 {
     if header.len() < ffi_cells::HEADER_CELLS {
-        return 1;
+        return ffi_cells::SHORT;
     }
-    let l = ffi_cells::link_in(header);
-    let o = interner::intern(l, bytes, names, name);
-    let kept = o.link;
-    let a = o.answer;
-    ffi_cells::tell(header, kept, interned(a))
+    let mut lent = NamesMut {
+        link: ffi_cells::link_in(header),
+        bytes,
+        cells: names,
+    };
+    let answer = lent.intern(name);
+    ffi_cells::tell(header, lent.link, interned(answer))
 }
 
 // Where a name starts in so many bytes, whatever its row holds.
@@ -43,50 +47,37 @@ pub fn intern(header: &mut [u64], bytes: &mut [u8], names: &mut [u64], name: &[u
 fn first_of(names: &[u64], id: usize, bytes: usize) -> u64
     ensures { result ≡ first_byte names.now id bytes }
 {
-    let start = cells::row_get(names, id, 0);
+    let start = cells::row_get(names, id, interner::START);
     start.min(bytes as u64)
 }
 
-// Where the name starts in the bytes, and its length.
 #[tactic(auto, unfolding(crate::specs::Calls::part_reply))]
-fn part_reply(names: &[u64], id: usize, bytes: usize, name: Result<&[u8], Refusal>) -> Reply
-    requires { IfErr name (λ r. r.number ≢ 0) }
-    ensures { let w = resolved_in name.entry in result ≡ part_reply names.now id bytes (length w.name) w.refusal.number w.refusal.place }
+fn part_reply(names: Names<'_, '_>, id: Interned) -> Reply
+    ensures { let n = names.entry in result ≡ resolve_reply n.bytes.now n.cells.now id.0 (resolve_of (store_read n) id) }
 {
-    match name {
-        Ok(name) => ffi_cells::result(first_of(names, id, bytes), name.len() as u64, 0, 0),
+    match names.resolve(id) {
+        Ok(name) => {
+            let first = first_of(names.cells, id.0, names.bytes.len());
+            ffi_cells::result(first, name.len() as u64, 0, 0)
+        }
         Err(refusal) => ffi_cells::refused(refusal),
     }
 }
 
 // The values are where the name starts in the bytes, and its length.
+#[tactic(auto, unfolding(crate::specs::Calls::resolve_call, ffi_cells::specs::Header::is_short))]
 pub fn resolve(header: &mut [u64], bytes: &[u8], names: &[u64], id: usize) -> u64
     ensures { ResolveMeets header.old bytes.now names.now id (told_exit result header) }
 {
     if header.len() < ffi_cells::HEADER_CELLS {
-        return 1;
+        return ffi_cells::SHORT;
     }
-    let l = ffi_cells::link_in(header);
     let lent = Names {
-        link: l,
+        link: ffi_cells::link_in(header),
         bytes,
         cells: names,
     };
-    let r = part_reply(names, id, bytes.len(), lent.resolve(Interned(id)));
-    ffi_cells::answer(header, r)
-}
-
-fn lent_names(l: Link, bytes: usize, names: usize) -> Lent
-    ensures { result ≡ lent_of l bytes names }
-{
-    Lent {
-        names: names / link::NAME_CELLS,
-        bytes: bytes,
-        symbols: link::NOT_LENT,
-        sections: l.slots,
-        inputs: link::NOT_LENT,
-        lists: link::NOT_LENT,
-    }
+    ffi_cells::answer(header, part_reply(lent, Interned(id)))
 }
 
 #[tactic(auto, unfolding(crate::specs::Calls::found_reply))]
@@ -102,24 +93,27 @@ fn found_reply(id: usize, count: usize) -> Reply
 
 // A lookup: a broken link is accepted.
 #[tactic(auto, unfolding(crate::specs::Calls::find_reply, link::specs::Judge::judged))]
-fn find_reply(l: Link, bytes: &[u8], names: &[u64], name: &[u8]) -> Reply
-    ensures { result ≡ find_reply (store_of bytes.now names.now l) name.now }
+fn find_reply(names: Names<'_, '_>, name: &[u8]) -> Reply
+    ensures { result ≡ find_reply (store_read names.entry) name.now }
 {
-    if let Err(refusal) = l.judge(lent_names(l, bytes.len(), names.len())) {
+    if let Err(refusal) = names.judge() {
         return ffi_cells::refused(refusal);
     }
-    let id = interner::find(l, bytes, names, name);
-    found_reply(id.0, l.names)
+    found_reply(names.find(name).0, names.link.names)
 }
 
 // The values are 1 and the name's id where it was issued, else 0 and 0. No name is issued.
+#[tactic(auto, unfolding(crate::specs::Calls::find_call, ffi_cells::specs::Header::is_short))]
 pub fn find(header: &mut [u64], bytes: &[u8], names: &[u64], name: &[u8]) -> u64
     ensures { FindMeets header.old bytes.now names.now name.now (told_exit result header) }
 {
     if header.len() < ffi_cells::HEADER_CELLS {
-        return 1;
+        return ffi_cells::SHORT;
     }
-    let l = ffi_cells::link_in(header);
-    let r = find_reply(l, bytes, names, name);
-    ffi_cells::answer(header, r)
+    let lent = Names {
+        link: ffi_cells::link_in(header),
+        bytes,
+        cells: names,
+    };
+    ffi_cells::answer(header, find_reply(lent, name))
 }

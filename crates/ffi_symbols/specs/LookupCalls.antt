@@ -1,6 +1,6 @@
 -- What the lookups return, and every lent cell after them.
 -- Assumes nothing.
-use Rattle.link.specs.declared.Refusal.{Refusal}
+use Rattle.link.specs.declared.cause.Refusal.{Refusal}
 use Rattle.symbol.specs.declared.Symbol.{Symbol}
 use Rattle.link.specs.declared.SymbolId.{SymbolId}
 use Rattle.std.specs.Prelude.{ℕ, Bool, cond, List, ltb, length, Option, Result, None, Some, Ok, Err}

@@ -13,7 +13,7 @@ use Rattle.std.proofs.Math.ListN.{get_or}
 use Rattle.cells.specs.Proof.Split.{by-test}
 use Rattle.byte_slices.specs.Proof.Ways.{apart}
 use Rattle.link.specs.declared.Link.{Link}
-use Rattle.link.specs.declared.Refusal.{Refusal}
+use Rattle.link.specs.declared.cause.Refusal.{Refusal}
 use Rattle.link.specs.declared.SectionId.{SectionId}
 use Rattle.link.specs.Bounds.{section_slots}
 use Rattle.link.specs.Judge.{refused}

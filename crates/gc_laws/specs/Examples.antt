@@ -1,6 +1,6 @@
 -- Worked examples of document 01 and of the reading of it, computed from the contract's definition.
 -- Assumes nothing.
-use Rattle.link.specs.declared.Refusal.{Refusal}
+use Rattle.link.specs.declared.cause.Refusal.{Refusal}
 use Rattle.gc_sections.specs.declared.Dropped.{Dropped}
 use Rattle.std.specs.Prelude.{ℕ, zero, suc, ◌+◌, ◌≡◌, List, [], ◌∷◌, ◌++◌, replicate, Result, None, Ok, Err}
 use Rattle.link.specs.declared.Link.{Link}

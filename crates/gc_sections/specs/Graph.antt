@@ -1,6 +1,6 @@
 -- Roots and reach over what the code's structs hold: the definitions of Roots and Reach at a graph's rows and a walker's cells.
 -- Assumes nothing.
-use Rattle.std.specs.Prelude.{ℕ, ◌≡◌, Bool, cond, true, false, eqb, get_or, List, Option}
+use Rattle.std.specs.Prelude.{ℕ, ◌≡◌, Bool, cond, true, false, eqb, get_or, Option}
 use Rattle.link.specs.declared.SymbolId.{SymbolId}
 use Rattle.link.specs.declared.SectionId.{SectionId}
 use Rattle.gc_sections.specs.declared.graph.Graph.{Graph}

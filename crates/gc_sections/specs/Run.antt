@@ -6,7 +6,7 @@ use Rattle.link.specs.declared.SymbolId.{SymbolId}
 use Rattle.std.specs.Prelude.{ℕ, ◌/◌, cond, List, eqb, ltb, length, Option, Result, None, Some, Ok, Err}
 use Rattle.link.specs.declared.Link.{Link}
 use Rattle.link.specs.declared.Lent.{Lent}
-use Rattle.link.specs.declared.Refusal.{Refusal}
+use Rattle.link.specs.declared.cause.Refusal.{Refusal}
 use Rattle.link.specs.Bounds.{not_lent, name_rows, section_slots}
 use Rattle.link.specs.Counts.{lent_rows}
 use Rattle.link.specs.Judge.{refused, none, change_of}

@@ -5,7 +5,6 @@ use Rattle.std.specs.Prelude.{ℕ, ◌+◌, Bool, true, false, cond, List, eqb, 
 use Rattle.link.specs.declared.Link.{Link}
 use Rattle.symbols.specs.Remove.{Rows, remove_row_of}
 use Rattle.sections.specs.Rows.{dropped_of, is_built}
-use Rattle.cells.specs.Slice.{SliceMut}
 use Rattle.gc_sections.specs.Each.{each}
 use Rattle.gc_sections.specs.Roots.{symbol_id, section_id, lead_of}
 
@@ -17,13 +16,6 @@ pub record Swept : Type 0 where
 
 abbrev pub swept_of : List ℕ → List ℕ → ℕ → Swept
 swept_of sections work count = record { sections = sections; work = work; count = count }
-
--- of lent slices before the call, and after it
-abbrev pub swept_before : SliceMut → SliceMut → ℕ → Swept
-swept_before sections work count = swept_of sections.entry.now work.entry.now count
-
-abbrev pub swept_after : SliceMut → SliceMut → ℕ → Swept
-swept_after sections work count = swept_of sections.exit.now work.exit.now count
 
 -- what a section's work cell holds where this call dropped it; 0 not reached, 1 reached
 abbrev pub dropped_mark : ℕ

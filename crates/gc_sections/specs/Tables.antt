@@ -3,7 +3,7 @@
 use Rattle.std.specs.Prelude.{ℕ, ◌≡◌, Bool, length, List, Option, Result, Ok, Err}
 use Rattle.link.specs.declared.SymbolId.{SymbolId}
 use Rattle.link.specs.declared.SectionId.{SectionId}
-use Rattle.link.specs.declared.Refusal.{Refusal}
+use Rattle.link.specs.declared.cause.Refusal.{Refusal}
 use Rattle.symbols.specs.Remove.{Rows, rows_of}
 use Rattle.gc_sections.specs.declared.Dropped.{Dropped}
 use Rattle.gc_sections.specs.declared.Tables.{Tables}

@@ -36,13 +36,12 @@ fn value_lead(kind: u64, a: u64) -> Option<SectionId>
 pub fn lead_of(symbols: &[u64], count: usize, id: SymbolId) -> Option<SectionId>
     ensures { result ≡ lead_of symbols.now count id }
 {
-    let i = id.0;
-    if count <= i || cells::row_get(symbols, i, symbol::CELL_STATE) == symbol::REMOVED {
+    if count <= id.0 || cells::row_get(symbols, id.0, symbol::CELL_STATE) == symbol::REMOVED {
         return None;
     }
     value_lead(
-        cells::row_get(symbols, i, symbol::CELL_KIND),
-        cells::row_get(symbols, i, symbol::CELL_FIRST),
+        cells::row_get(symbols, id.0, symbol::CELL_KIND),
+        cells::row_get(symbols, id.0, symbol::CELL_FIRST),
     )
 }
 
@@ -59,6 +58,7 @@ fn readable(sections: &[u64], i: usize) -> bool
 }
 
 // Has the section that name?
+// Kept: slices one by one, as the public `is_root` below has them.
 #[tactic(auto, unfolding(crate::specs::Roots::name_is))]
 fn name_is(bytes: &[u8], names: &[u64], sections: &[u64], i: usize, name: &[u8]) -> bool
     ensures { result ≡ name_is bytes.now names.now sections.now i name.now }

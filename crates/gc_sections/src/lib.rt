@@ -11,7 +11,7 @@ mod reach;
 mod sweep;
 
 pub use graph::{Graph, is_root, lead_of};
-use link::{Lent, Link, Refusal, SectionId, SymbolId};
+use link::{Cause, Lent, Link, Refusal, SectionId, SymbolId};
 pub use reach::{REACHED, UNREACHED, clear, end_of, lower};
 
 // How many sections were dropped, and how many symbols removed with them.
@@ -21,6 +21,8 @@ pub struct Dropped {
     pub symbols: usize,
 }
 
+// Kept: a collection leaves the link as it was, yet gives it back beside the answer, as the other calls do, and the promise reads it; a type for
+// each call, as the laws read its own.
 #[derive(Clone, Copy)]
 pub struct Outcome {
     pub link: Link,
@@ -37,6 +39,7 @@ pub struct Read<'a> {
 }
 
 // The tables of a link that it writes.
+// Kept: that the loans stay is said by each call, since no field's type says which memory it lends.
 #[derive(Drop)]
 pub struct Tables<'a> {
     pub link: Link,
@@ -52,10 +55,10 @@ fn judge_cells(link: Link, marks: usize, work: usize) -> Result<(), Refusal>
     ensures { result ≡ judged (judge_cells link marks work) }
 {
     if marks < link.symbols {
-        return Err(Refusal::new(1, marks));
+        return Err(Refusal::new(Cause::OutOfRange, marks));
     }
     if work / WORK_WIDTH < link.sections {
-        return Err(Refusal::new(2, 0));
+        return Err(Refusal::new(Cause::NoRoom, 0));
     }
     Ok(())
 }
@@ -69,6 +72,7 @@ pub fn judge(link: Link, lent: Lent, marks: usize, work: usize) -> Result<(), Re
 }
 
 // What is lent of a link, in slices of that many bytes and cells.
+// Kept: lengths one by one, since the slices are of two structs.
 pub fn lent_of(bytes: usize, names: usize, symbols: usize, sections: usize, lists: usize) -> Lent
     ensures { result ≡ lent_of bytes names symbols sections lists }
 {
@@ -134,7 +138,8 @@ impl Tables<'_> {
 }
 
 // As `Tables::collect`.
-// Kept: slices one by one, as the exported call (ffi_collect) has them.
+// Kept: slices one by one, as the exported call (ffi_collect) has them; beside plain_collector's, since each collector's own promise stands at its
+// own call.
 pub fn run(
     l: Link,
     bytes: &[u8],

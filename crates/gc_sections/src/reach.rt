@@ -15,6 +15,8 @@ pub const REACHED: u64 = 1;
 
 // Of n sections, work cell i tells whether section i was reached, and cells n and up hold the queue: each that was reached, once. Of sections
 // that are reached but not built the lowest is kept.
+// Kept: places in lent cells and no Box, since the library has no heap and C lends the memory.
+// Kept: that the loans stay is said by each call, since no field's type says which memory it lends.
 #[derive(Drop)]
 pub struct Walker<'a> {
     pub work: &'a mut [u64],

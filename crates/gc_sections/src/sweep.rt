@@ -5,10 +5,10 @@ ghost use Rattle.gc_sections.specs.Sweep.{dropped_now, sweep_sections, purge_sym
 use crate::graph::lead_of;
 use crate::reach::UNREACHED;
 use crate::{Dropped, Tables};
-use link::{Refusal, SectionId, SymbolId};
+use link::{Cause, Refusal, SectionId, SymbolId};
 
 // What a section's work cell holds where this call dropped it.
-// Kept: a number, as the others (reach.rt).
+// Kept: a number, since the cells are lent by C, and the laws read them.
 const DROPPED: u64 = 2;
 
 #[tactic(auto, unfolding(crate::specs::Sweep::dropped_now))]
@@ -47,6 +47,7 @@ impl Tables<'_> {
     }
 
     // Does the symbol lie in a section that this call dropped?
+    // Kept: a match, since the proof does not close over `is_some_and` (tried).
     fn falls(&self, work: &[u64], id: SymbolId) -> bool
         ensures { result ≡ falls_in self.now work.now id }
     {
@@ -94,7 +95,7 @@ impl Tables<'_> {
     {
         match unbuilt {
             None => Ok(self.sweep(work)),
-            Some(id) => Err(Refusal::new(21, id.0)),
+            Some(id) => Err(Refusal::new(Cause::AbsentId, id.0)),
         }
     }
 }

@@ -1,2 +1,2 @@
 pub mod Ways
-pub mod CallWays
+pub mod NewWays

@@ -1,25 +1,12 @@
 // The calls on names: a new table, intern, resolve.
 ghost use Rattle.std.specs.Prelude.{◌≡◌, ◌<◌, ◌≢◌, IfOk, IfErr};
-ghost use Rattle.interner.specs.Names.{store_before, store_of};
-ghost use Rattle.interner.specs.Calls.{lent_of, issued_of, intern_of, resolve_of, clear_heads, left, said};
-ghost use Rattle.interner.specs.Lent.{same_loans, store_in, store_read, resolved_in, reset_exit, ResetMeets};
-ghost use Rattle.interner.specs.Contract.{names_exit, InternMeets, NewNamesMeets, resolve_exit, ResolveMeets};
+ghost use Rattle.link.specs.Judge.{judged, judge_of};
+ghost use Rattle.interner.specs.Calls.{lent, issued_of, clear_heads, left, said};
+ghost use Rattle.interner.specs.Lent.{same_loans, store_in, store_read};
+ghost use Rattle.interner.specs.Contract.{names_exit, InternMeets, new_exit, NewNamesMeets, resolve_exit, ResolveMeets};
 
-use crate::{Names, NamesMut, Outcome};
-use link::{Interned, Lent, Link, Refusal};
-
-fn lent_names(l: Link, bytes: usize, names: usize) -> Lent
-    ensures { result ≡ lent_of l bytes names }
-{
-    Lent {
-        names: names / link::NAME_CELLS,
-        bytes,
-        symbols: link::NOT_LENT,
-        sections: l.slots,
-        inputs: link::NOT_LENT,
-        lists: link::NOT_LENT,
-    }
-}
+use crate::{Names, NamesMut};
+use link::{Cause, Interned, Lent, Link, Refusal};
 
 // No chain has a name.
 #[tactic(auto, unfolding(crate::specs::Calls::clear_heads))]
@@ -31,16 +18,37 @@ fn clear_heads(names: &mut [u64])
 }
 
 impl<'a> Names<'a, '_> {
+    // What a call on names is lent.
+    fn lent(self) -> Lent
+        ensures { result ≡ lent (store_read self.entry) }
+    {
+        Lent {
+            names: self.cells.len() / link::NAME_CELLS,
+            bytes: self.bytes.len(),
+            symbols: link::NOT_LENT,
+            sections: self.link.slots,
+            inputs: link::NOT_LENT,
+            lists: link::NOT_LENT,
+        }
+    }
+
+    // 1 for a count above what is lent.
+    pub fn judge(self) -> Result<(), Refusal>
+        ensures { let s = store_read self.entry in result ≡ judged (judge_of s.link (lent s)) }
+    {
+        self.link.judge(self.lent())
+    }
+
     // The bytes of a name, as that very part of the lent bytes. 1; 23 for an id never issued.
+    #[tactic(auto, unfolding(crate::specs::Calls::resolve_of, link::specs::Judge::judged))]
     pub fn resolve(self, id: Interned) -> Result<&'a [u8], Refusal>
-        ensures answer { resolved_in result ≡ resolve_of (store_read self.entry) id }
+        ensures answer { ResolveMeets (store_read self.entry) id (resolve_exit result) }
         ensures refused { IfErr result (λ r. r.number ≢ 0) }
         ensures place { IfOk result (λ x. x.ref_ptr.0 ≡ self.entry.bytes.ref_ptr.0) }
     {
-        let lent = lent_names(self.link, self.bytes.len(), self.cells.len());
-        self.link.judge(lent)?;
+        self.judge()?;
         if self.link.names <= id.0 {
-            return Err(Refusal::new(23, 0));
+            return Err(Refusal::new(Cause::UnknownGlobalName, 0));
         }
         Ok(crate::name_of(self.bytes, self.cells, id))
     }
@@ -60,92 +68,40 @@ impl NamesMut<'_> {
             return Ok(id);
         }
         if !names.has_room(x.len()) {
-            return Err(Refusal::new(2, 0));
+            return Err(Refusal::new(Cause::NoRoom, 0));
         }
         self.keep_at(id, head, x);
         Ok(id)
     }
 
     // Equal bytes get the same id. 22; 1; then, for a name not issued yet, 2.
+    #[tactic(auto, unfolding(crate::specs::Calls::intern_of, link::specs::Judge::judged))]
     pub fn intern(&mut self, x: &[u8]) -> Result<Interned, Refusal>
         ensures same { same_loans self.old self.new }
-        ensures answer { left (store_in self.new) (said result) ≡ intern_of (store_in self.old) x.now }
+        ensures answer { InternMeets (store_in self.old) x.now (names_exit self.new result) }
     {
-        let lent = lent_names(self.link, self.bytes.len(), self.cells.len());
-        self.link.judge_change(lent)?;
+        self.link.judge_change(self.read().lent())?;
         self.issue(x)
     }
 }
 
 // A link without rows but the empty name, whose id is 0. Whatever the cells held before doesn't matter. Any number is a key of the hash; answers
 // don't depend on it, and who doesn't know it can't choose names that share a chain.
-#[tactic(auto, unfolding(crate::specs::Calls::new_of))]
+#[tactic(auto, using(crate::specs::Proof::NewWays::blank_issued), unfolding(crate::specs::Calls::new_of))]
 pub fn reset(key: usize, bytes: &mut [u8], cells: &mut [u64]) -> Result<Link, Refusal>
-    ensures { ResetMeets key bytes.old cells.old (reset_exit bytes cells result) }
+    ensures reset { NewNamesMeets key bytes.old cells.old (new_exit bytes cells result) }
+    ensures issued { IfOk result (λ l. l.names ≡ 1) }
 {
     let rows = link::name_rows(cells.len());
     if rows == 0 {
-        return Err(Refusal::new(2, 0));
+        return Err(Refusal::new(Cause::NoRoom, 0));
     }
     clear_heads(cells);
     let mut names = NamesMut {
-        link: link::no_names(key, rows),
+        link: Link::no_names(key, rows),
         bytes,
         cells,
     };
     names.keep(Interned(0), b"");
     Ok(names.link)
-}
-
-// ---- the same of loose slices, until their callers have moved
-
-pub fn intern(link: Link, bytes: &mut [u8], cells: &mut [u64], x: &[u8]) -> Outcome
-    ensures { InternMeets (store_before bytes cells link) x.now (names_exit bytes cells result) }
-{
-    let mut names = NamesMut { link, bytes, cells };
-    let answer = names.intern(x);
-    Outcome {
-        link: names.link,
-        answer,
-    }
-}
-
-pub fn new(key: usize, bytes: &mut [u8], names: &mut [u64]) -> Outcome
-    ensures { NewNamesMeets key bytes.old names.old (names_exit bytes names result) }
-{
-    match reset(key, bytes, names) {
-        Ok(link) => Outcome {
-            link,
-            answer: Ok(Interned(0)),
-        },
-        Err(refusal) => Outcome {
-            link: link::no_names(0, 0),
-            answer: Err(refusal),
-        },
-    }
-}
-
-pub fn resolve<'a>(
-    link: Link,
-    bytes: &'a [u8],
-    cells: &[u64],
-    id: Interned,
-    number: &mut u64,
-    place: &mut u64,
-) -> &'a [u8]
-    ensures resolve_meets { ResolveMeets (store_of bytes.now cells.now link) id (resolve_exit result.now number.new place.new) }
-    ensures place { result.ref_ptr.0 ≡ bytes.entry.ref_ptr.0 }
-{
-    match (Names { link, bytes, cells }).resolve(id) {
-        Ok(name) => {
-            *number = 0;
-            *place = 0;
-            name
-        }
-        Err(refusal) => {
-            *number = refusal.number;
-            *place = refusal.place;
-            &bytes[..0]
-        }
-    }
 }

@@ -1,10 +1,10 @@
 // A name issued: whether there is room for it, and its row and bytes.
 ghost use Rattle.std.specs.Prelude.{◌≡◌, ◌<◌};
-ghost use Rattle.interner.specs.Names.{room_of, fits_of, linked, keep_at, keep_of, store_after, store_before, store_of};
+ghost use Rattle.interner.specs.Names.{room_of, fits_of, linked, keep_at, keep_of};
 ghost use Rattle.interner.specs.Lent.{same_loans, store_in, store_read};
 
 use crate::{Names, NamesMut};
-use link::{Interned, Link};
+use link::Interned;
 
 impl Names<'_, '_> {
     // Is there a free row of those that a new table was lent, and are there as many free bytes?
@@ -90,25 +90,4 @@ impl NamesMut<'_> {
         let head = crate::head_cell(self.link, self.cells.len(), x);
         self.keep_at(id, head, x);
     }
-}
-
-// ---- the same of loose slices, until their callers have moved
-
-pub fn fits(l: Link, bytes: &[u8], names: &[u64], id: Interned, len: usize) -> bool
-    ensures { result ≡ fits_of (store_of bytes.now names.now l) id len }
-{
-    let names = Names {
-        link: l,
-        bytes,
-        cells: names,
-    };
-    names.fits(id, len)
-}
-
-pub fn keep(link: Link, bytes: &mut [u8], cells: &mut [u64], id: Interned, x: &[u8]) -> Link
-    ensures { store_after bytes cells result ≡ keep_of (store_before bytes cells link) id x.now }
-{
-    let mut names = NamesMut { link, bytes, cells };
-    names.keep(id, x);
-    names.link
 }

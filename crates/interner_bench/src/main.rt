@@ -3,6 +3,7 @@
 // under that key, and under others.
 #![tactic(auto)]
 
+use interner::NamesMut;
 use link::Link;
 use std::alloc::{AllocError, Global};
 use std::io;
@@ -73,11 +74,13 @@ impl Interner {
     fn filled(alloc: Global, key: usize, names: Names, count: u16) -> Result<Interner, AllocError> {
         let rows = usize::from(count) + 1;
         let mut interner = Interner {
-            link: link::no_names(key, rows),
+            link: Link::no_names(key, rows),
             bytes: vec![in alloc; 0; rows * NAME_BYTES]?,
             names: vec![in alloc; 0; rows * link::NAME_CELLS]?,
         };
-        interner.link = interner::new(key, &mut interner.bytes, &mut interner.names).link;
+        if let Ok(link) = interner::reset(key, &mut interner.bytes, &mut interner.names) {
+            interner.link = link;
+        }
         for n in 0..count {
             interner.intern(&names.name(n));
         }
@@ -85,8 +88,13 @@ impl Interner {
     }
 
     fn intern(&mut self, name: &[u8]) {
-        let issued = interner::intern(self.link, &mut self.bytes, &mut self.names, name);
-        self.link = issued.link;
+        let mut names = NamesMut {
+            link: self.link,
+            bytes: &mut self.bytes,
+            cells: &mut self.names,
+        };
+        let _ = names.intern(name);
+        self.link = names.link;
     }
 
     // How many names stand in the chain of the head.

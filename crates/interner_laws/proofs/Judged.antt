@@ -4,7 +4,7 @@ use Rattle.std.specs.Prelude.{ℕ, ◌/◌, ◌≤◌, ◌≡◌, refl, false, L
 use Rattle.std.proofs.Common.{arith, ap, sym, ◌∙◌}
 use borrow.Author.Tests.{lt-ltb}
 use Rattle.link.specs.declared.Link.{Link}
-use Rattle.link.specs.declared.Refusal.{Refusal}
+use Rattle.link.specs.declared.cause.Refusal.{Refusal}
 use Rattle.link.specs.Judge.{none, refused, judge_sections, judge_names, judge_lists, judge_of, change_of}
 use Rattle.link.specs.Said.{accepted, refusing}
 use Rattle.link.specs.Proof.Ways.{lesser-first, sections-fine, names-fine, lists-fine, over-rest, change-judged}

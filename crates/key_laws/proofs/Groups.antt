@@ -6,7 +6,7 @@ use Rattle.std.proofs.Math.Path.{◌≡◌, ap, subst}
 use Rattle.std.specs.Prelude.{refl, true, cond, List, eqb, ltb, leb, length, get_or}
 use Rattle.std.proofs.Math.ListN.{set}
 use Rattle.cells.specs.Proof.Split.{by-test}
-use Rattle.link.specs.declared.Stage.{Stage}
+use Rattle.link.specs.Stage.{Stage}
 use Rattle.link.specs.declared.Interned.{Interned}
 use Rattle.link.specs.Judge.{stopped_of}
 use Rattle.strings.specs.Lookup.{Looked}

@@ -27,7 +27,7 @@ use Rattle.cells.specs.Search.{any_from}
 use Rattle.shared_objects.specs.Need as Need
 use Rattle.shared_objects.specs.Need.{Judged, clear_named, clear_mark, clear_from, clear_all, mark_all, wanted_in, name_wanted, symbol_wanted, some_wanted, marked_of, need_of, judged_as}
 use Rattle.shared_objects.specs.Record.{Recorded, recorded_of, record_fits, recorded, keep_name, record_as, record_of, dependency_of, dependencies_from, dependencies_of}
-use Rattle.shared_objects.specs.declared.symbols.Definition.{Definition}
+use Rattle.shared_objects.specs.Define.{Definition}
 use Rattle.shared_objects.specs.Define.{judged_of, rowed_of, external_of, plan_of, Added, added_of, tabled, accept_of, with_row, kept_of, commit_of, view, define_of}
 use Rattle.shared_objects.specs.SymbolsLoad.{State, state_of, with_added, with_recorded, staged, library_symbol_named, looked_of, symbol_of, symbols_from, symbols_of}
 use Rattle.shared_objects.specs.Stages as Stages

@@ -8,7 +8,7 @@ use Rattle.std.proofs.Math.Path.{refl, ap}
 use Rattle.std.proofs.Common.{◌∙◌, eqb-true}
 use Rattle.cells.specs.Proof.Split.{by-test}
 use Rattle.link.specs.declared.Link.{Link}
-use Rattle.link.specs.declared.Refusal.{Refusal}
+use Rattle.link.specs.declared.cause.Refusal.{Refusal}
 use Rattle.interner.specs.Names.{Store}
 use Rattle.sections.specs.Rows.{first_at, count_at, is_built, name_id_at}
 use Rattle.gc_sections.specs.Each.{each}

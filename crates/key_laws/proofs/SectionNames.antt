@@ -18,7 +18,7 @@ use Rattle.interner_laws.specs.Good.{find}
 use Rattle.interner_laws.proofs.Find.{find-low}
 use Rattle.interner_laws.proofs.Interns.{id_of, keeps}
 use Rattle.symbol.specs.declared.Row.{Row}
-use Rattle.symbol_resolution.specs.declared.rows.Decision.{Decision}
+use Rattle.symbol_resolution.specs.Decision.{Decision}
 use Rattle.symbol_resolution.specs.Decide.{section_cell, refusal_of}
 use Rattle.symbol_resolution.specs.Apply.{Table, table_of, set_section_symbol, note_section, append_of, apply_of}
 use Rattle.symbol_resolution.specs.Proof.Outcomes.{decision-left}

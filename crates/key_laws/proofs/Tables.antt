@@ -27,8 +27,7 @@ use Rattle.upcoming_symbol.specs.declared.UpcomingSymbol.TheVariants.{Null, Glob
 use Rattle.upcoming_symbol.specs.Upcoming.{name_of, row_of, elf_row_of, external_row_of}
 use Rattle.symbol_resolution.specs.declared.rows.Holder.{Holder}
 use Rattle.symbol_resolution.specs.declared.rows.Holder.TheVariants.{Unissued}
-use Rattle.symbol_resolution.specs.declared.rows.Decision.{Decision}
-use Rattle.symbol_resolution.specs.declared.rows.Decision.TheVariants.{Refuse, Nothing, Keep, Append, Replace, Amend}
+use Rattle.symbol_resolution.specs.Decision.{Decision, Refuse, Nothing, Keep, Append, Replace, Amend}
 use Rattle.symbol_resolution.specs.Holder.{holder_of}
 use Rattle.symbol_resolution.specs.Decide as Rows
 use Rattle.symbol_resolution.specs.Decide.{section_cell, decide_of, refusal_of}

@@ -52,6 +52,7 @@ fn point(key: usize, base: usize) -> usize
 }
 
 // A word whose bytes are all there, read at once.
+// Kept: as byte_slices' own, which isn't public, since it asks that they are there; `word_at`, which asks nothing, would test it for each word.
 #[tactic(auto, unfolding(byte_slices::specs::Bytes::word_at))]
 fn whole_word(x: &[u8], i: usize) -> usize
     requires { i + 3 < length x.now }
@@ -82,6 +83,7 @@ pub fn hash(key: usize, x: &[u8]) -> usize
     let r = point(key, BASE_POINT);
     let mut h = x.len() % HASH_BOUND;
     let words = x.len() / WORD_BYTES;
+    // Kept: words by their places and no chunks, since the hash is defined over places, and the last word is read by its place too.
     for k in 0..words {
         h = mixed(r, h, whole_word(x, k * WORD_BYTES));
     }

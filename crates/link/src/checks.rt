@@ -1,19 +1,8 @@
 // The first checks of every call: 22 on a broken link, 1 for a count above what is lent.
 ghost use Rattle.std.specs.Prelude.{◌≡◌};
-ghost use Rattle.link.specs.Judge.{refused, judged, within, judge_sections, judge_names, judge_lists, judge_of, change_of};
+ghost use Rattle.link.specs.Judge.{judged, within, judge_sections, judge_names, judge_lists, judge_of, change_of};
 
-use crate::{Lent, Link, Refusal};
-
-impl Refusal {
-    pub fn new(number: u64, place: usize) -> Refusal
-        ensures { result ≡ refused number place }
-    {
-        Refusal {
-            number,
-            place: place as u64,
-        }
-    }
-}
+use crate::{Cause, Lent, Link, Refusal};
 
 // A count above its bound gives 1 at the first row past it.
 #[tactic(auto, unfolding(crate::specs::Judge::judged))]
@@ -21,7 +10,7 @@ fn within(count: usize, most: usize) -> Result<(), Refusal>
     ensures { result ≡ judged (within count most) }
 {
     if most < count {
-        return Err(Refusal::new(1, most));
+        return Err(Refusal::new(Cause::OutOfRange, most));
     }
     Ok(())
 }
@@ -66,7 +55,7 @@ impl Link {
         ensures { result ≡ judged (change_of self lent) }
     {
         if self.broken {
-            return Err(Refusal::new(22, 0));
+            return Err(Refusal::new(Cause::BrokenLink, 0));
         }
         self.judge(lent)
     }

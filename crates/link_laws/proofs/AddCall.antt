@@ -6,7 +6,7 @@ use Rattle.std.proofs.Common.{arith, ◌∙◌, eq-eqb}
 use Rattle.std.proofs.Math.Path.{◌≡◌, sym, ap}
 use Rattle.cells.specs.Proof.Split.{by-test}
 use Rattle.byte_slices.specs.Proof.Ways.{pick}
-use Rattle.link.specs.declared.Refusal.{Refusal}
+use Rattle.link.specs.declared.cause.Refusal.{Refusal}
 use Rattle.link.specs.Bounds.{not_lent, name_rows, name_bytes, section_slots}
 use Rattle.link.specs.Judge.{none, judge_sections, judge_names, judge_lists, change_of}
 use Rattle.link.specs.Judge as Link
@@ -15,7 +15,7 @@ use Rattle.link.specs.Said.{number_in}
 use Rattle.symbol.specs.declared.Row.{Row}
 use Rattle.symbol.specs.Row.{scope_refused}
 use Rattle.symbol_resolution.specs.declared.rows.Holder.TheVariants.{Unissued}
-use Rattle.symbol_resolution.specs.declared.rows.Decision.{Decision}
+use Rattle.symbol_resolution.specs.Decision.{Decision}
 use Rattle.symbol_resolution.specs.Decide.{refusal_of}
 use Rattle.symbol_resolution.specs.Proof.Outcomes.{name-absent}
 use Rattle.symbol_resolution.specs.Apply.{Table}

@@ -9,7 +9,7 @@ use Rattle.cells.specs.Proof.Split.{by-test}
 use Rattle.link.specs.declared.Link.{Link}
 use Rattle.link.specs.declared.Interned.{Interned}
 use Rattle.link.specs.declared.SymbolId.{SymbolId}
-use Rattle.link.specs.declared.Refusal.{Refusal}
+use Rattle.link.specs.declared.cause.Refusal.{Refusal}
 use Rattle.link.specs.Bounds.{lesser}
 use Rattle.link.specs.Judge.{refused, change_of}
 use Rattle.symbol.specs.declared.Words.{Words}
@@ -28,7 +28,7 @@ use Rattle.upcoming_symbol.specs.Upcoming as Row
 use Rattle.upcoming_symbol.specs.Upcoming.{in_section, conversion_from, converted_of, undefined_of, value_of, elf_row_of, library_code, external_row_of, name_of}
 use Rattle.symbol_resolution.specs.declared.rows.Holder.{Holder}
 use Rattle.symbol_resolution.specs.declared.rows.Holder.TheVariants.{Unissued, Nobody, Removed, Known}
-use Rattle.symbol_resolution.specs.declared.rows.Decision.{Decision}
+use Rattle.symbol_resolution.specs.Decision.{Decision}
 use Rattle.symbol_resolution.specs.Holder.{holder_of}
 use Rattle.symbol_resolution.specs.Decide.{weak_of, reference_rank, rank_of, type_refusal, section_cell, section_room, room_of, decide_of, refusal_of}
 use Rattle.symbol_resolution.specs.Proof.Outcomes.{absent_under, fresh_under, is_local_row, row_rank, Meets, held_rank, hides, scope-refused, name-absent, new-unvalued, new-untyped, new-full, new-appended, known-unvalued, known-untyped, known-replaced, known_twice, known_kept, known-amended}

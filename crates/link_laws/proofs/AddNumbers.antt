@@ -22,7 +22,7 @@ use Rattle.upcoming_symbol.specs.declared.Conversion.{Conversion}
 use Rattle.upcoming_symbol.specs.declared.Conversion.TheVariants as To
 use Rattle.upcoming_symbol.specs.Upcoming.{in_section, conversion_from, converted_of, undefined_of, value_of, elf_row_of, external_row_of, row_of}
 use Rattle.symbol_resolution.specs.declared.rows.Holder.{Holder}
-use Rattle.symbol_resolution.specs.declared.rows.Decision.{Decision}
+use Rattle.symbol_resolution.specs.Decision.{Decision}
 use Rattle.symbol_resolution.specs.Decide.{type_refusal, decide_of, refusal_of}
 use Rattle.symbol_resolution.specs.Proof.Outcomes.{decision-number}
 use Rattle.symbol_laws.proofs.Standing.{library-holds}

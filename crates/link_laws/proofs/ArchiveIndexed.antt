@@ -8,7 +8,7 @@ use Rattle.std.proofs.lemmas.Bool.{false≢true}
 use borrow.Author.Tests.{eqb-true, eqb-false, eq-eqb}
 use Rattle.cells.specs.Proof.Split.{by-test}
 use Rattle.gabi.specs.StringTable.{ended, name_at}
-use Rattle.link.specs.declared.Refusal.{Refusal}
+use Rattle.link.specs.declared.cause.Refusal.{Refusal}
 use Rattle.archive_index.specs.Index.{count_of, after_of, place_of, name_of}
 use Rattle.archive_index.specs.Open.{open_of}
 use Rattle.archive_walk.specs.Look.{Table}

@@ -3,7 +3,7 @@
 use Rattle.std.specs.Prelude.{ℕ, ◌/◌, refl, Bool, true, false, List, eqb, ltb, length, Result}
 use Rattle.byte_slices.specs.Proof.Ways.{pick}
 use Rattle.link.specs.declared.Link.{Link}
-use Rattle.link.specs.declared.Refusal.{Refusal}
+use Rattle.link.specs.declared.cause.Refusal.{Refusal}
 use Rattle.link.specs.Proof.Passed.{judge-gives}
 use Rattle.elf_object.specs.Judge as Elf
 use Rattle.archive_index.specs.Open.{Opened}

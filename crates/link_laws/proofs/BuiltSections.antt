@@ -1,6 +1,6 @@
 -- A section that a merge built, in a history: its row and what it names stay, through all calls but a collection that doesn't reach it.
 -- Assumes nothing.
-use Rattle.link.specs.declared.Refusal.{Refusal}
+use Rattle.link.specs.declared.cause.Refusal.{Refusal}
 use Rattle.gc_sections.specs.declared.Dropped.{Dropped}
 use Rattle.link.specs.declared.SymbolId.{SymbolId}
 use Rattle.std.specs.Prelude.{ℕ, ◌+◌, ◌*◌, ◌<◌, ◌≤◌, ◌≡◌, refl, List, [], ◌∷◌, ◌++◌, Option, Result, Ok, Err}

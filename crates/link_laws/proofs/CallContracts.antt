@@ -5,11 +5,11 @@ use Rattle.std.proofs.Common.{sym, ap, ◌∙◌}
 use Rattle.strings.specs.Lookup.{Looked}
 use Rattle.strings.specs.Contract.{StringExit, StringMeets, EndedMeets}
 use Rattle.link.specs.declared.Link.{Link}
-use Rattle.interner.specs.declared.Outcome as Interner
+use Rattle.interner.specs.Outcome as Interner
 use Rattle.interner.specs.Calls as Names
 use Rattle.interner.specs.Contract.{ResolveExit, NewNamesMeets}
 use Rattle.interner.specs.Contract as Interning
-use Rattle.symbols.specs.declared.Outcome as Symbols
+use Rattle.symbols.specs.Outcome as Symbols
 use Rattle.symbols.specs.Calls as Calls
 use Rattle.symbols.specs.New.{NewLeft, new_outcome}
 use Rattle.symbols.specs.Remove.{RemoveLeft, remove_outcome}
@@ -34,7 +34,7 @@ use Rattle.link_laws.specs.Calls.{Call, intern, add, remove, add_group, merge, m
 use Rattle.link_laws.proofs.OneOutcome.{names-answer, symbols-answer}
 use Rattle.add_list.specs.Contract.{ListExit, listed}
 use Rattle.add_list.specs.AddList.{ListLeft}
-use Rattle.add_list.specs.declared.Listed.{Listed}
+use Rattle.add_list.specs.Listed.{Listed}
 use Rattle.link_laws.specs.CallContracts.{Exit, FileExit, LoadExit, Meets, MergeExit, add_exit, collect_exit, exit_of_list, group_exit, intern_exit, load_exit, merge_exit, new_exit, remove_exit, seen}
 
 -- so all that is proved of `callLeft` is proved of every exit that meets the contract

@@ -16,7 +16,7 @@ use Rattle.link.specs.declared.Link.{Link}
 use Rattle.link.specs.declared.Lent.{Lent}
 use Rattle.link.specs.declared.Interned.{Interned}
 use Rattle.link.specs.declared.SymbolId.{SymbolId}
-use Rattle.link.specs.declared.Refusal.{Refusal}
+use Rattle.link.specs.declared.cause.Refusal.{Refusal}
 use Rattle.link.specs.Bounds.{section_slots, name_rows}
 use Rattle.link.specs.Judge.{refused, change_of}
 use Rattle.link.specs.Judge as Link
@@ -35,7 +35,7 @@ use Rattle.upcoming_symbol.specs.declared.UpcomingSymbol.TheVariants as Upcoming
 use Rattle.upcoming_symbol.specs.Judge.{in_range}
 use Rattle.upcoming_symbol.specs.Upcoming.{name_of, external_row_of, elf_row_of, row_of}
 use Rattle.symbol.specs.declared.Row.{Row}
-use Rattle.symbol_resolution.specs.declared.rows.Decision.{Decision}
+use Rattle.symbol_resolution.specs.Decision.{Decision}
 use Rattle.symbol_resolution.specs.Decide.{refusal_of}
 use Rattle.symbol_resolution.specs.Apply as SymbolRows
 use Rattle.symbols.specs.Calls as Symbols
@@ -60,10 +60,10 @@ use Rattle.section_groups.specs.Group as Group
 use Rattle.section_groups.specs.Group.{group_of, group_section_of, go}
 use Rattle.section_groups.specs.AddGroup as AddGroup
 use Rattle.section_groups.specs.AddGroup.{answer_of, loaded_in, add_group_of}
-use Rattle.link.specs.declared.Stage.{Stage}
+use Rattle.link.specs.Stage.{Stage}
 use Rattle.gc_sections.specs.Reach as Reach
 use Rattle.gc_sections.specs.Run as Collection
-use Rattle.gc_sections.specs.Run.{judge_cells, judged, purge_of, sweep_of, finish_of, finished, collect_of, run_of, dropped}
+use Rattle.gc_sections.specs.Run.{judge_cells, judged, purge_of, sweep_of, finish_of, finished, collect_of, run_of}
 use Rattle.elf_object.specs.Judge.{first_bad}
 use Rattle.gc_laws.proofs.Terms as DemandLaws
 use Rattle.symbol_laws.specs.History.{State, store, table}

@@ -13,7 +13,7 @@ use Rattle.std.proofs.Math.ListN.{length}
 use borrow.Author.Tests.{eqb-true, eq-eqb, ltb-true, ltb-false, lt-ltb, ne_eqb, not-true}
 use Rattle.cells.specs.Proof.Split.{by-test}
 use Rattle.byte_slices.specs.Bytes.{same}
-use Rattle.link.specs.declared.Refusal.{Refusal}
+use Rattle.link.specs.declared.cause.Refusal.{Refusal}
 use Rattle.link.specs.Judge.{refused}
 use Rattle.sections.specs.Rows as Sections
 use Rattle.gc_sections.specs.Reach as Reach

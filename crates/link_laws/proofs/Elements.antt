@@ -7,7 +7,7 @@ use Rattle.std.proofs.lemmas.Bool.{false≢true, eqb-false}
 use Rattle.cells.specs.Proof.Split.{by-test}
 use Rattle.strings.specs.Lookup.{Looked}
 use Rattle.link.specs.declared.Interned.{Interned}
-use Rattle.link.specs.declared.Refusal.{Refusal}
+use Rattle.link.specs.declared.cause.Refusal.{Refusal}
 use Rattle.link.specs.Judge.{refused, broken_of}
 use Rattle.link.specs.Said.{number_in, place_in}
 use Rattle.merge_symbols.specs.Plan.{place_of}

@@ -3,7 +3,7 @@
 -- Assumes nothing.
 use Rattle.std.specs.Prelude.{ℕ, ◌≡◌, Bool, not, List, [], ◌∷◌, ◌++◌, eqb}
 use Rattle.std.proofs.Common.{ap, ◌∙◌}
-use Rattle.link.specs.declared.Refusal.{Refusal}
+use Rattle.link.specs.declared.cause.Refusal.{Refusal}
 use Rattle.link.specs.Said.{number_in}
 use Rattle.symbols.specs.New.{new_of}
 use Rattle.symbol_laws.specs.History.{opened}

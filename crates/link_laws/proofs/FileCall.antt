@@ -4,7 +4,7 @@ use Rattle.std.specs.Prelude.{ℕ, ◌≡◌, refl, Bool, true, false, cond, Lis
 use Rattle.std.proofs.Common.{sym, ap, subst}
 use Rattle.cells.specs.Proof.Split.{by-test}
 use Rattle.byte_slices.specs.Proof.Ways.{pick}
-use Rattle.link.specs.declared.Refusal.{Refusal}
+use Rattle.link.specs.declared.cause.Refusal.{Refusal}
 use Rattle.link.specs.Judge.{refused}
 use Rattle.elf_file.specs.Check.{is_object, headers_fit, bad_table, file_refusal}
 use Rattle.gabi.specs.File.{e_shoff, section_count, header_table}

@@ -7,7 +7,7 @@ use Rattle.std.proofs.Math.Path.{ap}
 use borrow.Author.Tests.{eqb-true, eqb-false, ltb-true, ltb-false}
 use Rattle.cells.specs.Proof.Split.{by-test}
 use Rattle.byte_slices.specs.Proof.Ways.{pick}
-use Rattle.link.specs.declared.Refusal.{Refusal}
+use Rattle.link.specs.declared.cause.Refusal.{Refusal}
 use Rattle.elf_object.specs.Rows.{rows_in}
 use Rattle.elf_object.specs.Judge.{first_bad, header_ok, entry_ok, bad_header, bad_entry}
 use Rattle.elf_object.specs.Judge as Elf

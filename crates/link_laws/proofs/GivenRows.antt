@@ -22,7 +22,7 @@ use Rattle.symbol.specs.declared.Row.{Row}
 use Rattle.symbol.specs.Codes.{successor}
 use Rattle.symbol.specs.Row.{state_at, visibility_code_at, symbol_at}
 use Rattle.symbol_resolution.specs.declared.rows.Holder.TheVariants.{Removed, Known}
-use Rattle.symbol_resolution.specs.declared.rows.Decision.{Decision}
+use Rattle.symbol_resolution.specs.Decision.{Decision}
 use Rattle.symbol_resolution.specs.Holder.{global_at, held_by, holder_of}
 use Rattle.symbol_resolution.specs.Decide.{refusal_of}
 use Rattle.symbol_resolution.specs.Apply.{note_name, append_of, apply_of}

@@ -8,7 +8,7 @@ use borrow.Author.Tests.{eqb-true, eqb-false, eq-eqb, ne_eqb, le-leb}
 use Rattle.cells.specs.Proof.Split.{by-test}
 use Rattle.gabi.specs.StringTable.{among}
 use Rattle.gabi.specs.Groups as Gabi
-use Rattle.link.specs.declared.Stage.{Stage}
+use Rattle.link.specs.Stage.{Stage}
 use Rattle.link.specs.Judge.{refused}
 use Rattle.elf_object.specs.Rows.{comdat_at, link_at, info_at, first_at, count_at, is_loaded}
 use Rattle.section_groups.specs.Group as Group

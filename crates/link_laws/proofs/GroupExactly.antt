@@ -4,8 +4,8 @@ use Rattle.std.specs.Prelude.{ℕ, ◌/◌, ◌≡◌, Bool, true, not, cond, Li
 use Rattle.std.proofs.Math.Path.{refl, ap}
 use Rattle.std.proofs.Common.{sym, ◌∙◌}
 use Rattle.cells.specs.Proof.Split.{by-test}
-use Rattle.link.specs.declared.Refusal.{Refusal}
-use Rattle.link.specs.declared.Stage.{Stage}
+use Rattle.link.specs.declared.cause.Refusal.{Refusal}
+use Rattle.link.specs.Stage.{Stage}
 use Rattle.link.specs.Judge.{refused, change_of, going_of}
 use Rattle.elf_object.specs.Rows as Elf
 use Rattle.elf_object.specs.Judge as Object

@@ -1,6 +1,6 @@
 -- "A collection that drops nothing removes nothing": it leaves the link as it was. So does a refused one.
 -- Assumes nothing.
-use Rattle.link.specs.declared.Refusal.{Refusal}
+use Rattle.link.specs.declared.cause.Refusal.{Refusal}
 use Rattle.gc_sections.specs.declared.Dropped.{Dropped}
 use Rattle.link.specs.declared.SectionId.{SectionId}
 use Rattle.link.specs.declared.SymbolId.{SymbolId}
@@ -18,7 +18,7 @@ use Rattle.gc_sections.specs.Each.{each}
 use Rattle.gc_sections.specs.Roots.{symbol_id, lead_of}
 use Rattle.gc_sections.specs.Reach.{Walk, walked}
 use Rattle.gc_sections.specs.Sweep.{Swept, swept_of, Purged, purged_of, drop_unreached, dropped_now, purge_lead, purge_symbol, sweep_sections, purge_symbols}
-use Rattle.gc_sections.specs.Run.{Left, Lists, number_of, judged, purge_of, sweep_of, finish_of, finished, collect_of, run_of, dropped}
+use Rattle.gc_sections.specs.Run.{Left, Lists, number_of, judged, purge_of, sweep_of, finish_of, finished, collect_of, run_of}
 use Rattle.symbol_laws.specs.History.{with_rows}
 use Rattle.merge_laws.specs.Calls.{Linked, linked}
 use Rattle.link_laws.specs.Calls.{Drops, collect, plain_collect, lists_in, call_left, call_next, Removes}

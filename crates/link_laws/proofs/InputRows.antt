@@ -9,7 +9,7 @@ use Rattle.cells.specs.Proof.Split.{by-test}
 use Rattle.cells.specs.Proof.Rows.{row_same}
 use Rattle.link.specs.declared.Link.{Link}
 use Rattle.link.specs.declared.Interned.{Interned}
-use Rattle.link.specs.declared.Stage.{Stage}
+use Rattle.link.specs.Stage.{Stage}
 use Rattle.link.specs.Bounds.{input_rows}
 use Rattle.link.specs.Judge.{refused, going_of, broken_of}
 use Rattle.strings.specs.Lookup.{Looked}

@@ -9,8 +9,8 @@ use Rattle.std.proofs.lemmas.Bool.{eqb-false}
 use Rattle.cells.specs.Proof.Split.{by-test}
 use Rattle.byte_slices.specs.Proof.Ways.{pick, apart}
 use Rattle.link.specs.Said.{number_in}
-use Rattle.link.specs.declared.Refusal.{Refusal}
-use Rattle.link.specs.declared.Stage.{Stage}
+use Rattle.link.specs.declared.cause.Refusal.{Refusal}
+use Rattle.link.specs.Stage.{Stage}
 use Rattle.section_groups.specs.Group as Group
 use Rattle.section_groups.specs.Group.{group_of, group_section_of, go}
 use Rattle.section_groups.specs.AddGroup as AddGroup

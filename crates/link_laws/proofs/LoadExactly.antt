@@ -7,7 +7,7 @@ use Rattle.std.proofs.Math.Bool.{true, false, cond, not}
 use Rattle.std.proofs.lemmas.Bool.{false≢true}
 use Rattle.cells.specs.Proof.Split.{by-test}
 use Rattle.gabi.specs.StringTable.{has_name, name_at}
-use Rattle.link.specs.declared.Refusal.{Refusal}
+use Rattle.link.specs.declared.cause.Refusal.{Refusal}
 use Rattle.link.specs.Counts.{lent_of}
 use Rattle.link.specs.Judge.{refused, going_of}
 use Rattle.interner.specs.Names.{find_of, fits_of}
@@ -23,7 +23,7 @@ use Rattle.shared_objects.specs.Head as Head
 use Rattle.shared_objects.specs.Head.{dependencies_ok, bad_need, soname_missing, rows_of, unnamed_of, marks_short, name_refusal, after_rows}
 use Rattle.shared_objects.specs.Record as Lists
 use Rattle.shared_objects.specs.Record.{record_fits, record_as, record_of, keep_name, dependency_of, dependencies_from, dependencies_of}
-use Rattle.shared_objects.specs.declared.symbols.Definition.{Definition}
+use Rattle.shared_objects.specs.Define.{Definition}
 use Rattle.shared_objects.specs.Define as Define
 use Rattle.shared_objects.specs.Define.{Added, judged_of, rowed_of, external_of, plan_of, accept_of, commit_of, define_of, view}
 use Rattle.shared_objects.specs.SymbolsLoad as Symbols

@@ -6,15 +6,15 @@ use Rattle.strings.specs.Lookup.{look_up}
 use Rattle.link.specs.declared.Link.{Link}
 use Rattle.link.specs.declared.Lent.{Lent}
 use Rattle.link.specs.declared.Interned.{Interned}
-use Rattle.link.specs.declared.Refusal.{Refusal}
-use Rattle.link.specs.declared.Stage.{Stage}
+use Rattle.link.specs.declared.cause.Refusal.{Refusal}
+use Rattle.link.specs.Stage.{Stage}
 use Rattle.link.specs.Bounds.{input_rows}
 use Rattle.link.specs.Judge.{refused, none, change_of}
 use Rattle.link.specs.Said.{number_in}
 use Rattle.link.specs.Counts.{lent_of}
 use Rattle.interner.specs.Names.{store_of, find_of, fits_of}
 use Rattle.upcoming_symbol.specs.Upcoming.{external_row_of}
-use Rattle.symbol_resolution.specs.declared.rows.Decision.{Decision}
+use Rattle.symbol_resolution.specs.Decision.{Decision}
 use Rattle.symbol_resolution.specs.Holder.{holder_of}
 use Rattle.symbol_resolution.specs.Decide.{refusal_of}
 use Rattle.elf_object.specs.Rows.{rows_in, field}
@@ -22,7 +22,7 @@ use Rattle.elf_object.specs.Judge.{bad_entry}
 use Rattle.merge_symbols.specs.Plan.{View}
 use Rattle.shared_objects.specs.Head.{bad_need, soname_missing, rows_of, unnamed_of, marks_short, name_refusal, after_rows, check_of}
 use Rattle.shared_objects.specs.Record.{Recorded, record_fits, keep_name, record_as, record_of, dependency_of, dependencies_of}
-use Rattle.shared_objects.specs.declared.symbols.Definition.{Definition}
+use Rattle.shared_objects.specs.Define.{Definition}
 use Rattle.shared_objects.specs.Define.{Added, judged_of, rowed_of, external_of, plan_of, accept_of, kept_of, commit_of, view, define_of}
 use Rattle.shared_objects.specs.SymbolsLoad.{State, library_symbol_named, looked_of, symbol_of, symbols_of}
 use Rattle.shared_objects.specs.declared.Outcome.{Outcome}

@@ -1,7 +1,6 @@
 -- Theorems over specs/LocalRows.antt.
 -- Assumes nothing.
-use Rattle.gc_sections.specs.Run.{dropped}
-use Rattle.link.specs.declared.Refusal.{Refusal}
+use Rattle.link.specs.declared.cause.Refusal.{Refusal}
 use Rattle.gc_sections.specs.declared.Dropped.{Dropped}
 use Rattle.std.specs.Prelude.{ℕ, ◌+◌, ◌-◌, ◌*◌, ◌≤◌, ◌<◌, ◌≡◌, Bool, true, false, List, [], ◌∷◌, ◌++◌, ◌≢◌, eqb, leb, ltb, length, set, take, drop, Option, Result, None, Ok, Err}
 use Rattle.std.proofs.Common.{arith, le_refl, le_trans, sym, ◌∙◌, length-set, get_or-set_same, get_or-set_other, length-take-le, get_or-append-add, get_or-drop}
@@ -21,8 +20,7 @@ use Rattle.symbol.specs.Codes.{successor}
 use Rattle.symbol.specs.Row.{field, state_at, visibility_code_at, set_row}
 use Rattle.symbol.specs.Hidden.{hide_code, passes, hide_if, pass_hidden}
 use Rattle.symbol_laws.proofs.Standing.{pass-none}
-use Rattle.symbol_resolution.specs.declared.rows.Decision.{Decision}
-use Rattle.symbol_resolution.specs.declared.rows.Decision.TheVariants.{Refuse, Append, Replace, Amend}
+use Rattle.symbol_resolution.specs.Decision.{Decision, Refuse, Append, Replace, Amend}
 use Rattle.symbol_resolution.specs.Holder.{global_at}
 use Rattle.symbol_resolution.specs.Decide.{refusal_of, section_cell, section_room}
 use Rattle.symbol_resolution.specs.Proof.Outcomes.{appended-room}

@@ -1,7 +1,6 @@
 -- Lookups over a history: what a symbol's id and a name's bytes give, and that what is removed is never found again.
 -- Assumes nothing.
-use Rattle.gc_sections.specs.Run.{dropped}
-use Rattle.link.specs.declared.Refusal.{Refusal}
+use Rattle.link.specs.declared.cause.Refusal.{Refusal}
 use Rattle.gc_sections.specs.declared.Dropped.{Dropped}
 use Rattle.std.specs.Prelude.{ℕ, ◌+◌, ◌*◌, ◌/◌, ◌≤◌, ◌<◌, refl, Bool, List, [], ◌∷◌, ◌++◌, ◌≢◌, eqb, leb, length, Option, Result, Ok, Err}
 use Rattle.std.proofs.Common.{arith, le_refl, le_trans, sym, ap, subst, ◌∙◌, append-nil, get_or-set_same}

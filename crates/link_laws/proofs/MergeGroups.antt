@@ -4,7 +4,7 @@ use Rattle.std.specs.Prelude.{ℕ, ◌+◌, ◌/◌, ◌%◌, ◌≡◌, true, c
 use Rattle.std.proofs.Common.{sym, ◌∙◌, subst, eq-eqb}
 use Rattle.std.proofs.Math.Path.{ap}
 use Rattle.cells.specs.Proof.Split.{by-test}
-use Rattle.link.specs.declared.Refusal.{Refusal}
+use Rattle.link.specs.declared.cause.Refusal.{Refusal}
 use Rattle.link.specs.Judge.{refused}
 use Rattle.interner.specs.Names.{find_of}
 use Rattle.interner_laws.specs.Good.{Chained}

@@ -6,7 +6,7 @@ use Rattle.std.proofs.Common.{sym, eqb-true, eq-eqb, ne_eqb}
 use Rattle.std.proofs.lemmas.Bool.{eqb-false}
 use Rattle.cells.specs.Proof.Split.{by-test}
 use Rattle.link.specs.declared.Link.{Link}
-use Rattle.link.specs.declared.Refusal.{Refusal}
+use Rattle.link.specs.declared.cause.Refusal.{Refusal}
 use Rattle.link.specs.Judge.{refused, change_of}
 use Rattle.elf_object.specs.Judge as Object
 use Rattle.section_groups.specs.Filter.{symbol_ok, filter_of}

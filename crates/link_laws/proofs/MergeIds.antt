@@ -15,8 +15,7 @@ use Rattle.interner.specs.Names.{store_of, find_of, fits_of, keep_of}
 use Rattle.symbol.specs.declared.Row.{Row}
 use Rattle.upcoming_symbol.specs.declared.ElfSymbol.{ElfSymbol}
 use Rattle.upcoming_symbol.specs.Upcoming.{conversion_from, elf_row_of}
-use Rattle.symbol_resolution.specs.declared.rows.Decision.{Decision}
-use Rattle.symbol_resolution.specs.declared.rows.Decision.TheVariants.{Nothing, Keep}
+use Rattle.symbol_resolution.specs.Decision.{Decision, Nothing, Keep}
 use Rattle.symbol_resolution.specs.declared.rows.Holder.{Holder}
 use Rattle.symbol_resolution.specs.Holder.{holder_of}
 use Rattle.symbol_resolution.specs.Decide as Decide

@@ -7,7 +7,7 @@ use Rattle.std.proofs.lemmas.Bool.{false≢true, eqb-false}
 use Rattle.cells.specs.Proof.Split.{by-test}
 use Rattle.byte_slices.specs.Bytes.{same}
 use Rattle.byte_slices.specs.Proof.Ways.{same_refl, same_true}
-use Rattle.link.specs.declared.Refusal.{Refusal}
+use Rattle.link.specs.declared.cause.Refusal.{Refusal}
 use Rattle.link.specs.Judge.{refused}
 use Rattle.interner.specs.Names.{find_of, fits_of}
 use Rattle.interner_laws.specs.Good.{Chained}
@@ -15,8 +15,7 @@ use Rattle.interner_laws.proofs.Find.{found, find-low}
 use Rattle.symbol.specs.declared.Row.{Row}
 use Rattle.upcoming_symbol.specs.declared.ElfSymbol.{ElfSymbol}
 use Rattle.upcoming_symbol.specs.Upcoming.{conversion_from, elf_row_of}
-use Rattle.symbol_resolution.specs.declared.rows.Decision.{Decision}
-use Rattle.symbol_resolution.specs.declared.rows.Decision.TheVariants.{Nothing, Keep}
+use Rattle.symbol_resolution.specs.Decision.{Decision, Nothing, Keep}
 use Rattle.symbol_resolution.specs.Holder.{holder_of}
 use Rattle.symbol_resolution.specs.Decide as Decide
 use Rattle.symbol_resolution.specs.Decide.{decide_of}

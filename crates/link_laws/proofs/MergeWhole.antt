@@ -5,7 +5,7 @@ use Rattle.std.proofs.Common.{arith, ◌∙◌, subst, length-take, length-drop,
 use Rattle.std.proofs.Math.Path.{sym, ap}
 use Rattle.std.proofs.lemmas.Bool.{false≢true, eqb-false}
 use Rattle.cells.specs.Proof.Split.{by-test}
-use Rattle.link.specs.declared.Refusal.{Refusal}
+use Rattle.link.specs.declared.cause.Refusal.{Refusal}
 use Rattle.link.specs.Bounds.{input_rows}
 use Rattle.link.specs.Judge.{refused}
 use Rattle.elf_object.specs.Rows.{rows_in}

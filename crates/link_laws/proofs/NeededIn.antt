@@ -9,7 +9,7 @@ use Rattle.cells.specs.Proof.Split.{by-test}
 use Rattle.gabi.specs.StringTable.{has_name, name_at}
 use Rattle.gabi.specs.SymbolTable.{stb_global, shn_undef}
 use Rattle.link.specs.declared.Link.{Link}
-use Rattle.link.specs.declared.Refusal.{Refusal}
+use Rattle.link.specs.declared.cause.Refusal.{Refusal}
 use Rattle.link.specs.declared.SymbolId.{SymbolId}
 use Rattle.interner.specs.Names.{Store}
 use Rattle.interner_laws.specs.Good.{Issued, name, count, find}

@@ -7,7 +7,7 @@ use Rattle.symbol.specs.declared.Symbol.{Symbol}
 use Rattle.link.specs.declared.SymbolId.{SymbolId}
 use Rattle.std.specs.Prelude.{ℕ, ◌≡◌, refl, List, [], ◌∷◌, Option, Result, None, Some, Ok, Err, Bool, true, false}
 use Rattle.std.proofs.Common.{arith, sym, ap}
-use Rattle.link.specs.declared.Refusal.{Refusal}
+use Rattle.link.specs.declared.cause.Refusal.{Refusal}
 use Rattle.link.specs.Said.{SaidWith, accepted, refusing, value_in}
 use Rattle.interner.specs.Calls as Names
 use Rattle.symbols.specs.Calls as Symbols

@@ -10,7 +10,7 @@ use Rattle.byte_slices.specs.Proof.Ways.{pick}
 use Rattle.link.specs.declared.Link.{Link}
 use Rattle.link.specs.declared.Lent.{Lent}
 use Rattle.link.specs.declared.SymbolId.{SymbolId}
-use Rattle.link.specs.declared.Refusal.{Refusal}
+use Rattle.link.specs.declared.cause.Refusal.{Refusal}
 use Rattle.link.specs.Bounds.{section_slots}
 use Rattle.link.specs.Judge.{change_of}
 use Rattle.link.specs.Proof.Passed.{judge-gives}
@@ -22,7 +22,7 @@ use Rattle.symbol.specs.declared.Row.{Row}
 use Rattle.upcoming_symbol.specs.declared.UpcomingSymbol.{UpcomingSymbol}
 use Rattle.upcoming_symbol.specs.Judge.{in_range}
 use Rattle.upcoming_symbol.specs.Upcoming.{name_of, row_of}
-use Rattle.symbol_resolution.specs.declared.rows.Decision.{Decision}
+use Rattle.symbol_resolution.specs.Decision.{Decision}
 use Rattle.symbol_resolution.specs.Decide.{refusal_of}
 use Rattle.symbol_resolution.specs.Apply.{Table}
 use Rattle.symbols.specs.Calls as Symbols

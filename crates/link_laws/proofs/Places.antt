@@ -7,14 +7,14 @@ use Rattle.std.proofs.lemmas.Bool.{eqb-false}
 use Rattle.byte_slices.specs.Proof.Ways.{pick}
 use Rattle.link.specs.declared.Link.{Link}
 use Rattle.link.specs.declared.Lent.{Lent}
-use Rattle.link.specs.declared.Refusal.{Refusal}
+use Rattle.link.specs.declared.cause.Refusal.{Refusal}
 use Rattle.link.specs.Said.{number_in, place_in}
 use Rattle.link.specs.Judge.{change_of}
 use Rattle.symbol.specs.declared.Row.{Row}
 use Rattle.upcoming_symbol.specs.declared.UpcomingSymbol.{UpcomingSymbol}
 use Rattle.upcoming_symbol.specs.Judge.{in_range}
 use Rattle.upcoming_symbol.specs.Upcoming.{name_of, row_of}
-use Rattle.symbol_resolution.specs.declared.rows.Decision.{Decision}
+use Rattle.symbol_resolution.specs.Decision.{Decision}
 use Rattle.symbol_resolution.specs.Decide.{refusal_of}
 use Rattle.symbol_resolution.specs.Apply as SymbolRows
 use Rattle.symbols.specs.Calls as Symbols

@@ -5,7 +5,7 @@ use Rattle.std.specs.Prelude.{ℕ, ◌/◌, ◌<◌, ◌≡◌, refl, Bool, true
 use Rattle.std.proofs.Common.{sym, ap, ◌∙◌, eqb-true, ltb-true, ltb-false}
 use Rattle.std.proofs.lemmas.Bool.{eqb-false}
 use Rattle.cells.specs.Proof.Split.{by-test}
-use Rattle.link.specs.declared.Refusal.{Refusal}
+use Rattle.link.specs.declared.cause.Refusal.{Refusal}
 use Rattle.link.specs.Bounds.{not_lent}
 use Rattle.link.specs.Judge.{refused}
 use Rattle.gc_sections.specs.Run.{Left, Said, judged}

@@ -13,8 +13,7 @@ use Rattle.symbol.specs.Codes.{successor}
 use Rattle.symbol.specs.Row.{state_at, set_row}
 use Rattle.symbol.specs.Proof.RowLaws.{length-set_row}
 use Rattle.symbol_resolution.specs.declared.rows.Holder.TheVariants.{Removed}
-use Rattle.symbol_resolution.specs.declared.rows.Decision.{Decision}
-use Rattle.symbol_resolution.specs.declared.rows.Decision.TheVariants.{Refuse, Replace, Amend}
+use Rattle.symbol_resolution.specs.Decision.{Decision, Refuse, Replace, Amend}
 use Rattle.symbol_resolution.specs.Holder.{global_at, held_by, holder_of}
 use Rattle.symbol_resolution.specs.Apply.{Table, table_of, note_name, append_of, replaced_in, amended_in, apply_of}
 use Rattle.symbols.specs.Calls.{Left}

@@ -6,7 +6,7 @@ use Rattle.std.proofs.Common.{sym, ap, ◌∙◌, subst, eq-eqb, ne_eqb, eqb-tru
 use Rattle.std.proofs.lemmas.Bool.{false≢true, eqb-false}
 use Rattle.byte_slices.specs.Proof.Ways.{pick}
 use Rattle.link.specs.declared.Lent.{Lent}
-use Rattle.link.specs.declared.Refusal.{Refusal}
+use Rattle.link.specs.declared.cause.Refusal.{Refusal}
 use Rattle.link.specs.Judge.{change_of}
 use Rattle.link.specs.Counts.{lent_of}
 use Rattle.elf_object.specs.Rows.{rows_in, is_loaded}

@@ -6,7 +6,7 @@ use Rattle.std.proofs.lemmas.Bool.{false≢true, not-true, eqb-false}
 use Rattle.cells.specs.Proof.Split.{by-test}
 use Rattle.link.specs.declared.Link.{Link}
 use Rattle.link.specs.declared.Lent.{Lent}
-use Rattle.link.specs.declared.Refusal.{Refusal}
+use Rattle.link.specs.declared.cause.Refusal.{Refusal}
 use Rattle.link.specs.Bounds.{lesser}
 use Rattle.link.specs.Judge.{refused, none, judge_sections, judge_names, judge_lists, after_symbols, after_sections, judge_of, change_of}
 use Rattle.link_laws.specs.Rules.{Rule, ◌gives◌at◌, first_refusal, placeless, each, each_of, in_turn, least, count_rules, head_rules, numbered, some_holds, after_two}

@@ -10,7 +10,7 @@ use Rattle.std.proofs.Math.ListN.{get_or-eq_default}
 use borrow.Author.Tests.{eqb-true, eqb-false, eq-eqb, ne_eqb, lt-leb, leb-true, leb-false, ltb-true, ltb-false}
 use Rattle.cells.specs.Proof.Split.{by-test}
 use Rattle.link.specs.declared.Link.{Link}
-use Rattle.link.specs.declared.Refusal.{Refusal}
+use Rattle.link.specs.declared.cause.Refusal.{Refusal}
 use Rattle.link.specs.declared.SymbolId.{SymbolId}
 use Rattle.link.specs.declared.SectionId.{SectionId}
 use Rattle.link.specs.Bounds.{lesser, symbol_rows, section_slots}

@@ -8,7 +8,7 @@ use Rattle.cells.specs.Proof.Split.{by-test}
 use Rattle.byte_slices.specs.Proof.Ways.{pick, apart}
 use Rattle.link.specs.declared.Link.{Link}
 use Rattle.link.specs.declared.SymbolId.{SymbolId}
-use Rattle.link.specs.declared.Refusal.{Refusal}
+use Rattle.link.specs.declared.cause.Refusal.{Refusal}
 use Rattle.link.specs.Bounds.{section_slots}
 use Rattle.link.specs.Judge.{none, change_of}
 use Rattle.link.specs.Said.{number_in}

@@ -2,16 +2,16 @@
 -- lent to be written (`Exit`); its contract (`Meets`) is the predicate that stands in the `ensures`, from the crate that defines the call. Two exits
 -- that meet it are equal: the builders lose nothing.
 -- Assumes nothing.
-use Rattle.link.specs.declared.Refusal.{Refusal}
+use Rattle.link.specs.declared.cause.Refusal.{Refusal}
 use Rattle.symbol.specs.declared.Symbol.{Symbol}
 use Rattle.link.specs.declared.SymbolId.{SymbolId}
 use Rattle.std.specs.Prelude.{ℕ, List, Option, Result, Bool}
 use denote.Triple.Both.{Both}
-use Rattle.interner.specs.declared.Outcome as Interner
+use Rattle.interner.specs.Outcome as Interner
 use Rattle.interner.specs.Calls as Names
 use Rattle.interner.specs.Contract.{ResolveExit, InternMeets, ResolveMeets}
 use Rattle.interner.specs.Contract as Interning
-use Rattle.symbols.specs.declared.Outcome as Symbols
+use Rattle.symbols.specs.Outcome as Symbols
 use Rattle.symbols.specs.Calls as Calls
 use Rattle.symbols.specs.Remove.{rows_of, remove_outcome}
 use Rattle.symbols.specs.Contract.{NewExit, AddExit, AddMeets, RemoveExit, RemoveMeets, GetMeets, GetGlobalMeets, SectionSymbolMeets}
@@ -41,7 +41,7 @@ use Rattle.link_laws.specs.Read as Read
 use Rattle.link_laws.specs.Calls.{Call, intern, add, remove, add_group, merge, merge_file, load, collect, plain_collect, LeftBy, view_in, group_in, lists_in, reads, add_list}
 use Rattle.plain_collector.specs.Contract.{PlainMeets}
 use Rattle.add_list.specs.Contract.{ListExit, ListMeets, listed}
-use Rattle.add_list.specs.declared.Listed.{Listed}
+use Rattle.add_list.specs.Listed.{Listed}
 
 -- ---- what a caller sees: the lent cells at exit, and the result
 

@@ -6,7 +6,7 @@ use Rattle.std.specs.Prelude.{ℕ, ◌+◌, ◌≡◌, Bool, cond, List, [], ◌
 use Rattle.link.specs.declared.Interned.{Interned}
 use Rattle.link.specs.declared.SymbolId.{SymbolId}
 use Rattle.link.specs.declared.SectionId.{SectionId}
-use Rattle.link.specs.declared.Refusal.{Refusal}
+use Rattle.link.specs.declared.cause.Refusal.{Refusal}
 use Rattle.link.specs.Judge.{refused}
 use Rattle.link.specs.Said.{Said, number_in, place_in}
 use Rattle.interner.specs.Names.{store_of}
@@ -28,7 +28,7 @@ use Rattle.shared_objects.specs.Load as Shared
 use Rattle.shared_objects.specs.Load.{load_of}
 use Rattle.archive_walk.specs.declared.Walk.{Walk}
 use Rattle.gc_sections.specs.Run as Collection
-use Rattle.gc_sections.specs.Run.{lists_of, run_of, dropped}
+use Rattle.gc_sections.specs.Run.{lists_of, run_of}
 use Rattle.plain_collector.specs.Run.{plain_of}
 use Rattle.symbol_laws.specs.History as History
 use Rattle.symbol_laws.specs.History.{State, Entry, table, store, with_table, with_store, with_rows, run, log, noted, upcoming}

@@ -1,6 +1,6 @@
 -- The words of the page (Page.antt), and what ties them to the definitions behind the calls.
 -- Assumes nothing.
-use Rattle.link.specs.declared.Refusal.{Refusal}
+use Rattle.link.specs.declared.cause.Refusal.{Refusal}
 use Rattle.symbol.specs.declared.Symbol.{Symbol}
 use Rattle.std.specs.Prelude.{ℕ, Bool, false, cond, ◌&&◌, List, Result, Ok, Err}
 use Rattle.link.specs.declared.Interned.{Interned}

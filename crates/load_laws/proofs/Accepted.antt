@@ -11,11 +11,11 @@ use borrow.Author.Tests.{eqb-true, eqb-false}
 use Rattle.cells.specs.Proof.Split.{by-test}
 use Rattle.strings.specs.Lookup.{Looked, look_up}
 use Rattle.link.specs.declared.Interned.{Interned}
-use Rattle.link.specs.declared.Stage.{Stage}
-use Rattle.link.specs.declared.Refusal.{Refusal}
+use Rattle.link.specs.Stage.{Stage}
+use Rattle.link.specs.declared.cause.Refusal.{Refusal}
 use Rattle.link.specs.Judge.{going_of}
 use Rattle.symbol.specs.declared.Row.{Row}
-use Rattle.symbol_resolution.specs.declared.rows.Decision.{Decision}
+use Rattle.symbol_resolution.specs.Decision.{Decision}
 use Rattle.symbol_resolution.specs.Decide.{refusal_of}
 use Rattle.elf_object.specs.Rows.{rows_in, field}
 use Rattle.shared_objects.specs.Record.{Recorded, record_of, dependency_of, dependencies_of}

@@ -15,7 +15,7 @@ use Rattle.interner_laws.specs.Good.{Good, Issued, Stays, Alike, count, name}
 use Rattle.interner_laws.proofs.Histories.{stays-none, stays-both, issued-stays}
 use Rattle.interner_laws.proofs.Terms.{keeps-good, keeps-names, keeps-issued, same_good, same_names}
 use Rattle.symbol.specs.declared.Row.{Row}
-use Rattle.symbol_resolution.specs.declared.rows.Decision.{Decision}
+use Rattle.symbol_resolution.specs.Decision.{Decision}
 use Rattle.symbol_resolution.specs.Decide.{refusal_of}
 use Rattle.symbol_resolution.specs.Apply.{Table, table_of, note_name, append_of, apply_of}
 use Rattle.symbol_resolution.specs.Proof.Outcomes.{decision-left}

@@ -21,7 +21,7 @@ use Rattle.symbol_resolution.specs.Decide.{refusal_of}
 use Rattle.symbol_resolution.specs.Holder.{holder_of}
 use Rattle.upcoming_symbol.specs.Upcoming.{external_row_of}
 use Rattle.elf_object.specs.Rows.{rows_in, field}
-use Rattle.shared_objects.specs.declared.symbols.Definition.{Definition}
+use Rattle.shared_objects.specs.Define.{Definition}
 use Rattle.shared_objects.specs.Define.{judged_of, rowed_of, external_of, plan_of, view}
 use Rattle.shared_objects.specs.SymbolsLoad.{State, staged, symbol_of, symbols_of}
 use Rattle.link.specs.Judge.{going_of}

@@ -12,8 +12,8 @@ use Rattle.cells.specs.Proof.Rows.{row_same, row_other}
 use Rattle.byte_slices.specs.Proof.Ways.{pick}
 use Rattle.link.specs.declared.Link.{Link}
 use Rattle.link.specs.declared.Lent.{Lent}
-use Rattle.link.specs.declared.Refusal.{Refusal}
-use Rattle.link.specs.declared.Stage.{Stage}
+use Rattle.link.specs.declared.cause.Refusal.{Refusal}
+use Rattle.link.specs.Stage.{Stage}
 use Rattle.link.specs.declared.Interned.{Interned}
 use Rattle.link.specs.Bounds.{lesser, input_rows}
 use Rattle.link.specs.Judge.{going_of, judge_sections, judge_names, judge_lists, after_symbols, after_sections, judge_of, change_of}

@@ -7,7 +7,7 @@ use Rattle.cells.specs.Proof.Split.{by-test}
 use Rattle.strings.specs.Lookup.{Looked, look_up}
 use Rattle.link.specs.declared.Link.{Link}
 use Rattle.link.specs.declared.Interned.{Interned}
-use Rattle.link.specs.declared.Stage.{Stage}
+use Rattle.link.specs.Stage.{Stage}
 use Rattle.link.specs.Bounds.{not_lent, input_rows}
 use Rattle.link.specs.Judge.{going_of}
 use Rattle.link.specs.Counts.{more_inputs, with_lists}
@@ -15,7 +15,7 @@ use Rattle.interner.specs.Names.{Store, store_of, find_of, fits_of, keep_of}
 use Rattle.symbol.specs.Codes.{successor}
 use Rattle.elf_object.specs.Rows.{rows_in, field}
 use Rattle.shared_objects.specs.Record.{Recorded, recorded_of, record_fits, keep_name, record_as, record_of, dependency_of, dependencies_of}
-use Rattle.shared_objects.specs.declared.symbols.Definition.{Definition}
+use Rattle.shared_objects.specs.Define.{Definition}
 use Rattle.shared_objects.specs.Define.{Added, plan_of, view, define_of}
 use Rattle.shared_objects.specs.SymbolsLoad.{State, staged, library_symbol_named, looked_of, symbol_of, symbols_of}
 use Rattle.shared_objects.specs.Need.{Judged}

@@ -12,8 +12,8 @@ use Rattle.cells.specs.Proof.Split.{by-test}
 use Rattle.byte_slices.specs.Proof.Ways.{pick, apart}
 use Rattle.link.specs.declared.Link.{Link}
 use Rattle.link.specs.declared.Lent.{Lent}
-use Rattle.link.specs.declared.Refusal.{Refusal}
-use Rattle.link.specs.declared.Stage.{Stage}
+use Rattle.link.specs.declared.cause.Refusal.{Refusal}
+use Rattle.link.specs.Stage.{Stage}
 use Rattle.link.specs.Judge.{change_of}
 use Rattle.shared_objects.specs.Head.{rows_of, unnamed_of, marks_short, name_refusal, after_rows, check_of}
 use Rattle.shared_objects.specs.Need.{Judged, need_of}

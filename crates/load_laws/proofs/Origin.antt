@@ -11,7 +11,7 @@ use Rattle.interner.specs.Names.{Store, store_of, find_of, fits_of, keep_of}
 use Rattle.elf_object.specs.Rows.{rows_in, field}
 use Rattle.merge_symbols.specs.Plan.{View}
 use Rattle.shared_objects.specs.Record.{Recorded, recorded_of, record_of, dependency_of, dependencies_of}
-use Rattle.shared_objects.specs.declared.symbols.Definition.{Definition}
+use Rattle.shared_objects.specs.Define.{Definition}
 use Rattle.shared_objects.specs.Define.{rowed_of, external_of, plan_of, view}
 use Rattle.shared_objects.specs.SymbolsLoad.{State, staged, symbol_of, symbols_of}
 use Rattle.shared_objects.specs.Need.{Judged}

@@ -14,12 +14,12 @@ use Rattle.interner.specs.Names.{Store, store_of, fits_of, keep_of}
 use Rattle.interner_laws.proofs.Terms.{untouched-by-keep}
 use Rattle.symbol.specs.declared.Row.{Row}
 use Rattle.symbol.specs.Codes.{successor}
-use Rattle.symbol_resolution.specs.declared.rows.Decision.{Decision}
+use Rattle.symbol_resolution.specs.Decision.{Decision}
 use Rattle.symbol_resolution.specs.Decide.{refusal_of}
 use Rattle.symbol_resolution.specs.Apply.{Table, table_of, append_of, apply_of}
 use Rattle.symbol_resolution.specs.Proof.Outcomes.{decision-left}
 use Rattle.elf_object.specs.Rows.{field}
-use Rattle.shared_objects.specs.declared.symbols.Definition.{Definition}
+use Rattle.shared_objects.specs.Define.{Definition}
 use Rattle.shared_objects.specs.Record.{Recorded, recorded_of, record_fits, keep_name, record_as, record_of, dependency_of, dependencies_from}
 use Rattle.shared_objects.specs.Define.{Added, accept_of, kept_of, commit_of, define_of}
 use Rattle.shared_objects.specs.SymbolsLoad.{State, library_symbol_named, looked_of, symbol_of, symbols_from}

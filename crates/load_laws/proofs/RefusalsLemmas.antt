@@ -14,7 +14,7 @@ use Rattle.symbol_resolution.specs.Decide.{refusal_of}
 use Rattle.elf_object.specs.Rows.{field}
 use Rattle.merge_symbols.specs.Plan.{View, place_of}
 use Rattle.shared_objects.specs.Record.{Recorded, record_fits, keep_name, record_as, record_of, dependency_of}
-use Rattle.shared_objects.specs.declared.symbols.Definition.{Definition}
+use Rattle.shared_objects.specs.Define.{Definition}
 use Rattle.shared_objects.specs.Define.{rowed_of, external_of, plan_of, accept_of, kept_of, commit_of, view, define_of}
 use Rattle.shared_objects.specs.SymbolsLoad.{State, with_added, with_recorded, staged, library_symbol_named, looked_of, symbol_of}
 use Rattle.merge_laws.proofs.Refusals.{one-back, one-behind, DecidedIn, place_other}

@@ -9,12 +9,12 @@ use Rattle.link.specs.Judge.{going_of}
 use Rattle.interner.specs.Names.{Store, store_of, find_of, fits_of, keep_of}
 use Rattle.upcoming_symbol.specs.Judge.{judge_of}
 use Rattle.upcoming_symbol.specs.Upcoming.{library_code, external_row_of}
-use Rattle.symbol_resolution.specs.declared.rows.Decision.{Decision}
+use Rattle.symbol_resolution.specs.Decision.{Decision}
 use Rattle.symbol_resolution.specs.Decide.{refusal_of}
 use Rattle.symbol_resolution.specs.Apply.{Table, table_of, note_section, append_of, apply_of}
 use Rattle.symbol_resolution.specs.Proof.Outcomes.{decision-left}
 use Rattle.elf_object.specs.Rows.{rows_in, field}
-use Rattle.shared_objects.specs.declared.symbols.Definition.{Definition}
+use Rattle.shared_objects.specs.Define.{Definition}
 use Rattle.shared_objects.specs.Define.{Added, rowed_of, external_of, plan_of, accept_of, kept_of, commit_of, view, define_of}
 use Rattle.shared_objects.specs.SymbolsLoad.{State, staged, library_symbol_named, looked_of, symbol_of, symbols_of}
 use Rattle.shared_objects.specs.Stages.{Links, list_stage, contents_of, with_name, issued_of, library_of}

@@ -11,7 +11,7 @@ use mathlib.Core.List.{List, [], ◌∷◌, ◌++◌, append_assoc}
 use Rattle.cells.specs.Proof.Split.{by-test}
 use Rattle.link.specs.Bounds.{input_rows}
 use Rattle.byte_slices.specs.Proof.Ways.{pick}
-use Rattle.link.specs.declared.Refusal.{Refusal}
+use Rattle.link.specs.declared.cause.Refusal.{Refusal}
 use Rattle.link.specs.Judge.{refused, change_of}
 use Rattle.link.specs.Said.{number_in, place_in}
 use Rattle.gabi.specs.SymbolTable.{Sym}
@@ -21,14 +21,14 @@ use Rattle.symbol.specs.declared.Row.{Row}
 use Rattle.symbol.specs.Row.{scope_refused, value_refused}
 use Rattle.upcoming_symbol.specs.declared.Conversion.TheVariants as To
 use Rattle.upcoming_symbol.specs.Upcoming.{external_row_of}
-use Rattle.symbol_resolution.specs.declared.rows.Decision.{Decision}
+use Rattle.symbol_resolution.specs.Decision.{Decision}
 use Rattle.symbol_resolution.specs.Decide.{refusal_of}
 use Rattle.elf_object.specs.Rows.{rows_in, field, elf_at}
 use Rattle.elf_object.specs.Judge.{bad_entry}
 use Rattle.merge_symbols.specs.Plan.{place_of}
 use Rattle.shared_objects.specs.Head.{bad_need, soname_missing, rows_of, unnamed_of, marks_short, name_refusal, after_rows, check_of}
 use Rattle.shared_objects.specs.Record.{Recorded, record_fits, keep_name, record_as, record_of, dependency_of, dependencies_of}
-use Rattle.shared_objects.specs.declared.symbols.Definition.{Definition}
+use Rattle.shared_objects.specs.Define.{Definition}
 use Rattle.shared_objects.specs.Define.{Added, judged_of, rowed_of, external_of, plan_of, accept_of, kept_of, commit_of, view, define_of}
 use Rattle.shared_objects.specs.SymbolsLoad.{State, library_symbol_named, looked_of, symbol_of, symbols_of}
 use Rattle.shared_objects.specs.Stages.{Links, library_row_of}

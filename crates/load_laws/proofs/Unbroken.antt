@@ -18,7 +18,7 @@ use Rattle.symbol_resolution.specs.Apply.{table_of}
 use Rattle.elf_object.specs.Rows.{rows_in, field}
 use Rattle.shared_objects.specs.Head.{check_of}
 use Rattle.shared_objects.specs.Record.{Recorded, recorded_of, record_fits, keep_name, record_as, record_of, dependency_of, dependencies_of}
-use Rattle.shared_objects.specs.declared.symbols.Definition.{Definition}
+use Rattle.shared_objects.specs.Define.{Definition}
 use Rattle.shared_objects.specs.Define.{Added, plan_of, accept_of, kept_of, commit_of, view, define_of}
 use Rattle.shared_objects.specs.SymbolsLoad.{State, staged, library_symbol_named, looked_of, symbol_of, symbols_of}
 use Rattle.shared_objects.specs.Stages.{ListLinks, Links, library_row_of, input_stage, lists_of, list_stage, contents_of, with_name, issued_of, library_of}

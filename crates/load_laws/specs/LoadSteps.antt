@@ -7,7 +7,7 @@ use Rattle.link.specs.Judge.{going_of}
 use Rattle.interner.specs.Names.{Store, store_of, find_of, fits_of, keep_of}
 use Rattle.elf_object.specs.Rows.{rows_in, field}
 use Rattle.shared_objects.specs.Record.{Recorded, recorded_of, record_of, dependency_of, dependencies_of}
-use Rattle.shared_objects.specs.declared.symbols.Definition.{Definition}
+use Rattle.shared_objects.specs.Define.{Definition}
 use Rattle.shared_objects.specs.Define.{Added, added_of, plan_of, view}
 use Rattle.shared_objects.specs.SymbolsLoad.{State, state_of, staged, symbol_of, symbols_of}
 use Rattle.shared_objects.specs.Need.{Judged}

@@ -2,10 +2,10 @@
 -- Assumes nothing.
 use Rattle.std.specs.Prelude.{ℕ, zero, suc, ◌+◌, ◌-◌, ◌≡◌, Bool, true, false, cond, List, eqb, ltb, length, Result}
 use Rattle.link.specs.declared.Link.{Link}
-use Rattle.link.specs.declared.Stage.{Stage}
+use Rattle.link.specs.Stage.{Stage}
 use Rattle.link.specs.declared.Interned.{Interned}
 use Rattle.link.specs.declared.SectionId.{SectionId}
-use Rattle.link.specs.declared.Refusal.{Refusal}
+use Rattle.link.specs.declared.cause.Refusal.{Refusal}
 use Rattle.link.specs.Judge.{going_of, stopped_of, stage_as}
 use Rattle.link.specs.Counts.{more_lists}
 use Rattle.strings.specs.Lookup.{Looked}
@@ -35,11 +35,11 @@ abbrev pub object_of : List ℕ → List ℕ → List ℕ → List ℕ → List 
 object_of h c f w i s t n = record { headers = h; contents = c; image = f; work = w; ids = i; section_names = s; table = t; symbols = n }
 
 -- as it is lent
-abbrev pub object_with : Elf.Object → List ℕ → List ℕ → Object
-object_with o work ids = object_of o.headers.now o.contents.now o.image.now work ids o.section_names o.table (rows_in o.entries.now)
+abbrev pub object_with : Elf.Object → List ℕ → List ℕ → ℕ → Object
+object_with o work ids symbols = object_of o.headers.now o.contents.now o.image.now work ids o.section_names o.table symbols
 
 abbrev pub object_in : Source → Object
-object_in s = object_with s.object s.work.now s.ids.now
+object_in s = object_with s.object s.work.now s.ids.now s.symbols
 
 -- the lent cells that the stage writes, with its stage; with a link alone; and those that building a row writes
 pub record State : Type 0 where
@@ -164,6 +164,20 @@ built_from headers work n kind = cond (is_loaded headers n kind) (cond (eqb (mar
 
 abbrev pub linked : State → LinkState
 linked s = link_state s.bytes s.names s.sections s.lists s.stage.link
+
+-- of what is lent: the symbols of section n's relocations, how many symbols they can name, the row of section n, and the section once its name is found
+abbrev pub relocations_in : Source → ℕ → ℕ → List ℕ
+relocations_in s n kind = relocations_of s.object.headers.now s.object.contents.now (table_for s.work.now n kind)
+
+abbrev pub limit_in : Source → ℕ → ℕ → ℕ
+limit_in s n kind = limit_of s.object.headers.now (table_for s.work.now n kind) s.object.table s.symbols
+
+abbrev pub row_in : Source → RowState → List ℕ → Interned → ℕ → ℕ → RowState
+row_in s r symbols name n kind = build_row_of s.object.headers.now s.work.now s.ids.now r symbols name n kind
+
+abbrev pub named_in : Source → LinkState → List ℕ → ℕ → ℕ → State
+named_in s l x n kind =
+    section_named s.object.headers.now s.object.contents.now s.work.now s.ids.now l x s.object.table s.symbols n kind
 
 -- "section name missing" 18
 unfoldable pub looked_of : Object → State → ℕ → ℕ → Looked → State

@@ -3,8 +3,8 @@
 use Rattle.std.specs.Prelude.{ℕ, cond, List, [], ◌∷◌, eqb, ltb, length, Result}
 use Rattle.cells.specs.Rows.{put_row}
 use Rattle.link.specs.declared.Link.{Link}
-use Rattle.link.specs.declared.Stage.{Stage}
-use Rattle.link.specs.declared.Refusal.{Refusal}
+use Rattle.link.specs.Stage.{Stage}
+use Rattle.link.specs.declared.cause.Refusal.{Refusal}
 use Rattle.link.specs.Bounds.{input_rows}
 use Rattle.link.specs.Judge as Link
 use Rattle.link.specs.Counts.{more_inputs}

@@ -2,25 +2,27 @@
 #![tactic(auto)]
 
 ghost use Rattle.std.specs.Prelude.{◌≡◌, ◌≢◌, ◌+◌, ◌≤◌, true, length, IfErr, List, ℕ};
-ghost use Rattle.elf_object.specs.Kind.{number_of};
-ghost use Rattle.merge_build.specs.Relocations.{table_for, table_in, limit_of, relocations_of, symbol_ok, symbols_ok, id_in, append_from};
-ghost use Rattle.merge_build.specs.Build.{lists_fit, section_id_of, section_row, build_row_of, built_from, section_of, section_named, build_of, object_in, same_loans, linked_before, row_before, row_built, state_after, state_before};
+ghost use Rattle.merge_build.specs.Relocations.{table_for, table_in, symbol_ok, symbols_ok, id_in, append_from};
+ghost use Rattle.merge_build.specs.Build.{lists_fit, section_id_of, section_row, built_from, section_of, build_of, object_in, relocations_in, limit_in, row_in, named_in, same_loans, linked_before, row_before, row_built, state_after, state_before};
 
 mod last_stages;
 
-use elf_object::{Kind, Object};
-use link::{Interned, Link, Refusal, SectionId};
+use elf_object::Object;
+use interner::NamesMut;
+use link::{Cause, Interned, Link, Refusal, SectionId};
 use sections::Section;
 
-// What is read: the object, its sections' work rows, and its symbols' ids and 1, 0 for none.
+// What is read: the object, its sections' work rows, its symbols' ids and 1, 0 for none, and how many symbols its loaded table has.
 #[derive(Clone, Copy)]
 pub struct Source<'a> {
     pub object: Object<'a>,
     pub work: &'a [u64],
     pub ids: &'a [u64],
+    pub symbols: usize,
 }
 
 // What is written: the tables of a link.
+// Kept: that the loans stay is said by each call, since no field's type says which memory it lends.
 #[derive(Drop)]
 pub struct Builder<'a> {
     pub link: Link,
@@ -43,39 +45,47 @@ struct Relocations<'a> {
 impl<'a> Source<'a> {
     // The last table that applies to section n of that kind; none for an uninitialized one.
     #[tactic(auto, unfolding(crate::specs::Relocations::table_for))]
-    fn table_for(self, n: usize, kind: Kind) -> Option<u64>
-        ensures { result ≡ table_in (table_for self.entry.work.now n (number_of kind)) }
+    fn table_for(self, n: usize, kind: u64) -> Option<u64>
+        ensures { result ≡ table_in (table_for self.entry.work.now n kind) }
     {
-        match kind {
-            Kind::Program => {
-                cells::row_get(self.work, n, elf_object::WORK_RELOCATIONS).checked_sub(1)
-            }
-            _ => None,
+        if kind != elf_object::PROGRAM {
+            return None;
         }
+        cells::row_get(self.work, n, elf_object::WORK_RELOCATIONS).checked_sub(1)
     }
 
     // Those of section n, among the object's contents; none for no table. They name symbols of the loaded symbol table, if their table links to it.
     #[tactic(auto, unfolding(crate::specs::Relocations::limit_of, crate::specs::Relocations::relocations_of, crate::specs::Relocations::symbols_ok, elf_object::specs::Rows::section_of))]
-    fn relocations(self, n: usize, kind: Kind) -> Relocations<'a>
-        ensures symbols { result.symbols.now ≡ relocations_of self.entry.object.headers.now self.entry.object.contents.now (table_for self.entry.work.now n (number_of kind)) }
+    fn relocations(self, n: usize, kind: u64) -> Relocations<'a>
+        ensures symbols { result.symbols.now ≡ relocations_in self.entry n kind }
         ensures known { (ids : List ℕ) → symbols_ok ids result.limit result.symbols.now
-            ≡ symbols_ok ids (limit_of self.entry.object.headers.now (table_for self.entry.work.now n (number_of kind)) self.entry.object.table (object_in self.entry).symbols)
-            (relocations_of self.entry.object.headers.now self.entry.object.contents.now (table_for self.entry.work.now n (number_of kind))) }
+            ≡ symbols_ok ids (limit_in self.entry n kind) (relocations_in self.entry n kind) }
     {
-        let object = self.object;
         match self.table_for(n, kind) {
             None => Relocations {
-                symbols: &object.contents[..0],
+                symbols: &self.object.contents[..0],
                 limit: 0,
             },
             Some(t) => {
-                let first = cells::row_get(object.headers, t as usize, elf_object::HEADER_FIRST);
-                let count = cells::row_get(object.headers, t as usize, elf_object::HEADER_COUNT);
-                let linked = cells::row_get(object.headers, t as usize, elf_object::HEADER_LINK);
+                let first = cells::row_get(
+                    self.object.headers,
+                    t as usize,
+                    elf_object::HEADER_FIRST,
+                );
+                let count = cells::row_get(
+                    self.object.headers,
+                    t as usize,
+                    elf_object::HEADER_COUNT,
+                );
+                let linked = cells::row_get(
+                    self.object.headers,
+                    t as usize,
+                    elf_object::HEADER_LINK,
+                );
                 Relocations {
-                    symbols: cells::part_of(object.contents, first as usize, count as usize),
-                    limit: if linked == object.table as u64 {
-                        object.symbol_count()
+                    symbols: cells::part_of(self.object.contents, first as usize, count as usize),
+                    limit: if linked == self.object.table as u64 {
+                        self.symbols
                     } else {
                         0
                     },
@@ -86,10 +96,10 @@ impl<'a> Source<'a> {
 
     // Is section n of that kind, not excluded and not removed?
     #[tactic(auto, unfolding(crate::specs::Build::built_from))]
-    fn builds(self, n: usize, kind: Kind) -> bool
-        ensures { result ≡ built_from self.entry.object.headers.now self.entry.work.now n (number_of kind) }
+    fn builds(self, n: usize, kind: u64) -> bool
+        ensures { result ≡ built_from self.entry.object.headers.now self.entry.work.now n kind }
     {
-        self.object.is_loaded(n, kind)
+        self.object.is_loaded_as(n, kind)
             && cells::row_get(self.work, n, elf_object::WORK_MARK) != elf_object::REMOVED_MARK
     }
 }
@@ -127,6 +137,7 @@ fn append_ids(lists: &mut [u64], at: usize, ids: &[u64], symbols: &[u64])
 
 // ---- one section
 
+// Kept: of counts in memory; elf_object's, of numbers of a file, is its own, and public it would be no plainer here for its casts.
 #[tactic(auto, unfolding(elf_object::specs::Judge::range_ok))]
 fn lists_fit(used: usize, all: usize, more: usize) -> bool
     ensures { result ≡ lists_fit used all more }
@@ -143,20 +154,21 @@ fn section_id(cell: u64) -> SectionId
 }
 
 // The row of section n of an object, under that name, its relocations' symbols at the lists' end.
+// Kept: loose parameters; a struct of them would be the row itself, but for its flags.
 fn section_row(
     object: Object<'_>,
     n: usize,
-    kind: Kind,
+    kind: u64,
     name: Interned,
     first: usize,
     count: usize,
 ) -> Section
-    ensures { result ≡ section_row object.entry.headers.now n (number_of kind) name first count }
+    ensures { result ≡ section_row object.entry.headers.now n kind name first count }
 {
     let flags = cells::row_get(object.headers, n, elf_object::HEADER_FLAGS);
     Section {
         name,
-        kind: u64::from(kind),
+        kind,
         retain: flags / elf_object::RETAIN_FLAG % 2,
         read: flags / elf_object::READ_FLAG % 2,
         first: first as u64,
@@ -166,6 +178,7 @@ fn section_row(
 
 impl Builder<'_> {
     // The relocations' symbols at the lists' end, and the row that was reserved for section n.
+    // Kept: loose parameters, each of which the one caller has at hand.
     #[tactic(auto, unfolding(crate::specs::Build::build_row_of))]
     fn build_row(
         &mut self,
@@ -173,12 +186,12 @@ impl Builder<'_> {
         symbols: &[u64],
         name: Interned,
         n: usize,
-        kind: Kind,
+        kind: u64,
     )
         requires { lists_fit self.old.link.lists (length self.old.lists.now) (length symbols.now) ≡ true }
         ensures loans { same_loans self.old self.new }
         ensures value { state_before self.new ≡ row_built self.old.bytes.now self.old.names.now
-            (build_row_of source.entry.object.headers.now source.entry.work.now source.entry.ids.now (row_before self.old) symbols.now name n (number_of kind)) }
+            (row_in source.entry (row_before self.old) symbols.now name n kind) }
         ensures inputs { self.new.inputs.now ≡ self.old.inputs.now }
     {
         let first = self.link.lists;
@@ -197,62 +210,64 @@ impl Builder<'_> {
         source: Source<'_>,
         x: &[u8],
         n: usize,
-        kind: Kind,
+        kind: u64,
     ) -> Result<(), Refusal>
         ensures loans { same_loans self.old self.new }
-        ensures value { state_after self.new result
-            ≡ section_named source.entry.object.headers.now source.entry.object.contents.now source.entry.work.now source.entry.ids.now (linked_before self.old) x.now source.entry.object.table (object_in source.entry).symbols n (number_of kind) }
+        ensures value { state_after self.new result ≡ named_in source.entry (linked_before self.old) x.now n kind }
         ensures inputs { self.new.inputs.now ≡ self.old.inputs.now }
         ensures numbered { IfErr result (λ r. r.number ≢ 0) }
     {
         let relocations = source.relocations(n, kind);
-        let symbols = relocations.symbols;
-        let link = self.link;
-        let bytes = &mut *self.bytes;
-        let names = &mut *self.names;
-        let id = interner::find(link, bytes, names, x);
-        if !interner::fits(link, bytes, names, id, x.len()) {
-            return Err(Refusal::new(2, n));
+        // Kept: the link is a field of the struct, which the other tables' calls need too, so it goes to the names and comes back.
+        let mut names = NamesMut {
+            link: self.link,
+            bytes: self.bytes,
+            cells: self.names,
+        };
+        let id = names.read().find(x);
+        if !names.read().fits(id, x.len()) {
+            return Err(Refusal::new(Cause::NoRoom, n));
         }
-        let known = symbols_ok(source.ids, relocations.limit, symbols);
-        if known && !lists_fit(link.lists, self.lists.len(), symbols.len()) {
-            return Err(Refusal::new(2, n));
+        let known = symbols_ok(source.ids, relocations.limit, relocations.symbols);
+        if known && !lists_fit(self.link.lists, self.lists.len(), relocations.symbols.len()) {
+            return Err(Refusal::new(Cause::NoRoom, n));
         }
-        self.link = interner::keep(link, bytes, names, id, x);
+        names.keep(id, x);
+        self.link = names.link;
         if !known {
-            return Err(Refusal::new(19, n));
+            return Err(Refusal::new(Cause::RelocationSymbolWithoutId, n));
         }
-        self.build_row(source, symbols, id, n, kind);
+        self.build_row(source, relocations.symbols, id, n, kind);
         Ok(())
     }
 
     // Section n, if it is of that kind, not excluded and not removed: its name missing is 18.
     #[tactic(auto, unfolding(crate::specs::Build::section_of, crate::specs::Build::looked_of))]
-    fn build_section(&mut self, source: Source<'_>, n: usize, kind: Kind) -> Result<(), Refusal>
+    fn build_section(&mut self, source: Source<'_>, n: usize, kind: u64) -> Result<(), Refusal>
         ensures loans { same_loans self.old self.new }
-        ensures value { state_after self.new result ≡ section_of (object_in source.entry) (state_before self.old) n (number_of kind) }
+        ensures value { state_after self.new result ≡ section_of (object_in source.entry) (state_before self.old) n kind }
         ensures inputs { self.new.inputs.now ≡ self.old.inputs.now }
         ensures numbered { IfErr result (λ r. r.number ≢ 0) }
     {
         if !source.builds(n, kind) {
             return Ok(());
         }
-        let object = source.object;
-        let offset = cells::row_get(object.headers, n, elf_object::HEADER_NAME) as usize;
-        match object.name_in(object.section_names, offset) {
+        let offset = cells::row_get(source.object.headers, n, elf_object::HEADER_NAME) as usize;
+        match source.object.name_in(source.object.section_names, offset) {
             Some(x) => self.build_named(source, x, n, kind),
-            None => Err(Refusal::new(18, n)),
+            None => Err(Refusal::new(Cause::SectionNameMissing, n)),
         }
     }
 
     // All sections of that kind, ascending, up to the first refusal.
-    pub fn build_sections(&mut self, source: Source<'_>, kind: Kind) -> Result<(), Refusal>
+    // Kept: a number: the call is public and takes any; a `Kind` would ask more of callers.
+    pub fn build_sections(&mut self, source: Source<'_>, kind: u64) -> Result<(), Refusal>
         ensures loans { same_loans self.old self.new }
-        ensures value { state_after self.new result ≡ build_of (object_in source.entry) (state_before self.old) (number_of kind) }
+        ensures value { state_after self.new result ≡ build_of (object_in source.entry) (state_before self.old) kind }
         ensures inputs { self.new.inputs.now ≡ self.old.inputs.now }
         ensures numbered { IfErr result (λ r. r.number ≢ 0) }
     {
-        for n in 0..source.object.headers.len() / elf_object::ROW_WIDTH {
+        for n in 0..source.object.section_count() {
             self.build_section(source, n, kind)?;
         }
         Ok(())

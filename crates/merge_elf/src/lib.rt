@@ -8,9 +8,11 @@ ghost use Rattle.merge_elf.specs.Merge.{work_refusal, check_of, merge_of, left_a
 ghost use Rattle.merge_elf.specs.Contract.{MergeMeets};
 
 use elf_object::Object;
-use link::{Lent, Link, Refusal};
+use link::{Cause, Lent, Link, Refusal};
 use merge_stages::Merge;
 
+// Kept: the link comes and goes by value, as the cells of C's header hold it, beside an answer that is a Result; a type for each call, as the laws
+// read its own.
 #[derive(Clone, Copy)]
 pub struct Outcome {
     pub link: Link,
@@ -23,12 +25,13 @@ fn check_work(object: Object<'_>, work: usize, ids: usize) -> Result<(), Refusal
     ensures { result ≡ judged (work_refusal object.entry.headers.now object.entry.entries.now work ids) }
 {
     if work / elf_object::ROW_WIDTH < object.section_count() || ids < object.symbol_count() {
-        return Err(Refusal::new(2, 0));
+        return Err(Refusal::new(Cause::NoRoom, 0));
     }
     Ok(())
 }
 
 // 22; 1 of the link's counts, of the object's sections, then of its symbols; too few work cells 2 at place 0.
+// Kept: of what is lent the lengths alone, since the head reads nothing in it.
 fn check(link: Link, lent: Lent, object: Object<'_>, work: usize, ids: usize) -> Result<(), Refusal>
     ensures { result ≡ judged (check_of link lent object.entry.headers.now object.entry.entries.now (length object.entry.contents.now) (length object.entry.image.now) work ids) }
 {

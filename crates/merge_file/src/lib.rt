@@ -10,7 +10,7 @@ ghost use Rattle.merge_file.specs.Contract.{MergeFileMeets};
 
 use elf_file::Written;
 use elf_object::Object;
-use link::{Link, Refusal};
+use link::{Cause, Link, Refusal};
 use merge_elf::Outcome;
 use merge_stages::Merge;
 
@@ -40,7 +40,7 @@ pub fn merge_image(merge: &mut Merge<'_>, rows: &mut [u64], image: &[u8]) -> Res
     ensures value { file_left rows.new (left_after merge.new result) ≡ merge_file_of image.now rows.old (merge_before merge.old) }
 {
     if merge.link.broken {
-        return Err(Refusal::new(22, 0));
+        return Err(Refusal::new(Cause::BrokenLink, 0));
     }
     let written = elf_file::read(image, rows)?;
     merge_elf::merge_object(merge, object_in(rows, image, written))

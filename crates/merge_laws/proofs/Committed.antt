@@ -8,7 +8,7 @@ use Rattle.link.specs.declared.Interned.{Interned}
 use Rattle.interner.specs.Names.{Store, fits_of, keep_of}
 use Rattle.interner_laws.proofs.Find.{find-low}
 use Rattle.symbol.specs.declared.Row.{Row}
-use Rattle.symbol_resolution.specs.declared.rows.Decision.{Decision}
+use Rattle.symbol_resolution.specs.Decision.{Decision}
 use Rattle.symbol_resolution.specs.Holder.{holder_of}
 use Rattle.symbol_resolution.specs.Decide.{decide_of, refusal_of}
 use Rattle.symbol_resolution.specs.Apply.{Table, apply_of}

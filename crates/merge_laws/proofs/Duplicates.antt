@@ -14,7 +14,7 @@ use Rattle.gabi.specs.Resolution.{defined, duplicate, unresolved, zero_value, is
 use Rattle.interner.specs.Names.{fits_of, keep_of}
 use Rattle.symbol.specs.declared.Row.{Row}
 use Rattle.symbol.specs.Row.{scope_refused, value_refused}
-use Rattle.symbol_resolution.specs.declared.rows.Decision.{Decision}
+use Rattle.symbol_resolution.specs.Decision.{Decision}
 use Rattle.symbol_resolution.specs.Holder.{holder_of}
 use Rattle.symbol_resolution.specs.declared.rows.Holder.TheVariants.{Known}
 use Rattle.symbol_resolution.specs.Decide.{decide_of, refusal_of, type_refusal}

@@ -13,7 +13,7 @@ use Rattle.interner_laws.specs.Good.{Issued, Stays, count, name, find}
 use Rattle.interner_laws.proofs.Histories.{issued-stays}
 use Rattle.interner_laws.proofs.Interns.{keep-issued}
 use Rattle.symbol.specs.Codes.{successor, file_at}
-use Rattle.symbol_resolution.specs.declared.rows.Decision.{Decision}
+use Rattle.symbol_resolution.specs.Decision.{Decision}
 use Rattle.symbol_resolution.specs.Decide.{refusal_of}
 use Rattle.upcoming_symbol.specs.Upcoming.{elf_row_of}
 use Rattle.elf_object.specs.Rows.{rows_in, field}

@@ -15,8 +15,7 @@ use Rattle.link.specs.Said.{value_in}
 use Rattle.interner.specs.Names.{store_of, fits_of}
 use Rattle.symbol.specs.declared.Row.{Row}
 use Rattle.symbol.specs.Codes.{successor}
-use Rattle.symbol_resolution.specs.declared.rows.Decision.{Decision}
-use Rattle.symbol_resolution.specs.declared.rows.Decision.TheVariants.{Refuse, Nothing, Keep}
+use Rattle.symbol_resolution.specs.Decision.{Decision, Refuse, Nothing, Keep}
 use Rattle.symbol_resolution.specs.Decide.{refusal_of}
 use Rattle.symbols.specs.Calls.{Left}
 use Rattle.symbols.specs.Add.{committed_of, add_row_of}

@@ -12,7 +12,7 @@ use Rattle.cells.specs.Rows.{put_row}
 use Rattle.cells.specs.Proof.Rows.{length-put_row}
 use Rattle.link.specs.declared.Link.{Link}
 use Rattle.link.specs.declared.Interned.{Interned}
-use Rattle.link.specs.declared.Stage.{Stage}
+use Rattle.link.specs.Stage.{Stage}
 use Rattle.link.specs.Bounds.{input_rows}
 use Rattle.link.specs.Judge.{broken_of}
 use Rattle.link.specs.Counts.{more_inputs, more_sections, more_lists}

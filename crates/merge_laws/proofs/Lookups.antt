@@ -13,7 +13,7 @@ use Rattle.interner.specs.Calls as Names
 use Rattle.symbols.specs.New.{null_of, new_of}
 use Rattle.interner_laws.proofs.Written.{linked_long}
 use Rattle.symbol.specs.declared.Row.{Row}
-use Rattle.symbol_resolution.specs.declared.rows.Decision.{Decision}
+use Rattle.symbol_resolution.specs.Decision.{Decision}
 use Rattle.symbol_resolution.specs.Apply.{Table, note_name, append_of, apply_of}
 use Rattle.symbol_resolution.specs.Proof.Outcomes.{decision-left}
 use Rattle.symbols.specs.Add.{add_row_of, decided_of}

@@ -16,8 +16,7 @@ use Rattle.interner_laws.proofs.Written.{head-behind, row_new}
 use Rattle.interner_laws.proofs.Interns.{keep-good, keep-stays, keep-untouched}
 use Rattle.interner_laws.proofs.Same.{alike-stays, good-same, find-same}
 use Rattle.symbol.specs.declared.Row.{Row}
-use Rattle.symbol_resolution.specs.declared.rows.Decision.{Decision}
-use Rattle.symbol_resolution.specs.declared.rows.Decision.TheVariants.{Refuse}
+use Rattle.symbol_resolution.specs.Decision.{Decision, Refuse}
 use Rattle.symbol_resolution.specs.Apply.{Table, note_name, append_of, apply_of}
 use Rattle.symbols.specs.Calls.{Left}
 use Rattle.symbols.specs.Add.{committed_of, add_row_of}

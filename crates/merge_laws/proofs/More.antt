@@ -6,7 +6,7 @@ use Rattle.cells.specs.Proof.Split.{by-test}
 use Rattle.link.specs.declared.Link.{Link}
 use Rattle.symbol.specs.declared.Row.{Row}
 use Rattle.symbol.specs.Codes.{successor}
-use Rattle.symbol_resolution.specs.declared.rows.Decision.{Decision}
+use Rattle.symbol_resolution.specs.Decision.{Decision}
 use Rattle.symbol_resolution.specs.Apply.{Table, append_of, apply_of}
 use Rattle.symbol_resolution.specs.Proof.Outcomes.{decision-left}
 use Rattle.symbols.specs.Add.{add_row_of, decided_of}

@@ -10,7 +10,7 @@ use Rattle.interner_laws.specs.Good.{Good, Issued, Stays, count, name, find}
 use Rattle.interner_laws.proofs.Histories.{stays-none, stays-both, issued-stays}
 use Rattle.interner_laws.proofs.Interns.{keep-stays, keep-issued}
 use Rattle.symbol.specs.declared.Row.{Row}
-use Rattle.symbol_resolution.specs.declared.rows.Decision.{Decision}
+use Rattle.symbol_resolution.specs.Decision.{Decision}
 use Rattle.symbol_resolution.specs.Apply.{Table, note_name, append_of, apply_of}
 use Rattle.symbol_resolution.specs.Proof.Outcomes.{row_written, decision-left}
 use Rattle.symbols.specs.Add.{add_row_of, decided_of}

@@ -6,7 +6,7 @@ use Rattle.byte_slices.specs.Proof.Ways.{pick}
 use Rattle.link.specs.Said.{Said, number_in}
 use Rattle.strings.specs.Lookup.{Looked}
 use Rattle.symbol.specs.declared.Row.{Row}
-use Rattle.symbol_resolution.specs.declared.rows.Decision.{Decision}
+use Rattle.symbol_resolution.specs.Decision.{Decision}
 use Rattle.symbol_resolution.specs.Decide.{refusal_of}
 use Rattle.elf_object.specs.Rows.{rows_in, field, name_in, name_offset_at, is_loaded}
 use Rattle.section_groups.specs.Group as Group

@@ -8,7 +8,7 @@ use Rattle.interner_laws.proofs.Interns.{keep-untouched}
 use Rattle.symbol.specs.declared.Row.{Row}
 use Rattle.symbol.specs.Proof.RowLaws.{length-set_row}
 use Rattle.symbol_resolution.specs.Holder.{global_at}
-use Rattle.symbol_resolution.specs.declared.rows.Decision.{Decision}
+use Rattle.symbol_resolution.specs.Decision.{Decision}
 use Rattle.symbol_resolution.specs.Apply.{Table, note_name, append_of, apply_of}
 use Rattle.symbol_resolution.specs.Proof.Outcomes.{decision-left}
 use Rattle.symbols.specs.Add.{add_row_of, decided_of}

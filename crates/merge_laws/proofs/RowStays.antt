@@ -10,7 +10,7 @@ use Rattle.link.specs.Proof.Passed.{passed-sections, passed-slots}
 use Rattle.strings.specs.Lookup.{Looked}
 use Rattle.interner.specs.Names.{Store, store_of, keep_of}
 use Rattle.symbol.specs.declared.Row.{Row}
-use Rattle.symbol_resolution.specs.declared.rows.Decision.{Decision}
+use Rattle.symbol_resolution.specs.Decision.{Decision}
 use Rattle.symbol_resolution.specs.Decide.{refusal_of}
 use Rattle.symbol_resolution.specs.Apply.{Table, table_of, append_of, apply_of}
 use Rattle.symbol_resolution.specs.Proof.Outcomes.{decision-left}

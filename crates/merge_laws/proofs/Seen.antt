@@ -20,8 +20,7 @@ use Rattle.interner_laws.proofs.Written.{head-behind, head-within, head-out, lin
 use Rattle.symbol.specs.declared.Row.{Row}
 use Rattle.symbol.specs.Codes.{successor}
 use Rattle.symbol_resolution.specs.declared.rows.Holder.{Holder}
-use Rattle.symbol_resolution.specs.declared.rows.Decision.{Decision}
-use Rattle.symbol_resolution.specs.declared.rows.Decision.TheVariants.{Refuse, Nothing, Keep, Append, Replace, Amend}
+use Rattle.symbol_resolution.specs.Decision.{Decision, Refuse, Nothing, Keep, Append, Replace, Amend}
 use Rattle.symbol_resolution.specs.Holder.{holder_of}
 use Rattle.symbol_resolution.specs.Decide.{section_cell, decide_of, refusal_of, id_of}
 use Rattle.symbol_resolution.specs.Proof.Outcomes.{decision-alike}

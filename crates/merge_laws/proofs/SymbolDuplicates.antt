@@ -17,7 +17,7 @@ use Rattle.symbol.specs.declared.Row.{Row}
 use Rattle.symbol.specs.Row.{scope_refused, value_refused}
 use Rattle.upcoming_symbol.specs.declared.ElfSymbol.{ElfSymbol}
 use Rattle.upcoming_symbol.specs.Upcoming.{conversion_from, elf_row_of}
-use Rattle.symbol_resolution.specs.declared.rows.Decision.{Decision}
+use Rattle.symbol_resolution.specs.Decision.{Decision}
 use Rattle.symbol_resolution.specs.Decide.{refusal_of}
 use Rattle.elf_object.specs.Rows.{rows_in, conversion_at}
 use Rattle.section_groups.specs.Filter.{filter_of}

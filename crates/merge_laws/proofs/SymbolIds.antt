@@ -11,7 +11,7 @@ use Rattle.link.specs.Said.{value_in}
 use Rattle.interner.specs.Names.{store_of, keep_of}
 use Rattle.symbol.specs.declared.Row.{Row}
 use Rattle.symbol.specs.Codes.{successor}
-use Rattle.symbol_resolution.specs.declared.rows.Decision.{Decision}
+use Rattle.symbol_resolution.specs.Decision.{Decision}
 use Rattle.symbol_resolution.specs.Decide.{refusal_of, id_of}
 use Rattle.symbol_resolution.specs.Apply.{Table}
 use Rattle.symbols.specs.Add.{committed_of, add_row_of}

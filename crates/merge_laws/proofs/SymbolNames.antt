@@ -8,7 +8,7 @@ use Rattle.link.specs.Said.{number_in}
 use Rattle.interner.specs.Names.{fits_of}
 use Rattle.interner_laws.specs.Good.{Issued, find}
 use Rattle.symbol.specs.declared.Row.{Row}
-use Rattle.symbol_resolution.specs.declared.rows.Decision.{Decision}
+use Rattle.symbol_resolution.specs.Decision.{Decision}
 use Rattle.symbol_resolution.specs.Decide.{refusal_of}
 use Rattle.symbols.specs.Add.{committed_of, add_row_of}
 use Rattle.upcoming_symbol.specs.Upcoming.{elf_row_of}

@@ -8,8 +8,7 @@ use Rattle.link.specs.declared.Interned.{Interned}
 use Rattle.interner.specs.Names.{store_of, find_of, fits_of, keep_of}
 use Rattle.symbol.specs.declared.Row.{Row}
 use Rattle.upcoming_symbol.specs.Upcoming.{elf_row_of}
-use Rattle.symbol_resolution.specs.declared.rows.Decision.{Decision}
-use Rattle.symbol_resolution.specs.declared.rows.Decision.TheVariants.{Refuse, Nothing, Keep}
+use Rattle.symbol_resolution.specs.Decision.{Decision, Refuse, Nothing, Keep}
 use Rattle.symbol_resolution.specs.Decide.{refusal_of}
 use Rattle.symbol_resolution.specs.Apply.{Table, apply_of}
 use Rattle.symbols.specs.Add.{decided_of}

@@ -9,8 +9,8 @@ use Rattle.cells.specs.Proof.Split.{by-test}
 use Rattle.byte_slices.specs.Proof.Ways.{pick}
 use Rattle.link.specs.declared.Link.{Link}
 use Rattle.link.specs.declared.Lent.{Lent}
-use Rattle.link.specs.declared.Refusal.{Refusal}
-use Rattle.link.specs.declared.Stage.{Stage}
+use Rattle.link.specs.declared.cause.Refusal.{Refusal}
+use Rattle.link.specs.Stage.{Stage}
 use Rattle.link.specs.Bounds.{input_rows, section_slots, section_rows}
 use Rattle.link.specs.Judge.{refused, change_of, judge_of}
 use Rattle.link.specs.Proof.Passed.{passed-sections, passed-slots}

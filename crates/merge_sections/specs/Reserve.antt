@@ -3,7 +3,7 @@
 use Rattle.std.specs.Prelude.{ℕ, zero, suc, ◌+◌, ◌≡◌, ◌<◌, cond, List, eqb, Option, None, Some, IfSome, Result, Ok, Err}
 use Rattle.cells.specs.Rows.{put_row}
 use Rattle.link.specs.declared.Link.{Link}
-use Rattle.link.specs.declared.Refusal.{Refusal}
+use Rattle.link.specs.declared.cause.Refusal.{Refusal}
 use Rattle.symbol.specs.Codes.{successor}
 use Rattle.sections.specs.Rows as Sections
 use Rattle.elf_object.specs.Kinds.{program, uninitialized, symbol_table, dynamic_symbols, frame_header, dynamic, unknown}

@@ -9,9 +9,10 @@ ghost use Rattle.merge_sections.specs.Reserve.{code_of, kind_class, class_of, re
 ghost use Rattle.merge_sections.specs.Notes.{is_table, note_table_of, note_tables_of, clear_one_of, clear_all_of};
 
 use elf_object::{Kind, Object};
-use link::{Link, Refusal};
+use link::{Cause, Link, Refusal};
 
 // What the stage does with a section.
+// Kept: five cases of which one refuses, since the cause and its place are told where the others are told apart too.
 #[derive(Clone, Copy)]
 enum Class {
     // Nothing.
@@ -68,6 +69,7 @@ impl Class {
 }
 
 // What the stage writes, and the section of the loaded symbol table, once it is met.
+// Kept: that the loans stay is said by each call, since no field's type says which memory it lends.
 #[derive(Drop)]
 pub struct Reserving<'a> {
     pub link: Link,
@@ -83,9 +85,12 @@ impl Reserving<'_> {
         ensures { result ≡ judged (refused (reserve_number self.now.link self.now.sections.now (code_of class) (table_cell self.now.table)) n) }
     {
         match class {
-            Class::Refused => Err(Refusal::new(3, n)),
-            Class::Table if self.table.is_some() => Err(Refusal::new(24, n)),
-            Class::Row if !sections::room(self.link, self.sections) => Err(Refusal::new(2, n)),
+            Class::Refused => Err(Refusal::new(Cause::UnsupportedKind, n)),
+            Class::Table if self.table.is_some() => Err(Refusal::new(Cause::SecondSymbolTable, n)),
+            Class::Row if !sections::room(self.link, self.sections) => Err(Refusal::new(
+                Cause::NoRoom,
+                n,
+            )),
             _ => Ok(()),
         }
     }
@@ -117,7 +122,7 @@ impl Reserving<'_> {
         ensures value { state_after self.new result ≡ reserve_all_of object.entry.headers.now (state_before self.old) }
         ensures numbered { IfErr result (λ r. r.number ≢ 0) }
     {
-        for n in 0..object.headers.len() / elf_object::ROW_WIDTH {
+        for n in 0..object.section_count() {
             self.reserve_one(object, n)?;
         }
         Ok(())
@@ -159,7 +164,7 @@ fn note_table(work: &mut [u64], object: Object<'_>, t: usize)
 pub fn note_tables(work: &mut [u64], object: Object<'_>)
     ensures { work.new ≡ note_tables_of object.entry.headers.now work.old }
 {
-    for t in 0..object.headers.len() / elf_object::ROW_WIDTH {
+    for t in 0..object.section_count() {
         note_table(work, object, t);
     }
 }

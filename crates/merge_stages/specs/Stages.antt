@@ -2,8 +2,8 @@
 -- Assumes nothing.
 use Rattle.std.specs.Prelude.{ℕ, ◌≡◌, cond, List, eqb, ltb, Option, Result, Ok, Err}
 use denote.Triple.Both.{Both}
-use Rattle.link.specs.declared.Refusal.{Refusal}
-use Rattle.link.specs.declared.Stage.{Stage}
+use Rattle.link.specs.declared.cause.Refusal.{Refusal}
+use Rattle.link.specs.Stage.{Stage}
 use Rattle.link.specs.Judge as Link
 use Rattle.elf_object.specs.declared.Object as Elf
 use Rattle.elf_object.specs.Rows.{rows_in, link_at, section_of, table_entries}
@@ -152,12 +152,14 @@ after_symbols s m =
 abbrev pub with_built : SymbolLinks → BuildLinks → SymbolLinks
 with_built s b = symbol_links b.bytes b.names s.symbols b.sections b.inputs b.lists s.ids b.stage
 
+-- what is built, and the object's own row
+abbrev pub built_in : Tabled → List ℕ → SymbolLinks → SymbolLinks
+built_in o work s =
+    with_built s
+    (built_of (build_object o work s.ids) (build_links s.bytes s.names s.sections s.inputs s.lists (Link.going_of s.stage.link)))
+
 unfoldable pub build_stage : Tabled → List ℕ → SymbolLinks → SymbolLinks
-build_stage o work s =
-    cond (eqb s.stage.number 0)
-    (with_built s
-    (built_of (build_object o work s.ids) (build_links s.bytes s.names s.sections s.inputs s.lists (Link.going_of s.stage.link))))
-    s
+build_stage o work s = cond (eqb s.stage.number 0) (built_in o work s) s
 
 -- the symbol stage
 abbrev pub symbol_stage : Tabled → List ℕ → SymbolLinks → Symbols.State
@@ -199,9 +201,12 @@ filter_stage o a = cond (eqb a.stage.number 0) (filtered_of o a (filter_of a.wor
 abbrev pub group_object : Tabled → Group.Object
 group_object o = Group.object_of o.headers o.entries o.contents o.image o.table
 
+-- with the groups of the object
+abbrev pub grouped_in : Tabled → All → All
+grouped_in o a = after_groups a (Group.groups_of (group_object o) (Group.step_of a.bytes a.names a.work (Link.going_of a.stage.link)))
+
 unfoldable pub merge_groups_of : Tabled → All → All
-merge_groups_of o a =
-    filter_stage o (after_groups a (Group.groups_of (group_object o) (Group.step_of a.bytes a.names a.work (Link.going_of a.stage.link))))
+merge_groups_of o a = filter_stage o (grouped_in o a)
 
 -- ---- all stages
 

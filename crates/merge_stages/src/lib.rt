@@ -3,21 +3,19 @@
 
 ghost use Rattle.std.specs.Prelude.{◌≡◌, ◌≢◌, ◌<◌, IfErr, IfOk, IfSome};
 ghost use Rattle.std.specs.Option.{ForSome};
-ghost use Rattle.link.specs.Judge.{going_of};
 ghost use Rattle.elf_object.specs.Rows.{rows_in};
 ghost use Rattle.merge_sections.specs.Reserve.{table_cell};
-ghost use Rattle.section_groups.specs.Group.{groups_of, step_of};
-ghost use Rattle.merge_build.specs.Finish.{built_of, build_links};
-ghost use Rattle.merge_stages.specs.Stages.{merge_groups_of, stages_of, merge_table_of, object_read, tabled_read, same_loans, merge_before, merge_after, links_before, links_after, symbol_stage, after_symbols, section_stage, answered, after_sections, after_groups, group_object, build_object, with_built, tabled};
+ghost use Rattle.merge_stages.specs.Stages.{merge_groups_of, stages_of, merge_table_of, object_read, tabled_read, same_loans, merge_before, merge_after, links_before, links_after, symbol_stage, after_symbols, section_stage, answered, after_sections, grouped_in, built_in, tabled};
 
 use elf_object::Object;
-use link::{Link, Refusal};
+use link::{Cause, Link, Refusal};
 use merge_build::Builder;
 use merge_sections::Reserving;
 use merge_symbols::Symbols;
 use section_groups::Grouping;
 
 // What a merge writes: the tables of a link, a work row for each section of the object, and for each of its symbols a cell for its id and 1.
+// Kept: that the loans stay is said by each call, since no field's type says which memory it lends.
 #[derive(Drop)]
 pub struct Merge<'a> {
     pub link: Link,
@@ -75,8 +73,7 @@ impl Merge<'_> {
     // The groups of the object.
     fn add_groups(&mut self, object: Object<'_>) -> Result<(), Refusal>
         ensures loans { same_loans self.old self.new }
-        ensures value { merge_after self.new result ≡ after_groups (merge_before self.old)
-            (groups_of (group_object (tabled_read object.entry)) (step_of self.old.bytes.now self.old.names.now self.old.work.now (going_of self.old.link))) }
+        ensures value { merge_after self.new result ≡ grouped_in (tabled_read object.entry) (merge_before self.old) }
         ensures numbered { IfErr result (λ r. r.number ≢ 0) }
     {
         let mut groups = Grouping {
@@ -115,8 +112,7 @@ impl Merge<'_> {
     // What is built, and the object's own row.
     fn build(&mut self, object: Object<'_>) -> Result<(), Refusal>
         ensures loans { same_loans self.old self.new }
-        ensures value { links_after self.new result ≡ with_built (links_before self.old) (built_of (build_object (tabled_read object.entry) self.old.work.now self.old.ids.now)
-            (build_links self.old.bytes.now self.old.names.now self.old.sections.now self.old.inputs.now self.old.lists.now (going_of self.old.link))) }
+        ensures value { links_after self.new result ≡ built_in (tabled_read object.entry) self.old.work.now (links_before self.old) }
         ensures work { self.new.work.now ≡ self.old.work.now }
         ensures numbered { IfErr result (λ r. r.number ≢ 0) }
     {
@@ -130,7 +126,7 @@ impl Merge<'_> {
             inputs: self.inputs,
             lists: self.lists,
         };
-        let answer = builder.finish(object, work, ids);
+        let answer = builder.finish(object, work, ids, object.symbol_count());
         self.link = builder.link;
         answer
     }
@@ -155,7 +151,7 @@ impl Merge<'_> {
         self.add_groups(object)?;
         let work = &mut *self.work;
         if let Some(i) = section_groups::filter_symbol_table(work, object.entries) {
-            return Err(Refusal::new(8, i));
+            return Err(Refusal::new(Cause::LocalInRemovedSection, i));
         }
         self.merge_table(object)
     }

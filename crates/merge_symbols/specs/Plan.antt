@@ -9,8 +9,7 @@ use Rattle.symbol.specs.Codes.{successor}
 use Rattle.upcoming_symbol.specs.declared.ElfSymbol.{ElfSymbol}
 use Rattle.upcoming_symbol.specs.Upcoming.{conversion_from, elf_row_of}
 use Rattle.symbol_resolution.specs.declared.rows.Resolution.{Resolution}
-use Rattle.symbol_resolution.specs.declared.rows.Decision.{Decision}
-use Rattle.symbol_resolution.specs.declared.rows.Decision.TheVariants.{Refuse, Nothing, Keep}
+use Rattle.symbol_resolution.specs.Decision.{Decision, Refuse, Nothing, Keep}
 use Rattle.symbol_resolution.specs.Holder.{holder_of}
 use Rattle.symbol_resolution.specs.Decide.{decision_of, decide_of}
 use Rattle.gabi.specs.SymbolTable.{stt_notype, stt_file, shn_undef, shn_loreserve}

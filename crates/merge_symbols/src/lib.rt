@@ -12,11 +12,13 @@ mod plan;
 
 use crate::plan::Plan;
 use elf_object::Object;
-use link::{Interned, Link, Refusal};
+use interner::NamesMut;
+use link::{Cause, Interned, Link, Refusal};
 pub use plan::place_of;
 use symbol_resolution::{Resolution, Table};
 
 // What the stage writes, and the name of the last file symbol.
+// Kept: that the loans stay is said by each call, since no field's type says which memory it lends.
 #[derive(Drop)]
 pub struct Symbols<'a> {
     pub link: Link,
@@ -76,10 +78,20 @@ impl Symbols<'_> {
         ensures value { state_after self.new result ≡ commit_of (state_before self.old) x.now (planned_as plan) i }
         ensures numbered { IfErr result (λ r. r.number ≢ 0) }
     {
-        if let Err(2) = plan.resolution {
-            return Err(Refusal::new(2, i));
+        match plan.resolution {
+            Err(number) if number == u64::from(Cause::NoRoom) => {
+                return Err(Refusal::new(Cause::NoRoom, i));
+            }
+            _ => {}
         }
-        self.link = interner::keep(self.link, self.bytes, self.names, plan.id, x);
+        // Kept: the link is a field of the struct, which the other tables' calls need too, so it goes to the names and comes back.
+        let mut names = NamesMut {
+            link: self.link,
+            bytes: self.bytes,
+            cells: self.names,
+        };
+        names.keep(plan.id, x);
+        self.link = names.link;
         match plan.resolution {
             Ok(resolution) => {
                 self.accept(plan, resolution, i);
@@ -104,7 +116,7 @@ impl Symbols<'_> {
     {
         let offset = cells::row_get(object.entries, i, elf_object::ENTRY_NAME) as usize;
         let Some(x) = object.name_in(strings, offset) else {
-            return Err(Refusal::new(9, i));
+            return Err(Refusal::new(Cause::SymbolNameMissing, i));
         };
         let plan = self.plan(object.entries, work, x, i);
         self.commit(x, plan, i)

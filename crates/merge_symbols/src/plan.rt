@@ -5,17 +5,19 @@ ghost use Rattle.symbol_resolution.specs.Decide.{decision_of};
 ghost use Rattle.merge_symbols.specs.Plan.{Numbered, filtered_at, is_first, defines_of, rule_of, judged_of, planned_as, planned_of, place_of, file_after, input_of, view_now};
 
 use crate::Symbols;
-use link::{Interned, SymbolId};
+use interner::Names;
+use link::{Cause, Interned, SymbolId};
 use symbol::Row;
 use symbol_resolution::Resolution;
 use upcoming_symbol::{Conversion, ElfSymbol};
 
-// What is to be done with a symbol, under a name that has or would get this id; or the number that refuses it.
+// What is to be done with a symbol, under a name that has or would get this id; or the number that refuses it, as symbol_resolution tells it.
 #[derive(Clone, Copy)]
 pub struct Plan {
     pub id: Interned,
     pub kind: u64,
     pub row: Row,
+    // Kept: a number, as symbol_resolution::resolve tells it.
     pub resolution: Result<Resolution, u64>,
 }
 
@@ -63,7 +65,22 @@ fn defines(work: &[u64], section: u64) -> bool
 }
 
 impl Symbols<'_> {
+    // The names, to be read.
+    // Kept: as in shared_objects; a trait of structs that hold names would be longer than both.
+    fn name_table(&self) -> Names<'_, '_>
+        ensures link { result.link ≡ self.now.link }
+        ensures bytes { result.bytes.now ≡ self.now.bytes.now }
+        ensures cells { result.cells.now ≡ self.now.names.now }
+    {
+        Names {
+            link: self.link,
+            bytes: self.bytes,
+            cells: self.names,
+        }
+    }
+
     // The first symbol maps to the null symbol; a file symbol and one of a group-defining section get no id; else add's rules.
+    // Kept: refused with a number, as symbol_resolution::resolve tells it.
     #[tactic(auto, unfolding(crate::specs::Plan::rule_of))]
     fn resolve(
         &self,
@@ -88,6 +105,7 @@ impl Symbols<'_> {
     }
 
     // A name of that length that is neither known nor has room is 2.
+    // Kept: refused with a number, as symbol_resolution::resolve tells it.
     #[tactic(auto, unfolding(crate::specs::Plan::judged_of))]
     fn judge(
         &self,
@@ -100,9 +118,8 @@ impl Symbols<'_> {
         ensures value { decision_of result ≡ judged_of (view_now self.now) work.now i len e row }
         ensures numbered { Numbered result }
     {
-        let bytes = &*self.bytes;
-        if !interner::fits(self.link, bytes, self.names, row.name, len) {
-            return Err(2);
+        if !self.name_table().fits(row.name, len) {
+            return Err(Cause::NoRoom.into());
         }
         self.resolve(work, i, len == 0, e, row)
     }
@@ -113,8 +130,7 @@ impl Symbols<'_> {
         ensures value { planned_as result ≡ planned_of (view_now self.now) (input_of entries.now work.now) x.now i (file_cell self.now.file) }
         ensures numbered { Numbered result.resolution }
     {
-        let bytes = &*self.bytes;
-        let id = interner::find(self.link, bytes, self.names, x);
+        let id = self.name_table().find(x);
         let e = filtered_at(entries, work, i);
         let cell = cells::row_get(work, e.section as usize, elf_object::WORK_CONVERSION);
         let file = symbol::file_cell(self.file);
@@ -134,5 +150,9 @@ impl Symbols<'_> {
 pub fn place_of(number: u64, id: Interned, i: usize) -> u64
     ensures { result ≡ place_of number id i }
 {
-    if number == 21 { id.0 as u64 } else { i as u64 }
+    if number == u64::from(Cause::AbsentId) {
+        id.0 as u64
+    } else {
+        i as u64
+    }
 }

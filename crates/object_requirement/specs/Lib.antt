@@ -1,3 +1,4 @@
 pub mod Matches
 pub mod Required
 pub mod Contract
+pub mod Proof

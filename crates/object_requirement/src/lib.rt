@@ -3,55 +3,47 @@
 // string section; of the link nothing is but its profile.
 #![tactic(auto)]
 
-ghost use Rattle.std.specs.Prelude.{◌≡◌, ◌+◌, ◌<◌};
-ghost use Rattle.elf_object.specs.Rows.{strings_at, binding_at, section_at};
+ghost use Rattle.std.specs.Prelude.{◌≡◌};
+ghost use Rattle.elf_object.specs.Kind.{number_of};
+ghost use Rattle.elf_object.specs.Rows.{binding_at, section_at};
 ghost use Rattle.strings.specs.Contract.{string_exit};
 ghost use Rattle.object_requirement.specs.Matches.{is_section, defines_name, admits, bears_required, in_table, is_table, in_section, has_global_symbol, offered_in};
 ghost use Rattle.object_requirement.specs.Required.{required_by};
-ghost use Rattle.object_requirement.specs.Contract.{AnywhereMeets, MatchesMeets};
+ghost use Rattle.object_requirement.specs.Contract.{AnywhereMeets, MatchesMeets, ObjectMeets};
 
 use archive_index::Entries;
 use archive_walk::Walk;
-use elf_object::Object;
-use link::{Link, Refusal};
+use elf_object::{Kind, Object};
+use link::{Cause, Link, Refusal};
 
 // ---- names
 
 // Is there a section of that number and kind, excluded or not?
 #[tactic(auto, unfolding(crate::specs::Matches::is_section))]
-fn is_section(headers: &[u64], n: usize, kind: u64) -> bool
-    ensures { result ≡ is_section headers.now n kind }
+fn is_section(object: Object<'_>, n: usize, kind: Kind) -> bool
+    ensures { result ≡ is_section object.entry.headers.now n (number_of kind) }
 {
-    n < headers.len() / elf_object::ROW_WIDTH
-        && cells::row_get(headers, n, elf_object::HEADER_KIND) == kind
+    n < object.section_count()
+        && cells::row_get(object.headers, n, elf_object::HEADER_KIND) == u64::from(kind)
 }
 
 // A symbol table, dynamic or not.
 #[tactic(auto, unfolding(crate::specs::Matches::is_table))]
-fn is_table(headers: &[u64], n: usize) -> bool
-    ensures { result ≡ is_table headers.now n }
+fn is_table(object: Object<'_>, n: usize) -> bool
+    ensures { result ≡ is_table object.entry.headers.now n }
 {
-    is_section(headers, n, elf_object::SYMBOL_TABLE)
-        || is_section(headers, n, elf_object::DYNAMIC_SYMBOLS)
-}
-
-fn strings_at<'a>(headers: &[u64], file: &'a [u8], n: usize) -> &'a [u8]
-    ensures { result.now ≡ strings_at headers.now file.now n }
-{
-    let first = cells::row_get(headers, n, elf_object::HEADER_FIRST);
-    let count = cells::row_get(headers, n, elf_object::HEADER_COUNT);
-    byte_slices::part_of(file, first as usize, count as usize)
+    is_section(object, n, Kind::SymbolTable) || is_section(object, n, Kind::DynamicSymbols)
 }
 
 // The name at an offset of string section n, excluded or not.
 #[tactic(auto, unfolding(crate::specs::Matches::name_anywhere))]
-fn name_anywhere<'a>(headers: &[u64], file: &'a [u8], n: usize, offset: usize) -> Option<&'a [u8]>
-    ensures { AnywhereMeets headers.now file.now n offset (string_exit result) }
+fn name_anywhere<'a>(object: Object<'a>, n: usize, offset: usize) -> Option<&'a [u8]>
+    ensures { AnywhereMeets object.entry.headers.now object.entry.image.now n offset (string_exit result) }
 {
-    if is_section(headers, n, elf_object::STRING_TABLE) {
-        return strings::get(strings_at(headers, file, n), offset);
+    if !is_section(object, n, Kind::StringTable) {
+        return None;
     }
-    None
+    strings::get(object.strings_at(n), offset)
 }
 
 // ---- symbols
@@ -65,14 +57,14 @@ fn defines_name(binding: u64, section: u64) -> bool
         && (binding == upcoming_symbol::STB_GLOBAL || binding == upcoming_symbol::STB_WEAK)
 }
 
-// May symbol i of a table admit its member?
+// May symbol i of an object's loaded table admit its member?
 #[tactic(auto, unfolding(crate::specs::Matches::admits))]
-fn may_admit(gabi: bool, symbols: &[u64], i: usize) -> bool
-    ensures { result ≡ admits gabi (binding_at symbols.now i) (section_at symbols.now i) }
+fn may_admit(gabi: bool, object: Object<'_>, i: usize) -> bool
+    ensures { let symbols = object.entry.entries.now in result ≡ admits gabi (binding_at symbols i) (section_at symbols i) }
 {
-    let binding = cells::row_get(symbols, i, elf_object::ENTRY_BINDING);
+    let binding = cells::row_get(object.entries, i, elf_object::ENTRY_BINDING);
     if gabi {
-        let section = cells::row_get(symbols, i, elf_object::ENTRY_SECTION);
+        let section = cells::row_get(object.entries, i, elf_object::ENTRY_SECTION);
         return defines_name(binding, section);
     }
     binding == upcoming_symbol::STB_GLOBAL
@@ -104,87 +96,63 @@ impl ObjectRequirement<'_, '_> {
         self.walk.is_required(self.entries, self.entry, name)
     }
 
-    // Does symbol i of a table, whose names are in string section `names`, bear a required name?
+    // Does symbol i of an object's loaded table, whose names are in string section `names`, bear a required name?
+    // Kept: a match, since the proof does not close over `is_some_and` (tried).
     #[tactic(auto, unfolding(crate::specs::Matches::bears_required, crate::specs::Matches::is_required))]
-    fn is_borne(
-        self,
-        gabi: bool,
-        object: Object<'_>,
-        names: usize,
-        symbols: &[u64],
-        i: usize,
-    ) -> bool
-        ensures { result ≡ bears_required gabi object.entry.headers.now object.entry.image.now names symbols.now (required_by self.entry) i }
+    fn is_borne(self, gabi: bool, object: Object<'_>, names: usize, i: usize) -> bool
+        ensures { let o = object.entry in
+            result ≡ bears_required gabi o.headers.now o.image.now names o.entries.now (required_by self.entry) i }
     {
-        if !may_admit(gabi, symbols, i) {
-            return false;
-        }
-        let offset = cells::row_get(symbols, i, elf_object::ENTRY_NAME) as usize;
-        match name_anywhere(object.headers, object.image, names, offset) {
-            Some(name) => self.asks(name),
-            None => false,
-        }
-    }
-
-    #[tactic(auto, unfolding(crate::specs::Matches::in_table))]
-    fn is_in_table(self, gabi: bool, object: Object<'_>, names: usize, symbols: &[u64]) -> bool
-        ensures { result ≡ in_table gabi object.entry.headers.now object.entry.image.now names symbols.now (required_by self.entry) }
-    {
-        for i in 0..symbols.len() / elf_object::ROW_WIDTH {
-            if self.is_borne(gabi, object, names, symbols, i) {
-                return true;
+        let offset = cells::row_get(object.entries, i, elf_object::ENTRY_NAME) as usize;
+        may_admit(gabi, object, i)
+            && match name_anywhere(object, names, offset) {
+                Some(name) => self.asks(name),
+                None => false,
             }
-        }
-        false
     }
 
+    fn is_in_table(self, gabi: bool, object: Object<'_>, names: usize) -> bool
+        ensures { let o = object.entry in
+            result ≡ in_table gabi o.headers.now o.image.now names o.entries.now (required_by self.entry) }
+    {
+        (0..object.symbol_count()).any(|i| self.is_borne(gabi, object, names, i))
+    }
+
+    // Section n, if it is a symbol table.
     #[tactic(auto, unfolding(crate::specs::Matches::in_section))]
     fn is_in_section(self, gabi: bool, object: Object<'_>, n: usize) -> bool
-        requires { n < 0xffffffffffffffff }
-        ensures { result ≡ in_section gabi object.entry.headers.now object.entry.entries.now object.entry.image.now (required_by self.entry) n }
+        ensures { let o = object.entry in
+            result ≡ in_section gabi o.headers.now o.entries.now o.image.now (required_by self.entry) n }
     {
-        if !is_table(object.headers, n) {
-            return false;
-        }
         let names = cells::row_get(object.headers, n, elf_object::HEADER_LINK) as usize;
-        let symbols = elf_object::table_entries(object.headers, object.entries, (n + 1) as u64);
-        self.is_in_table(gabi, object, names, symbols)
+        let loaded = Object {
+            entries: object.entries_of(n),
+            table: n,
+            ..object
+        };
+        is_table(object, n) && self.is_in_table(gabi, loaded, names)
     }
 
-    #[tactic(auto, unfolding(crate::specs::Matches::has_global_symbol))]
     fn is_in_object(self, gabi: bool, object: Object<'_>) -> bool
-        ensures { result ≡ has_global_symbol gabi object.entry.headers.now object.entry.entries.now object.entry.image.now (required_by self.entry) }
+        ensures { let o = object.entry in
+            result ≡ has_global_symbol gabi o.headers.now o.entries.now o.image.now (required_by self.entry) }
     {
-        for n in 0..object.headers.len() / elf_object::ROW_WIDTH {
-            if self.is_in_section(gabi, object, n) {
-                return true;
-            }
-        }
-        false
+        (0..object.section_count()).any(|n| self.is_in_section(gabi, object, n))
     }
 
     // Of the link the profile counts. 1 of the object's rows at the first, of the walk's at 0.
-    #[tactic(auto, unfolding(crate::specs::Matches::matches_of))]
     pub fn matches(self, link: Link, object: Object<'_>) -> Result<bool, Refusal>
-        ensures { MatchesMeets link object.entry.headers.now object.entry.entries.now object.entry.contents.now object.entry.image.now
-            self.entry.entries.index.now self.entry.entries.cells.now self.entry.walk self.entry.entry result }
+        ensures { ObjectMeets link object.entry self.entry result }
     {
-        let judged = elf_object::judge(
-            object.headers,
-            object.entries,
-            object.contents.len(),
-            object.image.len(),
-        );
-        if judged.number != 0 {
-            return Err(judged);
-        }
+        object.judge()?;
         if !self.is_offered() {
-            return Err(Refusal::new(1, 0));
+            return Err(Refusal::new(Cause::OutOfRange, 0));
         }
         Ok(self.is_in_object(link.gabi, object))
     }
 }
 
+// Kept: slices one by one, as the exported call (ffi_archive) has them.
 pub fn matches(
     l: Link,
     headers: &[u64],

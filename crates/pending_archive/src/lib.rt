@@ -1,29 +1,34 @@
-// The walk lent by reference and moved on in place, for a caller with loose slices: the Rust's `PendingArchive::next(&mut self)`. Thin functions over
-// `Walk::next`.
+// The walk lent by reference and moved on in place, for a caller with loose slices: the Rust's `PendingArchive::next(&mut self)`; and the walk by value.
+// Thin functions over `Walk::next`.
 #![tactic(auto)]
 
+ghost use Rattle.std.specs.Prelude.{◌≡◌};
+ghost use Rattle.archive_index.specs.Contract.{same_rows};
 ghost use Rattle.archive_walk.specs.Contract.{next_exit, NextMeets};
+ghost use Rattle.archive_walk.specs.Lent.{as_table};
 ghost use Rattle.archive_walk.specs.Look.{table_in};
+ghost use Rattle.archive_walk.specs.Walk.{step_of, next_of};
 
 use archive_index::Rows;
 use archive_walk::{Offer, Table, Walk};
 use link::{Link, Refusal};
 
 // By a refusal the walk stays as it was.
+// Kept: slices one by one, as the exported call (ffi_archive) has them.
 pub fn next(
     walk: &mut Walk,
     index: &[u8],
     cells: &mut [u64],
-    l: Link,
+    link: Link,
     bytes: &[u8],
     names: &[u64],
     symbols: &[u64],
 ) -> Result<Offer, Refusal>
-    ensures { NextMeets index.now cells.old walk.old (table_in l bytes names symbols) (next_exit cells (record { walk = walk.new; offer = result })) }
+    ensures { NextMeets index.now cells.old walk.old (table_in link bytes names symbols) (next_exit cells (record { walk = walk.new; offer = result })) }
 {
     let mut rows = Rows { index, cells };
     let table = Table {
-        link: l,
+        link,
         bytes,
         names,
         symbols,
@@ -33,17 +38,14 @@ pub fn next(
 
 // The same with the walk by value.
 pub fn next_by_value(
-    w: Walk,
-    index: &[u8],
-    cells: &mut [u64],
-    l: Link,
-    bytes: &[u8],
-    names: &[u64],
-    symbols: &[u64],
+    walk: Walk,
+    rows: &mut Rows<'_>,
+    table: Table<'_>,
 ) -> (Walk, Result<Offer, Refusal>)
-    ensures { NextMeets index.now cells.old w (table_in l bytes names symbols) (next_exit cells (record { walk = result.0; offer = result.1 })) }
+    ensures same { same_rows rows.old rows.new }
+    ensures step { step_of rows.new.cells.now result.0 result.1 ≡ next_of rows.old.index.now rows.old.cells.now walk (as_table table.entry) }
 {
-    let mut walk = w;
-    let offer = next(&mut walk, index, cells, l, bytes, names, symbols);
-    (walk, offer)
+    let mut moved = walk;
+    let offer = moved.next(rows, table);
+    (moved, offer)
 }

@@ -3,7 +3,7 @@
 use Rattle.std.specs.Prelude.{ℕ, Bool, true, false, cond, eqb, List, Option, Result, Ok, Err}
 use Rattle.link.specs.declared.SymbolId.{SymbolId}
 use Rattle.link.specs.declared.SectionId.{SectionId}
-use Rattle.link.specs.declared.Refusal.{Refusal}
+use Rattle.link.specs.declared.cause.Refusal.{Refusal}
 use Rattle.gc_sections.specs.declared.graph.Graph.{Graph}
 use Rattle.gc_sections.specs.declared.Tables.{Tables}
 use Rattle.gc_sections.specs.declared.Read.{Read}

@@ -13,7 +13,7 @@ ghost use Rattle.plain_collector.specs.Graph.{first_in, judged_in, plain_in};
 mod visit;
 
 use gc_sections::{Dropped, Graph, Outcome, Read, Tables};
-use link::{Link, Refusal, SectionId, SymbolId};
+use link::{Cause, Link, Refusal, SectionId, SymbolId};
 
 // The most built sections that it takes.
 pub const MOST_BUILT: usize = 256;
@@ -35,10 +35,7 @@ fn count_built(sections: &[u64], n: usize) -> usize
 fn comes_first(head: Result<(), Refusal>) -> bool
     ensures { result ≡ first_in head }
 {
-    match head {
-        Ok(()) => false,
-        Err(refusal) => refusal.number == 22 || refusal.number == 1,
-    }
+    head.is_err_and(|refusal| refusal.is(Cause::BrokenLink) || refusal.is(Cause::OutOfRange))
 }
 
 // Nothing is counted before the counts are known to be lent. Of the two looks at the head the second gives the rows.
@@ -48,7 +45,7 @@ fn judge<'a>(tables: &'a Tables<'_>, read: Read<'a>, work: usize) -> Result<Grap
 {
     let head = tables.check(read, work);
     if !comes_first(head) && MOST_BUILT < count_built(tables.sections, tables.link.sections) {
-        return Err(Refusal::new(30, 0));
+        return Err(Refusal::new(Cause::TooManySections, 0));
     }
     tables.judge(read, work)
 }
@@ -70,7 +67,8 @@ pub fn collect(
 }
 
 // As `collect`.
-// Kept: slices one by one, as the exported call (ffi_collect) has them.
+// Kept: slices one by one, as the exported call (ffi_collect) has them; beside gc_sections', since each collector's own promise stands at its own
+// call.
 pub fn run(
     l: Link,
     bytes: &[u8],

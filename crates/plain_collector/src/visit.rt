@@ -33,6 +33,7 @@ fn entry_lead(graph: &Graph<'_>, entry: Option<SymbolId>) -> Option<SectionId>
 }
 
 // The work cells; of the sections that are reached but not built, the lowest.
+// Kept: that the loans stay is said by each call, since no field's type says which memory it lends.
 #[derive(Drop)]
 struct Visitor<'a> {
     work: &'a mut [u64],
@@ -62,6 +63,7 @@ impl<'a> Visitor<'a> {
 
     // A section that isn't built only lowers `unbuilt`; one that was visited is left. Any other is marked, so that fewer are unvisited, and the
     // sections that its relocations lead to are visited.
+    // Kept: that a cell is lent for each section is asked by each call and no invariant, since the graph and the cells are of two structs.
     fn visit(&mut self, graph: &Graph<'_>, lead: Option<SectionId>)
         requires { graph.now.link.sections ≤ length self.old.work.now }
         ensures keeps { KeepsCells self.old self.new }

@@ -1,9 +1,11 @@
 // Changes that a list makes directly on a symbol table.
 use crate::line::Change;
 use crate::state::State;
-use link::{Interned, Refusal, SectionId, SymbolId};
+use interner::NamesMut;
+use link::{Interned, Link, Refusal, SectionId, SymbolId};
 use replay_text::Reply;
 use symbol::SymbolValue;
+use symbol_resolution::Table;
 use symbols::Symbols;
 use text::field;
 use upcoming_symbol::{ElfSymbol, UpcomingSymbol};
@@ -108,75 +110,68 @@ impl State {
     }
 
     fn intern(&mut self, name: &[u8]) -> Result<Interned, Refusal> {
-        let lend = self.told.lend;
-        let memory = &mut self.memory;
-        let bytes = replay_words::cells(lend.bytes, memory.names.bytes.len());
-        let names = replay_words::wide_rows(lend.names, memory.names.cells.len());
-        let outcome = interner::intern(
-            self.table.link,
-            &mut memory.names.bytes[..bytes],
-            &mut memory.names.cells[..names],
-            name,
-        );
-        self.table = Symbols { link: outcome.link };
-        outcome.answer
+        let bytes = replay_words::cells(self.told.lend.bytes, self.memory.names.bytes.len());
+        let names = replay_words::wide_rows(self.told.lend.names, self.memory.names.cells.len());
+        let mut names = NamesMut {
+            link: self.table.link,
+            bytes: &mut self.memory.names.bytes[..bytes],
+            cells: &mut self.memory.names.cells[..names],
+        };
+        let answer = names.intern(name);
+        self.table.link = names.link;
+        answer
     }
 
     // `link`, or `link gabi` for the gABI's profile; the archive and its walk are gone with the old link.
     fn link(&mut self, line: &[u8]) -> Result<Reply, Refusal> {
         self.told.forget_archive();
-        let lend = self.told.lend;
-        let memory = &mut self.memory;
-        let bytes = replay_words::cells(lend.bytes, memory.names.bytes.len());
-        let names = replay_words::wide_rows(lend.names, memory.names.cells.len());
-        let symbols = replay_words::rows(lend.symbols, memory.symbols.len());
-        let sections = replay_words::wide_rows(lend.sections, memory.sections.len());
-        let outcome = Symbols::new(
+        let bytes = replay_words::cells(self.told.lend.bytes, self.memory.names.bytes.len());
+        let names = replay_words::wide_rows(self.told.lend.names, self.memory.names.cells.len());
+        let symbols = replay_words::rows(self.told.lend.symbols, self.memory.symbols.len());
+        let sections = replay_words::wide_rows(self.told.lend.sections, self.memory.sections.len());
+        let made = Symbols::new(
             0,
             replay_words::is(line, 1, b"gabi"),
-            &mut memory.names.bytes[..bytes],
-            &mut memory.names.cells[..names],
-            &mut memory.symbols[..symbols],
-            &mut memory.sections[..sections],
+            &mut self.memory.names.bytes[..bytes],
+            &mut self.memory.names.cells[..names],
+            &mut self.memory.symbols[..symbols],
+            &mut self.memory.sections[..sections],
         );
-        self.table = outcome.table;
-        outcome.answer.map(|_| Reply::Silent)
+        self.table = made.unwrap_or(Symbols {
+            link: Link::no_names(0, 0),
+        });
+        made.map(|_| Reply::Silent)
     }
 
     // `add ..`; the name of its file is issued too, the empty one where it has none.
     fn add(&mut self, line: &[u8]) -> Result<Reply, Refusal> {
         let name = self.intern(added_name(line))?;
         let file = self.intern(file_name(line))?;
-        let lend = self.told.lend;
-        let memory = &mut self.memory;
-        let names = replay_words::wide_rows(lend.names, memory.names.cells.len());
-        let symbols = replay_words::rows(lend.symbols, memory.symbols.len());
-        let sections = replay_words::wide_rows(lend.sections, memory.sections.len());
-        let outcome = symbols::add(
-            self.table,
-            &mut memory.names.cells[..names],
-            &mut memory.symbols[..symbols],
-            &mut memory.sections[..sections],
-            replay_object::conversion(&self.told.object_cells),
-            upcoming(line, name, file),
-        );
-        self.table = outcome.table;
-        outcome.answer.map(Reply::Id)
+        let names = replay_words::wide_rows(self.told.lend.names, self.memory.names.cells.len());
+        let symbols = replay_words::rows(self.told.lend.symbols, self.memory.symbols.len());
+        let sections = replay_words::wide_rows(self.told.lend.sections, self.memory.sections.len());
+        let mut table = Table {
+            link: self.table.link,
+            names: &mut self.memory.names.cells[..names],
+            symbols: &mut self.memory.symbols[..symbols],
+            sections: &mut self.memory.sections[..sections],
+        };
+        let conversion = replay_object::conversion(&self.told.object_cells);
+        let answer = symbols::add(&mut table, conversion, upcoming(line, name, file));
+        self.table.link = table.link;
+        answer.map(Reply::Id)
     }
 
     // `remove ID`
     fn remove(&mut self, line: &[u8]) -> Result<Reply, Refusal> {
-        let lend = self.told.lend;
-        let memory = &mut self.memory;
-        let symbols = replay_words::rows(lend.symbols, memory.symbols.len());
-        let sections = replay_words::wide_rows(lend.sections, memory.sections.len());
-        let outcome = symbols::remove(
+        let symbols = replay_words::rows(self.told.lend.symbols, self.memory.symbols.len());
+        let sections = replay_words::wide_rows(self.told.lend.sections, self.memory.sections.len());
+        let answer = symbols::remove(
             self.table,
-            &mut memory.symbols[..symbols],
-            &mut memory.sections[..sections],
+            &mut self.memory.symbols[..symbols],
+            &mut self.memory.sections[..sections],
             SymbolId(replay_words::number(line, 1) as usize),
         );
-        self.table = outcome.table;
-        outcome.answer.map(|_| Reply::Done)
+        answer.map(|_| Reply::Done)
     }
 }

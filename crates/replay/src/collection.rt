@@ -5,11 +5,15 @@ use replay_text::Names;
 use replay_words::Lend;
 use text::Writer;
 
+// What a collection leaves in the work cell of a section that it dropped.
+const DROPPED: u64 = 2;
+
 fn entry_point(line: &[u8]) -> Option<SymbolId> {
     replay_words::is(line, 1, b"1").then_some(SymbolId(replay_words::number(line, 2) as usize))
 }
 
-// The names of the sections that were dropped: they now have a 2 in their work cells.
+// The names of the sections that were dropped.
+// Kept: five parameters: a struct of them would be made for this call alone.
 fn put_dropped(
     out: &mut Writer<'_>,
     names: Names<'_>,
@@ -18,9 +22,9 @@ fn put_dropped(
     count: usize,
 ) {
     for i in 0..count {
-        if cells::get(work, i) == 2 {
+        if cells::get(work, i) == DROPPED {
             out.put(b" ");
-            let name = Interned(cells::row_get(sections, i, 1) as usize);
+            let name = Interned(cells::row_get(sections, i, sections::NAME) as usize);
             replay_text::put_name(out, names, name);
         }
     }
@@ -48,7 +52,7 @@ impl Memory {
             &mut self.symbols[..symbols],
             &mut self.sections[..sections],
             &self.lists[..lists],
-            byte_slices::part_of(&self.marks, 0, marks),
+            cells::part_of(&self.marks, 0, marks),
             entry_point(line),
             &mut self.work[..work],
         );

@@ -1,8 +1,26 @@
 // A dump: every row of a link, as the oracle's lists write it.
 use link::{Interned, SectionId, SymbolId};
 use replay_text::View;
+use sections::{COUNT, DROPPED, FIRST, KIND, NAME, READ, RESERVED, RETAIN, STATE};
 use std::alloc::{AllocError, Global};
+use symbol::{CELL_NAME, NAME_SYMBOL};
 use text::Writer;
+
+// A name's cell that says whether it is a group's signature.
+const NAME_SIGNATURE: usize = 4;
+
+// The cells of an input's row: its kind, its name, and where its dependencies and the names that it records as undefined lie in the lists:
+// the first and, in the cell behind it, how many.
+const INPUT_KIND: usize = 0;
+
+const INPUT_NAME: usize = 1;
+
+const DEPENDENCIES: usize = 2;
+
+const UNDEFINED: usize = 4;
+
+// The kind of an object; a library's is another.
+const OBJECT: u64 = 1;
 
 #[derive(Clone, Copy)]
 pub(crate) struct Dump<'a> {
@@ -67,8 +85,8 @@ impl<'a> Dump<'a> {
 
     // Is the row, present or removed, its name's global symbol?
     fn is_global(&self, id: usize) -> bool {
-        let name = cells::row_get(self.view.symbols, id, 1) as usize;
-        cells::row_get(self.view.names.cells, name, 3) == id as u64
+        let name = cells::row_get(self.view.symbols, id, CELL_NAME) as usize;
+        cells::row_get(self.view.names.cells, name, NAME_SYMBOL) == id as u64
     }
 
     fn put_globals(&self, out: &mut Writer<'_>) {
@@ -78,15 +96,15 @@ impl<'a> Dump<'a> {
         for id in 1..count {
             if self.is_global(id) {
                 out.put(b"\nglobal ");
-                self.put_name_of(out, self.view.symbols, id);
+                self.put_name_of(out, self.view.symbols, id, CELL_NAME);
                 replay_text::put_numbered(out, b" ", id as u64);
             }
         }
     }
 
-    // The name of a symbol's, a section's or an input's row.
-    fn put_name_of(&self, out: &mut Writer<'_>, rows: &[u64], i: usize) {
-        let name = Interned(cells::row_get(rows, i, 1) as usize);
+    // The name in that cell of a symbol's, a section's or an input's row.
+    fn put_name_of(&self, out: &mut Writer<'_>, rows: &[u64], i: usize, cell: usize) {
+        let name = Interned(cells::row_get(rows, i, cell) as usize);
         replay_text::put_name(out, self.view.names, name);
     }
 
@@ -102,15 +120,15 @@ impl<'a> Dump<'a> {
     }
 
     fn put_section(&self, out: &mut Writer<'_>, i: usize) {
-        match cells::row_get(self.view.sections, i, 0) {
-            1 => out.put(b" reserved"),
-            3 => {
+        match cells::row_get(self.view.sections, i, STATE) {
+            RESERVED => out.put(b" reserved"),
+            DROPPED => {
                 out.put(b" dropped ");
-                self.put_name_of(out, self.view.sections, i);
+                self.put_name_of(out, self.view.sections, i, NAME);
             }
             _ => {
                 out.put(b" built ");
-                self.put_name_of(out, self.view.sections, i);
+                self.put_name_of(out, self.view.sections, i, NAME);
                 self.put_built(out, i);
             }
         }
@@ -118,11 +136,11 @@ impl<'a> Dump<'a> {
 
     // Kind, retain, read and relocations' symbols.
     fn put_built(&self, out: &mut Writer<'_>, i: usize) {
-        for cell in 2..5 {
+        for cell in [KIND, RETAIN, READ] {
             replay_text::put_numbered(out, b" ", cells::row_get(self.view.sections, i, cell));
         }
-        let first = cells::row_get(self.view.sections, i, 5) as usize;
-        let count = cells::row_get(self.view.sections, i, 6) as usize;
+        let first = cells::row_get(self.view.sections, i, FIRST) as usize;
+        let count = cells::row_get(self.view.sections, i, COUNT) as usize;
         replay_text::put_numbered(out, b" ", count as u64);
         for k in 0..count {
             let id = cells::get(self.lists, first.wrapping_add(k));
@@ -135,7 +153,7 @@ impl<'a> Dump<'a> {
     fn put_groups(&self, alloc: Global, out: &mut Writer<'_>) -> Result<(), AllocError> {
         let mut signatures: Vec<&'a [u8]> = Vec::new(alloc);
         for id in 0..self.view.table.link.names {
-            if cells::row_get(self.view.names.cells, id, 4) == 1 {
+            if cells::row_get(self.view.names.cells, id, NAME_SIGNATURE) == 1 {
                 signatures.push(interner::name_of(
                     self.view.names.bytes,
                     self.view.names.cells,
@@ -147,11 +165,7 @@ impl<'a> Dump<'a> {
         replay_text::put_numbered(out, b"\ngroups ", signatures.len() as u64);
         for signature in &signatures {
             out.put(b"\ngroup ");
-            if signature.is_empty() {
-                out.put(b"-");
-            } else {
-                out.put(signature);
-            }
+            replay_text::put_shown(out, signature);
         }
         Ok(())
     }
@@ -162,8 +176,8 @@ impl<'a> Dump<'a> {
         let count = self.view.table.link.inputs;
         replay_text::put_numbered(out, b"\ninputs ", count as u64);
         for i in 0..count {
-            match cells::row_get(self.inputs, i, 0) {
-                1 => out.put(b"\ninput object"),
+            match cells::row_get(self.inputs, i, INPUT_KIND) {
+                OBJECT => out.put(b"\ninput object"),
                 _ => self.put_library(out, i),
             }
         }
@@ -172,8 +186,8 @@ impl<'a> Dump<'a> {
     // Its name, its dependencies, the names that it records as undefined.
     fn put_library(&self, out: &mut Writer<'_>, i: usize) {
         out.put(b"\ninput library ");
-        self.put_name_of(out, self.inputs, i);
-        for cell in [2, 4] {
+        self.put_name_of(out, self.inputs, i, INPUT_NAME);
+        for cell in [DEPENDENCIES, UNDEFINED] {
             let first = cells::row_get(self.inputs, i, cell) as usize;
             let count = cells::row_get(self.inputs, i, cell + 1) as usize;
             self.put_names(out, first, count);

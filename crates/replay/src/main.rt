@@ -18,6 +18,7 @@ use std::io;
 use text::{Lines, Taken, Writer};
 
 // Operations that were passed over. Link: the rest of the link is. Last: the last operation was, and its answers are.
+// Kept: two flags, since a link's rest can be passed over after an operation that was replayed, and before one.
 #[derive(Clone, Copy, Debug, Default, PartialEq, Eq)]
 struct Passing {
     count: u64,
@@ -99,10 +100,9 @@ impl Replay {
     }
 
     fn print(&self, rt: &impl Print) -> io::Result<()> {
-        let t = self.tally;
         println!(rt;
             "links {} operations {} answers {} differences {}",
-            t.links, t.operations, t.answers, t.differences
+            self.tally.links, self.tally.operations, self.tally.answers, self.tally.differences
         )?;
         println!(rt; "passed over {}", self.passing.count)
     }
@@ -115,11 +115,12 @@ fn main(rt: HostRuntime) -> io::Result<()> {
     let mut input = rt.stdin();
     let mut lines = Lines::new();
     // Nothing says that the input ends, so lines are counted.
+    // Kept: the range only bounds the turns; no count of lines is known that would be nearer.
     for _ in 0..u64::MAX {
         let taken = lines.next_line(&mut input, &mut buf);
         replay.tally.on_line();
         match taken {
-            Taken::Line { from, len } => replay.take(byte_slices::part_of(&buf, from, len))?,
+            Taken::Line { from, len } => replay.take(cells::part_of(&buf, from, len))?,
             Taken::Long => {
                 replay
                     .tally

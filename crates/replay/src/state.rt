@@ -8,7 +8,7 @@ use archive_walk::{Offer, Table, Walk};
 use link::{Link, Refusal};
 use replay_archive::Entries;
 use replay_stores::Stores;
-use replay_text::{Changed, Reply, View};
+use replay_text::{Reply, View};
 use std::alloc::{AllocError, Global};
 use symbols::Symbols;
 use text::Writer;
@@ -27,7 +27,7 @@ impl State {
         Ok(State {
             alloc,
             table: Symbols {
-                link: link::no_names(0, 0),
+                link: Link::no_names(0, 0),
             },
             memory: Memory::new(alloc)?,
             told: Told::new(alloc)?,
@@ -62,20 +62,35 @@ impl State {
 
     // A merge or a load.
     fn take(&mut self, input: Input) -> Result<Reply, Refusal> {
-        let memory = &mut self.memory;
-        let changed = take(
-            self.table.link,
-            &self.told,
-            input,
-            &mut memory.names.bytes,
-            &mut memory.names.cells,
-            &mut memory.symbols,
-            &mut memory.sections,
-            &mut memory.inputs,
-            &mut memory.lists,
-            &mut memory.work,
-            &mut memory.ids,
-        );
+        let told = &self.told;
+        let mut stores = Stores {
+            bytes: &mut self.memory.names.bytes,
+            names: &mut self.memory.names.cells,
+            symbols: &mut self.memory.symbols,
+            sections: &mut self.memory.sections,
+            inputs: &mut self.memory.inputs,
+            lists: &mut self.memory.lists,
+            work: &mut self.memory.work,
+            ids: &mut self.memory.ids,
+        };
+        let changed = match input {
+            Input::Object => replay_merge::merge(
+                self.table.link,
+                told.lend,
+                told.object,
+                &mut stores,
+                &told.object_cells,
+                &told.object_bytes,
+            ),
+            Input::Library => replay_load::load(
+                self.table.link,
+                told.lend,
+                told.library,
+                &mut stores,
+                &told.library_cells,
+                &told.library_bytes,
+            ),
+        };
         self.table = changed.table;
         changed.reply
     }
@@ -83,7 +98,7 @@ impl State {
     // ---- a walk
 
     fn start(&mut self, out: &mut Writer<'_>) {
-        let index = byte_slices::part_of(&self.told.index, 0, self.told.archive.length);
+        let index = cells::part_of(&self.told.index, 0, self.told.archive.length);
         let started = Walk::start(0, index, &mut self.told.walk_cells);
         self.told.walk = started.unwrap_or(Walk::none());
         match started {
@@ -95,7 +110,7 @@ impl State {
     fn next(&mut self, out: &mut Writer<'_>) {
         let told = &mut self.told;
         let lend = told.lend;
-        let index = byte_slices::part_of(&told.index, 0, told.archive.length);
+        let index = cells::part_of(&told.index, 0, told.archive.length);
         let names = self.memory.names.lent(lend);
         let symbols = replay_words::rows(lend.symbols, self.memory.symbols.len());
         let mut rows = Rows {
@@ -131,9 +146,9 @@ impl State {
             object.headers_of(&told.object_cells),
             object.entries_of(&told.object_cells),
             object.contents_of(&told.object_cells),
-            byte_slices::part_of(&told.object_bytes, 0, object.bytes),
+            cells::part_of(&told.object_bytes, 0, object.bytes),
             told.walk,
-            byte_slices::part_of(&told.index, 0, told.archive.length),
+            cells::part_of(&told.index, 0, told.archive.length),
             &told.walk_cells,
             told.archive.offered.unwrap_or(0),
         );
@@ -147,15 +162,13 @@ impl State {
     // ---- lookups and dumps
 
     fn view(&self) -> View<'_> {
-        let lend = self.told.lend;
-        let memory = &self.memory;
-        let symbols = replay_words::rows(lend.symbols, memory.symbols.len());
-        let sections = replay_words::wide_rows(lend.sections, memory.sections.len());
+        let symbols = replay_words::rows(self.told.lend.symbols, self.memory.symbols.len());
+        let sections = replay_words::wide_rows(self.told.lend.sections, self.memory.sections.len());
         View {
             table: self.table,
-            names: memory.names.lent(lend),
-            symbols: &memory.symbols[..symbols],
-            sections: &memory.sections[..sections],
+            names: self.memory.names.lent(self.told.lend),
+            symbols: &self.memory.symbols[..symbols],
+            sections: &self.memory.sections[..sections],
         }
     }
 
@@ -165,57 +178,6 @@ impl State {
             view: self.view(),
             inputs: &self.memory.inputs,
             lists: &self.memory.lists[..lists],
-        }
-    }
-}
-
-// Kept: slices side by side, since the borrow checker doesn't cover a struct of parts of several Vec's that is made where they are lent (tried).
-fn take(
-    link: Link,
-    told: &Told,
-    input: Input,
-    bytes: &mut [u8],
-    names: &mut [u64],
-    symbols: &mut [u64],
-    sections: &mut [u64],
-    inputs: &mut [u64],
-    lists: &mut [u64],
-    work: &mut [u64],
-    ids: &mut [u64],
-) -> Changed {
-    let mut stores = Stores {
-        bytes,
-        names,
-        symbols,
-        sections,
-        inputs,
-        lists,
-        work,
-        ids,
-    };
-    let lend = told.lend;
-    match input {
-        Input::Object => {
-            let rows = &told.object_cells;
-            replay_merge::merge(
-                link,
-                lend,
-                told.object,
-                &mut stores,
-                rows,
-                &told.object_bytes,
-            )
-        }
-        Input::Library => {
-            let rows = &told.library_cells;
-            replay_load::load(
-                link,
-                lend,
-                told.library,
-                &mut stores,
-                rows,
-                &told.library_bytes,
-            )
         }
     }
 }

@@ -27,13 +27,9 @@ pub(crate) struct Told {
 // Nobody started it.
 fn no_walk() -> Walk {
     Walk {
-        key: 0,
-        entries: 0,
         length: 0,
-        passes: 0,
-        queued: 0,
-        offered: 0,
         done: true,
+        ..Walk::none()
     }
 }
 

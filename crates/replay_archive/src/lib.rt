@@ -14,6 +14,7 @@ pub use required::Entries;
 use text::Writer;
 
 // The length of the index so far, 0 for an archive without one; entries told so far; the entry by which a member was offered last.
+// Kept: 0 and no Option, since an index without bytes is refused as none is (archive_index).
 #[derive(Clone, Copy, Debug, Default, PartialEq, Eq)]
 pub struct Archive {
     pub length: usize,
@@ -33,6 +34,7 @@ fn put_byte(file: &mut [u8], i: usize, v: u64)
 }
 
 // 32 bits, big-endian.
+// Kept: byte by byte, since a part of the word is put where not all of it has room.
 #[tactic(auto, unfolding(crate::specs::Index::put_word))]
 fn put_word(file: &mut [u8], i: usize, v: u64)
     ensures { file.new ≡ put_word file.old i v }

@@ -1,31 +1,20 @@
 // The names required of a member, by bytes.
-ghost use Rattle.std.specs.Prelude.{◌≡◌, None, [], ◌∷◌};
+ghost use Rattle.std.specs.Prelude.{◌≡◌, None};
 ghost use Rattle.text.specs.Writing.{Puts};
-ghost use Rattle.replay_text.specs.Answers.{shown};
 ghost use Rattle.archive_index.specs.Rows.{stored_name};
 ghost use Rattle.replay_archive.specs.Offer.{entry_name, tied_to, nearer_of, nearest_of, next_required, required_count, names_from, required_text, member_text};
 ghost use Rattle.replay_archive.specs.OfferWays.{spaced_name};
 
+use archive_index::{MEMBER, REQUIRED};
 use text::Writer;
 
 // The bytes of an index, the rows of its entries, and how many they are.
+// Kept: not archive_index::Entries: the count is the walk's, where that one has as many rows as are lent.
 #[derive(Clone, Copy)]
 pub struct Entries<'a> {
     pub index: &'a [u8],
     pub rows: &'a [u64],
     pub count: usize,
-}
-
-// The empty name is written as `-`.
-#[tactic(auto, unfolding(replay_text::specs::Answers::shown))]
-fn put_shown(out: &mut Writer<'_>, name: &[u8])
-    ensures { Puts out.old out.new (shown name.now ∷ []) }
-{
-    if name.is_empty() {
-        out.put(b"-");
-    } else {
-        out.put(name);
-    }
 }
 
 impl<'a> Entries<'a> {
@@ -51,24 +40,25 @@ impl<'a> Entries<'a> {
     fn is_tied(self, r: u64, k: usize) -> bool
         ensures { result ≡ tied_to self.entry.rows.now r k }
     {
-        cells::row_get(self.rows, k, 0) == 1 && cells::row_get(self.rows, k, 1) == r
+        cells::row_get(self.rows, k, REQUIRED) == 1 && cells::row_get(self.rows, k, MEMBER) == r
     }
 
     // Does entry k's name stand behind the last one, and before the best so far?
+    // Kept: matches, since the proof does not close over `is_none_or` (tried).
     #[tactic(auto, unfolding(crate::specs::Offer::nearer_of, crate::specs::Offer::before_best))]
     fn is_nearer(self, last: Option<usize>, best: Option<usize>, k: usize) -> bool
         ensures { result ≡ nearer_of self.entry.index.now self.entry.rows.now last best k }
     {
         let name = self.name_at(k);
-        if let Some(last) = last {
-            if !replay_words::before(self.name_at(last), name) {
-                return false;
-            }
-        }
-        match best {
+        let behind = match last {
             None => true,
-            Some(best) => replay_words::before(name, self.name_at(best)),
-        }
+            Some(last) => replay_words::before(self.name_at(last), name),
+        };
+        behind
+            && match best {
+                None => true,
+                Some(best) => replay_words::before(name, self.name_at(best)),
+            }
     }
 
     #[tactic(auto, unfolding(crate::specs::Offer::nearest_of))]
@@ -82,6 +72,7 @@ impl<'a> Entries<'a> {
     }
 
     // The required name that comes behind the last one, by bytes.
+    // Kept: the least is looked for anew each time, since the crate has no heap to sort names in.
     fn next_required(self, r: u64, last: Option<usize>) -> Option<usize>
         ensures { result ≡ next_required self.entry.index.now self.entry.rows.now self.entry.count r last }
     {
@@ -98,7 +89,7 @@ impl<'a> Entries<'a> {
     {
         let mut n = 0;
         let mut last = self.next_required(r, None);
-        for k in 0..self.count {
+        for _ in 0..self.count {
             let Some(entry) = last else {
                 return n;
             };
@@ -112,7 +103,7 @@ impl<'a> Entries<'a> {
         ensures { Puts out.old out.new (spaced_name (entry_name self.entry.index.now self.entry.rows.now entry)) }
     {
         out.put(b" ");
-        put_shown(out, self.name_of(entry));
+        replay_text::put_shown(out, self.name_of(entry));
     }
 
     // The first so many of the required names.
@@ -120,7 +111,7 @@ impl<'a> Entries<'a> {
         ensures { Puts out.old out.new (names_from self.entry.index.now self.entry.rows.now self.entry.count r count None) }
     {
         let mut last = None;
-        for k in 0..count {
+        for _ in 0..count {
             last = self.next_required(r, last);
             self.put_name(out, last);
         }
@@ -140,6 +131,6 @@ impl<'a> Entries<'a> {
     {
         replay_text::put_numbered(out, b"member ", offset);
         replay_text::put_numbered(out, b" ", passes as u64);
-        self.put_required(out, cells::row_get(self.rows, entry, 1));
+        self.put_required(out, cells::row_get(self.rows, entry, MEMBER));
     }
 }

@@ -1,7 +1,7 @@
 -- The load of the shared object that was told, with what is lent of each store.
 -- Assumes nothing.
 use Rattle.shared_objects.specs.declared.Load.TheVariants.{NotNeeded, Loaded}
-use Rattle.link.specs.declared.Refusal.{Refusal}
+use Rattle.link.specs.declared.cause.Refusal.{Refusal}
 use Rattle.shared_objects.specs.declared.Load.{Load}
 use Rattle.std.specs.Prelude.{ℕ, ◌-◌, ◌*◌, cond, List, ◌++◌, length, take, drop, nat_lt, Result, Ok, Err}
 use denote.Triple.Both.{Both}

@@ -3,7 +3,7 @@
 // begins with the soname.
 #![tactic(auto)]
 
-ghost use Rattle.std.specs.Prelude.{◌≡◌, ◌-◌};
+ghost use Rattle.std.specs.Prelude.{◌≡◌};
 ghost use Rattle.text.specs.Writing.{written};
 ghost use Rattle.shared_objects.specs.Load.{link_before};
 ghost use Rattle.replay_stores.specs.Lent.{SameStores};
@@ -19,6 +19,7 @@ use symbols::Symbols;
 use text::Writer;
 
 // Path: bytes of the library name. Soname: of the soname and its zero byte. Entries, needs, bytes: told so far.
+// Kept: a flag and a length, as the definitions (announced_as) have them: the length, 0 without a soname, counts in every offset.
 #[derive(Clone, Copy, Debug, PartialEq, Eq)]
 pub struct Library {
     pub asneeded: bool,
@@ -32,6 +33,7 @@ pub struct Library {
 }
 
 // Rows that symbols have room for; the dependencies' offsets come behind them.
+// Kept: both in one list of cells, as they are lent; the definitions (need_of) fix the places.
 const ROWS: usize = 256;
 
 // The cells of both together.
@@ -39,13 +41,8 @@ pub const CELLS: usize = 2304;
 
 // ---- what is told
 
-fn span(from: usize, to: usize) -> usize
-    ensures { result ≡ to - from }
-{
-    to.saturating_sub(from)
-}
-
 // Bytes, and a zero byte behind them.
+#[tactic(auto, unfolding(crate::specs::Told::put_ended, crate::specs::Told::ended_of, text::specs::Writing::put_all))]
 fn put_ended(out: &mut Writer<'_>, x: &[u8])
     ensures same { out.new.bytes.ghost_name ≡ out.old.bytes.ghost_name }
     ensures text { written out.new ≡ put_ended out.old.bytes.now out.old.len x.now }
@@ -81,6 +78,7 @@ impl Library {
     }
 
     // `library ASNEEDED OPTNAME OPTNAME SYMBOLS NEEDS`: the soname, the library name. A name that isn't there is written as the empty one.
+    #[tactic(auto, unfolding(crate::specs::Told::announce_of, crate::specs::Told::path_after, text::specs::Writing::put_all))]
     pub fn announced(bytes: &mut [u8], line: &[u8]) -> Library
         ensures { bytes_of bytes.new result ≡ announce_of bytes.old line.now }
     {
@@ -93,7 +91,7 @@ impl Library {
             archived: replay_words::is(line, 4, b"0"),
             sonamed: replay_words::is(line, 2, b"1"),
             path,
-            soname: span(path, out.len),
+            soname: out.len.saturating_sub(path),
             entries: 0,
             needs: 0,
             bytes: out.len,
@@ -133,10 +131,11 @@ impl Library {
     }
 
     // `needs NAME`
+    #[tactic(auto, unfolding(crate::specs::Told::need_of))]
     pub fn need(&mut self, cells: &mut [u64], bytes: &mut [u8], line: &[u8])
         ensures { told_after cells bytes self.new ≡ need_of cells.old bytes.old self.old line.now }
     {
-        let offset = span(self.path, self.bytes);
+        let offset = self.bytes.saturating_sub(self.path);
         cells::row_put(cells, ROWS, self.needs, offset as u64);
         let mut out = Writer::after(bytes, self.bytes);
         put_ended(&mut out, replay_words::name_at(line, 1));
@@ -166,10 +165,12 @@ fn loaded(outcome: shared_objects::Outcome) -> Changed
 fn entry_cells(n: usize) -> usize
     ensures { result ≡ entry_cells n }
 {
-    if n < ROWS { n * 8 } else { ROWS * 8 }
+    n.min(ROWS) * 8
 }
 
 // `load`, with what is lent of each store.
+// Kept: each parameter is one of the definition (load_lent); what is lent is a struct already.
+#[tactic(auto, unfolding(crate::specs::Load::load_lent, crate::specs::Load::load_lists, crate::specs::Load::load_all))]
 pub fn load(
     l: Link,
     lend: Lend,
@@ -191,9 +192,13 @@ pub fn load(
     let lists = replay_words::cells(lend.lists, stores.lists.len());
     let ids = replay_words::cells(lend.ids, stores.ids.len());
     let entries = cells::part_of(rows, 0, entry_cells(library.entries));
-    let strings = byte_slices::part_of(file, library.path, span(library.path, library.bytes));
+    let strings = cells::part_of(
+        file,
+        library.path,
+        library.bytes.saturating_sub(library.path),
+    );
     let needs = cells::part_of(rows, ROWS * 8, library.needs);
-    let path = byte_slices::part_of(file, 0, library.path);
+    let path = cells::part_of(file, 0, library.path);
     loaded(shared_objects::load_shared_object(
         l,
         &mut stores.bytes[..bytes],

@@ -1,6 +1,6 @@
 -- The merge of the object that was told, with what is lent of each store.
 -- Assumes nothing.
-use Rattle.link.specs.declared.Refusal.{Refusal}
+use Rattle.link.specs.declared.cause.Refusal.{Refusal}
 use Rattle.std.specs.Prelude.{ℕ, List, ◌++◌, length, take, drop, Result, Ok, Err}
 use denote.Triple.Both.{Both}
 use Rattle.byte_slices.specs.Bytes.{part}

@@ -23,6 +23,7 @@ fn merged(outcome: merge_elf::Outcome) -> Changed
     }
 }
 
+// Kept: each parameter is one of the definition (merge_lent); what is lent is a struct already.
 pub fn merge(
     l: Link,
     lend: Lend,
@@ -56,7 +57,7 @@ pub fn merge(
         object.headers_of(rows),
         object.entries_of(rows),
         object.contents_of(rows),
-        byte_slices::part_of(file, 0, object.bytes),
+        cells::part_of(file, 0, object.bytes),
         object.strings,
     ))
 }

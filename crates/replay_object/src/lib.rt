@@ -27,7 +27,7 @@ enum Kind {
 }
 
 // First cells, and how many cells each part has.
-// Kept: (1) the cells are lent, and calls lend parts of them further as they lie there.
+// Kept: the cells are lent, and calls lend parts of them further as they lie there; the definitions (specs/Told.antt) fix the places.
 const ENTRIES: usize = 2048;
 
 const CONTENTS: usize = 4096;
@@ -41,14 +41,21 @@ const CONVERTED: usize = 64;
 // The cells of all parts together.
 pub const CELLS: usize = 6208;
 
+// A list's KINDs, by the cells' numbers of an object's rows.
+const SYMBOL_TABLE: u64 = 3;
+
+const DYNAMIC_SYMBOLS: u64 = 10;
+
+const STRING_TABLE: u64 = 4;
+
 impl From<u64> for Kind {
     ghost from_gives = { λ number kind. kind ≡ kind_of number };
 
     #[tactic(auto, unfolding(crate::specs::Told::kind_of))]
     fn from(number: u64) -> Kind {
         match number {
-            3 | 10 => Kind::Symbols,
-            4 => Kind::Strings,
+            SYMBOL_TABLE | DYNAMIC_SYMBOLS => Kind::Symbols,
+            STRING_TABLE => Kind::Strings,
             _ => Kind::Words,
         }
     }
@@ -59,7 +66,7 @@ impl From<u64> for Kind {
 fn cells_of(rows: usize) -> usize
     ensures { result ≡ part_cells rows }
 {
-    if rows < PART / 8 { rows * 8 } else { PART }
+    rows.min(PART / 8) * 8
 }
 
 pub fn conversion(cells: &[u64]) -> &[u64]

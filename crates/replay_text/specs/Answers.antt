@@ -3,7 +3,7 @@
 use Rattle.link.specs.declared.Interned.{Interned}
 use Rattle.std.specs.Prelude.{ℕ, ◌+◌, ◌-◌, Bool, true, false, cond, List, [], ◌∷◌, ◌++◌, eqb, ltb, length, Option, None, Some}
 pub use Rattle.text.specs.Writing.{Pieces, put_all}
-use Rattle.link.specs.declared.Refusal.{Refusal}
+use Rattle.link.specs.declared.cause.Refusal.{Refusal}
 use Rattle.interner.specs.Names.{name_at}
 use Rattle.symbol.specs.Offset.{word_of}
 use Rattle.symbol.specs.declared.Symbol.{Symbol}

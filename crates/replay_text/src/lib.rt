@@ -1,9 +1,9 @@
 // For programs that replay the oracle's lists: answers as the lists write them.
 #![tactic(auto)]
 
-ghost use Rattle.std.specs.Prelude.{◌≡◌};
+ghost use Rattle.std.specs.Prelude.{◌≡◌, [], ◌∷◌};
 ghost use Rattle.text.specs.Writing.{Puts};
-ghost use Rattle.replay_text.specs.Answers.{numbered, refusal_text, name_text, signed_text, value_text, flagged, visibility_text, type_text, file_text, symbol_text};
+ghost use Rattle.replay_text.specs.Answers.{numbered, refusal_text, shown, name_text, signed_text, value_text, flagged, visibility_text, type_text, file_text, symbol_text};
 
 mod replies;
 
@@ -13,6 +13,7 @@ use symbol::{Symbol, SymbolType, SymbolValue, SymbolVisibility};
 use text::Writer;
 
 // A link's names: their bytes, and the cells that say where each begins.
+// Kept: not interner::Names, which also holds the link: texts need none.
 #[derive(Clone, Copy)]
 pub struct Names<'a> {
     pub bytes: &'a [u8],
@@ -33,16 +34,23 @@ pub fn put_refusal(out: &mut Writer<'_>, r: Refusal)
     put_numbered(out, b" ", r.place);
 }
 
-#[tactic(auto, unfolding(crate::specs::Answers::name_text, crate::specs::Answers::shown))]
-pub fn put_name(out: &mut Writer<'_>, names: Names<'_>, id: Interned)
-    ensures { Puts out.old out.new (name_text names.entry.bytes.now names.entry.cells.now id.0) }
+// The empty name is written as `-`.
+#[tactic(auto, unfolding(crate::specs::Answers::shown))]
+pub fn put_shown(out: &mut Writer<'_>, name: &[u8])
+    ensures { Puts out.old out.new (shown name.now ∷ []) }
 {
-    let name = interner::name_of(names.bytes, names.cells, id);
     if name.is_empty() {
         out.put(b"-");
     } else {
         out.put(name);
     }
+}
+
+#[tactic(auto, unfolding(crate::specs::Answers::name_text))]
+pub fn put_name(out: &mut Writer<'_>, names: Names<'_>, id: Interned)
+    ensures { Puts out.old out.new (name_text names.entry.bytes.now names.entry.cells.now id.0) }
+{
+    put_shown(out, interner::name_of(names.bytes, names.cells, id));
 }
 
 // An offset, by its word.
@@ -106,6 +114,7 @@ fn put_visibility(out: &mut Writer<'_>, v: SymbolVisibility)
     }
 }
 
+// Kept: not `put_numbered`: each is one piece, put whole or not at all, as the definition (type_text) has it.
 #[tactic(auto, unfolding(crate::specs::Answers::type_text))]
 fn put_type(out: &mut Writer<'_>, t: SymbolType)
     ensures { Puts out.old out.new (type_text t) }

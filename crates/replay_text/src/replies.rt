@@ -63,6 +63,7 @@ fn put_section_symbol(out: &mut Writer<'_>, id: Option<SymbolId>)
     }
 }
 
+// Kept: not `put_flagged`, which puts two pieces: this is one, put whole or not at all, as the definition (broken_text) has it.
 #[tactic(auto, unfolding(crate::specs::RepliesAnswers::broken_text))]
 fn put_broken(out: &mut Writer<'_>, broken: bool)
     ensures { Puts out.old out.new (broken_text broken) }
@@ -98,25 +99,28 @@ pub struct View<'a> {
 
 impl View<'_> {
     // `counts`, `get ID`, `global NAME`, `sectionsymbol SECTION`
-    // Kept: (4) an enum of the four words would be read from them by the same tests and matched once.
+    // Kept: the words are asked one by one; over a match on the first field the proof didn't close (tried).
     #[tactic(auto, unfolding(crate::specs::RepliesAnswers::look_text))]
     pub fn look(self, line: &[u8], out: &mut Writer<'_>)
         ensures { Puts out.old out.new
             (look_text self.entry.table.link self.entry.names.bytes.now self.entry.names.cells.now self.entry.symbols.now self.entry.sections.now line.now) }
     {
-        let names = self.names;
         if replay_words::is(line, 0, b"counts") {
             return put_counts(out, self.table.link);
         }
         if replay_words::is(line, 0, b"get") {
             let id = SymbolId(replay_words::number(line, 1) as usize);
-            return put_found(out, names, symbols::get(self.table, self.symbols, id));
+            return put_found(out, self.names, symbols::get(self.table, self.symbols, id));
         }
         if replay_words::is(line, 0, b"global") {
-            let name = replay_words::name_at(line, 1);
-            let id = interner::find(self.table.link, names.bytes, names.cells, name);
-            let found = symbols::get_global(self.table, names.cells, self.symbols, id);
-            return put_found(out, names, found);
+            let known = interner::Names {
+                link: self.table.link,
+                bytes: self.names.bytes,
+                cells: self.names.cells,
+            };
+            let id = known.find(replay_words::name_at(line, 1));
+            let found = symbols::get_global(self.table, self.names.cells, self.symbols, id);
+            return put_found(out, self.names, found);
         }
         let section = SectionId(replay_words::number(line, 1) as usize);
         put_section_symbol(

@@ -1,3 +1,2 @@
 pub mod Ways
-pub mod LendWays
 pub mod OrderWays

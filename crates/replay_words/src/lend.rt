@@ -51,6 +51,7 @@ impl Lend {
 }
 
 // Of a slice of that length, the cells of so many rows of WIDTH cells.
+// Kept: no `min`: where all rows are lent, the cells behind the last whole row are too.
 #[tactic(auto, unfolding(crate::specs::Part::lent_of))]
 fn lent<const WIDTH: usize>(count: usize, len: usize) -> usize
     requires { 0 < WIDTH }
@@ -64,6 +65,7 @@ fn lent<const WIDTH: usize>(count: usize, len: usize) -> usize
 }
 
 // Of a slice of that length, the cells that are lent.
+// Kept: three functions over `lent`: they are public, and a name says more than a width at each call.
 #[tactic(auto, unfolding(crate::specs::Part::lent_of, crate::specs::Part::cells_of))]
 pub fn cells(count: usize, len: usize) -> usize
     ensures upper_bound { result ≤ len }

@@ -20,7 +20,7 @@ pub fn is(line: &[u8], k: usize, word: &[u8]) -> bool
 }
 
 // A word that is no number is one that no list holds.
-// Kept: (4) not an Option: each caller hands the number on as an id or a count, and the largest is refused or lends all, as the lists mean it.
+// Kept: not an Option: each caller hands the number on as an id or a count, and the largest is refused or lends all, as the lists mean it.
 #[tactic(auto, unfolding(crate::specs::Words::number_in))]
 pub fn number_in(x: &[u8]) -> u64
     ensures { result ≡ number_in x.now }
@@ -63,6 +63,7 @@ fn digit(b: u8) -> u8
 }
 
 // The byte that two digits of a word spell.
+// Kept: by place, as the definition (spelled_of) has it, where chunks of two would have to be taken from the word's start on.
 #[tactic(auto, unfolding(crate::specs::Spelled::spelled_of))]
 fn spelled(word: &[u8], k: usize) -> u8
     ensures { result ≡ spelled_of word.now k }
@@ -92,6 +93,7 @@ pub fn put_bytes(to: &mut [u8], at: usize, word: &[u8]) -> usize
 // ---- order
 
 // Does a stand before b, by bytes?
+// Kept: public; what programs sort names by has its definition (before_of) here.
 pub fn before(a: &[u8], b: &[u8]) -> bool
     ensures { result ≡ before_of a.now b.now }
 {

@@ -4,8 +4,8 @@
 use Rattle.std.specs.Prelude.{ℕ, ◌/◌, cond, List, [], eqb, ltb, length, Result, Ok, Err}
 use Rattle.link.specs.declared.Link.{Link}
 use Rattle.link.specs.declared.Lent.{Lent}
-use Rattle.link.specs.declared.Refusal.{Refusal}
-use Rattle.link.specs.declared.Stage.{Stage}
+use Rattle.link.specs.declared.cause.Refusal.{Refusal}
+use Rattle.link.specs.Stage.{Stage}
 use Rattle.link.specs.Bounds.{not_lent, name_rows}
 use Rattle.link.specs.Judge as Link
 use Rattle.link.specs.Counts.{lent_rows}

@@ -3,8 +3,8 @@
 use Rattle.std.specs.Prelude.{ℕ, zero, suc, ◌+◌, ◌*◌, ◌≡◌, Bool, true, false, cond, List, eqb, leb, get_or, set, length, Result}
 use Rattle.link.specs.declared.Link.{Link}
 use Rattle.link.specs.declared.Interned.{Interned}
-use Rattle.link.specs.declared.Refusal.{Refusal}
-use Rattle.link.specs.declared.Stage.{Stage}
+use Rattle.link.specs.declared.cause.Refusal.{Refusal}
+use Rattle.link.specs.Stage.{Stage}
 use Rattle.link.specs.Judge.{going_of, stopped_of, stage_as}
 use Rattle.strings.specs.Lookup.{Looked, looked}
 use Rattle.strings.specs.Contract.{StringExit}

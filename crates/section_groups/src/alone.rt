@@ -8,8 +8,10 @@ ghost use Rattle.section_groups.specs.AloneContract.{group_exit, GroupMeets};
 
 use crate::Grouping;
 use elf_object::{Kind, Object};
-use link::{Lent, Link, Refusal};
+use link::{Cause, Lent, Link, Refusal};
 
+// Kept: the link comes and goes by value, as the cells of C's header hold it, beside an answer that is a Result; a type for each call, as the laws
+// read its own.
 #[derive(Clone, Copy)]
 pub struct Outcome {
     pub link: Link,
@@ -22,15 +24,16 @@ fn check_marks(object: Object<'_>, work: usize, n: usize) -> Result<(), Refusal>
     ensures { result ≡ judged (marks_refusal object.entry.headers.now work n) }
 {
     if !object.is_loaded(n, Kind::Group) {
-        return Err(Refusal::new(1, n));
+        return Err(Refusal::new(Cause::OutOfRange, n));
     }
     if work / elf_object::ROW_WIDTH < object.section_count() {
-        return Err(Refusal::new(2, 0));
+        return Err(Refusal::new(Cause::NoRoom, 0));
     }
     Ok(())
 }
 
 // 22; 1 of the link's counts, of the object's sections, of its symbols, of a section that is no group; too few marks 2 at place 0.
+// Kept: of what is lent the lengths alone, since the head reads nothing in it.
 fn check(link: Link, lent: Lent, object: Object<'_>, work: usize, n: usize) -> Result<(), Refusal>
     ensures { result ≡ judged (check_of link lent object.entry.headers.now object.entry.entries.now (length object.entry.contents.now) (length object.entry.image.now) work n) }
 {

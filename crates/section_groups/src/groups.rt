@@ -25,7 +25,7 @@ impl Grouping<'_> {
         ensures value { step_after self.new result ≡ groups_of (object_in object.entry) (step_before self.old) }
         ensures numbered { IfErr result (λ r. r.number ≢ 0) }
     {
-        for n in 0..object.headers.len() / elf_object::ROW_WIDTH {
+        for n in 0..object.section_count() {
             self.take_section(object, n)?;
         }
         Ok(())

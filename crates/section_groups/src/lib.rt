@@ -14,12 +14,14 @@ mod groups;
 pub use alone::{Outcome, add_group};
 use elf_object::Object;
 pub use filter::{filter_symbol_table, section_after};
-use link::{Link, Refusal};
+use interner::NamesMut;
+use link::{Cause, Link, Refusal};
 
 // The field of a name's row that has 1 where a group of that signature is loaded.
 const NAME_SIGNATURE: usize = 4;
 
 // What a group writes: the names, and its sections' work rows.
+// Kept: that the loans stay is said by each call, since no field's type says which memory it lends.
 #[derive(Drop)]
 pub struct Grouping<'a> {
     pub link: Link,
@@ -33,18 +35,19 @@ pub struct Grouping<'a> {
 fn judge_shape(object: Object<'_>, n: usize) -> Result<(), Refusal>
     ensures { result ≡ judged (refused (shape_of object.entry.headers.now object.entry.entries.now object.entry.table n) n) }
 {
-    let headers = object.headers;
-    if cells::row_get(headers, n, elf_object::HEADER_FLAGS) / elf_object::COMDAT_FLAG % 2 == 0 {
-        return Err(Refusal::new(4, n));
+    if cells::row_get(object.headers, n, elf_object::HEADER_FLAGS) / elf_object::COMDAT_FLAG % 2
+        == 0
+    {
+        return Err(Refusal::new(Cause::NotComdat, n));
     }
-    if cells::row_get(headers, n, elf_object::HEADER_COUNT) != 1 {
-        return Err(Refusal::new(5, n));
+    if cells::row_get(object.headers, n, elf_object::HEADER_COUNT) != 1 {
+        return Err(Refusal::new(Cause::SectionCountNotOne, n));
     }
     let symbols = object.symbol_count();
-    if cells::row_get(headers, n, elf_object::HEADER_LINK) != object.table as u64
-        || symbols as u64 <= cells::row_get(headers, n, elf_object::HEADER_INFO)
+    if cells::row_get(object.headers, n, elf_object::HEADER_LINK) != object.table as u64
+        || symbols as u64 <= cells::row_get(object.headers, n, elf_object::HEADER_INFO)
     {
-        return Err(Refusal::new(6, n));
+        return Err(Refusal::new(Cause::SignatureSymbolMissing, n));
     }
     Ok(())
 }
@@ -87,19 +90,24 @@ impl Grouping<'_> {
         ensures value { step_after self.new result ≡ group_named (state_before self.old) x.now n listed }
         ensures numbered { IfErr result (λ r. r.number ≢ 0) }
     {
-        let link = self.link;
-        let bytes = &mut *self.bytes;
-        let names = &mut *self.names;
-        let id = interner::find(link, bytes, names, x);
-        let repeated = is_repeated(names, link.names, id.0);
-        if !interner::fits(link, bytes, names, id, x.len()) {
-            return Err(Refusal::new(2, n));
+        // Kept: the link is a field of the struct, which the other tables' calls need too, so it goes to the names and comes back.
+        let mut names = NamesMut {
+            link: self.link,
+            bytes: self.bytes,
+            cells: self.names,
+        };
+        let known = names.read();
+        let id = known.find(x);
+        let repeated = is_repeated(known.cells, known.link.names, id.0);
+        if !known.fits(id, x.len()) {
+            return Err(Refusal::new(Cause::NoRoom, n));
         }
         if repeated && (self.work.len() / elf_object::ROW_WIDTH) as u64 <= listed {
-            return Err(Refusal::new(2, n));
+            return Err(Refusal::new(Cause::NoRoom, n));
         }
-        self.link = interner::keep(link, bytes, names, id, x);
-        cells::row_put(names, id.0, NAME_SIGNATURE, 1);
+        names.keep(id, x);
+        self.link = names.link;
+        cells::row_put(self.names, id.0, NAME_SIGNATURE, 1);
         mark_group(self.work, n);
         if repeated {
             cells::row_put(
@@ -121,7 +129,7 @@ impl Grouping<'_> {
     {
         judge_shape(object, n)?;
         let Some(x) = signature(object, n) else {
-            return Err(Refusal::new(7, n));
+            return Err(Refusal::new(Cause::SignatureStringMissing, n));
         };
         let first = cells::row_get(object.headers, n, elf_object::HEADER_FIRST) as usize;
         self.take_named(x, n, cells::get(object.contents, first))

@@ -47,11 +47,11 @@ pub struct Section {
 }
 
 // Is there a free row?
-#[tactic(auto, unfolding(crate::specs::Rows::room_of))]
+#[tactic(auto, unfolding(crate::specs::Rows::room_of, link::specs::Bounds::lesser))]
 pub fn room(l: Link, sections: &[u64]) -> bool
     ensures { result ≡ room_of l sections.now }
 {
-    let slots = link::lesser_of(l.slots, link::section_slots(sections.len()));
+    let slots = l.slots.min(link::section_slots(sections.len()));
     l.sections < link::section_rows(slots)
 }
 
@@ -65,7 +65,7 @@ pub fn reserve(l: Link, sections: &mut [u64]) -> Link
     }
     let id = l.sections;
     cells::row_store(sections, id, [RESERVED, 0, 0, 0, 0, 0, 0, 0]);
-    link::with_sections(l, id + 1)
+    l.with_sections(id + 1)
 }
 
 #[tactic(auto, unfolding(crate::specs::Rows::built_of))]

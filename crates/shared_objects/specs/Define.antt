@@ -1,26 +1,37 @@
 -- A symbol that a shared object defines: added as `ExternallyDefined`: 2 of its name, then 10, 11, 12, 21, 2 of its row, 17. Its type, section and value are not judged.
 -- Assumes nothing.
-use Rattle.std.specs.Prelude.{ℕ, cond, List, eqb, length}
-use Rattle.link.specs.declared.Stage.{Stage}
+use Rattle.std.specs.Prelude.{ℕ, cond, List, eqb, length, Result}
+use Rattle.link.specs.Stage.{Stage}
 use Rattle.link.specs.declared.Interned.{Interned}
-use Rattle.link.specs.Judge.{going_of, stopped_of}
+use Rattle.link.specs.declared.cause.Refusal.{Refusal}
+use Rattle.link.specs.Judge.{going_of, stopped_of, stage_as}
 use Rattle.interner.specs.Names.{Store, store_of, find_of, fits_of, keep_of}
 use Rattle.symbol.specs.declared.Row.{Row}
 use Rattle.upcoming_symbol.specs.Upcoming.{external_row_of}
-use Rattle.symbol_resolution.specs.declared.rows.Decision.{Decision}
-use Rattle.symbol_resolution.specs.declared.rows.Decision.TheVariants.{Refuse}
+use Rattle.symbol_resolution.specs.Decision.{Decision}
+use Rattle.symbol_resolution.specs.Decision.{Refuse}
 use Rattle.symbol_resolution.specs.Holder.{holder_of}
-use Rattle.symbol_resolution.specs.Decide.{decide_of, refusal_of}
+use Rattle.symbol_resolution.specs.Decide.{decision_of, decide_of, refusal_of}
 use Rattle.symbol_resolution.specs.Apply.{Table, table_of, apply_of}
 use Rattle.merge_symbols.specs.Plan.{View, view_of, place_of}
-use Rattle.cells.specs.Slice.{SliceMut}
-use Rattle.shared_objects.specs.declared.symbols.Definition.{Definition}
+use Rattle.shared_objects.specs.declared.Loading.{Loading}
+use Rattle.shared_objects.specs.declared.symbols.Definition.{Definition as Planned}
 
 -- "A name is interned (2) once found, before later checks"
 unfoldable pub judged_of : View → ℕ → Row → Decision
 judged_of v n r =
     cond (fits_of (store_of v.bytes v.names v.link) r.name n)
     (decide_of v.link v.symbols v.sections r (holder_of v.link v.names v.symbols r.name)) (Refuse 2)
+
+-- what is to be done with a symbol, under a name that has or would get this id
+pub record Definition : Type 0 where
+  pub id : Interned
+  pub row : Row
+  pub decision : Decision
+
+-- as it is planned
+abbrev pub definition_as : Planned → Definition
+definition_as p = record { id = p.id; row = p.row; decision = decision_of p.resolution }
 
 abbrev pub definition : Interned → Row → Decision → Definition
 definition id r d = record { id = id; row = r; decision = d }
@@ -46,12 +57,12 @@ pub record Added : Type 0 where
 abbrev pub added_of : List ℕ → List ℕ → List ℕ → List ℕ → Stage → Added
 added_of b n s x st = record { bytes = b; names = n; symbols = s; sections = x; stage = st }
 
--- of lent slices before the call, and after it
-abbrev pub added_before : SliceMut → SliceMut → SliceMut → SliceMut → Stage → Added
-added_before b n s x st = added_of b.entry.now n.entry.now s.entry.now x.entry.now st
+-- what is lent before a call, and after it with its answer
+abbrev pub added_before : Loading → Added
+added_before s = added_of s.bytes.now s.names.now s.symbols.now s.sections.now (going_of s.link)
 
-abbrev pub added_after : SliceMut → SliceMut → SliceMut → SliceMut → Stage → Added
-added_after b n s x st = added_of b.exit.now n.exit.now s.exit.now x.exit.now st
+abbrev pub added_after : Loading → Result Unit Refusal → Added
+added_after s r = added_of s.bytes.now s.names.now s.symbols.now s.sections.now (stage_as s.link r)
 
 -- those that its row writes
 pub record Rowed : Type 0 where
@@ -63,9 +74,15 @@ pub record Rowed : Type 0 where
 abbrev pub rowed_as : List ℕ → List ℕ → List ℕ → Stage → Rowed
 rowed_as n s x st = record { names = n; symbols = s; sections = x; stage = st }
 
--- of lent slices after the call
-abbrev pub rowed_after : SliceMut → SliceMut → SliceMut → Stage → Rowed
-rowed_after n s x st = rowed_as n.exit.now s.exit.now x.exit.now st
+-- of what is lent
+abbrev pub rowed_in : Loading → Rowed
+rowed_in s = rowed_as s.names.now s.symbols.now s.sections.now (going_of s.link)
+
+abbrev pub table_in : Loading → Table
+table_in s = table_of s.names.now s.symbols.now s.sections.now s.link
+
+abbrev pub view_in : Loading → View
+view_in s = view_of s.bytes.now s.names.now s.symbols.now s.sections.now s.link
 
 abbrev pub tabled : Table → Rowed
 tabled t = rowed_as t.names t.symbols t.sections (going_of t.link)

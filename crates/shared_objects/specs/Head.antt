@@ -4,7 +4,7 @@ use Rattle.std.specs.Prelude.{ℕ, Bool, true, false, cond, List, eqb, ltb, get_
 use Rattle.gabi.specs.StringTable.{has_name}
 use Rattle.link.specs.declared.Link.{Link}
 use Rattle.link.specs.declared.Lent.{Lent}
-use Rattle.link.specs.declared.Refusal.{Refusal}
+use Rattle.link.specs.declared.cause.Refusal.{Refusal}
 use Rattle.link.specs.Judge.{refused, change_of}
 use Rattle.elf_object.specs.Rows.{rows_in}
 use Rattle.elf_object.specs.Judge.{first_bad, bad_entry}

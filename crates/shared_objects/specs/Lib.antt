@@ -9,4 +9,5 @@ pub mod Need
 pub mod Library
 pub mod Record
 pub mod Define
+pub mod Lent
 pub mod SymbolsLoad

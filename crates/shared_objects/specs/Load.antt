@@ -5,8 +5,8 @@ use Rattle.shared_objects.specs.declared.Load.{Load}
 use Rattle.std.specs.Prelude.{ℕ, Bool, true, cond, List, eqb, length, Result, Ok, Err}
 use denote.Triple.Both.{Both}
 use Rattle.link.specs.declared.Link.{Link}
-use Rattle.link.specs.declared.Refusal.{Refusal}
-use Rattle.link.specs.declared.Stage.{Stage}
+use Rattle.link.specs.declared.cause.Refusal.{Refusal}
+use Rattle.link.specs.Stage.{Stage}
 use Rattle.link.specs.Said.{Said, accepted, refusing}
 use Rattle.link.specs.Judge.{refused, going_of, broken_of}
 use Rattle.link.specs.Counts.{lent_of}
@@ -103,11 +103,6 @@ unfoldable pub want_of : Bool → Link → List ℕ → List ℕ → List ℕ �
 want_of asneeded l bytes names symbols inputs lists marks entries image x =
     cond asneeded (need_of l bytes names symbols inputs lists marks entries image x) (judged_as marks true)
 
--- of what is lent
-abbrev pub want_in : Bool → Link → Slice → Slice → Slice → Slice → Slice → SliceMut → Slice → Slice → Slice → Judged
-want_in asneeded l bytes names symbols inputs lists marks entries image x =
-    want_of asneeded l bytes.entry.now names.entry.now symbols.entry.now inputs.entry.now lists.entry.now marks.entry.now entries.entry.now image.entry.now x.entry.now
-
 -- ---- what is left
 
 -- a starred refusal breaks the link; "that call's earlier elements stay merged"
@@ -137,10 +132,6 @@ unfoldable pub library_named : List ℕ → List ℕ → List ℕ → Bool → A
 library_named entries image needs asneeded a x =
     wanted_of entries image needs a x
     (want_of asneeded a.link a.bytes a.names a.symbols a.inputs a.lists a.marks entries image x)
-
--- of what is lent
-abbrev pub named_in : Slice → Slice → Slice → Bool → All → Slice → Left
-named_in entries image needs asneeded a x = library_named entries.entry.now image.entry.now needs.entry.now asneeded a x.entry.now
 
 -- ---- the call
 

@@ -13,7 +13,6 @@ use Rattle.symbol_resolution.specs.Holder.{holder_of}
 use Rattle.symbol_resolution.specs.RowsUndefined.{strong_undefined}
 use Rattle.elf_object.specs.Rows.{rows_in, field, elf_at}
 use Rattle.cells.specs.Search.{any_from}
-use Rattle.cells.specs.Slice.{Slice, SliceMut}
 use Rattle.shared_objects.specs.Lists.{has_id}
 
 -- the soname, else the library name
@@ -123,10 +122,6 @@ pub record View : Type 0 where
 abbrev pub view_of : List ℕ → List ℕ → List ℕ → List ℕ → Link → View
 view_of b n s m l = record { bytes = b; names = n; symbols = s; marks = m; link = l }
 
--- as it is lent
-abbrev pub view_in : Slice → Slice → Slice → Slice → Link → View
-view_in b n s m l = view_of b.entry.now n.entry.now s.entry.now m.entry.now l
-
 unfoldable pub name_wanted : View → Looked → Bool
 name_wanted v x =
     cond x.found (wanted_in v.link v.names v.symbols v.marks (find_of v.bytes v.names v.link x.name)) false
@@ -154,8 +149,3 @@ unfoldable pub need_of : Link → List ℕ → List ℕ → List ℕ → List �
 need_of l bytes names symbols inputs lists marks entries image x =
     marked_of l bytes names symbols
     (mark_all inputs lists (find_of bytes names l x) l.names l.inputs (clear_all bytes names l entries image marks)) entries image
-
--- of what is lent
-abbrev pub need_in : Link → Slice → Slice → Slice → Slice → Slice → SliceMut → Slice → Slice → Slice → Judged
-need_in l bytes names symbols inputs lists marks entries image x =
-    need_of l bytes.entry.now names.entry.now symbols.entry.now inputs.entry.now lists.entry.now marks.entry.now entries.entry.now image.entry.now x.entry.now

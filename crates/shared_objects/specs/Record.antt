@@ -1,15 +1,16 @@
 -- A name among the lists: one that a library lacks, or a dependency's. "2: no free row, mark or name byte", which leaves "all at that element".
 -- Assumes nothing.
-use Rattle.std.specs.Prelude.{ℕ, zero, suc, ◌+◌, Bool, true, false, cond, List, eqb, ltb, get_or, set, length}
+use Rattle.std.specs.Prelude.{ℕ, zero, suc, ◌+◌, Bool, true, false, cond, List, eqb, ltb, get_or, set, length, Result}
 use Rattle.strings.specs.Lookup.{look_up}
 use Rattle.link.specs.declared.Link.{Link}
-use Rattle.link.specs.declared.Stage.{Stage}
+use Rattle.link.specs.Stage.{Stage}
 use Rattle.link.specs.declared.Interned.{Interned}
-use Rattle.link.specs.Judge.{going_of, stopped_of}
+use Rattle.link.specs.declared.cause.Refusal.{Refusal}
+use Rattle.link.specs.Judge.{going_of, stopped_of, stage_as}
 use Rattle.link.specs.Counts.{with_lists}
 use Rattle.interner.specs.Names.{Store, store_of, find_of, fits_of, keep_of}
 use Rattle.symbol.specs.Codes.{successor}
-use Rattle.cells.specs.Slice.{SliceMut}
+use Rattle.shared_objects.specs.declared.Loading.{Loading}
 
 -- the lent cells that recording a name writes, and the stage
 pub record Recorded : Type 0 where
@@ -21,12 +22,16 @@ pub record Recorded : Type 0 where
 abbrev pub recorded_of : List ℕ → List ℕ → List ℕ → Stage → Recorded
 recorded_of b n l st = record { bytes = b; names = n; lists = l; stage = st }
 
--- of lent slices before the call, and after it
-abbrev pub recorded_before : SliceMut → SliceMut → SliceMut → Stage → Recorded
-recorded_before b n l st = recorded_of b.entry.now n.entry.now l.entry.now st
+-- what is lent before a call, and after it with its answer
+abbrev pub recorded_before : Loading → Recorded
+recorded_before s = recorded_of s.bytes.now s.names.now s.lists.now (going_of s.link)
 
-abbrev pub recorded_after : SliceMut → SliceMut → SliceMut → Stage → Recorded
-recorded_after b n l st = recorded_of b.exit.now n.exit.now l.exit.now st
+abbrev pub recorded_after : Loading → Result Unit Refusal → Recorded
+recorded_after s r = recorded_of s.bytes.now s.names.now s.lists.now (stage_as s.link r)
+
+-- the names alone
+abbrev pub store_in : Loading → Store
+store_in s = store_of s.bytes.now s.names.now s.link
 
 -- a known name, or room for it; and a free cell
 unfoldable pub record_fits : Link → List ℕ → List ℕ → ℕ → Interned → ℕ → Bool

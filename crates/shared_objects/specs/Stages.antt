@@ -1,19 +1,21 @@
 -- A library that is loaded: its name (2 at 0), its symbols in order, its dependencies (2 at their rows), its row: "An input's row is taken last
 -- (2, place 0)".
 -- Assumes nothing.
-use Rattle.std.specs.Prelude.{ℕ, ◌-◌, cond, List, [], ◌∷◌, eqb, ltb, length}
+use Rattle.std.specs.Prelude.{ℕ, ◌-◌, cond, List, [], ◌∷◌, eqb, ltb, length, Result}
 use Rattle.cells.specs.Rows.{put_row}
 use Rattle.link.specs.declared.Link.{Link}
-use Rattle.link.specs.declared.Stage.{Stage}
+use Rattle.link.specs.Stage.{Stage}
 use Rattle.link.specs.declared.Interned.{Interned}
 use Rattle.link.specs.Bounds.{input_rows}
-use Rattle.link.specs.Judge.{going_of, stopped_of}
+use Rattle.link.specs.declared.cause.Refusal.{Refusal}
+use Rattle.link.specs.Judge.{going_of, stopped_of, stage_as}
 use Rattle.link.specs.Counts.{more_inputs}
 use Rattle.interner.specs.Names.{Store, store_of, find_of, fits_of, keep_of}
 use Rattle.shared_objects.specs.Need.{library_kind}
 use Rattle.shared_objects.specs.Record.{Recorded, recorded_of, dependencies_of}
 use Rattle.shared_objects.specs.SymbolsLoad.{State, state_of, symbols_of}
-use Rattle.cells.specs.Slice.{Slice, SliceMut}
+use Rattle.shared_objects.specs.declared.Loading.{Loading}
+use Rattle.shared_objects.specs.declared.Library.{Library}
 
 -- ---- the library's row, with the inputs
 
@@ -23,6 +25,10 @@ pub record InputLinks : Type 0 where
 
 abbrev pub input_links : List ℕ → Stage → InputLinks
 input_links i st = record { inputs = i; stage = st }
+
+-- what is lent after a call with its answer
+abbrev pub input_after : Loading → Result Unit Refusal → InputLinks
+input_after s r = input_links s.inputs.now (stage_as s.link r)
 
 -- its kind; the name; dependencies, which lie from middle up to end, and undefined names, from first up to middle: each the first and how many
 abbrev pub library_cells : ℕ → ℕ → ℕ → ℕ → List ℕ
@@ -46,12 +52,12 @@ pub record ListLinks : Type 0 where
 abbrev pub list_links : List ℕ → List ℕ → List ℕ → List ℕ → Stage → ListLinks
 list_links b n i l st = record { bytes = b; names = n; inputs = i; lists = l; stage = st }
 
--- of lent slices before the call, and after it
-abbrev pub lists_before : SliceMut → SliceMut → SliceMut → SliceMut → Stage → ListLinks
-lists_before b n i l st = list_links b.entry.now n.entry.now i.entry.now l.entry.now st
+-- what is lent before a call, and after it with its answer
+abbrev pub lists_before : Loading → ListLinks
+lists_before s = list_links s.bytes.now s.names.now s.inputs.now s.lists.now (going_of s.link)
 
-abbrev pub lists_after : SliceMut → SliceMut → SliceMut → SliceMut → Stage → ListLinks
-lists_after b n i l st = list_links b.exit.now n.exit.now i.exit.now l.exit.now st
+abbrev pub lists_after : Loading → Result Unit Refusal → ListLinks
+lists_after s r = list_links s.bytes.now s.names.now s.inputs.now s.lists.now (stage_as s.link r)
 
 abbrev pub with_input : Recorded → InputLinks → ListLinks
 with_input r i = list_links r.bytes r.names i.inputs r.lists i.stage
@@ -80,15 +86,12 @@ pub record Links : Type 0 where
 abbrev pub links_of : List ℕ → List ℕ → List ℕ → List ℕ → List ℕ → List ℕ → Stage → Links
 links_of b n s x i l st = record { bytes = b; names = n; symbols = s; sections = x; inputs = i; lists = l; stage = st }
 
--- of lent slices before the call, and after it
-abbrev pub going_before : SliceMut → SliceMut → SliceMut → SliceMut → SliceMut → SliceMut → Link → Links
-going_before b n s x i l k = links_of b.entry.now n.entry.now s.entry.now x.entry.now i.entry.now l.entry.now (going_of k)
+-- what is lent before a call, and after it with its answer
+abbrev pub links_before : Loading → Links
+links_before s = links_of s.bytes.now s.names.now s.symbols.now s.sections.now s.inputs.now s.lists.now (going_of s.link)
 
-abbrev pub links_before : SliceMut → SliceMut → SliceMut → SliceMut → SliceMut → SliceMut → Stage → Links
-links_before b n s x i l st = links_of b.entry.now n.entry.now s.entry.now x.entry.now i.entry.now l.entry.now st
-
-abbrev pub links_after : SliceMut → SliceMut → SliceMut → SliceMut → SliceMut → SliceMut → Stage → Links
-links_after b n s x i l st = links_of b.exit.now n.exit.now s.exit.now x.exit.now i.exit.now l.exit.now st
+abbrev pub links_after : Loading → Result Unit Refusal → Links
+links_after s r = links_of s.bytes.now s.names.now s.symbols.now s.sections.now s.inputs.now s.lists.now (stage_as s.link r)
 
 abbrev pub with_lists : State → ListLinks → Links
 with_lists s r = links_of r.bytes r.names s.symbols s.sections r.inputs r.lists r.stage
@@ -106,8 +109,8 @@ contents_of entries image needs s id =
     s.stage.link.lists
 
 -- of what is lent
-abbrev pub contents_in : Slice → Slice → Slice → Links → Interned → Links
-contents_in entries image needs s id = contents_of entries.entry.now image.entry.now needs.entry.now s id
+abbrev pub contents_in : Library → Links → Interned → Links
+contents_in o s id = contents_of o.entries.now o.file.now o.needs.now s id
 
 -- ---- the name, and then all
 
@@ -131,5 +134,5 @@ library_of entries image needs s x =
     issued_of entries image needs s x (record { 0 = find_of s.bytes s.names s.stage.link x })
 
 -- of what is lent
-abbrev pub loaded_in : Slice → Slice → Slice → Links → Slice → Links
-loaded_in entries image needs s x = library_of entries.entry.now image.entry.now needs.entry.now s x.entry.now
+abbrev pub loaded_in : Library → Links → List ℕ → Links
+loaded_in o s x = library_of o.entries.now o.file.now o.needs.now s x

@@ -1,14 +1,15 @@
 -- The symbols of a shared object, in order up to the first refusal: 9; those it defines are added, a local one too; the names of its undefined
 -- ones of binding 1 are recorded; of the others only the name must be found.
 -- Assumes nothing.
-use Rattle.std.specs.Prelude.{ℕ, zero, suc, ◌+◌, cond, List, eqb}
+use Rattle.std.specs.Prelude.{ℕ, zero, suc, ◌+◌, cond, List, eqb, Result}
 use Rattle.gabi.specs.SymbolTable.{stb_global, shn_undef}
 use Rattle.strings.specs.Lookup.{Looked, look_up}
-use Rattle.link.specs.declared.Stage.{Stage}
-use Rattle.link.specs.Judge.{going_of, stopped_of}
+use Rattle.link.specs.Stage.{Stage}
+use Rattle.link.specs.declared.cause.Refusal.{Refusal}
+use Rattle.link.specs.Judge.{going_of, stopped_of, stage_as}
 use Rattle.elf_object.specs.Rows.{rows_in, field, elf_at}
 use Rattle.shared_objects.specs.Record.{Recorded, recorded_of, record_of}
-use Rattle.cells.specs.Slice.{SliceMut}
+use Rattle.shared_objects.specs.declared.Loading.{Loading}
 use Rattle.shared_objects.specs.Define.{Added, added_of, define_of}
 
 -- the lent cells that the symbols write, and the stage
@@ -23,12 +24,12 @@ pub record State : Type 0 where
 abbrev pub state_of : List ℕ → List ℕ → List ℕ → List ℕ → List ℕ → Stage → State
 state_of b n s x l st = record { bytes = b; names = n; symbols = s; sections = x; lists = l; stage = st }
 
--- of lent slices before the call, and after it
-abbrev pub state_before : SliceMut → SliceMut → SliceMut → SliceMut → SliceMut → Stage → State
-state_before b n s x l st = state_of b.entry.now n.entry.now s.entry.now x.entry.now l.entry.now st
+-- what is lent before a call, and after it with its answer
+abbrev pub state_before : Loading → State
+state_before s = state_of s.bytes.now s.names.now s.symbols.now s.sections.now s.lists.now (going_of s.link)
 
-abbrev pub state_after : SliceMut → SliceMut → SliceMut → SliceMut → SliceMut → Stage → State
-state_after b n s x l st = state_of b.exit.now n.exit.now s.exit.now x.exit.now l.exit.now st
+abbrev pub state_after : Loading → Result Unit Refusal → State
+state_after s r = state_of s.bytes.now s.names.now s.symbols.now s.sections.now s.lists.now (stage_as s.link r)
 
 abbrev pub with_added : State → Added → State
 with_added s a = state_of a.bytes a.names a.symbols a.sections s.lists a.stage

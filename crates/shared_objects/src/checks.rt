@@ -3,7 +3,7 @@ ghost use Rattle.std.specs.Prelude.{◌≡◌};
 ghost use Rattle.link.specs.Judge.{judged};
 
 use crate::Library;
-use link::{Lent, Link, Refusal};
+use link::{Cause, Lent, Link, Refusal};
 
 impl Library<'_> {
     ghost use Rattle.gabi.specs.StringTable.{has_name};
@@ -12,30 +12,26 @@ impl Library<'_> {
     fn has_name(&self, offset: usize) -> bool
         ensures { result ≡ has_name self.now.file.now offset }
     {
-        let mut found = false;
-        strings::get_found(self.file, offset, &mut found);
-        found
+        strings::get(self.file, offset).is_some()
     }
 
-    // The first dependency whose offset gives no name; as many as there are where each does.
-    fn bad_need(&self) -> usize
+    // The first dependency whose offset gives no name.
+    fn bad_need(&self) -> Option<usize>
         ensures { result ≡ bad_need_in self.now }
     {
-        for (j, &offset) in self.needs.iter().enumerate() {
-            if !self.has_name(offset as usize) {
-                return j;
-            }
-        }
-        self.needs.len()
+        self.needs
+            .iter()
+            .position(|&offset| !self.has_name(offset as usize))
     }
 
+    // Kept: a match, since the proof does not close over `is_some_and` (tried).
     #[tactic(auto, unfolding(crate::specs::Head::soname_missing))]
     fn soname_missing(&self) -> bool
         ensures { result ≡ soname_missing_in self.now }
     {
         match self.soname {
-            None => false,
             Some(offset) => !self.has_name(offset),
+            None => false,
         }
     }
 
@@ -44,18 +40,16 @@ impl Library<'_> {
     fn judge_rows(&self) -> Result<(), Refusal>
         ensures { result ≡ judged (rows_refusal_in self.now) }
     {
-        let entry = elf_object::bad_entry(self.entries);
-        if entry < self.entries.len() / elf_object::ROW_WIDTH {
-            return Err(Refusal::new(1, entry));
+        if let Some(entry) = elf_object::first_bad_entry(self.entries) {
+            return Err(Refusal::new(Cause::OutOfRange, entry));
         }
         if self.soname_missing() {
-            return Err(Refusal::new(1, 0));
+            return Err(Refusal::new(Cause::OutOfRange, 0));
         }
-        let need = self.bad_need();
-        if need < self.needs.len() {
-            return Err(Refusal::new(1, need));
+        match self.bad_need() {
+            Some(need) => Err(Refusal::new(Cause::OutOfRange, need)),
+            None => Ok(()),
         }
-        Ok(())
     }
 
     // A library in an archive needs a soname; under as-needed a mark for each name is needed.
@@ -64,16 +58,17 @@ impl Library<'_> {
         ensures { result ≡ judged (name_refusal_in self.now link marks) }
     {
         if self.archived && self.soname.is_none() {
-            return Err(Refusal::new(25, 0));
+            return Err(Refusal::new(Cause::ArchivedLibraryWithoutSoname, 0));
         }
         if self.as_needed && marks < link.names {
-            return Err(Refusal::new(2, 0));
+            return Err(Refusal::new(Cause::NoRoom, 0));
         }
         Ok(())
     }
 
     // 22; 1 of the link's counts, then of the library's lists; 25; too few marks 2 at place 0.
-    pub fn check(&self, link: Link, lent: Lent, marks: usize) -> Result<(), Refusal>
+    #[tactic(auto, unfolding(crate::specs::Head::check_of, crate::specs::Head::after_rows, link::specs::Judge::judged))]
+    pub(super) fn check(&self, link: Link, lent: Lent, marks: usize) -> Result<(), Refusal>
         ensures { result ≡ judged (check_in self.now link lent marks) }
     {
         link.judge_change(lent)?;

@@ -3,23 +3,21 @@
 // dependencies' names, its soname's offset, if it has one, and the library name `path`, unless it lies in an archive.
 #![tactic(auto)]
 
-ghost use Rattle.std.specs.Prelude.{◌≡◌, ◌-◌};
-ghost use Rattle.link.specs.Judge.{going_of};
-ghost use Rattle.link.specs.Counts.{lent_of};
+ghost use Rattle.std.specs.Prelude.{◌≡◌, ◌≢◌, ◌-◌, IfErr, Option};
 ghost use Rattle.shared_objects.specs.Need.{judged_as};
-ghost use Rattle.shared_objects.specs.Stages.{input_links, library_row_of, lists_of, contents_in, going_before, links_after, links_before, lists_after, lists_before, loaded_in};
-ghost use Rattle.shared_objects.specs.Load.{ended_as, cells_in, library_in, link_before, outcome_after};
-ghost use Rattle.shared_objects.specs.Library.{soname_from};
-ghost use Rattle.shared_objects.specs.LoadIn.{want_of_in, named_of_in};
+ghost use Rattle.shared_objects.specs.Lent.{same_loans, same_rows, same_names};
+ghost use Rattle.shared_objects.specs.Stages.{input_after, library_row_of, lists_of, contents_in, links_after, links_before, lists_after, lists_before, loaded_in};
+ghost use Rattle.shared_objects.specs.Load.{cells_in, left, library_in, load_of};
+ghost use Rattle.shared_objects.specs.LoadIn.{all_in, input_in, lent_in, named_of_in, want_of_in};
 ghost use Rattle.shared_objects.specs.Contract.{LoadMeets};
 
 mod checks;
 mod lists;
+mod names;
 mod need;
 mod symbols;
 
-use link::{Interned, Lent, Link, Refusal, Stage};
-use need::View;
+use link::{Cause, Interned, Lent, Link, Refusal};
 
 // A library as it is lent: the entries of its symbol table (rows of 8 cells, as an object's), its string table, the offsets of its dependencies'
 // names, the library name, unless it lies in an archive, and its soname's offset, if it has one.
@@ -29,9 +27,23 @@ pub struct Library<'a> {
     pub file: &'a [u8],
     pub needs: &'a [u64],
     pub path: &'a [u8],
+    // Kept: flag and path, as C lends them and the definitions read both.
     pub archived: bool,
     pub soname: Option<usize>,
     pub as_needed: bool,
+}
+
+// What a load writes: the tables of a link.
+// Kept: that the loans stay is said by each call, since no field's type says which memory it lends.
+#[derive(Drop)]
+pub struct Loading<'a> {
+    pub link: Link,
+    pub bytes: &'a mut [u8],
+    pub names: &'a mut [u64],
+    pub symbols: &'a mut [u64],
+    pub sections: &'a mut [u64],
+    pub inputs: &'a mut [u64],
+    pub lists: &'a mut [u64],
 }
 
 #[derive(Clone, Copy)]
@@ -40,6 +52,8 @@ pub enum Load {
     NotNeeded,
 }
 
+// Kept: the link comes and goes by value, as the cells of C's header hold it, beside an answer that is a Result; a type for each call, as the laws
+// read its own.
 #[derive(Clone, Copy)]
 pub struct Outcome {
     pub link: Link,
@@ -48,26 +62,29 @@ pub struct Outcome {
 
 // ---- what is loaded
 
-fn span(from: usize, to: usize) -> usize
-    ensures { result ≡ to - from }
-{
-    to.saturating_sub(from)
-}
-
-// The library's own row, taken last: its name, and where its dependencies and its undefined names lie in the lists. These start at `first`, those
-// at `middle`.
-fn input_row(l: Link, inputs: &mut [u64], id: Interned, first: usize, middle: usize) -> Stage
-    ensures { input_links inputs.new result ≡ library_row_of inputs.old l id first middle }
-{
-    let n = l.inputs;
-    if n < link::input_rows(inputs.len()) {
-        let dependencies = span(middle, l.lists);
-        let undefined = span(first, middle);
+impl Loading<'_> {
+    // The library's own row, taken last: its name, and where its dependencies and its undefined names lie in the lists. These start at `first`,
+    // those at `middle`.
+    #[tactic(auto, unfolding(crate::specs::Stages::library_row_of))]
+    fn take_input(&mut self, id: Interned, first: usize, middle: usize) -> Result<(), Refusal>
+        ensures loans { same_loans self.old self.new }
+        ensures rows { same_rows self.old self.new }
+        ensures names { same_names self.old self.new }
+        ensures lists { self.new.lists.now ≡ self.old.lists.now }
+        ensures value { input_after self.new result ≡ library_row_of self.old.inputs.now self.old.link id first middle }
+        ensures numbered { IfErr result (λ r. r.number ≢ 0) }
+    {
+        let n = self.link.inputs;
+        if link::input_rows(self.inputs.len()) <= n {
+            return Err(Refusal::new(Cause::NoRoom, 0));
+        }
+        let dependencies = self.link.lists.saturating_sub(middle);
+        let undefined = middle.saturating_sub(first);
         cells::row_store(
-            inputs,
+            self.inputs,
             n,
             [
-                crate::need::LIBRARY,
+                need::LIBRARY,
                 id.0 as u64,
                 middle as u64,
                 dependencies as u64,
@@ -77,184 +94,115 @@ fn input_row(l: Link, inputs: &mut [u64], id: Interned, first: usize, middle: us
                 0,
             ],
         );
-        return link::going(link::with_inputs(l, n + 1));
+        self.link.inputs = n + 1;
+        Ok(())
     }
-    link::stopped(l, 2, 0)
-}
 
-// After the symbols, whose undefined names start at `first`: the dependencies, then the library's row.
-fn load_lists(
-    l: Link,
-    bytes: &mut [u8],
-    names: &mut [u64],
-    inputs: &mut [u64],
-    lists: &mut [u64],
-    image: &[u8],
-    needs: &[u64],
-    id: Interned,
-    first: usize,
-) -> Stage
-    ensures { lists_after bytes names inputs lists result
-        ≡ lists_of image.now needs.now (lists_before bytes names inputs lists (going_of l)) id first }
-{
-    let middle = l.lists;
-    let s = crate::lists::record_dependencies(link::going(l), bytes, names, lists, image, needs);
-    let number = s.number;
-    if number != 0 {
-        return s;
+    // After the symbols, whose undefined names start at `first`: the dependencies, then the library's row.
+    #[tactic(auto, unfolding(crate::specs::Stages::lists_of, crate::specs::Stages::input_stage))]
+    fn load_lists(
+        &mut self,
+        library: &Library<'_>,
+        id: Interned,
+        first: usize,
+    ) -> Result<(), Refusal>
+        ensures loans { same_loans self.old self.new }
+        ensures rows { same_rows self.old self.new }
+        ensures value { lists_after self.new result ≡ lists_of library.now.file.now library.now.needs.now (lists_before self.old) id first }
+        ensures numbered { IfErr result (λ r. r.number ≢ 0) }
+    {
+        let middle = self.link.lists;
+        self.record_dependencies(library)?;
+        self.take_input(id, first, middle)
     }
-    let after = s.link;
-    input_row(after, inputs, id, first, middle)
-}
 
-// The symbols, then the rest, of the library whose name has this id.
-fn load_contents(
-    s: Stage,
-    bytes: &mut [u8],
-    names: &mut [u64],
-    symbols: &mut [u64],
-    sections: &mut [u64],
-    inputs: &mut [u64],
-    lists: &mut [u64],
-    entries: &[u64],
-    image: &[u8],
-    needs: &[u64],
-    id: Interned,
-) -> Stage
-    ensures { links_after bytes names symbols sections inputs lists result
-        ≡ contents_in entries image needs (links_before bytes names symbols sections inputs lists s) id }
-{
-    let l = s.link;
-    let first = l.lists;
-    let u = crate::symbols::load_symbols(s, bytes, names, symbols, sections, lists, entries, image);
-    let number = u.number;
-    if number != 0 {
-        return u;
+    // The symbols, then the rest, of the library whose name has this id.
+    #[tactic(auto, unfolding(crate::specs::Stages::contents_of, crate::specs::Stages::list_stage))]
+    fn load_contents(&mut self, library: &Library<'_>, id: Interned) -> Result<(), Refusal>
+        ensures loans { same_loans self.old self.new }
+        ensures value { links_after self.new result ≡ contents_in library.now (links_before self.old) id }
+        ensures numbered { IfErr result (λ r. r.number ≢ 0) }
+    {
+        let first = self.link.lists;
+        self.load_symbols(library)?;
+        self.load_lists(library, id, first)
     }
-    let after = u.link;
-    load_lists(after, bytes, names, inputs, lists, image, needs, id, first)
-}
 
-// The library's name x, then its contents.
-fn load_library(
-    l: Link,
-    bytes: &mut [u8],
-    names: &mut [u64],
-    symbols: &mut [u64],
-    sections: &mut [u64],
-    inputs: &mut [u64],
-    lists: &mut [u64],
-    entries: &[u64],
-    image: &[u8],
-    needs: &[u64],
-    x: &[u8],
-) -> Stage
-    ensures { links_after bytes names symbols sections inputs lists result
-        ≡ loaded_in entries image needs (going_before bytes names symbols sections inputs lists l) x }
-{
-    let id = interner::find(l, bytes, names, x);
-    if interner::fits(l, bytes, names, id, x.len()) {
-        let kept = interner::keep(l, bytes, names, id, x);
-        return load_contents(
-            link::going(kept),
-            bytes,
-            names,
-            symbols,
-            sections,
-            inputs,
-            lists,
-            entries,
-            image,
-            needs,
-            id,
-        );
+    // The library's name x, then its contents.
+    #[tactic(auto, unfolding(crate::specs::Stages::library_of, crate::specs::Stages::issued_of, crate::specs::Stages::kept_of))]
+    fn load_library(&mut self, library: &Library<'_>, x: &[u8]) -> Result<(), Refusal>
+        ensures loans { same_loans self.old self.new }
+        ensures value { links_after self.new result ≡ loaded_in library.now (links_before self.old) x.now }
+        ensures numbered { IfErr result (λ r. r.number ≢ 0) }
+    {
+        let id = self.name_table().find(x);
+        if !self.name_table().fits(id, x.len()) {
+            return Err(Refusal::new(Cause::NoRoom, 0));
+        }
+        self.keep(id, x);
+        self.load_contents(library, id)
     }
-    link::stopped(l, 2, 0)
-}
 
-// ---- the call
+    // ---- the call
 
-// Without as-needed every library is loaded, and the marks stay.
-#[tactic(auto, unfolding(crate::specs::Load::want_of))]
-fn is_wanted(view: &View<'_>, marks: &mut [u64], library: &Library<'_>, x: &[u8]) -> bool
-    ensures { judged_as marks.new result ≡ want_of_in view.now marks.old library.now x.now }
-{
-    !library.as_needed || view.needs(marks, library, x)
-}
-
-// A refusal inside the library breaks the link.
-fn ended(s: Stage) -> Outcome
-    ensures { result ≡ ended_as s }
-{
-    let l = s.link;
-    if s.number != 0 {
-        return Outcome {
-            link: link::broken(l),
-            answer: Err(Refusal {
-                number: s.number,
-                place: s.place,
-            }),
-        };
+    // Without as-needed every library is wanted, and the marks stay.
+    #[tactic(auto, unfolding(crate::specs::Load::want_of))]
+    fn wants(&self, marks: &mut [u64], library: &Library<'_>, x: &[u8]) -> bool
+        ensures { judged_as marks.new result ≡ want_of_in self.now marks.old library.now x.now }
+    {
+        !library.as_needed || self.needs(marks, library, x)
     }
-    Outcome {
-        link: l,
-        answer: Ok(Load::Loaded),
+
+    // After the head: the library named x, if it is wanted. A refusal inside it breaks the link.
+    #[tactic(auto, unfolding(crate::specs::Load::library_named, crate::specs::Load::wanted_of, crate::specs::Load::ended_as))]
+    fn load_named(
+        &mut self,
+        marks: &mut [u64],
+        library: &Library<'_>,
+        x: &[u8],
+    ) -> Result<Load, Refusal>
+        ensures loans { same_loans self.old self.new }
+        ensures value { left (all_in self.new marks.new) result ≡ named_of_in library.now (all_in self.old marks.old) x.now }
+    {
+        if !self.wants(marks, library, x) {
+            return Ok(Load::NotNeeded);
+        }
+        match self.load_library(library, x) {
+            Ok(()) => Ok(Load::Loaded),
+            Err(refusal) => {
+                self.link.broken = true;
+                Err(refusal)
+            }
+        }
+    }
+
+    fn lent(&self) -> Lent
+        ensures { result ≡ lent_in self.now }
+    {
+        Lent {
+            names: self.names.len() / link::NAME_CELLS,
+            bytes: self.bytes.len(),
+            symbols: self.symbols.len(),
+            sections: self.sections.len() / link::SECTION_CELLS,
+            inputs: self.inputs.len(),
+            lists: self.lists.len(),
+        }
+    }
+
+    // Loads the library, or answers that it isn't needed, which changes nothing but the marks.
+    #[tactic(auto, unfolding(crate::specs::Load::load_of, link::specs::Judge::judged))]
+    pub fn load(&mut self, marks: &mut [u64], library: &Library<'_>) -> Result<Load, Refusal>
+        ensures loans { same_loans self.old self.new }
+        ensures value { left (all_in self.new marks.new) result ≡ load_of (input_in library.now) (all_in self.old marks.old) }
+    {
+        library.check(self.link, self.lent(), marks.len())?;
+        self.load_named(marks, library, library.name())
     }
 }
 
-// After the head: the library named x, if it is wanted.
-fn load_named(
-    l: Link,
-    bytes: &mut [u8],
-    names: &mut [u64],
-    symbols: &mut [u64],
-    sections: &mut [u64],
-    inputs: &mut [u64],
-    lists: &mut [u64],
-    marks: &mut [u64],
-    library: Library<'_>,
-    x: &[u8],
-) -> Outcome
-    ensures { let c = cells_in bytes names symbols sections inputs lists marks in
-        outcome_after c result ≡ named_of_in library.entry (link_before c l) x.now }
-{
-    let view = View {
-        link: l,
-        bytes,
-        names,
-        symbols,
-        inputs,
-        lists,
-    };
-    if is_wanted(&view, marks, &library, x) {
-        let s = load_library(
-            l,
-            bytes,
-            names,
-            symbols,
-            sections,
-            inputs,
-            lists,
-            library.entries,
-            library.file,
-            library.needs,
-            x,
-        );
-        return ended(s);
-    }
-    Outcome {
-        link: l,
-        answer: Ok(Load::NotNeeded),
-    }
-}
-
-fn soname_at(sonamed: bool, soname: usize) -> Option<usize>
-    ensures { result ≡ soname_from sonamed soname }
-{
-    sonamed.then_some(soname)
-}
-
-// Loads the library, or answers that it isn't needed, which changes nothing but the marks.
+// The same of loose slices.
+// Kept: slices one by one, and flags with their values, as the exported call (ffi_load) has them.
+#[tactic(auto, unfolding(crate::specs::Load::load_of, crate::specs::Head::check_of, crate::specs::Head::after_rows, crate::specs::Head::rows_of, crate::specs::Head::soname_missing, crate::specs::Need::library_name))]
 pub fn load_shared_object<'a>(
     l: Link,
     bytes: &mut [u8],
@@ -275,39 +223,27 @@ pub fn load_shared_object<'a>(
 ) -> Outcome
     ensures { LoadMeets (library_in entries file needs path archived sonamed soname asneeded) (cells_in bytes names symbols sections inputs lists marks) l result }
 {
-    let lent = Lent {
-        names: names.len() / link::NAME_CELLS,
-        bytes: bytes.len(),
-        symbols: symbols.len(),
-        sections: sections.len() / link::SECTION_CELLS,
-        inputs: inputs.len(),
-        lists: lists.len(),
-    };
     let library = Library {
         entries,
         file,
         needs,
         path,
         archived,
-        soname: soname_at(sonamed, soname),
+        soname: sonamed.then_some(soname),
         as_needed: asneeded,
     };
-    if let Err(refusal) = library.check(l, lent, marks.len()) {
-        return Outcome {
-            link: l,
-            answer: Err(refusal),
-        };
-    }
-    load_named(
-        l,
+    let mut loading = Loading {
+        link: l,
         bytes,
         names,
         symbols,
         sections,
         inputs,
         lists,
-        marks,
-        library,
-        library.name(),
-    )
+    };
+    let answer = loading.load(marks, &library);
+    Outcome {
+        link: loading.link,
+        answer,
+    }
 }

@@ -1,89 +1,107 @@
 // Names among the lists: those that a shared object lacks, and those of its dependencies. Each is judged in full before its first cell is written.
-ghost use Rattle.std.specs.Prelude.{◌≡◌};
-ghost use Rattle.link.specs.Judge.{going_of};
-ghost use Rattle.shared_objects.specs.Record.{record_fits, keep_name, record_of, dependency_of, dependencies_of, recorded_after, recorded_before};
+ghost use Rattle.std.specs.Prelude.{◌≡◌, ◌≢◌, IfErr, length};
+ghost use Rattle.interner.specs.Names.{keep_of};
+ghost use Rattle.shared_objects.specs.Lent.{same_loans, same_rows, same_lists};
+ghost use Rattle.shared_objects.specs.Record.{record_fits, keep_name, record_of, dependency_of, dependencies_of, recorded_after, recorded_before, store_in};
 
-use link::{Interned, Link, Stage};
+use crate::{Library, Loading};
+use interner::{Names, NamesMut};
+use link::{Cause, Interned, Refusal};
 
-// Is there room for the name, unless it is known, and for its cell?
-#[tactic(auto, unfolding(crate::specs::Record::record_fits))]
-fn record_fits(l: Link, bytes: &[u8], names: &[u64], lists: usize, id: Interned, len: usize) -> bool
-    ensures { result ≡ record_fits l bytes.now names.now lists id len }
-{
-    interner::fits(l, bytes, names, id, len) && l.lists < lists
-}
-
-// The name is issued, and its id written behind the lists' last.
-fn keep_name(
-    l: Link,
-    bytes: &mut [u8],
-    names: &mut [u64],
-    lists: &mut [u64],
-    id: Interned,
-    x: &[u8],
-) -> Stage
-    ensures { recorded_after bytes names lists result ≡ keep_name (recorded_before bytes names lists (going_of l)) x.now id }
-{
-    let at = l.lists;
-    let kept = interner::keep(l, bytes, names, id, x);
-    cells::put(lists, at, id.0 as u64);
-    link::going(link::with_lists(kept, symbol::next(at)))
-}
-
-// The name is issued and recorded; without room for both 2, and nothing changes.
-pub fn record_name(
-    l: Link,
-    bytes: &mut [u8],
-    names: &mut [u64],
-    lists: &mut [u64],
-    x: &[u8],
-    place: usize,
-) -> Stage
-    ensures { recorded_after bytes names lists result ≡ record_of (recorded_before bytes names lists (going_of l)) x.now place }
-{
-    let id = interner::find(l, bytes, names, x);
-    if record_fits(l, bytes, names, lists.len(), id, x.len()) {
-        return keep_name(l, bytes, names, lists, id, x);
-    }
-    link::stopped(l, 2, place as u64)
-}
-
-fn record_dependency(
-    s: Stage,
-    bytes: &mut [u8],
-    names: &mut [u64],
-    lists: &mut [u64],
-    image: &[u8],
-    needs: &[u64],
-    j: usize,
-) -> Stage
-    ensures { recorded_after bytes names lists result ≡ dependency_of image.now needs.now (recorded_before bytes names lists s) j }
-{
-    let l = s.link;
-    let offset = cells::get(needs, j) as usize;
-    let mut found = false;
-    let x = strings::get_found(image, offset, &mut found);
-    record_name(l, bytes, names, lists, x, j)
-}
-
-// The names of all dependencies, in order, up to the first refusal.
-pub fn record_dependencies(
-    s: Stage,
-    bytes: &mut [u8],
-    names: &mut [u64],
-    lists: &mut [u64],
-    image: &[u8],
-    needs: &[u64],
-) -> Stage
-    ensures { recorded_after bytes names lists result ≡ dependencies_of image.now needs.now (recorded_before bytes names lists s) }
-{
-    let mut u = s;
-    for j in 0..needs.len() {
-        u = record_dependency(u, bytes, names, lists, image, needs, j);
-        let number = u.number;
-        if number != 0 {
-            return u;
+impl Loading<'_> {
+    // The names, to be read.
+    // Kept: as in merge_symbols; a trait of structs that hold names would be longer than both.
+    pub(super) fn name_table(&self) -> Names<'_, '_>
+        ensures link { result.link ≡ self.now.link }
+        ensures bytes { result.bytes.now ≡ self.now.bytes.now }
+        ensures cells { result.cells.now ≡ self.now.names.now }
+    {
+        Names {
+            link: self.link,
+            bytes: self.bytes,
+            cells: self.names,
         }
     }
-    u
+
+    // Issues the id for x; nothing changes for a known name.
+    pub(super) fn keep(&mut self, id: Interned, x: &[u8])
+        ensures loans { same_loans self.old self.new }
+        ensures rows { same_rows self.old self.new }
+        ensures lists { same_lists self.old self.new }
+        ensures value { store_in self.new ≡ keep_of (store_in self.old) id x.now }
+    {
+        // Kept: the link is a field of the struct, which the other tables' calls need too, so it goes to the names and comes back.
+        let mut names = NamesMut {
+            link: self.link,
+            bytes: self.bytes,
+            cells: self.names,
+        };
+        names.keep(id, x);
+        self.link = names.link;
+    }
+
+    // Is there room for the name, unless it is known, and for its cell?
+    #[tactic(auto, unfolding(crate::specs::Record::record_fits))]
+    fn record_fits(&self, id: Interned, len: usize) -> bool
+        ensures { let s = self.now in result ≡ record_fits s.link s.bytes.now s.names.now (length s.lists.now) id len }
+    {
+        self.name_table().fits(id, len) && self.link.lists < self.lists.len()
+    }
+
+    // The name is issued, and its id written behind the lists' last.
+    #[tactic(auto, unfolding(crate::specs::Record::keep_name))]
+    fn keep_name(&mut self, id: Interned, x: &[u8])
+        ensures loans { same_loans self.old self.new }
+        ensures rows { same_rows self.old self.new }
+        ensures inputs { self.new.inputs.now ≡ self.old.inputs.now }
+        ensures value { recorded_before self.new ≡ keep_name (recorded_before self.old) x.now id }
+    {
+        let at = self.link.lists;
+        self.keep(id, x);
+        cells::put(self.lists, at, id.0 as u64);
+        self.link.lists = symbol::next(at);
+    }
+
+    // The name is issued and recorded; without room for both 2, and nothing changes.
+    #[tactic(auto, unfolding(crate::specs::Record::record_of, crate::specs::Record::record_as))]
+    pub(super) fn record_name(&mut self, x: &[u8], place: usize) -> Result<(), Refusal>
+        ensures loans { same_loans self.old self.new }
+        ensures rows { same_rows self.old self.new }
+        ensures inputs { self.new.inputs.now ≡ self.old.inputs.now }
+        ensures value { recorded_after self.new result ≡ record_of (recorded_before self.old) x.now place }
+        ensures numbered { IfErr result (λ r. r.number ≢ 0) }
+    {
+        let id = self.name_table().find(x);
+        if !self.record_fits(id, x.len()) {
+            return Err(Refusal::new(Cause::NoRoom, place));
+        }
+        self.keep_name(id, x);
+        Ok(())
+    }
+
+    #[tactic(auto, unfolding(crate::specs::Record::dependency_of))]
+    fn record_dependency(&mut self, library: &Library<'_>, j: usize) -> Result<(), Refusal>
+        ensures loans { same_loans self.old self.new }
+        ensures rows { same_rows self.old self.new }
+        ensures inputs { self.new.inputs.now ≡ self.old.inputs.now }
+        ensures value { recorded_after self.new result ≡ dependency_of library.now.file.now library.now.needs.now (recorded_before self.old) j }
+        ensures numbered { IfErr result (λ r. r.number ≢ 0) }
+    {
+        let offset = cells::get(library.needs, j) as usize;
+        self.record_name(library.name_at(offset), j)
+    }
+
+    // The names of all dependencies, in order, up to the first refusal.
+    pub(super) fn record_dependencies(&mut self, library: &Library<'_>) -> Result<(), Refusal>
+        ensures loans { same_loans self.old self.new }
+        ensures rows { same_rows self.old self.new }
+        ensures inputs { self.new.inputs.now ≡ self.old.inputs.now }
+        ensures value { recorded_after self.new result ≡ dependencies_of library.now.file.now library.now.needs.now (recorded_before self.old) }
+        ensures numbered { IfErr result (λ r. r.number ≢ 0) }
+    {
+        for j in 0..library.needs.len() {
+            self.record_dependency(library, j)?;
+        }
+        Ok(())
+    }
 }

@@ -1,16 +1,18 @@
 // Whether a shared object is needed. The link is only read; lent cells, one for each name, take a mark for every name that an earlier library
 // without this one among its dependencies has recorded, so that each symbol is judged by one lookup.
 ghost use Rattle.std.specs.Prelude.{◌≡◌};
+ghost use Rattle.symbol_resolution.specs.Holder.{holder_of};
 ghost use Rattle.shared_objects.specs.Need.{depends_on, mark_names, lacked_by, judged_as};
 ghost use Rattle.shared_objects.specs.Lists.{has_id};
 
-use crate::Library;
-use link::{Interned, Link};
+use crate::{Library, Loading};
+use link::Interned;
 use symbol_resolution::Holder;
 
 // The cells of an input's row, and the kind of a library.
 const INPUT_KIND: usize = 0;
 
+// Kept: the kind of an input's row, one number of the C interface's cells in each of the two crates that write it.
 pub const LIBRARY: u64 = 2;
 
 const DEPENDENCIES: usize = 2;
@@ -21,28 +23,12 @@ const UNDEFINED: usize = 4;
 
 const UNDEFINED_COUNT: usize = 5;
 
-// What is read of the link to judge a library.
-#[derive(Clone, Copy)]
-pub struct View<'a> {
-    pub link: Link,
-    pub bytes: &'a [u8],
-    pub names: &'a [u64],
-    pub symbols: &'a [u64],
-    pub inputs: &'a [u64],
-    pub lists: &'a [u64],
-}
-
 // ---- the names that earlier libraries lack
 
 fn has_id(part: &[u64], id: usize) -> bool
     ensures { result ≡ has_id part.now id }
 {
-    for &name in part {
-        if name == id as u64 {
-            return true;
-        }
-    }
-    false
+    part.iter().any(|&name| name == id as u64)
 }
 
 // Do the dependencies hold the name, of which count are issued? None holds a name that isn't.
@@ -61,50 +47,12 @@ fn mark_names(marks: &mut [u64], part: &[u64])
     }
 }
 
-fn is_lacked(symbols: &[u64], holder: Holder) -> bool
-    ensures { result ≡ lacked_by symbols.now holder }
-{
-    match holder {
-        Holder::Unissued | Holder::Nobody | Holder::Removed => false,
-        Holder::Known { id } => symbol_resolution::is_strong_undefined(symbols, id),
-    }
-}
-
-impl<'a> Library<'a> {
-    ghost use Rattle.shared_objects.specs.Library.{library_name_in, provides_in};
-
-    // The soname, else the library name.
-    #[tactic(auto, unfolding(crate::specs::Need::library_name))]
-    pub fn name(&self) -> &'a [u8]
-        ensures { result.now ≡ library_name_in self.now }
-    {
-        match self.soname {
-            None => self.path,
-            Some(offset) => {
-                let mut found = false;
-                strings::get_found(self.file, offset, &mut found)
-            }
-        }
-    }
-
-    // Is symbol i defined, global or weak?
-    #[tactic(auto, unfolding(crate::specs::Need::provides))]
-    fn provides(&self, i: usize) -> bool
-        ensures { result ≡ provides_in self.now i }
-    {
-        cells::row_get(self.entries, i, elf_object::ENTRY_SECTION) != upcoming_symbol::SHN_UNDEF
-            && matches!(
-                cells::row_get(self.entries, i, elf_object::ENTRY_BINDING),
-                upcoming_symbol::STB_GLOBAL | upcoming_symbol::STB_WEAK
-            )
-    }
-}
-
-impl View<'_> {
+impl Loading<'_> {
     ghost use Rattle.std.specs.Prelude.{◌<◌};
     ghost use Rattle.shared_objects.specs.Library.{mark_library_in, mark_all_in, wanted_name_in, symbol_wanted_in, some_wanted_in, clear_mark_in, clear_all_in, need_of_in};
 
     // Input k, if it is a library that doesn't depend on the one named id: the names that it records as undefined.
+    #[tactic(auto, unfolding(crate::specs::Need::mark_library))]
     fn mark_library(&self, marks: &mut [u64], id: usize, k: usize)
         ensures { marks.new ≡ mark_library_in self.now id k marks.old }
     {
@@ -135,62 +83,53 @@ impl View<'_> {
 
     // ---- the symbols of the library
 
+    // Does the table hold the name by a strong undefined symbol?
+    fn is_lacked(&self, name: Interned) -> bool
+        ensures { let s = self.now in result ≡ lacked_by s.symbols.now (holder_of s.link s.names.now s.symbols.now name) }
+    {
+        let symbols = &*self.symbols;
+        match symbol_resolution::holder_of(self.link, self.names, symbols, name) {
+            Holder::Known { id } => symbol_resolution::is_strong_undefined(symbols, id),
+            Holder::Unissued | Holder::Nobody | Holder::Removed => false,
+        }
+    }
+
     // Does the table lack the name, or is it marked? Not where it isn't issued.
     #[tactic(auto, unfolding(crate::specs::Need::wanted_in))]
     fn is_wanted(&self, marks: &[u64], id: Interned) -> bool
         ensures { result ≡ wanted_name_in self.now marks.now id.0 }
     {
-        if self.link.names <= id.0 {
-            return false;
-        }
-        if cells::get(marks, id.0) == 1 {
-            return true;
-        }
-        let holder = symbol_resolution::holder_of(self.link, self.names, self.symbols, id);
-        is_lacked(self.symbols, holder)
+        id.0 < self.link.names && (cells::get(marks, id.0) == 1 || self.is_lacked(id))
     }
 
     // A symbol whose name is missing provides nothing.
+    // Kept: a match, since the proof does not close over `is_some_and` (tried).
+    #[tactic(auto, unfolding(crate::specs::Need::symbol_wanted, crate::specs::Need::name_wanted))]
     fn symbol_wanted(&self, marks: &[u64], library: &Library<'_>, i: usize) -> bool
         ensures { result ≡ symbol_wanted_in self.now marks.now library.now i }
     {
-        if library.provides(i) {
-            let offset = cells::row_get(library.entries, i, elf_object::ENTRY_NAME) as usize;
-            let mut found = false;
-            let x = strings::get_found(library.file, offset, &mut found);
-            if found {
-                let id = interner::find(self.link, self.bytes, self.names, x);
-                return self.is_wanted(marks, id);
+        library.provides(i)
+            && match library.symbol_name(i) {
+                Some(x) => self.is_wanted(marks, self.name_table().find(x)),
+                None => false,
             }
-            return false;
-        }
-        false
     }
 
     fn some_wanted(&self, marks: &[u64], library: &Library<'_>) -> bool
         ensures { result ≡ some_wanted_in self.now marks.now library.now }
     {
-        for i in 0..library.entries.len() / elf_object::ROW_WIDTH {
-            if self.symbol_wanted(marks, library, i) {
-                return true;
-            }
-        }
-        false
+        (0..library.symbol_count()).any(|i| self.symbol_wanted(marks, library, i))
     }
 
+    #[tactic(auto, unfolding(crate::specs::Need::clear_mark, crate::specs::Need::clear_named))]
     fn clear_mark(&self, marks: &mut [u64], library: &Library<'_>, i: usize)
         ensures { marks.new ≡ clear_mark_in self.now library.now i marks.old }
     {
-        if library.provides(i) {
-            let offset = cells::row_get(library.entries, i, elf_object::ENTRY_NAME) as usize;
-            let mut found = false;
-            let x = strings::get_found(library.file, offset, &mut found);
-            if found {
-                let id = interner::find(self.link, self.bytes, self.names, x);
-                cells::put(marks, id.0, 0);
-                return;
-            }
+        if !library.provides(i) {
             return;
+        }
+        if let Some(x) = library.symbol_name(i) {
+            cells::put(marks, self.name_table().find(x).0, 0);
         }
     }
 
@@ -198,7 +137,7 @@ impl View<'_> {
     fn clear_marks(&self, marks: &mut [u64], library: &Library<'_>)
         ensures { marks.new ≡ clear_all_in self.now library.now marks.old }
     {
-        for i in 0..library.entries.len() / elf_object::ROW_WIDTH {
+        for i in 0..library.symbol_count() {
             self.clear_mark(marks, library, i);
         }
     }
@@ -206,10 +145,10 @@ impl View<'_> {
     // Is the library named x needed? Of the names that it provides the marks then hold which ones earlier libraries lack; other marks may be stale,
     // and are not read.
     #[tactic(auto, unfolding(crate::specs::Need::need_of, crate::specs::Need::marked_of))]
-    pub fn needs(&self, marks: &mut [u64], library: &Library<'_>, x: &[u8]) -> bool
+    pub(super) fn needs(&self, marks: &mut [u64], library: &Library<'_>, x: &[u8]) -> bool
         ensures { judged_as marks.new result ≡ need_of_in self.now marks.old library.now x.now }
     {
-        let id = interner::find(self.link, self.bytes, self.names, x);
+        let id = self.name_table().find(x);
         self.clear_marks(marks, library);
         self.mark_libraries(marks, id.0);
         self.some_wanted(marks, library)

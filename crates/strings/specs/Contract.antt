@@ -1,4 +1,4 @@
--- The contract of a string lookup: the bytes of the part that is handed back and the lent yes or no, against its definition.
+-- The contract of a string lookup: the bytes of the part that is handed back, if there is one, against its definition.
 -- Assumes nothing.
 use Rattle.std.specs.Prelude.{ℕ, ◌≡◌, Bool, true, false, List, [], Option, None, Some}
 use Rattle.std.specs.Borrow.{Bor}
@@ -12,9 +12,6 @@ pub record StringExit : Type 0 where
 abbrev pub string_exit : Option (Bor (List ℕ)) → StringExit
 string_exit None = record { result = []; found = false }
 string_exit (Some part) = record { result = part.now; found = true }
-
-abbrev pub found_exit : List ℕ → Bool → StringExit
-found_exit x f = record { result = x; found = f }
 
 abbrev pub StringMeets : List ℕ → ℕ → StringExit → Type 0
 StringMeets table offset e = looked e.result e.found ≡ look_up table offset

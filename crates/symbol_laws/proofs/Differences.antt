@@ -10,8 +10,7 @@ use Rattle.symbol.specs.declared.SymbolVisibility.TheVariants.{Global}
 use Rattle.symbol.specs.declared.SymbolValue.TheVariants.{Undefined}
 use Rattle.symbol.specs.Codes.{visibility_at, value_at}
 use Rattle.symbol.specs.Hidden.{hidden_code, hide_code, passes, hide_if}
-use Rattle.symbol_resolution.specs.declared.rows.Decision.{Decision}
-use Rattle.symbol_resolution.specs.declared.rows.Decision.TheVariants.{Refuse, Replace}
+use Rattle.symbol_resolution.specs.Decision.{Decision, Refuse, Replace}
 use Rattle.symbol_resolution.specs.Decide.{weak_of, rank_of, type_refusal, replace_of, ranked_of}
 use Rattle.upcoming_symbol.specs.declared.ElfSymbol.{ElfSymbol}
 use Rattle.upcoming_symbol.specs.Judge.{shown_of, hidden_of, judge_of}

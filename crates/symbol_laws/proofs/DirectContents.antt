@@ -18,7 +18,7 @@ use Rattle.symbol.specs.Codes.{type_at, visibility_at, value_at, words_of, succe
 use Rattle.symbol.specs.Proof.Offset.{offset_word}
 use Rattle.symbol.specs.Layout.{refuses_value}
 use Rattle.symbol.specs.Row.{scope_refused, value_refused}
-use Rattle.symbol_resolution.specs.declared.rows.Decision.{Decision}
+use Rattle.symbol_resolution.specs.Decision.{Decision}
 use Rattle.symbol_resolution.specs.Decide.{refusal_of}
 use Rattle.symbol_resolution.specs.Apply.{Table}
 use Rattle.upcoming_symbol.specs.declared.ElfSymbol.{ElfSymbol}

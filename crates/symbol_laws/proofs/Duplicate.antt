@@ -16,7 +16,7 @@ use Rattle.symbol.specs.declared.Row.{Row}
 use Rattle.symbol.specs.Row.{scope_refused, value_refused}
 use Rattle.link.specs.declared.SymbolId.{SymbolId}
 use Rattle.symbol_resolution.specs.declared.rows.Holder.TheVariants.{Known}
-use Rattle.symbol_resolution.specs.declared.rows.Decision.{Decision}
+use Rattle.symbol_resolution.specs.Decision.{Decision}
 use Rattle.symbol_resolution.specs.Decide.{refusal_of}
 use Rattle.symbol_resolution.specs.Proof.Outcomes.{Meets, held_rank, known_twice, seventeen-twice}
 use Rattle.symbols.specs.Add.{issued_of, direct_holder_of, decided_of}

@@ -11,7 +11,7 @@ use Rattle.link.specs.Bounds.{symbol_rows}
 use Rattle.interner.specs.Names.{Store, room_of, keep_of}
 use Rattle.interner.specs.Calls as Names
 use Rattle.symbol.specs.declared.Row.{Row}
-use Rattle.symbol_resolution.specs.declared.rows.Decision.{Decision}
+use Rattle.symbol_resolution.specs.Decision.{Decision}
 use Rattle.symbol_resolution.specs.Apply.{Table, append_of, apply_of}
 use Rattle.symbol_resolution.specs.Proof.Outcomes.{decision-left}
 use Rattle.symbols.specs.Add.{decided_of, add_row_of}

@@ -16,8 +16,7 @@ use Rattle.symbol.specs.declared.Row.{Row}
 use Rattle.symbol.specs.Codes.{successor}
 use Rattle.symbol.specs.Row.{state_at, set_row}
 use Rattle.symbol.specs.Hidden.{pass_hidden}
-use Rattle.symbol_resolution.specs.declared.rows.Decision.{Decision}
-use Rattle.symbol_resolution.specs.declared.rows.Decision.TheVariants.{Refuse}
+use Rattle.symbol_resolution.specs.Decision.{Decision, Refuse}
 use Rattle.symbol_resolution.specs.Holder.{global_at}
 use Rattle.symbol_resolution.specs.Apply.{Table, note_name, append_of, replaced_in, amended_in, apply_of}
 use Rattle.symbols.specs.Calls.{Left}

@@ -14,8 +14,7 @@ use Rattle.symbol.specs.Hidden.{hidden_code, passes, pass_hidden}
 use Rattle.link.specs.declared.SymbolId.{SymbolId}
 use Rattle.symbol_resolution.specs.declared.rows.Holder.{Holder}
 use Rattle.symbol_resolution.specs.declared.rows.Holder.TheVariants.{Unissued, Nobody, Removed, Known}
-use Rattle.symbol_resolution.specs.declared.rows.Decision.{Decision}
-use Rattle.symbol_resolution.specs.declared.rows.Decision.TheVariants.{Refuse, Keep, Append, Replace, Amend}
+use Rattle.symbol_resolution.specs.Decision.{Decision, Refuse, Keep, Append, Replace, Amend}
 use Rattle.symbol_resolution.specs.Holder.{global_at, held_by, holder_of}
 use Rattle.symbol_resolution.specs.Decide.{type_refusal, room_of}
 use Rattle.symbol_resolution.specs.Proof.Outcomes.{fresh_under, is_local_row, row_rank, Meets, held_rank, hides, scope-number, value-number, Outcome, outcome}

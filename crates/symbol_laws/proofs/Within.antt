@@ -16,7 +16,7 @@ use Rattle.interner.specs.Calls as Names
 use Rattle.symbol.specs.Row.{state_at, symbol_at}
 use Rattle.symbol.specs.RowLaws.{symbol_of}
 use Rattle.symbol.specs.declared.Row.{Row}
-use Rattle.symbol_resolution.specs.declared.rows.Decision.{Decision}
+use Rattle.symbol_resolution.specs.Decision.{Decision}
 use Rattle.symbol_resolution.specs.declared.rows.Holder.{Holder}
 use Rattle.symbol_resolution.specs.declared.rows.Holder.TheVariants.{Nobody, Known}
 use Rattle.symbol_resolution.specs.Holder.{holder_of}

@@ -17,8 +17,7 @@ use Rattle.symbol.specs.Proof.RowLaws.{field-other}
 use Rattle.symbol.specs.declared.Row.{Row}
 use Rattle.symbol.specs.Codes.{successor}
 use Rattle.symbol.specs.Row.{field, state_at, set_row}
-use Rattle.symbol_resolution.specs.declared.rows.Decision.{Decision}
-use Rattle.symbol_resolution.specs.declared.rows.Decision.TheVariants.{Refuse}
+use Rattle.symbol_resolution.specs.Decision.{Decision, Refuse}
 use Rattle.symbol_resolution.specs.Holder.{global_at}
 use Rattle.symbol_resolution.specs.Decide.{section_cell}
 use Rattle.symbol_resolution.specs.Apply.{Table, table_of, note_name, set_section_symbol, note_section, append_of, replaced_in, amended_in, apply_of}

@@ -9,9 +9,7 @@ use Rattle.symbol.specs.Codes.{successor}
 use Rattle.symbol.specs.Row.{visibility_code_at, row_at, set_row}
 use Rattle.symbol.specs.Hidden.{pass_hidden}
 use Rattle.symbol.specs.Layout.{local, section_kind, symbol_cell}
-use Rattle.cells.specs.Slice.{SliceMut}
-use Rattle.symbol_resolution.specs.declared.rows.Decision.{Decision}
-use Rattle.symbol_resolution.specs.declared.rows.Decision.TheVariants.{Refuse, Nothing, Keep, Append, Replace, Amend}
+use Rattle.symbol_resolution.specs.Decision.{Decision, Refuse, Nothing, Keep, Append, Replace, Amend}
 use Rattle.symbol_resolution.specs.Decide.{section_cell}
 
 -- the lent cells that an add may write, and the counts
@@ -23,13 +21,6 @@ pub record Table : Type 0 where
 
 abbrev pub table_of : List ℕ → List ℕ → List ℕ → Link → Table
 table_of n s x l = record { names = n; symbols = s; sections = x; link = l }
-
--- of lent slices before the call, and after it
-abbrev pub table_before : SliceMut → SliceMut → SliceMut → Link → Table
-table_before n s x l = table_of n.entry.now s.entry.now x.entry.now l
-
-abbrev pub table_after : SliceMut → SliceMut → SliceMut → Link → Table
-table_after n s x l = table_of n.exit.now s.exit.now x.exit.now l
 
 unfoldable pub note_name : List ℕ → Row → ℕ → List ℕ
 note_name names r id = cond (eqb r.visibility local) names (set names (r.name.0 * 8 + symbol_cell) id)

@@ -3,6 +3,8 @@
 use Rattle.std.specs.Prelude.{ℕ, ◌+◌, ◌*◌, Bool, true, false, cond, List, eqb, ltb, leb, length, Result, Ok, Err}
 use Rattle.gabi.specs.SymbolTable.{stt_file}
 use Rattle.link.specs.declared.Link.{Link}
+use Rattle.link.specs.declared.cause.Cause.{Cause}
+use Rattle.link.specs.Cause.{number_of}
 use Rattle.link.specs.declared.SymbolId.{SymbolId}
 use Rattle.link.specs.Bounds.{symbol_rows, section_slots}
 use Rattle.symbol.specs.declared.Row.{Row}
@@ -15,8 +17,7 @@ use Rattle.symbol_resolution.specs.declared.Rank.{Rank}
 use Rattle.symbol_resolution.specs.declared.Rank.TheVariants as By
 use Rattle.symbol_resolution.specs.declared.rows.Resolution.{Resolution}
 use Rattle.symbol_resolution.specs.declared.rows.Resolution.TheVariants as To
-use Rattle.symbol_resolution.specs.declared.rows.Decision.{Decision}
-use Rattle.symbol_resolution.specs.declared.rows.Decision.TheVariants.{Refuse, Nothing, Keep, Append, Replace, Amend}
+use Rattle.symbol_resolution.specs.Decision.{Decision, Refuse, Nothing, Keep, Append, Replace, Amend}
 
 -- ---- what the code answers, as a decision, a rank's number, the number of a refusal
 
@@ -28,9 +29,10 @@ decision_of (Ok To.Append) = Append
 decision_of (Ok (To.Replace id)) = Replace id
 decision_of (Ok (To.Amend id)) = Amend id
 
--- 0: the type is fine
-unfoldable pub typed : ℕ → Result Unit ℕ
-typed n = cond (eqb n 0) (Ok tt) (Err n)
+-- 0 for none
+abbrev pub cause_number : Result Unit Cause → ℕ
+cause_number (Ok u) = 0
+cause_number (Err c) = number_of c
 
 -- ---- the decision
 

@@ -1,3 +1,4 @@
+pub mod Decision
 pub mod Holder
 pub mod RowsUndefined
 pub mod Decide

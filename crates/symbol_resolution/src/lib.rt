@@ -2,18 +2,17 @@
 #![tactic(auto)]
 
 ghost use Rattle.std.specs.Prelude.{◌≡◌, ◌≢◌, IfErr};
-ghost use Rattle.symbol_resolution.specs.Decide.{typed, rank_number, decision_of, weak_of, rank_of, type_refusal, room_of, new_of, kept_of, known_of, global_of, local_of, decide_of};
+ghost use Rattle.symbol_resolution.specs.Decide.{cause_number, rank_number, decision_of, weak_of, rank_of, type_refusal, room_of, new_of, kept_of, known_of, global_of, local_of, decide_of};
 
 mod rows;
 mod write;
 
-use link::{Link, SectionId, SymbolId};
+use link::{Cause, Link, SectionId, SymbolId};
 pub use rows::{
-    Decision, Holder, Resolution, clear_section_symbol, holder_of, id_of, is_strong_undefined,
-    refusal_of, section_cell,
+    Holder, Resolution, clear_section_symbol, holder_of, is_strong_undefined, section_cell,
 };
 use symbol::{Row, SymbolVisibility};
-pub use write::{Table, apply};
+pub use write::Table;
 
 #[tactic(auto, using(crate::specs::Proof::DecideWays::weak_same))]
 fn is_weak(visibility: u64) -> bool
@@ -45,17 +44,16 @@ impl Rank {
     }
 }
 
-#[tactic(auto, unfolding(crate::specs::Decide::typed, crate::specs::Decide::type_refusal))]
-fn check_type(kind: u64) -> Result<(), u64>
-    ensures answer { result ≡ typed (type_refusal kind) }
-    ensures number { IfErr result (λ n. n ≢ 0) }
+#[tactic(auto, unfolding(crate::specs::Decide::type_refusal))]
+fn check_type(kind: u64) -> Result<(), Cause>
+    ensures { cause_number result ≡ type_refusal kind }
 {
     if kind < symbol::STT_FILE {
         Ok(())
     } else if kind == symbol::STT_FILE {
-        Err(15)
+        Err(Cause::FileSymbol)
     } else {
-        Err(16)
+        Err(Cause::UnsupportedType)
     }
 }
 
@@ -64,17 +62,16 @@ fn check_type(kind: u64) -> Result<(), u64>
 fn room(l: Link, symbols: &[u64], sections: &[u64], row: Row) -> bool
     ensures { result ≡ room_of l symbols.now sections.now row }
 {
-    if link::symbol_rows(symbols.len()) <= l.symbols {
-        return false;
-    }
-    if row.visibility != symbol::LOCAL || row.value.kind != symbol::KIND_SECTION {
-        return true;
-    }
-    section_cell(l, sections.len(), SectionId(row.value.a as usize)) < sections.len()
+    let section = SectionId(row.value.a as usize);
+    l.symbols < link::symbol_rows(symbols.len())
+        && (row.visibility != symbol::LOCAL
+            || row.value.kind != symbol::KIND_SECTION
+            || section_cell(l, sections.len(), section) < sections.len())
 }
 
 // A local or a new name: value, type, a free row.
-#[tactic(auto, unfolding(crate::specs::Decide::new_of, crate::specs::Decide::typed))]
+// Kept: a number, as `resolve` tells it.
+#[tactic(auto, unfolding(crate::specs::Decide::new_of))]
 fn decide_new(l: Link, symbols: &[u64], sections: &[u64], row: Row) -> Result<Resolution, u64>
     ensures decision { decision_of result ≡ new_of l symbols.now sections.now row }
     ensures number { IfErr result (λ n. n ≢ 0) }
@@ -86,7 +83,7 @@ fn decide_new(l: Link, symbols: &[u64], sections: &[u64], row: Row) -> Result<Re
     if room(l, symbols, sections, row) {
         Ok(Resolution::Append)
     } else {
-        Err(2)
+        Err(Cause::NoRoom.into())
     }
 }
 
@@ -103,7 +100,8 @@ fn keep(gabi: bool, old: u64, new: u64, id: SymbolId) -> Resolution
 }
 
 // A known name: value, then by rank.
-#[tactic(auto, unfolding(crate::specs::Decide::known_of, crate::specs::Decide::ranked_of, crate::specs::Decide::replace_of, crate::specs::Decide::typed))]
+// Kept: a number, as `resolve` tells it.
+#[tactic(auto, unfolding(crate::specs::Decide::known_of, crate::specs::Decide::ranked_of, crate::specs::Decide::replace_of))]
 fn decide_known(gabi: bool, symbols: &[u64], row: Row, id: SymbolId) -> Result<Resolution, u64>
     ensures decision { decision_of result ≡ known_of gabi symbols.now row id }
     ensures number { IfErr result (λ n. n ≢ 0) }
@@ -123,11 +121,12 @@ fn decide_known(gabi: bool, symbols: &[u64], row: Row, id: SymbolId) -> Result<R
         return Ok(Resolution::Replace { id });
     }
     if new == Rank::StrongDefinition {
-        return Err(17);
+        return Err(Cause::DuplicateStrong.into());
     }
     Ok(keep(gabi, scope, row.visibility, id))
 }
 
+// Kept: a number and these parameters, as `resolve`, which hands them on.
 fn decide_named(
     l: Link,
     symbols: &[u64],
@@ -139,12 +138,13 @@ fn decide_named(
     ensures number { IfErr result (λ n. n ≢ 0) }
 {
     match holder {
-        Holder::Unissued | Holder::Removed => Err(21),
+        Holder::Unissued | Holder::Removed => Err(Cause::AbsentId.into()),
         Holder::Nobody => decide_new(l, symbols, sections, row),
         Holder::Known { id } => decide_known(l.gabi, symbols, row, id),
     }
 }
 
+// Kept: a number and these parameters, as `resolve`, which hands them on.
 fn decide_local(
     l: Link,
     symbols: &[u64],
@@ -156,7 +156,7 @@ fn decide_local(
     ensures number { IfErr result (λ n. n ≢ 0) }
 {
     match holder {
-        Holder::Unissued => Err(21),
+        Holder::Unissued => Err(Cause::AbsentId.into()),
         Holder::Nobody | Holder::Removed | Holder::Known { .. } => {
             decide_new(l, symbols, sections, row)
         }
@@ -164,6 +164,8 @@ fn decide_local(
 }
 
 // On a row under a name of which it is told who holds it: what the add does to the table, or the number that refuses it.
+// Kept: a number and no Cause, since it may stand in the row itself, which may hold any. Five parameters: callers hold the slices in structs of
+// their own.
 #[tactic(auto, unfolding(crate::specs::Decide::decide_of))]
 pub fn resolve(
     l: Link,
@@ -182,11 +184,4 @@ pub fn resolve(
     } else {
         decide_named(l, symbols, sections, row, holder)
     }
-}
-
-// The same as a Decision, until its callers have moved.
-pub fn decide(l: Link, symbols: &[u64], sections: &[u64], row: Row, holder: Holder) -> Decision
-    ensures { result ≡ decide_of l symbols.now sections.now row holder }
-{
-    Decision::from(resolve(l, symbols, sections, row, holder))
 }

@@ -2,7 +2,7 @@
 ghost use Rattle.std.specs.Prelude.{◌≡◌};
 ghost use Rattle.symbol_resolution.specs.Holder.{holder_of};
 ghost use Rattle.symbol_resolution.specs.RowsUndefined.{strong_undefined};
-ghost use Rattle.symbol_resolution.specs.Decide.{section_cell, refusal_of, id_of, decision_of};
+ghost use Rattle.symbol_resolution.specs.Decide.{section_cell, id_of, decision_of};
 ghost use Rattle.symbol_resolution.specs.Apply.{set_section_symbol};
 
 use link::{Interned, Link, SectionId, SymbolId};
@@ -39,32 +39,6 @@ impl Resolution {
     }
 }
 
-// A refusal's number beside them, until its users have moved.
-#[derive(Clone, Copy)]
-pub enum Decision {
-    Refuse { number: u64 },
-    Nothing,
-    Keep { id: SymbolId },
-    Append,
-    Replace { id: SymbolId },
-    Amend { id: SymbolId },
-}
-
-impl From<Result<Resolution, u64>> for Decision {
-    ghost from_gives = { λ r d. d ≡ decision_of r };
-
-    fn from(resolved: Result<Resolution, u64>) -> Decision {
-        match resolved {
-            Err(number) => Decision::Refuse { number },
-            Ok(Resolution::Nothing) => Decision::Nothing,
-            Ok(Resolution::Keep { id }) => Decision::Keep { id },
-            Ok(Resolution::Append) => Decision::Append,
-            Ok(Resolution::Replace { id }) => Decision::Replace { id },
-            Ok(Resolution::Amend { id }) => Decision::Amend { id },
-        }
-    }
-}
-
 // ---- who holds a name
 
 // Who holds the name: nobody a name that is to be issued. A row past the count isn't the link's, whatever the name's row says.
@@ -90,33 +64,9 @@ pub fn holder_of(l: Link, names: &[u64], symbols: &[u64], name: Interned) -> Hol
 pub fn is_strong_undefined(symbols: &[u64], id: SymbolId) -> bool
     ensures { result ≡ strong_undefined symbols.now id }
 {
-    if cells::row_get(symbols, id.0, symbol::CELL_KIND) != symbol::KIND_UNDEFINED {
-        return false;
-    }
+    let kind = cells::row_get(symbols, id.0, symbol::CELL_KIND);
     let scope = cells::row_get(symbols, id.0, symbol::CELL_SCOPE);
-    matches!(scope, symbol::GLOBAL | symbol::GLOBAL_HIDDEN)
-}
-
-// ---- what is decided
-
-pub fn refusal_of(d: Decision) -> u64
-    ensures { result ≡ refusal_of d }
-{
-    match d {
-        Decision::Refuse { number } => number,
-        _ => 0,
-    }
-}
-
-// The id of the symbol, in a table of that many rows.
-pub fn id_of(d: Decision, count: usize) -> SymbolId
-    ensures { result ≡ id_of d count }
-{
-    match d {
-        Decision::Refuse { .. } | Decision::Nothing => SymbolId(0),
-        Decision::Append => SymbolId(count),
-        Decision::Keep { id } | Decision::Replace { id } | Decision::Amend { id } => id,
-    }
+    kind == symbol::KIND_UNDEFINED && matches!(scope, symbol::GLOBAL | symbol::GLOBAL_HIDDEN)
 }
 
 // ---- the symbols of sections
@@ -127,12 +77,11 @@ pub fn id_of(d: Decision, count: usize) -> SymbolId
 pub fn section_cell(l: Link, len: usize, s: SectionId) -> usize
     ensures { result ≡ section_cell l len s.0 }
 {
-    let slots = l.slots;
-    if link::section_slots(len) < slots {
+    if link::section_slots(len) < l.slots {
         return len;
     }
-    if s.0 < slots {
-        return slots * 8 + s.0;
+    if s.0 < l.slots {
+        return l.slots * 8 + s.0;
     }
     len
 }

@@ -1,14 +1,15 @@
 // What an accepted add writes.
 ghost use Rattle.std.specs.Prelude.{◌≡◌, Ok};
-ghost use Rattle.symbol_resolution.specs.Apply.{note_name, note_section, append_of, replaced_in, amended_in, applied, apply_of, table_after, table_before};
+ghost use Rattle.symbol_resolution.specs.Apply.{note_name, note_section, append_of, replaced_in, amended_in, applied};
 ghost use Rattle.symbol_resolution.specs.Decide.{decision_of};
 ghost use Rattle.symbol_resolution.specs.Lent.{same_loans, table_in};
 
-use crate::rows::{Decision, Resolution};
+use crate::rows::Resolution;
 use link::{Link, SectionId, SymbolId};
 use symbol::Row;
 
 // The lent cells that an add may write, and the counts.
+// Kept: that the loans stay is said by each call (`same_loans`), since no field's type says which memory it lends.
 #[derive(Drop)]
 pub struct Table<'a> {
     pub link: Link,
@@ -80,31 +81,4 @@ impl Table<'_> {
             Resolution::Amend { id } => amend(self.link.gabi, self.symbols, row, id),
         }
     }
-}
-
-// The same of a Decision, until its callers have moved.
-#[tactic(auto, unfolding(crate::specs::Apply::apply_of))]
-pub fn apply(
-    link: Link,
-    names: &mut [u64],
-    symbols: &mut [u64],
-    sections: &mut [u64],
-    row: Row,
-    d: Decision,
-) -> Link
-    ensures { table_after names symbols sections result ≡ apply_of (table_before names symbols sections link) row d }
-{
-    let mut table = Table {
-        link,
-        names,
-        symbols,
-        sections,
-    };
-    match d {
-        Decision::Refuse { .. } | Decision::Nothing | Decision::Keep { .. } => {}
-        Decision::Append => table.apply(row, Resolution::Append),
-        Decision::Replace { id } => table.apply(row, Resolution::Replace { id }),
-        Decision::Amend { id } => table.apply(row, Resolution::Amend { id }),
-    }
-    table.link
 }

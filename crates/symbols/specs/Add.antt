@@ -4,7 +4,7 @@ use Rattle.std.specs.Prelude.{ℕ, ◌+◌, ◌*◌, Bool, true, false, cond, Li
 use Rattle.link.specs.declared.Link.{Link}
 use Rattle.link.specs.declared.Lent.{Lent}
 use Rattle.link.specs.declared.Interned.{Interned}
-use Rattle.link.specs.declared.Refusal.{Refusal}
+use Rattle.link.specs.declared.cause.Refusal.{Refusal}
 use Rattle.link.specs.Bounds.{name_rows, section_slots}
 use Rattle.link.specs.Judge.{refused, change_of}
 use Rattle.symbol.specs.declared.Row.{Row}
@@ -15,7 +15,7 @@ use Rattle.upcoming_symbol.specs.Judge.{in_range}
 use Rattle.upcoming_symbol.specs.Upcoming.{name_of, row_of}
 use Rattle.symbol_resolution.specs.declared.rows.Holder.{Holder}
 use Rattle.symbol_resolution.specs.declared.rows.Holder.TheVariants.{Unissued}
-use Rattle.symbol_resolution.specs.declared.rows.Decision.{Decision}
+use Rattle.symbol_resolution.specs.Decision.{Decision}
 use Rattle.symbol_resolution.specs.Holder.{holder_of}
 use Rattle.symbol_resolution.specs.Decide.{decide_of, refusal_of, id_of}
 use Rattle.symbol_resolution.specs.Apply.{Table, apply_of}

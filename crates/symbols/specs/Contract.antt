@@ -1,7 +1,7 @@
 -- The contracts of the table's calls, and of lookups: what a caller sees of a call, its result and every cell that it lent to be written, against the
 -- call's definition.
 -- Assumes nothing.
-use Rattle.link.specs.declared.Refusal.{Refusal}
+use Rattle.link.specs.declared.cause.Refusal.{Refusal}
 use Rattle.symbol.specs.declared.Symbol.{Symbol}
 use Rattle.std.specs.Prelude.{ℕ, ◌≡◌, Bool, List, Option, Result}
 use Rattle.cells.specs.Slice.{SliceMut}
@@ -11,8 +11,10 @@ use Rattle.link.specs.declared.SymbolId.{SymbolId}
 use Rattle.link.specs.declared.SectionId.{SectionId}
 use Rattle.upcoming_symbol.specs.declared.UpcomingSymbol.{UpcomingSymbol}
 use Rattle.symbol_resolution.specs.Apply.{Table}
-use Rattle.symbols.specs.declared.Outcome.{Outcome}
-use Rattle.symbols.specs.Calls.{outcome}
+use Rattle.symbol_resolution.specs.declared.write.Table.{Table as Lent}
+use Rattle.symbols.specs.declared.Symbols.{Symbols}
+use Rattle.symbols.specs.Outcome.{Outcome}
+use Rattle.symbols.specs.Calls.{outcome, made_of, answered}
 use Rattle.symbols.specs.New.{new_outcome, new_of}
 use Rattle.symbols.specs.Add.{add_of}
 use Rattle.symbols.specs.Remove.{Rows, remove_outcome, remove_of}
@@ -27,9 +29,9 @@ pub record NewExit : Type 0 where
   pub sections : List ℕ
   pub result : Outcome
 
-abbrev pub new_exit : SliceMut → SliceMut → SliceMut → SliceMut → Outcome → NewExit
+abbrev pub new_exit : SliceMut → SliceMut → SliceMut → SliceMut → Result Symbols Refusal → NewExit
 new_exit bytes names symbols sections r =
-    record { bytes = bytes.exit.now; names = names.exit.now; symbols = symbols.exit.now; sections = sections.exit.now; result = r }
+    record { bytes = bytes.exit.now; names = names.exit.now; symbols = symbols.exit.now; sections = sections.exit.now; result = made_of r }
 
 abbrev pub NewMeets : ℕ → Bool → List ℕ → List ℕ → List ℕ → List ℕ → NewExit → Type 0
 NewMeets key gabi bytes names symbols sections e =
@@ -43,8 +45,8 @@ pub record AddExit : Type 0 where
   pub sections : List ℕ
   pub result : Outcome
 
-abbrev pub add_exit : SliceMut → SliceMut → SliceMut → Outcome → AddExit
-add_exit names symbols sections r = record { names = names.exit.now; symbols = symbols.exit.now; sections = sections.exit.now; result = r }
+abbrev pub add_exit : Lent → Result SymbolId Refusal → AddExit
+add_exit t r = record { names = t.names.now; symbols = t.symbols.now; sections = t.sections.now; result = answered t.link r }
 
 abbrev pub AddMeets : Table → List ℕ → UpcomingSymbol → AddExit → Type 0
 AddMeets t conversion u e = outcome e.names e.symbols e.sections e.result ≡ add_of t conversion u
@@ -56,8 +58,8 @@ pub record RemoveExit : Type 0 where
   pub sections : List ℕ
   pub result : Outcome
 
-abbrev pub remove_exit : SliceMut → SliceMut → Outcome → RemoveExit
-remove_exit symbols sections r = record { symbols = symbols.exit.now; sections = sections.exit.now; result = r }
+abbrev pub remove_exit : SliceMut → SliceMut → Link → Result SymbolId Refusal → RemoveExit
+remove_exit symbols sections l r = record { symbols = symbols.exit.now; sections = sections.exit.now; result = answered l r }
 
 abbrev pub RemoveMeets : Link → Rows → SymbolId → RemoveExit → Type 0
 RemoveMeets l x id e = remove_outcome e.symbols e.sections e.result ≡ remove_of l x id

@@ -1,3 +1,4 @@
+pub mod Outcome
 pub mod Calls
 pub mod New
 pub mod Add

@@ -12,7 +12,7 @@ use Rattle.symbol.specs.Row.{set_row}
 use Rattle.gabi.specs.SymbolTable.{stt_notype}
 use Rattle.symbol.specs.Layout.{local, null_kind}
 use Rattle.symbol_resolution.specs.Apply.{Table, table_of}
-use Rattle.symbols.specs.declared.Outcome.{Outcome}
+use Rattle.symbols.specs.Outcome.{Outcome}
 use Rattle.link.specs.Said.{Said, accepted, refusing}
 use Rattle.link.specs.Counts.{no_rows, with_symbols, with_slots, with_profile}
 use Rattle.symbols.specs.Calls.{said}

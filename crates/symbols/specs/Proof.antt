@@ -1,1 +1,2 @@
 pub mod AddOutcomes
+pub mod NewWays

@@ -8,7 +8,7 @@ use Rattle.symbol.specs.Row.{field, state_at, kind_at}
 use Rattle.symbol.specs.Layout.{state_cell, removed_state, section_kind, first_cell}
 use Rattle.symbol_resolution.specs.Apply.{set_section_symbol}
 use Rattle.cells.specs.Slice.{SliceMut}
-use Rattle.symbols.specs.declared.Outcome.{Outcome}
+use Rattle.symbols.specs.Outcome.{Outcome}
 use Rattle.link.specs.Said.{Said, accepted, refusing}
 use Rattle.link.specs.Bounds.{section_slots}
 use Rattle.symbols.specs.Calls.{said, lent_of}

@@ -2,29 +2,35 @@
 ghost use Rattle.std.specs.Prelude.{◌≡◌, ◌≢◌, IfErr};
 ghost use Rattle.link.specs.Judge.{judged};
 ghost use Rattle.upcoming_symbol.specs.Upcoming.{name_of, row_of};
-ghost use Rattle.symbol_resolution.specs.Apply.{table_before, table_of};
 ghost use Rattle.symbol_resolution.specs.Decide.{decision_of};
 ghost use Rattle.symbol_resolution.specs.Lent.{same_loans, table_in};
-ghost use Rattle.symbols.specs.Calls.{left, said, outcome_after};
-ghost use Rattle.symbols.specs.Add.{judge_add_of, file_of, is_issued, place_in, issued_of, place_of, refused_place, direct_holder_of, decided_of, committed_of, empty_at, add_row_of};
+ghost use Rattle.symbols.specs.Calls.{left, said};
+ghost use Rattle.symbols.specs.Add.{judge_add_of, file_of, is_issued, place_in, issued_of, place_of, refused_place, direct_holder_of, decided_of, committed_of, empty_at, add_row_of, lent};
 ghost use Rattle.symbols.specs.Contract.{add_exit, AddMeets};
 
-use crate::{Outcome, Symbols};
-use link::{Interned, Lent, Link, Refusal, SymbolId};
+use link::{Cause, Interned, Link, Refusal, SymbolId};
 use symbol::Row;
 use symbol_resolution::{Holder, Resolution, Table};
 use upcoming_symbol::UpcomingSymbol;
 
 // 22, then 1 of the link's counts, then 1 of the symbol's own fields; all at place 0.
 #[tactic(auto, unfolding(crate::specs::Add::judge_add_of, link::specs::Judge::judged))]
-fn judge_add(l: Link, lent: Lent, upcoming: UpcomingSymbol) -> Result<(), Refusal>
-    ensures { result ≡ judged (judge_add_of l lent upcoming) }
+fn judge_add(table: &Table<'_>, upcoming: UpcomingSymbol) -> Result<(), Refusal>
+    ensures { let t = table_in table.now in result ≡ judged (judge_add_of t.link (lent t) upcoming) }
 {
-    if let Err(refusal) = l.judge_change(lent) {
-        return Err(Refusal::new(refusal.number, 0));
+    let lent = crate::lent_rows(
+        table.names.len() / link::NAME_CELLS,
+        table.symbols.len(),
+        table.sections.len() / link::SECTION_CELLS,
+    );
+    if let Err(refusal) = table.link.judge_change(lent) {
+        return Err(Refusal {
+            place: 0,
+            ..refusal
+        });
     }
     if !upcoming.in_range() {
-        return Err(Refusal::new(1, 0));
+        return Err(Refusal::new(Cause::OutOfRange, 0));
     }
     Ok(())
 }
@@ -54,11 +60,11 @@ fn file_of(u: UpcomingSymbol) -> Option<Interned>
 }
 
 // The row that the symbol would become: a name is empty where its length is 0.
-fn upcoming_row(gabi: bool, names: &[u64], conversion: &[u64], upcoming: UpcomingSymbol) -> Row
-    ensures { result ≡ row_of gabi conversion.now upcoming (empty_at names.now (name_of upcoming)) }
+fn upcoming_row(table: &Table<'_>, conversion: &[u64], upcoming: UpcomingSymbol) -> Row
+    ensures { let t = table_in table.now in result ≡ row_of t.link.gabi conversion.now upcoming (empty_at t.names (name_of upcoming)) }
 {
-    let empty = cells::row_get(names, upcoming.name().0, symbol::NAME_LENGTH) == 0;
-    upcoming.row(gabi, conversion, empty)
+    let empty = cells::row_get(table.names, upcoming.name().0, symbol::NAME_LENGTH) == 0;
+    upcoming.row(table.link.gabi, conversion, empty)
 }
 
 #[tactic(auto, unfolding(crate::specs::Add::direct_holder_of))]
@@ -78,33 +84,30 @@ fn direct_holder(
 }
 
 // The row that is to be added, under its name's holder: what is decided.
+// Kept: a number, as symbol_resolution::resolve tells it.
 #[tactic(auto, unfolding(crate::specs::Add::decided_of))]
-fn decide(
-    l: Link,
-    names: &[u64],
-    symbols: &[u64],
-    sections: &[u64],
-    row: Row,
-    file: Option<Interned>,
-) -> Result<Resolution, u64>
-    ensures decision { decision_of result ≡ decided_of (table_of names.now symbols.now sections.now l) row file }
+fn decide(table: &Table<'_>, row: Row, file: Option<Interned>) -> Result<Resolution, u64>
+    ensures decision { decision_of result ≡ decided_of (table_in table.now) row file }
     ensures number { IfErr result (λ n. n ≢ 0) }
 {
-    let holder = direct_holder(l, names, symbols, row.name, file);
-    symbol_resolution::resolve(l, symbols, sections, row, holder)
+    let symbols = &*table.symbols;
+    let holder = direct_holder(table.link, table.names, symbols, row.name, file);
+    symbol_resolution::resolve(table.link, symbols, table.sections, row, holder)
 }
 
 // Of a refusal the place is 0, but for 21 the id of a name.
 fn place_of(l: Link, row: Row, file: Option<Interned>, number: u64) -> usize
     ensures { result ≡ refused_place l row file number }
 {
-    match number {
-        21 => unissued(l, row.name, file).unwrap_or(row.name).0,
-        _ => 0,
+    if number == u64::from(Cause::AbsentId) {
+        unissued(l, row.name, file).unwrap_or(row.name).0
+    } else {
+        0
     }
 }
 
 // Writes what was decided.
+// Kept: a number, as symbol_resolution::resolve tells it.
 #[tactic(auto, unfolding(crate::specs::Add::committed_of, symbol_resolution::specs::Apply::apply_of))]
 fn commit(
     table: &mut Table<'_>,
@@ -117,7 +120,10 @@ fn commit(
     ensures answer { left (table_in table.new) (said result) ≡ committed_of (table_in table.old) row file (decision_of resolved) }
 {
     match resolved {
-        Err(number) => Err(Refusal::new(number, place_of(table.link, row, file, number))),
+        Err(number) => Err(Refusal {
+            number,
+            place: place_of(table.link, row, file, number) as u64,
+        }),
         Ok(resolution) => {
             let id = resolution.id(table.link.symbols);
             table.apply(row, resolution);
@@ -127,50 +133,25 @@ fn commit(
 }
 
 #[tactic(auto, unfolding(crate::specs::Add::add_row_of))]
-fn add_row(
-    l: Link,
-    names: &mut [u64],
-    symbols: &mut [u64],
-    sections: &mut [u64],
-    row: Row,
-    file: Option<Interned>,
-) -> Outcome
-    ensures { outcome_after names symbols sections result ≡ add_row_of (table_before names symbols sections l) row file }
+fn add_row(table: &mut Table<'_>, row: Row, file: Option<Interned>) -> Result<SymbolId, Refusal>
+    ensures same { same_loans table.old table.new }
+    ensures answer { left (table_in table.new) (said result) ≡ add_row_of (table_in table.old) row file }
 {
-    let resolved = decide(l, names, symbols, sections, row, file);
-    let mut table = Table {
-        link: l,
-        names,
-        symbols,
-        sections,
-    };
-    let answer = commit(&mut table, row, file, resolved);
-    Outcome {
-        table: Symbols { link: table.link },
-        answer,
-    }
+    let resolved = decide(table, row, file);
+    commit(table, row, file, resolved)
 }
 
+// The id of the symbol, which has its own row or its name's.
 #[tactic(auto, unfolding(crate::specs::Add::add_of, link::specs::Judge::judged))]
 pub fn add(
-    table: Symbols,
-    names: &mut [u64],
-    symbols: &mut [u64],
-    sections: &mut [u64],
+    table: &mut Table<'_>,
     conversion: &[u64],
     upcoming: UpcomingSymbol,
-) -> Outcome
-    ensures { AddMeets (table_before names symbols sections table.link) conversion.now upcoming (add_exit names symbols sections result) }
+) -> Result<SymbolId, Refusal>
+    ensures same { same_loans table.old table.new }
+    ensures added { AddMeets (table_in table.old) conversion.now upcoming (add_exit table.new result) }
 {
-    let l = table.link;
-    let lent = crate::lent_rows(
-        names.len() / link::NAME_CELLS,
-        symbols.len(),
-        sections.len() / link::SECTION_CELLS,
-    );
-    if let Err(refusal) = judge_add(l, lent, upcoming) {
-        return crate::refused(l, refusal);
-    }
-    let row = upcoming_row(l.gabi, names, conversion, upcoming);
-    add_row(l, names, symbols, sections, row, file_of(upcoming))
+    judge_add(table, upcoming)?;
+    let row = upcoming_row(table, conversion, upcoming);
+    add_row(table, row, file_of(upcoming))
 }

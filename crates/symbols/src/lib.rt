@@ -1,9 +1,9 @@
 // The symbol table of a link, and a new one. The rows are lent; the counts come and go by value.
 #![tactic(auto)]
 
-ghost use Rattle.std.specs.Prelude.{◌≡◌, List, ℕ};
+ghost use Rattle.std.specs.Prelude.{◌≡◌, ◌≢◌, List, Ok, ℕ};
 ghost use Rattle.interner.specs.Names.{store_of};
-ghost use Rattle.symbols.specs.Calls.{refused_by, lent_of};
+ghost use Rattle.symbols.specs.Calls.{made_of, lent_of};
 ghost use Rattle.symbols.specs.New.{new_outcome, null_of, null_row, one_symbol, clear_symbols};
 ghost use Rattle.symbols.specs.Contract.{NewMeets, new_exit};
 
@@ -12,20 +12,15 @@ mod lookups;
 mod removal;
 
 pub use adds::add;
-use link::{Interned, Lent, Link, Refusal, SymbolId};
+use link::{Cause, Lent, Link, Refusal, SymbolId};
 pub use lookups::{get, get_global, section_symbol_id};
 pub use removal::{remove, remove_row};
-use symbol::{Row, SymbolValue};
+use symbol::Row;
+use upcoming_symbol::UpcomingSymbol;
 
 #[derive(Clone, Copy)]
 pub struct Symbols {
     pub link: Link,
-}
-
-#[derive(Clone, Copy)]
-pub struct Outcome {
-    pub table: Symbols,
-    pub answer: Result<SymbolId, Refusal>,
 }
 
 // The rows of names and sections, the length of the symbols.
@@ -42,27 +37,12 @@ pub fn lent_rows(names: usize, symbols: usize, sections: usize) -> Lent
     }
 }
 
-fn refused(l: Link, refusal: Refusal) -> Outcome
-    ensures { result ≡ refused_by l refusal }
-{
-    Outcome {
-        table: Symbols { link: l },
-        answer: Err(refusal),
-    }
-}
-
 // ---- new
 
 fn null_row() -> Row
     ensures { result ≡ null_row }
 {
-    Row {
-        name: Interned(0),
-        kind: symbol::STT_NOTYPE,
-        file: 0,
-        visibility: symbol::LOCAL,
-        value: SymbolValue::Null.into(),
-    }
+    UpcomingSymbol::Null.row(false, &[], true)
 }
 
 // No section has a symbol.
@@ -75,7 +55,8 @@ fn clear_section_symbols(sections: &mut [u64])
 }
 
 // One symbol, and cells for that many sections' symbols.
-// Kept: one field set after the other, since a literal of all of a link's fields takes more instructions.
+// Kept: one field set after the other, since a literal of all of a link's fields takes more (docs/DECISIONS.md y: adds_bench 599 million
+// instructions by stores, 649 by literals).
 fn one_symbol(gabi: bool, l: Link, slots: usize) -> Link
     ensures { result ≡ one_symbol gabi l slots }
 {
@@ -88,20 +69,15 @@ fn one_symbol(gabi: bool, l: Link, slots: usize) -> Link
 
 // The null symbol over the names' counts l, where the empty name was issued; whatever the names' bytes and rows are.
 #[tactic(auto, unfolding(crate::specs::New::null_of))]
-fn null_table(gabi: bool, l: Link, symbols: &mut [u64], sections: &mut [u64]) -> Outcome
-    ensures { (bytes names : List ℕ) → new_outcome bytes names symbols.new sections.new result ≡ null_of gabi symbols.old sections.old (store_of bytes names l) }
+fn null_table(gabi: bool, l: Link, symbols: &mut [u64], sections: &mut [u64]) -> Symbols
+    requires { l.names ≢ 0 }
+    ensures { (bytes names : List ℕ) → new_outcome bytes names symbols.new sections.new (made_of (Ok result)) ≡ null_of gabi symbols.old sections.old (store_of bytes names l) }
 {
-    if l.names == 0 {
-        return refused(l, Refusal::new(2, 0));
-    }
     let slots = link::section_slots(sections.len());
     clear_section_symbols(sections);
     null_row().store(symbols, Symbols::NULL_SYMBOL_ID);
-    Outcome {
-        table: Symbols {
-            link: one_symbol(gabi, l, slots),
-        },
-        answer: Ok(Symbols::NULL_SYMBOL_ID),
+    Symbols {
+        link: one_symbol(gabi, l, slots),
     }
 }
 
@@ -111,6 +87,7 @@ impl Symbols {
     pub const NULL_SYMBOL_ID: SymbolId = SymbolId(0);
 
     // A table with the null symbol alone, and the empty name, in the old or the gABI profile. What the lent cells held before doesn't matter. Any number is a key of the names' hash.
+    // Kept: slices one by one, as C lends them.
     #[tactic(auto, unfolding(crate::specs::New::new_of))]
     pub fn new(
         key: usize,
@@ -119,13 +96,13 @@ impl Symbols {
         names: &mut [u64],
         symbols: &mut [u64],
         sections: &mut [u64],
-    ) -> Outcome
+    ) -> Result<Symbols, Refusal>
         ensures { NewMeets key gabi bytes.old names.old symbols.old sections.old (new_exit bytes names symbols sections result) }
     {
         if link::symbol_rows(symbols.len()) == 0 {
-            return refused(link::no_names(0, 0), Refusal::new(2, 0));
+            return Err(Refusal::new(Cause::NoRoom, 0));
         }
-        let named = interner::new(key, bytes, names);
-        null_table(gabi, named.link, symbols, sections)
+        let named = interner::reset(key, bytes, names)?;
+        Ok(null_table(gabi, named, symbols, sections))
     }
 }

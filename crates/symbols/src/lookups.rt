@@ -1,10 +1,11 @@
 // Lookups in a symbol table: by id, by global name, by section.
+// Kept: of the table the slices alone that a lookup reads, so that a caller needs no more.
 ghost use Rattle.std.specs.Prelude.{◌≡◌};
 ghost use Rattle.symbols.specs.Lookup.{found_at, held_of};
 ghost use Rattle.symbols.specs.Contract.{GetMeets, GetGlobalMeets, SectionSymbolMeets};
 
 use crate::Symbols;
-use link::{Interned, Refusal, SectionId, SymbolId};
+use link::{Cause, Interned, Refusal, SectionId, SymbolId};
 use symbol::Symbol;
 use symbol_resolution::Holder;
 
@@ -13,7 +14,7 @@ fn found_at(symbols: &[u64], id: SymbolId) -> Result<Symbol, Refusal>
     ensures { result ≡ found_at symbols.now id }
 {
     if cells::row_get(symbols, id.0, symbol::CELL_STATE) == symbol::REMOVED {
-        return Err(Refusal::new(21, id.0));
+        return Err(Refusal::new(Cause::AbsentId, id.0));
     }
     Ok(symbol::symbol_at(symbols, id))
 }
@@ -22,8 +23,8 @@ fn held_at(symbols: &[u64], name: Interned, holder: Holder) -> Result<Symbol, Re
     ensures { result ≡ held_of symbols.now name holder }
 {
     match holder {
-        Holder::Unissued | Holder::Nobody => Err(Refusal::new(23, 0)),
-        Holder::Removed => Err(Refusal::new(21, name.0)),
+        Holder::Unissued | Holder::Nobody => Err(Refusal::new(Cause::UnknownGlobalName, 0)),
+        Holder::Removed => Err(Refusal::new(Cause::AbsentId, name.0)),
         Holder::Known { id } => Ok(symbol::symbol_at(symbols, id)),
     }
 }
@@ -36,7 +37,7 @@ pub fn get(table: Symbols, symbols: &[u64], id: SymbolId) -> Result<Symbol, Refu
     let lent = crate::lent_rows(l.chains, symbols.len(), l.slots);
     l.judge(lent)?;
     if l.symbols <= id.0 {
-        return Err(Refusal::new(21, id.0));
+        return Err(Refusal::new(Cause::AbsentId, id.0));
     }
     found_at(symbols, id)
 }
@@ -62,12 +63,9 @@ pub fn get_global(
 pub fn section_symbol_id(table: Symbols, sections: &[u64], section: SectionId) -> Option<SymbolId>
     ensures { SectionSymbolMeets table.link sections.now section result }
 {
-    let l = table.link;
-    let id = cells::get(
-        sections,
-        symbol_resolution::section_cell(l, sections.len(), section),
-    ) as usize;
-    if id == 0 || l.symbols <= id {
+    let cell = symbol_resolution::section_cell(table.link, sections.len(), section);
+    let id = cells::get(sections, cell) as usize;
+    if id == 0 || table.link.symbols <= id {
         return None;
     }
     Some(SymbolId(id))

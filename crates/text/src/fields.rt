@@ -16,6 +16,7 @@ fn is_separator(b: u8) -> bool
 fn run_end(line: &[u8], at: usize, separators: bool) -> usize
     ensures { result ≡ run_end line.now at separators }
 {
+    // Kept: `position` would be asked of the part from the place on, and the place may lie past the line's end.
     for i in at..line.len() {
         if is_separator(line[i]) != separators {
             return i;
@@ -49,7 +50,7 @@ pub fn field(line: &[u8], k: usize) -> &[u8]
 {
     let start = start_of(line, k);
     let end = run_end(line, start, false);
-    byte_slices::part_of(line, start, end - start)
+    cells::part_of(line, start, end - start)
 }
 
 // The line without a carriage return at its end.
@@ -58,13 +59,9 @@ pub fn without_cr(line: &[u8]) -> &[u8]
     ensures result_value { result.now ≡ without_cr line.now }
     ensures place { result.ref_ptr.0 ≡ line.entry.ref_ptr.0 }
 {
-    let Some(&last) = line.last() else {
-        return line;
-    };
-    if last == b'\r' {
-        &line[..line.len() - 1]
-    } else {
-        line
+    match line {
+        [start @ .., b'\r'] => start,
+        _ => line,
     }
 }
 

@@ -8,6 +8,7 @@ use std::io::Read;
 
 // Of the buffer, the bytes from start to end are read and not handed out yet; those before seen hold no line end. Over: nothing more comes,
 // because the input ended, a read failed, or the buffer is full.
+// Kept: two flags, as the definitions (lines_at) have them: `over` is asked before each line, `failed` once at the end, by the program.
 #[derive(Clone, Copy, Debug, PartialEq, Eq)]
 pub struct Lines {
     pub start: usize,
@@ -18,7 +19,7 @@ pub struct Lines {
 }
 
 // Long: a line that doesn't fit the buffer, which holds its first bytes.
-// Kept: (4) a line is a place in the lent buffer and a length; as a slice it would keep the buffer from being lent to what handles the line.
+// Kept: a line is a place in the buffer and a length, as the definitions of these calls (NextLine) have it.
 #[derive(Clone, Copy, Debug, PartialEq, Eq)]
 pub enum Taken {
     Line { from: usize, len: usize },
@@ -26,6 +27,7 @@ pub enum Taken {
     End,
 }
 
+// Kept: as byte_slices', by the word (slice_index) in which the definitions of lines read a buffer.
 fn byte_at(buf: &[u8], i: usize) -> u8
     ensures { result ≡ slice_index buf.now i }
 {
@@ -36,6 +38,7 @@ fn byte_at(buf: &[u8], i: usize) -> u8
 fn line_end(buf: &[u8], from: usize, to: usize) -> usize
     ensures { result ≡ end_in buf.now from to }
 {
+    // Kept: `position` would be asked of a part of the buffer, and neither place has to lie in it.
     for i in from..to {
         if byte_at(buf, i) == b'\n' {
             return i;
@@ -67,6 +70,7 @@ fn longer(end: usize, more: usize, len: usize) -> usize
 
 impl Lines {
     // Nothing is read yet.
+    // Kept: `new` is public; over a derived Default it would be a call that says nothing.
     pub fn new() -> Lines
         ensures { result ≡ unread }
     {
@@ -188,6 +192,7 @@ impl Lines {
     {
         self.start = 0;
         self.seen = self.end;
+        // Kept: a loop that counts nothing; it ends where a line does, where the input does, or where the buffer is full.
         loop {
             if let Some(taken) = self.settle(buf) {
                 return taken;
@@ -230,6 +235,7 @@ impl Lines {
         self.start = 0;
         self.seen = 0;
         self.end = 0;
+        // Kept: the range only bounds the turns; no count of lines or bytes is known that would be nearer.
         for _ in 0..u64::MAX {
             if self.over || 0 < self.start {
                 return;

@@ -5,7 +5,7 @@ ghost use Rattle.text.specs.Writing.{written, Puts};
 ghost use Rattle.text.specs.Digits.{decimal};
 
 // Lent bytes, of which the first `len` are text.
-// Kept: (1) the bytes are lent, and a put can't fail; a String or a Vec would ask for memory.
+// Kept: the bytes are lent, and a put can't fail; a String or a Vec would ask for memory.
 #[derive(Drop)]
 pub struct Writer<'a> {
     pub bytes: &'a mut [u8],
@@ -43,6 +43,7 @@ impl<'a> Writer<'a> {
         ensures pieces { Puts self.old self.new (decimal v ∷ []) }
         ensures fewest { PutDecimal self.old.bytes.now self.old.len v (written self.new) }
     {
+        // Kept: a number of 64 bits has at most 20 digits; `write!` would ask for a sink that can fail, and a put can't.
         let mut digits = [0u8; 20];
         let k = io::decimal(v, &mut digits);
         self.put(&digits[..k]);

@@ -1,69 +1,49 @@
 // The row that a symbol would become, by its kind: binding and visibility, then value. What is refused stands as its number in the row.
-ghost use Rattle.std.specs.Prelude.{◌≡◌};
+ghost use Rattle.std.specs.Prelude.{◌≡◌, cond};
 ghost use Rattle.symbol.specs.Codes.{words_of};
 ghost use Rattle.upcoming_symbol.specs.Judge.{scope_of, shown_of, hidden_of, judge_of};
 ghost use Rattle.upcoming_symbol.specs.Upcoming.{words_or, in_section, converted_of, value_of, elf_row_of, library_code, external_row_of, local_row, global_row};
 
 use crate::{Conversion, ElfSymbol};
-use link::Interned;
+use link::{Cause, Interned};
 use symbol::{Row, SymbolValue, SymbolVisibility, Words};
 
-// The scope of the symbol's row, by its binding.
-#[tactic(auto, unfolding(crate::specs::Judge::shown_of))]
-fn shown(binding: u64) -> Result<SymbolVisibility, u64>
-    ensures { scope_of result ≡ shown_of binding }
+// The scope of the symbol's row, by its binding, under a visibility that hides or doesn't.
+#[tactic(auto, unfolding(crate::specs::Judge::shown_of, crate::specs::Judge::hidden_of))]
+fn bound(binding: u64, hidden: bool) -> Result<SymbolVisibility, Cause>
+    ensures { scope_of result ≡ cond hidden (hidden_of binding) (shown_of binding) }
 {
     match binding {
+        crate::STB_LOCAL if hidden => Err(Cause::LocalHidden),
         crate::STB_LOCAL => Ok(SymbolVisibility::Local),
         crate::STB_GLOBAL => Ok(SymbolVisibility::Global {
             weak: false,
-            hidden: false,
+            hidden,
         }),
-        crate::STB_WEAK => Ok(SymbolVisibility::Global {
-            weak: true,
-            hidden: false,
-        }),
-        _ => Err(12),
-    }
-}
-
-#[tactic(auto, unfolding(crate::specs::Judge::hidden_of))]
-fn hidden(binding: u64) -> Result<SymbolVisibility, u64>
-    ensures { scope_of result ≡ hidden_of binding }
-{
-    match binding {
-        crate::STB_LOCAL => Err(11),
-        crate::STB_GLOBAL => Ok(SymbolVisibility::Global {
-            weak: false,
-            hidden: true,
-        }),
-        crate::STB_WEAK => Ok(SymbolVisibility::Global {
-            weak: true,
-            hidden: true,
-        }),
-        _ => Err(12),
+        crate::STB_WEAK => Ok(SymbolVisibility::Global { weak: true, hidden }),
+        _ => Err(Cause::UnsupportedBinding),
     }
 }
 
 // By visibility first, then by binding.
 #[tactic(auto, unfolding(crate::specs::Judge::judge_of))]
-fn judge(binding: u64, visibility: u64) -> Result<SymbolVisibility, u64>
+fn judge(binding: u64, visibility: u64) -> Result<SymbolVisibility, Cause>
     ensures { scope_of result ≡ judge_of binding visibility }
 {
     match visibility {
-        crate::STV_DEFAULT => shown(binding),
-        crate::STV_HIDDEN => hidden(binding),
-        _ => Err(10),
+        crate::STV_DEFAULT => bound(binding, false),
+        crate::STV_HIDDEN => bound(binding, true),
+        _ => Err(Cause::UnsupportedVisibility),
     }
 }
 
 // The scope's code, or the number of the refusal.
-fn scope(judged: Result<SymbolVisibility, u64>) -> u64
+fn scope(judged: Result<SymbolVisibility, Cause>) -> u64
     ensures { result ≡ scope_of judged }
 {
     match judged {
         Ok(visibility) => visibility.into(),
-        Err(number) => number,
+        Err(cause) => cause.into(),
     }
 }
 
@@ -79,18 +59,18 @@ fn in_section(section: u64, empty: bool, value: u64) -> Words
 }
 
 #[tactic(auto, unfolding(crate::specs::Upcoming::converted_of))]
-fn converted(c: Conversion, empty: bool, value: u64) -> Result<Words, u64>
+fn converted(c: Conversion, empty: bool, value: u64) -> Result<Words, Cause>
     ensures { words_or result ≡ converted_of c empty value }
 {
     match c {
-        Conversion::Nothing => Err(14),
+        Conversion::Nothing => Err(Cause::SectionWithoutId),
         Conversion::NotLoaded => Ok(Words::from(SymbolValue::SectionNotLoaded)),
         Conversion::Section { id } => Ok(in_section(id.0 as u64, empty, value)),
     }
 }
 
 #[tactic(auto, unfolding(crate::specs::Upcoming::value_of, crate::specs::Upcoming::undefined_of))]
-fn value_of(c: Conversion, e: ElfSymbol, empty: bool) -> Result<Words, u64>
+fn value_of(c: Conversion, e: ElfSymbol, empty: bool) -> Result<Words, Cause>
     ensures { words_or result ≡ value_of c e empty }
 {
     match e.section {
@@ -98,22 +78,23 @@ fn value_of(c: Conversion, e: ElfSymbol, empty: bool) -> Result<Words, u64>
             zero: e.binding == crate::STB_WEAK,
         })),
         crate::SHN_ABS => Ok(Words::from(SymbolValue::Absolute { value: e.value })),
-        crate::SHN_COMMON => Err(13),
+        crate::SHN_COMMON => Err(Cause::Common),
         _ => converted(c, empty, e.value),
     }
 }
 
 // The value's words, or the number of the refusal in the place of their kind.
-fn words(value: Result<Words, u64>) -> Words
+fn words(value: Result<Words, Cause>) -> Words
     ensures { result ≡ words_or value }
 {
     match value {
         Ok(words) => words,
-        Err(number) => Words::new(number, 0, 0),
+        Err(cause) => Words::new(cause.into(), 0, 0),
     }
 }
 
 // Of an ELF symbol, by what its section number stands for, under a name that has or would get this id.
+// Kept: the file as the row's cell has it (`symbol::file_cell`), since the row holds that number.
 #[tactic(auto, unfolding(crate::specs::Upcoming::elf_row_of))]
 pub fn elf_row(c: Conversion, e: ElfSymbol, name: Interned, empty: bool, file: u64) -> Row
     ensures { result ≡ elf_row_of c e name empty file }

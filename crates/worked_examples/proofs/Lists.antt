@@ -22,7 +22,7 @@ use Rattle.symbols.specs.New.{clear_symbols, null_of, new_of}
 use Rattle.symbols.specs.Add.{judge_add_of, issued_of, direct_holder_of, place_of, decided_of, committed_of, add_row_of, add_of}
 use Rattle.symbols.specs.Lookup.{found_at, get_of}
 use Rattle.link.specs.Judge.{refused, none}
-use Rattle.link.specs.declared.Refusal.{Refusal}
+use Rattle.link.specs.declared.cause.Refusal.{Refusal}
 use Rattle.add_list.specs.AddList.{ListLeft, items_from, items_of, turn_of, adds_of, add_list_of}
 use Rattle.symbol_laws.specs.History.{table}
 use Rattle.worked_examples.specs.Examples.{start, old, gabi, sections}

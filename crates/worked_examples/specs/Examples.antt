@@ -1,7 +1,7 @@
 -- Document 01, "Marked for proof", with the add sheet and the example of "Bounds": rows of one list, and one theorem over it. Groups, and the
 -- crates of the laws of walks and collections, say what their rows mean.
 -- Assumes nothing.
-use Rattle.link.specs.declared.Refusal.{Refusal}
+use Rattle.link.specs.declared.cause.Refusal.{Refusal}
 use Rattle.std.specs.Prelude.{ℕ, zero, suc, ◌+◌, ◌*◌, ◌-◌, ◌^◌, ◌≡◌, Bool, true, false, List, [], ◌∷◌, ℤ, pos, negsuc, length, replicate, Result, None, Ok}
 use Rattle.link.specs.Said.{Said, accepted, refusing}
 use Rattle.link.specs.Judge as Judge

@@ -3,14 +3,14 @@ use Rattle.add_list.specs.AddList.{add_list_of}
 use Rattle.add_list.specs.Proof.Items.{items-length}
 use Rattle.add_list.proofs.add_list.Goals as goal
 
-pub returns-then-table : goal.returns-then-table
+pub returns-then-table-clause-left : goal.returns-then-table-clause-left
 unfolding add_list_of
-returns-then-table c = simp (c.if-table.true, c.new.ensures)
+returns-then-table-clause-left c = simp (c.if-table.true, c.refused.ensures)
 
-pub returns-then-ids-adds : goal.returns-then-ids-adds
+pub returns-then-ids-adds-clause-left : goal.returns-then-ids-adds-clause-left
 unfolding add_list_of
-returns-then-ids-adds c = simp (c.if-table.false, c.new-then-ids-adds.ensures, items-length, lt-ltb _ _ c.if-ids-adds.true)
+returns-then-ids-adds-clause-left c = simp (c.if-table.false, c.refused-then-ids-adds.ensures, items-length, lt-ltb _ _ c.if-ids-adds.true)
 
-pub returns : goal.returns
+pub returns-clause-left : goal.returns-clause-left
 unfolding add_list_of
-returns c = simp (c.add_rows.ensures, c.if-table.false, items-length, le-ltb _ _ c.if-ids-adds.false)
+returns-clause-left c = simp (c.add_rows.ensures.left, c.if-table.false, items-length, le-ltb _ _ c.if-ids-adds.false)

@@ -9,7 +9,7 @@ use Rattle.link.specs.declared.Interned.{Interned}
 use Rattle.link.specs.Judge.{none}
 use Rattle.link.specs.Said.{Said, accepted, refusing}
 use Rattle.symbol.specs.declared.Row.{Row}
-use Rattle.symbol_resolution.specs.declared.rows.Decision.{Decision}
+use Rattle.symbol_resolution.specs.Decision.{Decision}
 use Rattle.symbol_resolution.specs.Decide.{refusal_of}
 use Rattle.symbol_resolution.specs.Apply.{Table}
 use Rattle.symbols.specs.Add.{judge_add_of, committed_of, add_row_of, lent, add_of}

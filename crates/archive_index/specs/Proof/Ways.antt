@@ -4,14 +4,13 @@ use Rattle.std.specs.Prelude.{ℕ, min, Option, Some, None, Result, Err, unwrap_
 use Rattle.std.proofs.Common.{ap, ◌∙◌}
 use native.Mathlib.Omega.{arith}
 use Rattle.std.proofs.Math.Path.{refl, sym}
-use borrow.Author.Tests.{eq-eqb, ne_eqb, lt-ltb, le-ltb, ltb-true, ltb-false}
-use Rattle.cells.specs.Proof.Split.{by-test}
+use borrow.Author.Tests.{eq-eqb, ne_eqb, lt-ltb, le-ltb}
 use Rattle.byte_slices.specs.Proof.Ways.{pick}
 use Rattle.gabi.specs.StringTable.{ended, name_at}
 use Rattle.gabi.proofs.StringTableLaws.{name-inside}
 use Rattle.strings.specs.Lookup.{Looked, looked, look_ended}
-use Rattle.link.specs.Bounds.{lesser}
-use Rattle.link.specs.declared.Refusal.{Refusal}
+use Rattle.link.specs.Proof.Ways.{min-lesser}
+use Rattle.link.specs.declared.cause.Refusal.{Refusal}
 use Rattle.link.specs.Judge.{refused}
 use Rattle.archive_index.specs.Contract.{Answers}
 use Rattle.archive_index.specs.Index.{count_of, offset_of, after_of, after_in, names_at, cut_of}
@@ -109,10 +108,6 @@ open-none s l f =
     (λ d. pick Fine (ltb 65535 (count_of s)) _ _ (λ g e. refl)
     (λ g. pick Fine (ltb (cut_of s (names_at (count_of s)) (count_of s) 0) (count_of s)) _ _ (λ h e. refl)
     (λ h. pick Fine (ltb (length l / 8) (count_of s)) _ _ (λ i e. refl) (λ i e. absurd cc))))))
-
-min-lesser : (a b : ℕ) → min a b ≡ lesser a b
-unfolding lesser
-min-lesser a b = by-test (ltb a b) (λ e. let h : a < b = ltb-true a b e in rw e (omega arith)) (λ e. let h : b ≤ a = ltb-false a b e in rw e (omega arith))
 
 pub open-offsets : (s l m : List ℕ) (r : Result ℕ Refusal) (c x : ℕ) → (length s ≡ 0 → ⊥) → 4 ≤ length s → c ≡ count_of s → offsets_in (length s) < c
     → x ≡ min 65535 (offsets_in (length s)) → m ≡ l → r ≡ Err (refused 1 x) → Answers (open_of s l) m r

@@ -10,7 +10,7 @@ use Rattle.std.proofs.Math.ListN.{get_or, set, length-set}
 use borrow.Author.Tests.{lt-ltb, le-ltb, ltb-true, ltb-false, eqb-true, eqb-false}
 use Rattle.cells.specs.Proof.Split.{by-test}
 use Rattle.byte_slices.specs.Proof.Ways.{pick, apart}
-use Rattle.link.specs.declared.Refusal.{Refusal}
+use Rattle.link.specs.declared.cause.Refusal.{Refusal}
 use Rattle.link.specs.Judge.{refused}
 use Rattle.symbol_resolution.specs.declared.rows.Holder.{Holder}
 use Rattle.symbol_resolution.specs.declared.rows.Holder.TheVariants.{Unissued, Nobody, Removed, Known}
@@ -30,15 +30,6 @@ stays Removed n = absurd (n refl)
 stays (Known id) n = refl
 
 module _ (s l : List ℕ) (t : Table) where
-  pub noted-none : (notes : List ℕ) → Noted s l t 0 notes
-  noted-none notes = record { noted = λ k h e. absurd (none k h) }
-    where
-      none : (k : ℕ) → k < 0 → ⊥
-      none k h = omega arith
-
-  pub noted-enough : (x c : ℕ) (notes : List ℕ) → c ≤ x → Noted s l t x notes → Noted s l t c notes
-  noted-enough x c notes h n = record { noted = λ k g e. n.noted k (omega arith) e }
-
   -- an entry before k keeps its note, and entry k has one if it ties
   module _ (k : ℕ) (x : List ℕ) (h : Holder) (notes m : List ℕ) where
     pub noted_more : length m ≡ 4096 → x ≡ stored_name s l k → h ≡ name_holder t x → m ≡ note_tie t.link.gabi t.symbols h notes k → Noted s l t k notes
@@ -94,13 +85,6 @@ module _ (s l : List ℕ) (t : Table) where
       i ∙ sym (rw (le-ltb w c (rw j at h)))
 
 -- ---- an entry of a pass
-
--- an entry that isn't noted doesn't tie
-pub tie-skipped : (key c : ℕ) (s : List ℕ) (t : Table) (p k : ℕ) (l : List ℕ) (n e : ℕ) (notes : List ℕ) (b : Bool) (u : Queue) → k < e → Noted s l t e notes
-    → b ≡ is_noted notes k → b ≡ false → u ≡ queue_of l n → u ≡ tie_of key c s t p k (queue_of l n)
-unfolding tie_of
-tie-skipped key c s t p k l n e notes b u h y f g q =
-    q ∙ by-test (tied_name t (stored_name s l k)) (λ i. absurd (apart (sym g ∙ f ∙ y.noted k h i))) (λ i. sym (rw i))
 
 -- where the names of the entries lie stays
 module _ (j f : ℕ) (o : 3 < f) (v : f < 6) where

@@ -3,7 +3,7 @@
 use Rattle.std.specs.Prelude.{ℕ, ◌+◌, ◌-◌, ◌/◌, ◌<◌, ◌≤◌, ◌≡◌, refl, Bool, true, false, cond, List, eqb, ltb, length, Ok, Err}
 use Rattle.std.proofs.Common.{sym, sub-eq-zero_of_le, ap, ◌∙◌, arith}
 use borrow.Author.Tests.{eq-eqb, ne_eqb, le-ltb, ltb-false}
-use Rattle.link.specs.declared.Refusal.{Refusal}
+use Rattle.link.specs.declared.cause.Refusal.{Refusal}
 use Rattle.link.specs.Judge.{refused, judged}
 use Rattle.link.specs.Proof.Judged.{judged-err, judged-refused, judged-fine}
 use Rattle.byte_slices.specs.Proof.Ways.{pick, apart}

@@ -3,7 +3,7 @@
 use Prim.Native.Nat.{ℕ, zero, suc, ◌+◌, ◌*◌, ◌<◌, ◌≤◌}
 use Rattle.std.specs.Prelude.{◌≡◌, refl, List, [], ◌∷◌, ◌++◌, ◌≢◌, ltb, get_or, set, take, length}
 use Rattle.std.proofs.lemmas.List.{take_more}
-use Rattle.std.proofs.Common.{take_all, length-take-le, sym, ap, ◌∙◌, add-zero, add-suc, suc-add, le_of_suc-le-suc, not-suc-le-zero, length-set, get_or-set_same, get_or-set_other, ltb-true, ltb-false}
+use Rattle.std.proofs.Common.{length-take-le, sym, ap, ◌∙◌, add-zero, add-suc, suc-add, le_of_suc-le-suc, not-suc-le-zero, length-set, get_or-set_same, get_or-set_other, ltb-true, ltb-false}
 use native.Mathlib.Omega.{arith}
 use Rattle.std.proofs.lemmas.List.Edits.{sets}
 use Rattle.std.proofs.Math.Seq.{length-sets}
@@ -59,7 +59,3 @@ unfolding put_row
 put_row-more l i vs f v h e =
     let n : length (take f vs) ≡ f = length-take-le f vs (omega arith) in
     rw (take_more vs f 0 h, sets-more (take f vs) l (i * 8) (get_or vs f 0), n, e)
-
-pub put_row-all : (l : List ℕ) (i : ℕ) (vs : List ℕ) (f : ℕ) → f ≡ length vs → put_row l i (take f vs) ≡ put_row l i vs
-unfolding put_row
-put_row-all l i vs f e = rw (e, take_all (length vs) vs (omega arith))

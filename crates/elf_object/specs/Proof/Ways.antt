@@ -8,19 +8,8 @@ use Rattle.std.proofs.Common.{◌∙◌, length-take-le}
 use borrow.Author.Tests.{lt-ltb, le-ltb, ltb-false}
 use Rattle.cells.specs.Proof.Split.{by-test}
 use Rattle.cells.specs.Proof.Part.{tail, part-past, part_in, part-all}
-use Rattle.strings.specs.Lookup.{Looked, looked, look_up}
-use Rattle.elf_object.specs.Kinds.{string_table}
-use Rattle.elf_object.specs.Rows.{rows_in, is_loaded, strings_at, name_in, entries_from, row_width}
+use Rattle.elf_object.specs.Rows.{rows_in, entries_from, row_width}
 use Rattle.elf_object.specs.Judge.{entry_ok, first_bad, found_below, bad_entry}
-
-module _ (headers file : List ℕ) (n offset : ℕ) (t : Looked) (b : Bool) where
-  pub name-loaded : (table : List ℕ) → b ≡ is_loaded headers n string_table → b ≡ true → table ≡ strings_at headers file n → t ≡ look_up table offset → t ≡ name_in headers file n offset
-  unfolding name_in
-  name-loaded table e f g q = simp (q, ← e, f, g)
-
-  pub name-missing : b ≡ is_loaded headers n string_table → b ≡ false → t ≡ looked [] false → t ≡ name_in headers file n offset
-  unfolding name_in
-  name-missing e f q = simp (q, ← e, f)
 
 -- ---- the loaded symbol table
 

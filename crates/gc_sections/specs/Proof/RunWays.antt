@@ -7,7 +7,7 @@ use borrow.Author.Tests.{eq-eqb, ne_eqb, eqb-true, ltb-false}
 use Rattle.cells.specs.Proof.Split.{by-test}
 use Rattle.link.specs.declared.Link.{Link}
 use Rattle.link.specs.declared.Lent.{Lent}
-use Rattle.link.specs.declared.Refusal.{Refusal}
+use Rattle.link.specs.declared.cause.Refusal.{Refusal}
 use Rattle.link.specs.declared.SectionId.{SectionId}
 use Rattle.link.specs.Bounds.{lesser, section_rows, symbol_rows}
 use Rattle.link.specs.Judge as Link

@@ -2,8 +2,8 @@ use Rattle.std.proofs.Common.{rules}
 use Rattle.interner.specs.Proof.Ways.{head-short, head-eight, head-fits, head_at}
 use Rattle.interner.proofs.head_cell.Goals as goal
 
-pub returns-then-name_rows-chains : goal.returns-then-name_rows-chains
-returns-then-name_rows-chains c = search head-short
+pub returns-then-name_rows-l : goal.returns-then-name_rows-l
+returns-then-name_rows-l c = search head-short
 
 pub overflow_mul-result : goal.overflow_mul-result
 overflow_mul-result c = search (rules, head-eight)

@@ -5,7 +5,7 @@ use Rattle.std.proofs.Common.{sym, ◌∙◌, eqb-true}
 use Rattle.std.proofs.lemmas.Bool.{eqb-false}
 use Rattle.link.specs.declared.Link.{Link}
 use Rattle.link.specs.declared.Lent.{Lent}
-use Rattle.link.specs.declared.Refusal.{Refusal}
+use Rattle.link.specs.declared.cause.Refusal.{Refusal}
 use Rattle.link.specs.Bounds.{name_bytes, symbol_rows, section_rows, input_rows}
 use Rattle.link.specs.Judge.{refused, none, judged, within, judge_sections, judge_names, judge_lists, after_symbols, after_sections, judge_of}
 

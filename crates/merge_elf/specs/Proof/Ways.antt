@@ -1,15 +1,14 @@
 -- The ways through the merge of an object.
 -- Assumes nothing.
-use Rattle.std.specs.Prelude.{ℕ, ◌≡◌, ◌≢◌, refl, List, Result, Ok, Err, IfErr}
+use Rattle.std.specs.Prelude.{◌≡◌, ◌≢◌, refl, Result, Ok, Err, IfErr}
 use Rattle.std.proofs.Common.{ap, ◌∙◌}
 use borrow.Author.Tests.{eq-eqb, ne_eqb}
 use Rattle.link.specs.declared.Link.{Link}
-use Rattle.link.specs.declared.Refusal.{Refusal}
-use Rattle.link.specs.Judge.{judged, stage_as, broken_of, going_of}
-use Rattle.link.specs.Proof.Judged.{first, judged-err, judged-refused, judged-fine}
-use Rattle.merge_stages.specs.Stages.{All, all_of, Object, stages_of}
-use Rattle.merge_elf.specs.declared.Outcome.{Outcome}
-use Rattle.merge_elf.specs.Merge.{Left, leave, leave_as, linked_as, outcome, ended_as, ended_of, head_in, finished_of, merge_of}
+use Rattle.link.specs.declared.cause.Refusal.{Refusal}
+use Rattle.link.specs.Judge.{judged, stage_as, broken_of}
+use Rattle.link.specs.Proof.Judged.{judged-err, judged-refused, judged-fine}
+use Rattle.merge_stages.specs.Stages.{All, Object, stages_of}
+use Rattle.merge_elf.specs.Merge.{leave, ended_as, ended_of, head_in, finished_of, merge_of}
 
 -- a refusal breaks the link
 abbrev pub link_ended : Link → Result Unit Refusal → Link

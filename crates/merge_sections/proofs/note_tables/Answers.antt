@@ -4,7 +4,7 @@ use Rattle.merge_sections.proofs.note_tables.Goals as goal
 
 pub loop-t-init : goal.loop-t-init
 unfolding note_tables_of
-loop-t-init c = each_start _ _ _
+loop-t-init c = rw c.section_count-t-end.ensures (each_start _ _ _)
 
 pub loop-t-preserved : goal.loop-t-preserved
 loop-t-preserved c = search each_on

@@ -3,14 +3,11 @@
 use Rattle.std.specs.Prelude.{ℕ, ◌+◌, ◌-◌, ◌<◌, ◌≤◌, ◌≡◌, refl, List, [], Some}
 use Rattle.std.proofs.Common.{ap, ◌∙◌, arith}
 use borrow.Author.Tests.{eq-eqb, ne_eqb, lt-ltb, le-ltb}
-use Rattle.link.specs.Judge as Link
 use Rattle.elf_object.specs.Rows.{rows_in, first_at, count_at, entries_from, section_of, table_entries}
 use Rattle.merge_sections.specs.Reserve.{table_cell}
 use Rattle.merge_sections.specs.Proof.Ways.{table_cell-some}
-use Rattle.section_groups.specs.Group as Group
 use Rattle.section_groups.specs.Filter.{filter_of}
-use Rattle.merge_build.specs.Finish.{build_links, built_of}
-use Rattle.merge_stages.specs.Stages.{All, Object, SymbolLinks, Tabled, table_of, build_object, build_stage, merge_table_of, symbol_stage, after_symbols, with_built, put_symbols, symbols_in, stop, filtered_of, filter_stage, after_groups, group_object, merge_groups_of, after_sections, noted, tabled, group_stage, reserved_stages, section_stage, stages_of}
+use Rattle.merge_stages.specs.Stages.{All, Object, SymbolLinks, Tabled, table_of, built_in, build_stage, merge_table_of, symbol_stage, after_symbols, put_symbols, symbols_in, stop, filtered_of, filter_stage, grouped_in, merge_groups_of, after_sections, noted, tabled, group_stage, reserved_stages, section_stage, stages_of}
 
 -- ---- the loaded symbol table
 
@@ -35,7 +32,7 @@ module _ (o : Tabled) (work : List ℕ) (t : SymbolLinks) where
   build-stopped n = simp (ne_eqb _ _ n)
 
   build-going : t.stage.number ≡ 0
-      → with_built t (built_of (build_object o work t.ids) (build_links t.bytes t.names t.sections t.inputs t.lists (Link.going_of t.stage.link))) ≡ build_stage o work t
+      → built_in o work t ≡ build_stage o work t
   unfolding build_stage
   build-going z = simp (eq-eqb _ _ z)
 
@@ -45,7 +42,7 @@ module _ (o : Tabled) (work : List ℕ) (s t : SymbolLinks) (q : t ≡ after_sym
   table-stopped n = build-stopped o work t n ∙ ap (build_stage o work) q
 
   pub table-built : (x : SymbolLinks) → t.stage.number ≡ 0
-      → x ≡ with_built t (built_of (build_object o work t.ids) (build_links t.bytes t.names t.sections t.inputs t.lists (Link.going_of t.stage.link))) → x ≡ merge_table_of o work s
+      → x ≡ built_in o work t → x ≡ merge_table_of o work s
   unfolding merge_table_of
   table-built x z p = p ∙ build-going o work t z ∙ ap (build_stage o work) q
 
@@ -65,7 +62,7 @@ module _ (o : Tabled) (t : All) where
     unfolding filter_stage filtered_of
     filter-passed i e h = simp (eq-eqb _ _ z, ← e, le-ltb _ _ h)
 
-module _ (o : Tabled) (a t : All) (q : t ≡ after_groups a (Group.groups_of (group_object o) (Group.step_of a.bytes a.names a.work (Link.going_of a.stage.link)))) where
+module _ (o : Tabled) (a t : All) (q : t ≡ grouped_in o a) where
   pub groups-stopped : (t.stage.number ≡ 0 → ⊥) → t ≡ merge_groups_of o a
   unfolding merge_groups_of
   groups-stopped n = filter-stopped o t n ∙ ap (filter_stage o) q

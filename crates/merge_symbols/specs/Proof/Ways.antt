@@ -4,20 +4,19 @@ use Rattle.std.specs.Prelude.{ℕ, ◌+◌, ◌-◌, ◌<◌, ◌≤◌, ◌≡�
 use Rattle.std.proofs.Math.Nat.{sub-zero}
 use native.Mathlib.Omega.{arith}
 use Rattle.std.proofs.Math.Path.{sym}
-use Rattle.std.proofs.Common.{ap, ◌∙◌}
+use Rattle.std.proofs.Common.{◌∙◌}
 use borrow.Author.Tests.{eq-eqb, ne_eqb}
 use Rattle.link.specs.declared.Link.{Link}
 use Rattle.symbol.specs.declared.Row.{Row}
 use Rattle.symbol_resolution.specs.declared.rows.Holder.{Holder}
 use Rattle.symbol_resolution.specs.declared.rows.Resolution.{Resolution}
-use Rattle.symbol_resolution.specs.declared.rows.Decision.TheVariants.{Refuse, Keep, Append, Replace, Amend}
+use Rattle.symbol_resolution.specs.Decision.{Refuse, Keep, Append, Replace, Amend}
 use Rattle.symbol_resolution.specs.Decide.{decision_of, decide_of}
 use Rattle.symbol_resolution.specs.Proof.Outcomes.{Ended, ended, refused, kept, appended, replaced, amended}
-use Rattle.elf_object.specs.Rows.{rows_in, link_at}
-use Rattle.elf_object.specs.declared.Object.{Object as Lent}
+use Rattle.elf_object.specs.Rows.{rows_in}
 use Rattle.elf_object.specs.Proof.Ways.{one_less}
 use Rattle.merge_symbols.specs.Plan.{Numbered}
-use Rattle.merge_symbols.specs.Stage.{State, Object, input_in, object_in, symbol_of, symbols_from, symbols_of}
+use Rattle.merge_symbols.specs.Stage.{State, Object, symbol_of, symbols_from, symbols_of}
 
 -- the loop: s is what i symbols left of s₀, and the rest gives from s what all give from s₀. Shut, so that a search tells two of them apart at once
 unfoldable pub Reached : ℕ → Object → ℕ → State → State → Type 0
@@ -53,8 +52,3 @@ add_numbered l symbols sections r h (Err n) e = λ z. by (ended l symbols sectio
     by (appended p m q) = λ z. let w : Refuse n ≡ Append = e ∙ q in absurd (cc)
     by (replaced id p q) = λ z. let w : Refuse n ≡ Replace id = e ∙ q in absurd (cc)
     by (amended id p q) = λ z. let w : Refuse n ≡ Amend id = e ∙ q in absurd (cc)
-
--- the strings' section is the one that the table links to
-pub strings-linked : (o : Lent) (work : List ℕ) (strings : ℕ) (s t : State) → strings ≡ link_at o.headers.now o.table → t ≡ symbols_of (object_in o work strings) s
-    → t ≡ symbols_of (input_in o work) s
-strings-linked o work strings s t e q = q ∙ ap (λ (n : ℕ). symbols_of (object_in o work n) s) e

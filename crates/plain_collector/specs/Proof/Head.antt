@@ -3,7 +3,7 @@
 use Rattle.std.specs.Prelude.{ℕ, ◌≤◌, ◌≡◌, eqb, ltb}
 use Rattle.std.proofs.Common.{arith, sym, ◌∙◌, eqb-true, ltb-false}
 use Rattle.cells.specs.Proof.Split.{by-test}
-use Rattle.link.specs.declared.Refusal.{Refusal}
+use Rattle.link.specs.declared.cause.Refusal.{Refusal}
 use Rattle.link.specs.Judge.{refused}
 use Rattle.gc_sections.specs.Proof.RunWays.{never}
 use Rattle.plain_collector.specs.Run.{judge_plain, most_built}

@@ -4,7 +4,7 @@ use Rattle.std.specs.Prelude.{ℕ, ◌≡◌, ◌≢◌, refl, List, Result, Ok,
 use Rattle.std.proofs.Common.{ap, ◌∙◌}
 use borrow.Author.Tests.{eq-eqb, ne_eqb}
 use Rattle.link.specs.declared.Link.{Link}
-use Rattle.link.specs.declared.Refusal.{Refusal}
+use Rattle.link.specs.declared.cause.Refusal.{Refusal}
 use Rattle.link.specs.Judge.{judged, stage_as}
 use Rattle.link.specs.Proof.Judged.{judged-err, judged-refused, judged-fine}
 use Rattle.section_groups.specs.Group.{Object, State, step_of, group_of}

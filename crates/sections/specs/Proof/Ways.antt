@@ -1,17 +1,13 @@
 -- A row that is reserved has a number.
 -- Assumes nothing.
-use Rattle.std.specs.Prelude.{ℕ, ◌+◌, ◌<◌, ◌≤◌, ◌≡◌, Bool, true, false, List, length, ltb}
+use Rattle.std.specs.Prelude.{ℕ, ◌+◌, ◌≤◌, ◌≡◌, Bool, true, false, List, length, ltb}
 use Rattle.std.proofs.Common.{arith, sym, ◌∙◌, Fits}
-use borrow.Author.Tests.{eq-eqb, ne_eqb, lt-ltb, le-ltb, lt-leb, le-leb, ltb-true, ltb-false}
+use borrow.Author.Tests.{ltb-true, ltb-false}
 use Rattle.std.specs.Int.{w64}
-use Rattle.cells.specs.Rows.{put_row}
 use Rattle.cells.specs.Proof.Split.{by-test}
 use Rattle.link.specs.declared.Link.{Link}
-use Rattle.link.specs.declared.SectionId.{SectionId}
 use Rattle.link.specs.Bounds.{lesser, section_slots, section_rows}
-use Rattle.link.specs.Counts.{more_sections}
-use Rattle.sections.specs.declared.Section.{Section}
-use Rattle.sections.specs.Rows.{Sections, sections_of, state_at, room_of, reserve_of, built_of, is_built, built_state, reserved_cells, built_cells}
+use Rattle.sections.specs.Rows.{room_of}
 
 apart : false ≡ true → ⊥
 apart e = let z : ◌≡◌ {A = ℕ} 0 1 = cc in omega arith

@@ -1,12 +1,10 @@
-use Rattle.std.proofs.Common.{arith}
-use Rattle.strings.specs.Proof.Ways.{stop, on, out}
+use Rattle.std.proofs.Common.{◌≡◌, ◌∙◌, sym, rules}
+use Rattle.std.proofs.lemmas.Iterator.{YieldsList-from_slice, IsFirst-from_position}
+use borrow.Author.Tests.{tests}
+use Rattle.strings.specs.Proof.Ways.{zero-at}
 use Rattle.strings.proofs.before_zero.Goals as goal
 
-pub returns-then-b-eq0 : goal.returns-then-b-eq0
-returns-then-b-eq0 c = omega (arith, stop c.args.s.now c.loop-i.i c.loop-i-test.true c.if-b-eq0.true)
-
-pub loop-i-preserved : goal.loop-i-preserved
-loop-i-preserved c = omega (arith, on c.args.s.now c.loop-i.i c.loop-i-test.true c.if-b-eq0.false)
-
 pub returns : goal.returns
-returns c = omega (arith, out c.args.s.now c.loop-i.i c.loop-i-test.false)
+returns c =
+    let e = zero-at c.args.s.now c.position.result (IsFirst-from_position _ _ _ (λ b. b ≡ 0) (λ b. b ≡ 0 → ⊥) c.position.ensures.ran (YieldsList-from_slice c.args.s.now cc) (λ x q k. search (rules, tests)) (λ x q k. search (rules, tests))) in
+    c.unwrap_or.ensures ∙ sym e

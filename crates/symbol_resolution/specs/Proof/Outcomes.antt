@@ -16,8 +16,7 @@ use Rattle.symbol.specs.Hidden.{hidden_code, passes}
 use Rattle.symbol.specs.Layout.{local}
 use Rattle.symbol_resolution.specs.declared.rows.Holder.{Holder}
 use Rattle.symbol_resolution.specs.declared.rows.Holder.TheVariants.{Unissued, Nobody, Removed, Known}
-use Rattle.symbol_resolution.specs.declared.rows.Decision.{Decision}
-use Rattle.symbol_resolution.specs.declared.rows.Decision.TheVariants.{Refuse, Nothing, Keep, Append, Replace, Amend}
+use Rattle.symbol_resolution.specs.Decision.{Decision, Refuse, Nothing, Keep, Append, Replace, Amend}
 use Rattle.symbol_resolution.specs.Decide.{rank_of, strong_rank, type_refusal, section_cell, section_room, room_of, new_of, replace_of, kept_of, ranked_of, known_of, decide_of, refusal_of}
 use Rattle.symbol_resolution.specs.Apply.{Table, table_of, append_of, replaced_in, amended_in, apply_of}
 

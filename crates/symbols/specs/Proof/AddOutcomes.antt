@@ -6,7 +6,7 @@ use Rattle.std.proofs.Common.{sym, eqb-true}
 use Rattle.cells.specs.Proof.Split.{by-test}
 use Rattle.link.specs.Said.{number_in}
 use Rattle.symbol.specs.declared.Row.{Row}
-use Rattle.symbol_resolution.specs.declared.rows.Decision.{Decision}
+use Rattle.symbol_resolution.specs.Decision.{Decision}
 use Rattle.symbol_resolution.specs.Decide.{refusal_of}
 use Rattle.symbol_resolution.specs.Apply.{Table, apply_of}
 use Rattle.symbols.specs.Add.{decided_of, committed_of, add_row_of}

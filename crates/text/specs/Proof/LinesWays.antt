@@ -73,9 +73,6 @@ pub skipped-none : (b : List ℕ) (over failed : Bool) → Skipped b (lines_at 0
 unfolding past_of past_at end_from
 skipped-none b over failed = record { end = 0; over = over; failed = failed; past = refl }
 
-pub skipped-on : (b : List ℕ) (l t : Lines) → t ≡ past_of b l.end l.over l.failed → Skipped b t
-skipped-on b l t q = record { end = l.end; over = l.over; failed = l.failed; past = q }
-
 -- ---- the next line
 
 -- equal bytes have equal line ends
@@ -149,15 +146,6 @@ module _ (b : List ℕ) (l m : Lines) (s : Step) where
   searched : m ≡ lines_at 0 l.end l.end l.over l.failed → s ≡ settle_of b m → s.lines.end ≡ l.end
   searched e q = ap (λ (x : Step). x.lines.end) q ∙ (settle-lines b m).0 ∙ ap (λ (x : Lines). x.end) e
 
-  pub line-start : m ≡ lines_at 0 l.end l.end l.over l.failed → s ≡ settle_of b m → ReadLine b s.lines.end b s
-  line-start e q =
-      subst (λ (k : ℕ). ReadLine b k b s) (sym (searched e q))
-      (record { end = l.end; over = l.over; failed = l.failed; before = refl; behind = omega arith; line = q ∙ ap (settle_of b) e })
-
-  pub line-done : (b' : List ℕ) (t : Step) → m ≡ lines_at 0 l.end l.end l.over l.failed → s ≡ settle_of b m → ReadLine b s.lines.end b' t
-      → ReadLine b l.end b' t
-  line-done b' t e q = subst (λ (k : ℕ). ReadLine b k b' t) (searched e q)
-
 module _ (b₀ b b' : List ℕ) (n : ℕ) (s t : Step) (r : Lines) (more : Bool) where
   pub line_on : ReadLine b₀ n b s → more ≡ is_more s.taken → more ≡ true → ReadOn b s.lines b' r → t ≡ settle_of b' r → ReadLine b₀ n b' t
   line_on i m e o q =
@@ -210,10 +198,6 @@ module _ (b₀ b b' : List ℕ) (n : ℕ) (l m r : Lines) (more : Option Taken) 
       (line-less b₀ b b' n (step_of m more) (settle_of b' r) r true (subst (ReadLine b₀ n b) (sym e) i) (ap is_more (sym z)) refl o h refl)
 
 module _ (b b' : List ℕ) (l : Lines) (s r : Step) (m : Bool) where
-  pub next-there : s ≡ settle_of b l → m ≡ is_more s.taken → m ≡ false → r ≡ s → b' ≡ b → NextLine b l b' r
-  next-there e f g q h =
-      subst (λ (x : Bool). NextBy x b l b' r) (sym (ap (λ (x : Step). is_more x.taken) (sym e) ∙ sym f ∙ g)) (h, q ∙ e)
-
   pub next-read : (d : List ℕ) (f : Lines) → s ≡ settle_of b l → m ≡ is_more s.taken → m ≡ true → front_as d f ≡ front_of b s.lines
       → ReadLine d f.end b' r → NextLine b l b' r
   next-read d f e g h k i =

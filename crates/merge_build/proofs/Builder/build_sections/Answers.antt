@@ -4,7 +4,7 @@ use Rattle.merge_build.specs.Proof.BuildWays.{reached-start, reached-end, reache
 use Rattle.merge_build.proofs.Builder.build_sections.Goals as goal
 
 pub loop-n-init : goal.loop-n-init
-loop-n-init c = record { loans = search rules; inputs = refl; reached = reached-start _ _ _ }
+loop-n-init c = record { loans = search rules; inputs = refl; reached = rw c.section_count-n-end.ensures (reached-start _ _ _) }
 
 pub returns-in_err-build_section-clause-value : goal.returns-in_err-build_section-clause-value
 returns-in_err-build_section-clause-value c =

@@ -6,7 +6,7 @@ use Rattle.merge_sections.proofs.Reserving.reserve_all.Goals as goal
 
 pub loop-n-init : goal.loop-n-init
 unfolding reserve_all_of
-loop-n-init c = record { loans = (refl, refl); within = λ h. h; reached = sections-start _ _ _ }
+loop-n-init c = record { loans = (refl, refl); within = λ h. h; reached = rw c.section_count-n-end.ensures (sections-start _ _ _) }
 
 pub returns-in_err-reserve_one-clause-value : goal.returns-in_err-reserve_one-clause-value
 returns-in_err-reserve_one-clause-value c =

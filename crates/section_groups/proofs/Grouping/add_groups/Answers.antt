@@ -6,7 +6,7 @@ use Rattle.section_groups.proofs.Grouping.add_groups.Goals as goal
 
 pub loop-n-init : goal.loop-n-init
 unfolding groups_of
-loop-n-init c = record { loans = search rules; reached = groups-start _ _ _ }
+loop-n-init c = record { loans = search rules; reached = rw c.section_count-n-end.ensures (groups-start _ _ _) }
 
 pub returns-in_err-take_section-clause-value : goal.returns-in_err-take_section-clause-value
 returns-in_err-take_section-clause-value c =

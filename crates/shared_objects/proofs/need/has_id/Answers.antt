@@ -1,11 +1,10 @@
-use Rattle.shared_objects.specs.Proof.NeedWays.{has_end, has-stop, has_on}
+use Rattle.std.proofs.Common.{◌∙◌, sym, rules, tests, nat_eq}
+use Rattle.std.proofs.lemmas.Iterator.{YieldsList-from_slice}
+use Rattle.std.proofs.lemmas.Iterator.Search.{any_from_yields_List}
+use Rattle.shared_objects.specs.Proof.NeedWays.{any-id}
 use Rattle.shared_objects.proofs.need.has_id.Goals as goal
 
-pub returns-then-name-id : goal.returns-then-name-id
-returns-then-name-id c = search has-stop
-
-pub loop-name-preserved : goal.loop-name-preserved
-loop-name-preserved c = search has_on
-
 pub returns : goal.returns
-returns c = search has_end
+returns c =
+    any_from_yields_List (λ a. nat_eq a c.args.id) _ _ c.any.result c.any.ensures.ran (YieldsList-from_slice c.args.part.now cc) (λ x b q k. search (rules, tests))
+    ∙ sym (any-id c.args.id c.args.part.now)
