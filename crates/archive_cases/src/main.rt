@@ -24,7 +24,7 @@ const CUT_SHORT: [&[u8]; 4] = [
 // a to 10, b to 20, c to 10.
 const TIED: &[u8] = b"\0\0\0\x03\0\0\0\x0a\0\0\0\x14\0\0\0\x0aa\0b\0c\0";
 
-// Kept: the same line as archive_list's: they are two programs, and a library of one line would be longer.
+// Kept: archive_list's goes to another sink; they are two programs, and a library of one line would be longer.
 fn print_refusal(rt: &impl Print, refusal: Refusal) -> io::Result<()> {
     println!(rt; "refused {refusal}")
 }

@@ -37,7 +37,7 @@ const REFERENCE: ElfSymbol = ElfSymbol {
     value: 0,
 };
 
-// Kept: the same line as archive_cases': they are two programs, and a library of one line would be longer.
+// Kept: archive_cases' goes to another sink; they are two programs, and a library of one line would be longer.
 fn print_refusal(out: &mut impl Write, refusal: Refusal) -> io::Result<()> {
     writeln!(out, "refused {refusal}")
 }

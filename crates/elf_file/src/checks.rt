@@ -34,6 +34,7 @@ fn is_object(file: &[u8]) -> bool
 fn headers_fit(len: usize, shoff: u64, n: u64) -> bool
     ensures { result ≡ headers_fit len shoff n }
 {
+    // Kept: a guard; without section headers there is nothing to fit.
     if shoff == 0 {
         return true;
     }
@@ -66,6 +67,7 @@ impl Header {
     fn fits(self, len: usize) -> bool
         ensures { result ≡ section_ok len self }
     {
+        // Kept: a guard; what is no table has nothing to fit, and the test reads on without it.
         let Some(table) = self.table() else {
             return true;
         };

@@ -28,7 +28,8 @@ struct ObjectFile<'a> {
 }
 
 // The sums of what the headers need are below 2^60, as all of it fits into the lent cells.
-// Kept: asked by each function and no invariant of the file, since it depends on the cells lent to the call too.
+// Kept: asked by each function and no invariant: the sums are bounded only once all has room (`room_for`), and the other bounds are of the lent
+// cells.
 impl<'a> ObjectFile<'a> {
     // ---- headers
 

@@ -33,7 +33,7 @@ pub struct Reply {
 // ---- the header
 
 // A cell that holds yes or no: 0 is no, any other number yes.
-// Kept: public; the laws cite its definition.
+// Kept: `!= 0` by a name: it is public, and the laws cite its definition.
 #[tactic(auto, unfolding(crate::specs::Header::is_set))]
 pub fn is_set(cell: u64) -> bool
     ensures { result ≡ is_set cell }
@@ -41,7 +41,7 @@ pub fn is_set(cell: u64) -> bool
     cell != 0
 }
 
-// Kept: public; the laws cite its definition.
+// Kept: `u64::from` by a name: it is public, and the laws cite its definition.
 #[tactic(auto, unfolding(crate::specs::Header::flag_of))]
 pub fn flag(b: bool) -> u64
     ensures { result ≡ flag_of b }

@@ -15,7 +15,7 @@ use ffi_cells::Reply;
 use interner::{Names, NamesMut};
 use link::{Interned, Refusal};
 
-// Kept: as ffi_symbols' of a symbol's id; each answer's values are its own, and a trait for both ids would be longer.
+// Kept: as ffi_symbols' `added`: one function for both would take a Result of a number, with a `map` at each call and a clause over it; no plainer.
 fn interned(a: Result<Interned, Refusal>) -> Reply
     ensures { result ≡ saying (said a) }
 {

@@ -20,7 +20,7 @@ use symbol_resolution::Table;
 use symbols::Symbols;
 use upcoming_symbol::UpcomingSymbol;
 
-// Kept: as ffi_names' of a name's id; each answer's values are its own, and a trait for both ids would be longer.
+// Kept: as ffi_names' `interned`: one function for both would take a Result of a number, with a `map` at each call and a clause over it; no plainer.
 fn added(a: Result<SymbolId, Refusal>) -> Reply
     ensures { result ≡ saying (said a) }
 {

@@ -178,7 +178,7 @@ fn section_row(
 
 impl Builder<'_> {
     // The relocations' symbols at the lists' end, and the row that was reserved for section n.
-    // Kept: loose parameters, each of which the one caller has at hand.
+    // Kept: loose parameters; a struct of them would be made for this one call.
     #[tactic(auto, unfolding(crate::specs::Build::build_row_of))]
     fn build_row(
         &mut self,

@@ -6,6 +6,7 @@ use replay_words::Lend;
 use text::Writer;
 
 // What a collection leaves in the work cell of a section that it dropped.
+// Kept: a number of its own, since what a list writes is held against the cells and not against the code that fills them.
 const DROPPED: u64 = 2;
 
 fn entry_point(line: &[u8]) -> Option<SymbolId> {

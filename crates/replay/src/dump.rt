@@ -6,6 +6,7 @@ use std::alloc::{AllocError, Global};
 use symbol::{CELL_NAME, NAME_SYMBOL};
 use text::Writer;
 
+// Kept: this and the numbers below are of its own, since a dump is held against the cells and not against the code that fills them.
 // A name's cell that says whether it is a group's signature.
 const NAME_SIGNATURE: usize = 4;
 

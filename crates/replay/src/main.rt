@@ -18,7 +18,7 @@ use std::io;
 use text::{Lines, Taken, Writer};
 
 // Operations that were passed over. Link: the rest of the link is. Last: the last operation was, and its answers are.
-// Kept: two flags, since a link's rest can be passed over after an operation that was replayed, and before one.
+// Kept: two flags: what is told is replayed while a link's rest is passed over, and a single operation is passed over where the rest isn't.
 #[derive(Clone, Copy, Debug, Default, PartialEq, Eq)]
 struct Passing {
     count: u64,

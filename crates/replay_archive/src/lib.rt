@@ -14,7 +14,7 @@ pub use required::Entries;
 use text::Writer;
 
 // The length of the index so far, 0 for an archive without one; entries told so far; the entry by which a member was offered last.
-// Kept: 0 and no Option, since an index without bytes is refused as none is (archive_index).
+// Kept: 0 and no Option: an index of no bytes is refused as no index is (archive_index).
 #[derive(Clone, Copy, Debug, Default, PartialEq, Eq)]
 pub struct Archive {
     pub length: usize,

@@ -42,6 +42,7 @@ const CONVERTED: usize = 64;
 pub const CELLS: usize = 6208;
 
 // A list's KINDs, by the cells' numbers of an object's rows.
+// Kept: numbers of its own, since a list is told by them, and the crate doesn't stand on elf_object.
 const SYMBOL_TABLE: u64 = 3;
 
 const DYNAMIC_SYMBOLS: u64 = 10;

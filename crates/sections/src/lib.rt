@@ -35,7 +35,7 @@ pub const PROGRAM: u64 = 1;
 pub const UNINITIALIZED: u64 = 2;
 
 // What a built section's row holds. Retain and read: 0 no, else yes.
-// Kept: states, kinds and flags are numbers, as they lie in the lent cells that C and the laws read.
+// Kept: kind and flags are numbers, as the row's cells hold them: `build` is public and takes any.
 #[derive(Clone, Copy)]
 pub struct Section {
     pub name: Interned,
