@@ -58,7 +58,7 @@ impl Table<'_> {
         symbol_resolution::holder_of(self.link, self.names, self.symbols, id)
     }
 
-    // Kept: a match, since a Holder is no Option, and has no `is_some_and`.
+    // Kept: a match, since a Holder is no Option; `matches!` with the test as its guard says no more.
     pub fn ties(self, holder: Holder) -> bool
         ensures { result ≡ ties self.entry.link.gabi self.entry.symbols.now holder }
     {

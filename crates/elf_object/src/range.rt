@@ -90,7 +90,7 @@ pub fn first_bad_entry(entries: &[u64]) -> Option<usize>
 }
 
 // Sections, then symbols: 1 at the first row that is out of range.
-// Kept: counts of contents and of the image's bytes, so that any may be asked for, more than a slice can have too.
+// Kept: counts and no slices: the call is public, and a caller may ask of more than a slice can have.
 #[tactic(auto, unfolding(crate::specs::Judge::judge_of, link::specs::Judge::judged))]
 pub fn judge(headers: &[u64], entries: &[u64], contents: usize, image: usize) -> Result<(), Refusal>
     ensures { result ≡ judged (judge_of headers.now entries.now contents image) }

@@ -52,7 +52,7 @@ fn point(key: usize, base: usize) -> usize
 }
 
 // A word whose bytes are all there, read at once.
-// Kept: as byte_slices' own, which isn't public, since it asks that they are there; `word_at`, which asks nothing, would test it for each word.
+// Kept: as byte_slices' own, which isn't public, since it asks that the bytes are there; `word_at`, which asks nothing, would test it for each word.
 #[tactic(auto, unfolding(byte_slices::specs::Bytes::word_at))]
 fn whole_word(x: &[u8], i: usize) -> usize
     requires { i + 3 < length x.now }

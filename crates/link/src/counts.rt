@@ -25,7 +25,7 @@ impl Link {
     }
 
     // One field set.
-    // Kept: a store, since a literal of all fields takes more instructions (docs/DECISIONS.md, y), and every new field.
+    // Kept: a store, since a literal of all fields, for which struct update stands, takes more instructions (docs/DECISIONS.md, y).
     pub fn with_sections(mut self, sections: usize) -> Link
         ensures { result ≡ with_sections self sections }
     {

@@ -62,7 +62,7 @@ fn past(from: usize, len: usize, to: usize) -> usize
 }
 
 impl Tally {
-    // Kept: `new` is public; over a derived Default it would be a call that says nothing.
+    // Kept: `new` is public and stays; a derived Default beside it would be a second name for it.
     pub fn new() -> Tally
         ensures { result ≡ started }
     {

@@ -55,8 +55,8 @@ fn clear_section_symbols(sections: &mut [u64])
 }
 
 // One symbol, and cells for that many sections' symbols.
-// Kept: one field set after the other, since a literal of all of a link's fields takes more (docs/DECISIONS.md y: adds_bench 599 million
-// instructions by stores, 649 by literals).
+// Kept: one field set after the other, since a literal of all of a link's fields, for which struct update stands, takes more (docs/DECISIONS.md
+// y: adds_bench 599 million instructions by stores, 649 by literals).
 fn one_symbol(gabi: bool, l: Link, slots: usize) -> Link
     ensures { result ≡ one_symbol gabi l slots }
 {

@@ -16,7 +16,7 @@ fn is_separator(b: u8) -> bool
 fn run_end(line: &[u8], at: usize, separators: bool) -> usize
     ensures { result ≡ run_end line.now at separators }
 {
-    // Kept: `position` would be asked of the part from the place on, and the place may lie past the line's end.
+    // Kept: over `skip` and `position` the place would have to be added back to what they count from it on.
     for i in at..line.len() {
         if is_separator(line[i]) != separators {
             return i;

@@ -38,7 +38,7 @@ fn byte_at(buf: &[u8], i: usize) -> u8
 fn line_end(buf: &[u8], from: usize, to: usize) -> usize
     ensures { result ≡ end_in buf.now from to }
 {
-    // Kept: `position` would be asked of a part of the buffer, and neither place has to lie in it.
+    // Kept: over `take`, `skip` and `position` the place would have to be added back to what they count from it on.
     for i in from..to {
         if byte_at(buf, i) == b'\n' {
             return i;
@@ -70,7 +70,7 @@ fn longer(end: usize, more: usize, len: usize) -> usize
 
 impl Lines {
     // Nothing is read yet.
-    // Kept: `new` is public; over a derived Default it would be a call that says nothing.
+    // Kept: `new` is public and stays; a derived Default beside it would be a second name for it.
     pub fn new() -> Lines
         ensures { result ≡ unread }
     {
