@@ -29,6 +29,7 @@ const ROOM: Room = Room {
 };
 
 // A strong reference.
+// Kept: as archive_cases'; they are two programs.
 const REFERENCE: ElfSymbol = ElfSymbol {
     binding: STB_GLOBAL,
     visibility: STV_DEFAULT,

@@ -55,6 +55,7 @@ impl<'a> Visitor<'a> {
         }
     }
 
+    // Kept: as a gc_sections Walker's, of another struct; a trait for the one line would be longer.
     fn cell(&self, i: usize) -> u64
         ensures { result ≡ get_or self.now.work.now i 0 }
     {

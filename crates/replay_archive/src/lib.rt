@@ -24,6 +24,7 @@ pub struct Archive {
 
 // ---- the index
 
+// Kept: of bytes, as `cells::put` of cells; of a number its last byte is put.
 #[tactic(auto, unfolding(crate::specs::Index::put_byte))]
 fn put_byte(file: &mut [u8], i: usize, v: u64)
     ensures { file.new ≡ put_byte file.old i v }

@@ -46,6 +46,7 @@ fn null_row() -> Row
 }
 
 // No section has a symbol.
+// Kept: as interner's, of another table; the sentence that is true of its cells is another.
 #[tactic(auto, unfolding(crate::specs::New::clear_symbols))]
 fn clear_section_symbols(sections: &mut [u64])
     ensures { sections.new ≡ clear_symbols sections.old }
