@@ -149,6 +149,7 @@ fn element(kind: u64, bytes: &[u8], j: usize) -> u64
     }
 }
 
+// Kept: loose parameters; a struct of them would be made for this one call.
 fn elements(kind: u64, bytes: &[u8], rows: &mut [u64], at: usize, count: usize)
     requires { at + count ≤ length rows.old }
     ensures { rows.new ≡ elements_into kind bytes.now rows.old at 0 count }

@@ -29,6 +29,7 @@ impl Names<'_, '_> {
 }
 
 // A row for the new name, at the head of its chain.
+// Kept: loose parameters; a struct of them would be the row itself.
 #[tactic(auto, unfolding(crate::specs::Names::linked))]
 fn link_row(names: &mut [u64], count: usize, start: usize, len: usize, head: usize)
     requires { count < 18446744073709551615 }

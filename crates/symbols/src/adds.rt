@@ -67,6 +67,7 @@ fn upcoming_row(table: &Table<'_>, conversion: &[u64], upcoming: UpcomingSymbol)
     upcoming.row(table.link.gabi, conversion, empty)
 }
 
+// Kept: the slices that it reads, one by one, as `holder_of` of symbol_resolution takes them.
 #[tactic(auto, unfolding(crate::specs::Add::direct_holder_of))]
 fn direct_holder(
     l: Link,
