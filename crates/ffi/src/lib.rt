@@ -146,14 +146,14 @@ pub extern "C" fn hidvorn_add_group(
     headers: &[u64],
     entries: &[u64],
     contents: &[u64],
-    file: &[u8],
+    image: &[u8],
     t: usize,
     n: usize,
 ) -> u64
-    ensures { Merge.GroupMeets header.old (Merge.group_object headers entries contents file t) bytes.old names.old work.old n (Merge.group_exit result header bytes names work) }
+    ensures { Merge.GroupMeets header.old (Merge.group_object headers entries contents image t) bytes.old names.old work.old n (Merge.group_exit result header bytes names work) }
 {
     ffi_merge::add_group(
-        header, bytes, names, work, headers, entries, contents, file, t, n,
+        header, bytes, names, work, headers, entries, contents, image, t, n,
     )
 }
 
@@ -171,14 +171,14 @@ pub extern "C" fn hidvorn_merge_elf(
     headers: &[u64],
     entries: &[u64],
     contents: &[u64],
-    file: &[u8],
-    strings: usize,
+    image: &[u8],
+    shstrndx: usize,
 ) -> u64
-    ensures { Merge.MergeMeets header.old (Merge.merge_object headers entries contents file strings) (Merge.link_rows bytes names symbols sections inputs lists work ids) (told_exit result header) }
+    ensures { Merge.MergeMeets header.old (Merge.merge_object headers entries contents image shstrndx) (Merge.link_rows bytes names symbols sections inputs lists work ids) (told_exit result header) }
 {
     ffi_merge::merge_elf(
         header, bytes, names, symbols, sections, inputs, lists, work, ids, headers, entries,
-        contents, file, strings,
+        contents, image, shstrndx,
     )
 }
 
@@ -275,12 +275,12 @@ pub extern "C" fn hidvorn_matches(
     headers: &[u64],
     entries: &[u64],
     contents: &[u64],
-    file: &[u8],
+    image: &[u8],
 ) -> u64
-    ensures { Archive.MatchesMeets header.old walk.now index.now rows.now entry headers.now entries.now contents.now file.now (told_exit result header) }
+    ensures { Archive.MatchesMeets header.old walk.now index.now rows.now entry headers.now entries.now contents.now image.now (told_exit result header) }
 {
     ffi_archive::matches(
-        header, walk, index, rows, entry, headers, entries, contents, file,
+        header, walk, index, rows, entry, headers, entries, contents, image,
     )
 }
 

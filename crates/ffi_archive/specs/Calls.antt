@@ -65,6 +65,6 @@ next_call h c index rows b n s =
     (cond (no_walk c) (walk_left (answer_of h (refusal_of 1 0)) c rows) (next_fit h c index rows b n s))
 
 unfoldable pub matches_call : List ℕ → List ℕ → List ℕ → List ℕ → ℕ → List ℕ → List ℕ → List ℕ → List ℕ → Told
-matches_call h c index rows entry headers entries contents file =
+matches_call h c index rows entry headers entries contents image =
     cond (is_short h) (told 1 h)
-    (cond (no_walk c) (answer_of h (refusal_of 1 0)) (answer_of h (admitted_reply (matches_of (link_in h) headers entries contents file index rows (walk_in c) entry))))
+    (cond (no_walk c) (answer_of h (refusal_of 1 0)) (answer_of h (admitted_reply (matches_of (link_in h) headers entries contents image index rows (walk_in c) entry))))

@@ -28,5 +28,5 @@ NextMeets h walk index rows bytes names symbols e =
 -- ---- admission
 
 abbrev pub MatchesMeets : List ℕ → List ℕ → List ℕ → List ℕ → ℕ → List ℕ → List ℕ → List ℕ → List ℕ → ToldExit → Type 0
-MatchesMeets h walk index rows entry headers entries contents file e =
-    told e.number e.header ≡ matches_call h walk index rows entry headers entries contents file
+MatchesMeets h walk index rows entry headers entries contents image e =
+    told e.number e.header ≡ matches_call h walk index rows entry headers entries contents image

@@ -152,9 +152,9 @@ pub fn matches(
     headers: &[u64],
     entries: &[u64],
     contents: &[u64],
-    file: &[u8],
+    image: &[u8],
 ) -> u64
-    ensures { MatchesMeets header.old walk.now index.now rows.now entry headers.now entries.now contents.now file.now (told_exit result header) }
+    ensures { MatchesMeets header.old walk.now index.now rows.now entry headers.now entries.now contents.now image.now (told_exit result header) }
 {
     if header.len() < ffi_cells::HEADER_CELLS {
         return ffi_cells::SHORT;
@@ -168,7 +168,7 @@ pub fn matches(
     let link = ffi_cells::link_in(header);
     let walk = walk_in(walk);
     let answer = object_requirement::matches(
-        link, headers, entries, contents, file, walk, index, rows, entry,
+        link, headers, entries, contents, image, walk, index, rows, entry,
     );
     ffi_cells::answer(header, admitted(answer))
 }

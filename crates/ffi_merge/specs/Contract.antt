@@ -25,7 +25,7 @@ group_exit n header bytes names work =
 
 -- the object as it is lent, its symbol table being of section t
 abbrev pub group_object : Slice → Slice → Slice → Slice → ℕ → Group.Object
-group_object headers entries contents file t = Group.object_of headers.entry.now entries.entry.now contents.entry.now file.entry.now t
+group_object headers entries contents image t = Group.object_of headers.entry.now entries.entry.now contents.entry.now image.entry.now t
 
 abbrev pub GroupMeets : List ℕ → Group.Object → List ℕ → List ℕ → List ℕ → ℕ → GroupExit → Type 0
 GroupMeets h o bytes names work n e =
@@ -43,7 +43,7 @@ link_rows b n s x i l w d =
 
 -- the object as it is lent
 abbrev pub merge_object : Slice → Slice → Slice → Slice → ℕ → Stages.Object
-merge_object headers entries contents file strings = Stages.object_of headers.entry.now entries.entry.now contents.entry.now file.entry.now strings
+merge_object headers entries contents image shstrndx = Stages.object_of headers.entry.now entries.entry.now contents.entry.now image.entry.now shstrndx
 
 abbrev pub MergeMeets : List ℕ → Stages.Object → Both Rows Rows → ToldExit → Type 0
 MergeMeets h o c e = merge_left (told e.number e.header) c.exit ≡ merge_call h o c.entry

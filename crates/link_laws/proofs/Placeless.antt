@@ -1,7 +1,7 @@
 -- 22 stands for a broken link alone; it, 20, 23, 25, 26 and 30 come at place 0.
 -- Assumes nothing.
 use Rattle.link.specs.declared.SectionId.{SectionId}
-use Rattle.std.specs.Prelude.{ℕ, ◌/◌, ◌≡◌, Bool, true, false, List, [], ◌∷◌, ◌≢◌, eqb, ltb, leb, length, Option, None, Some}
+use Rattle.std.specs.Prelude.{ℕ, ◌/◌, ◌≡◌, Bool, true, false, List, [], ◌∷◌, ◌++◌, ◌≢◌, eqb, ltb, leb, length, Option, None, Some}
 use Rattle.std.proofs.Math.Path.{refl}
 use Rattle.std.proofs.Common.{sym, ap, ◌∙◌, eqb-true}
 use Rattle.std.proofs.lemmas.Bool.{false≢true}
@@ -65,7 +65,7 @@ use Rattle.link_laws.proofs.Broken.{changes, broken-refused}
 use Rattle.link_laws.proofs.Places.{add-place}
 use Rattle.link_laws.proofs.CallPlaces.{differ, intern-place, resolve-place, start-place, global-at, group-of-head}
 use Rattle.link_laws.proofs.Starred.{head_refusal, Stopped, at_head, at-element, stopped, some}
-use Rattle.merge_laws.specs.Table.{one_of, within, group_numbers, starred, placeless}
+use Rattle.merge_laws.specs.Table.{one_of, within, group_numbers, binding_causes, value_causes, type_causes, starred, placeless}
 use Rattle.link_laws.proofs.ListCall.{list-gives, add-broken-same}
 
 -- ---- 22 only on a broken link
@@ -324,7 +324,7 @@ pub zero-places : (k : Call) (s : Linked) → one_of (call_number k s) placeless
 zero-places (intern x) s p = intern-place x s (other (call_number (intern x) s) 1 refl p)
 zero-places (reads (Read.resolve id)) s p = resolve-place id s (other (call_number (resolve id) s) 1 refl p)
 zero-places (add conversion u) s p = add-place conversion u s (other (call_number (add conversion u) s) 21 refl p)
-zero-places (add_list conversion adds ids) s p = only-22 (add_list conversion adds ids) s (0 ∷ 2 ∷ 1 ∷ 10 ∷ 11 ∷ 12 ∷ 21 ∷ 13 ∷ 14 ∷ 15 ∷ 16 ∷ 17 ∷ []) refl refl p
+zero-places (add_list conversion adds ids) s p = only-22 (add_list conversion adds ids) s (0 ∷ 2 ∷ 1 ∷ (binding_causes ++ (21 ∷ (value_causes ++ (15 ∷ (type_causes ++ (17 ∷ []))))))) refl refl p
 zero-places (remove id) s p = only-22 (remove id) s (0 ∷ 1 ∷ 21 ∷ []) refl refl p
 zero-places (reads (Read.get id)) s p = none_of (get id) s refl p
 zero-places (reads (Read.get_global name)) s p =

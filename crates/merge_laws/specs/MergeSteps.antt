@@ -1,12 +1,14 @@
 -- The steps that a merge is made of, stage by stage.
 -- Assumes nothing.
 use Rattle.std.specs.Prelude.{ℕ, Bool, true, false, cond, List, [], ◌∷◌, ◌++◌, eqb, ltb, length}
+use Rattle.gabi.specs.SymbolTable.{stt_file}
 use Rattle.link.specs.declared.Link.{Link}
 use Rattle.symbol.specs.declared.Row.{Row}
 use Rattle.symbol_resolution.specs.Decision.{Decision}
 use Rattle.symbol_resolution.specs.Decide.{refusal_of}
 use Rattle.strings.specs.Lookup.{Looked}
 use Rattle.interner.specs.Names.{find_of}
+use Rattle.elf_object.specs.Kinds.{program, uninitialized, group}
 use Rattle.elf_object.specs.Rows.{rows_in, field, name_offset_at, is_loaded, name_in}
 use Rattle.section_groups.specs.Group as Group
 use Rattle.merge_build.specs.Build as Build
@@ -31,7 +33,7 @@ adds_of first file group = cond first false (cond file false (cond group false t
 
 abbrev pub adds : Input → List ℕ → ℕ → Bool
 adds o x i =
-    adds_of (is_first i (eqb (length x) 0) (filtered_at o.entries o.work i)) (eqb (filtered_at o.entries o.work i).kind 4)
+    adds_of (is_first i (eqb (length x) 0) (filtered_at o.entries o.work i)) (eqb (filtered_at o.entries o.work i).kind stt_file)
     (defines_of o.work (filtered_at o.entries o.work i).section)
 
 -- nothing on 2; the name on another refusal, and where there is nothing to add; else the name and the row
@@ -64,7 +66,7 @@ signed_steps bytes names l x = part (issue x) ∷ mark (find_of bytes names l x)
 -- of an accepted group
 unfoldable pub group_section_steps : Group.Object → Group.Step → ℕ → List Step
 group_section_steps o s n =
-    cond (is_loaded o.headers n 7)
+    cond (is_loaded o.headers n group)
     (cond (eqb (Group.group_section_of o s n).stage.number 0)
     (signed_steps s.bytes s.names s.stage.link (Group.signature_of o.headers o.entries o.image o.table n).name) []) []
 
@@ -99,10 +101,10 @@ input_steps s =
 unfoldable pub program_steps : Build.Object → Finish.BuildLinks → List Step
 program_steps o s =
     cond (eqb s.stage.number 0)
-    (build_steps o (Finish.building s) 1 ++ input_steps (Finish.after_build s (Build.build_of o (Finish.building s) 1))) []
+    (build_steps o (Finish.building s) program ++ input_steps (Finish.after_build s (Build.build_of o (Finish.building s) program))) []
 
 unfoldable pub both_steps : Build.Object → Finish.BuildLinks → List Step
-both_steps o s = build_steps o (Finish.building s) 2 ++ program_steps o (Finish.after_build s (Build.build_of o (Finish.building s) 2))
+both_steps o s = build_steps o (Finish.building s) uninitialized ++ program_steps o (Finish.after_build s (Build.build_of o (Finish.building s) uninitialized))
 
 abbrev pub build_first : Stages.SymbolLinks → Finish.BuildLinks
 build_first s = Finish.build_links s.bytes s.names s.sections s.inputs s.lists (Link.going_of s.stage.link)

@@ -6,6 +6,7 @@ use Rattle.link.specs.declared.Link.{Link}
 use Rattle.interner.specs.Names.{fits_of}
 use Rattle.link.specs.Bounds.{section_rows}
 use Rattle.link.specs.Counts.{with_sections, with_inputs, with_lists, with_broken}
+use Rattle.section_groups.specs.Group.{with_signature}
 use Rattle.symbol_laws.specs.History.{State, store, Entry, run, log, Part, issue, put, put_of, id_of, part_next, part_notes}
 
 pub data Step : Type 0 where
@@ -32,7 +33,7 @@ with_others s x l = record { bytes = s.bytes; names = s.names; symbols = s.symbo
 
 abbrev pub step_next : Step → State → State
 step_next (part p) s = part_next p s
-step_next (mark n) s = with_names s (set s.names (n * 8 + 4) 1)
+step_next (mark n) s = with_names s (with_signature s.names n)
 step_next (others x l) s = with_others s (rows_from s.link.slots x s.sections) (counts_from l s.link)
 
 -- the accepted adds that aren't local

@@ -4,7 +4,7 @@ use Rattle.std.specs.Prelude.{ℕ, ◌+◌, ◌*◌, ◌/◌, ◌%◌, ◌^◌, 
 use Rattle.byte_slices.specs.Bytes.{copied}
 use Rattle.symbol.specs.Codes.{successor}
 use Rattle.text.specs.Fields.{field_of}
-use Rattle.replay_words.specs.Words.{word_is, number_at, name_at}
+use Rattle.replay_words.specs.Words.{word_is, number_at, name_at, one_word}
 use Rattle.replay_words.specs.Spelled.{Spelled, put_bytes}
 use Rattle.replay_archive.specs.declared.Archive.{Archive}
 
@@ -33,10 +33,6 @@ put_word file i v =
 -- where offset k of an index lies, and where names begin behind k offsets; 65,535 entries at most
 unfoldable pub offset_place : ℕ → ℕ
 offset_place k = cond (nat_lt k 65535) (4 + 4 * k) 0
-
--- `1`
-abbrev pub one_word : List ℕ
-one_word = 49 ∷ []
 
 -- `archive HASINDEX COUNT`: the count is put
 unfoldable pub announce_of : List ℕ → ℕ → List ℕ → Told

@@ -3,7 +3,7 @@
 use Rattle.shared_objects.specs.declared.Load.TheVariants.{NotNeeded, Loaded}
 use Rattle.link.specs.declared.cause.Refusal.{Refusal}
 use Rattle.shared_objects.specs.declared.Load.{Load}
-use Rattle.std.specs.Prelude.{ℕ, ◌-◌, ◌*◌, cond, List, ◌++◌, length, take, drop, nat_lt, Result, Ok, Err}
+use Rattle.std.specs.Prelude.{ℕ, ◌-◌, ◌*◌, cond, List, length, take, nat_lt, Result, Ok, Err}
 use denote.Triple.Both.{Both}
 use Rattle.byte_slices.specs.Bytes.{part}
 use Rattle.link.specs.declared.Link.{Link}
@@ -13,6 +13,7 @@ use Rattle.replay_text.specs.declared.replies.Reply.{Reply}
 use Rattle.replay_text.specs.declared.replies.Changed.{Changed}
 use Rattle.replay_words.specs.declared.lend.Lend.{Lend}
 use Rattle.replay_words.specs.Part as Part
+use Rattle.replay_words.specs.Part.{rest_after}
 use Rattle.replay_load.specs.declared.Library.{Library}
 
 -- ---- the answer
@@ -73,9 +74,6 @@ unfoldable pub load_all : Library → List ℕ → List ℕ → All → Done
 load_all o rows file a = left_as (load_of (input_of o rows file) a)
 
 -- ---- what is lent: the first cells of each store; the others stay
-
-abbrev pub rest_after : List ℕ → ℕ → List ℕ → List ℕ
-rest_after lent n l = lent ++ drop n l
 
 -- of inputs, lists and marks
 abbrev pub lent_lists : Lend → All → All

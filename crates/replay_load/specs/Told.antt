@@ -5,7 +5,7 @@ use Rattle.cells.specs.Rows.{put_row}
 use Rattle.symbol.specs.Codes.{successor}
 use Rattle.text.specs.Fields.{field_of}
 use Rattle.text.specs.Text.{Text, put_of}
-use Rattle.replay_words.specs.Words.{word_is, number_at, name_at}
+use Rattle.replay_words.specs.Words.{word_is, number_at, name_at, zero_word, one_word}
 use Rattle.replay_words.specs.Spelled.{Spelled, put_bytes}
 use Rattle.cells.specs.Slice.{SliceMut}
 use Rattle.replay_load.specs.declared.Library.{Library}
@@ -14,13 +14,6 @@ use Rattle.replay_load.specs.declared.Library.{Library}
 abbrev pub nothing_told : Library
 nothing_told =
     record { asneeded = false; archived = true; sonamed = false; path = 0; soname = 0; entries = 0; needs = 0; bytes = 0 }
-
--- `0` and `1`
-abbrev pub zero_word : List ℕ
-zero_word = 48 ∷ []
-
-abbrev pub one_word : List ℕ
-one_word = 49 ∷ []
 
 -- with a zero byte behind it
 unfoldable pub ended_of : Text → Text

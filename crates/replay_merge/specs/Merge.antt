@@ -1,7 +1,7 @@
 -- The merge of the object that was told, with what is lent of each store.
 -- Assumes nothing.
 use Rattle.link.specs.declared.cause.Refusal.{Refusal}
-use Rattle.std.specs.Prelude.{ℕ, List, ◌++◌, length, take, drop, Result, Ok, Err}
+use Rattle.std.specs.Prelude.{ℕ, List, length, take, Result, Ok, Err}
 use denote.Triple.Both.{Both}
 use Rattle.byte_slices.specs.Bytes.{part}
 use Rattle.link.specs.declared.Link.{Link}
@@ -13,6 +13,7 @@ use Rattle.replay_text.specs.declared.replies.Reply.{Reply}
 use Rattle.replay_text.specs.declared.replies.Changed.{Changed}
 use Rattle.replay_words.specs.declared.lend.Lend.{Lend}
 use Rattle.replay_words.specs.Part as Part
+use Rattle.replay_words.specs.Part.{rest_after}
 use Rattle.replay_object.specs.declared.Object.{Object}
 use Rattle.replay_object.specs.Told.{headers_in, entries_in, contents_in}
 
@@ -67,9 +68,6 @@ unfoldable pub merge_all : Object → List ℕ → List ℕ → All → Done
 merge_all o rows file a = left_as (merge_of (object_in o rows file) a)
 
 -- ---- what is lent: the first cells of each store; the others stay
-
-abbrev pub rest_after : List ℕ → ℕ → List ℕ → List ℕ
-rest_after lent n l = lent ++ drop n l
 
 -- of inputs, lists and work cells
 abbrev pub lent_lists : Lend → All → All

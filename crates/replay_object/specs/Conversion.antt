@@ -3,12 +3,9 @@
 use Rattle.std.specs.Prelude.{ℕ, zero, suc, ◌+◌, ◌%◌, ◌^◌, cond, List, [], ◌∷◌, length, ◌==◌, slice_set}
 use Rattle.byte_slices.specs.Bytes.{same}
 use Rattle.text.specs.Fields.{field_of}
-use Rattle.replay_words.specs.Words.{number_in}
+use Rattle.replay_words.specs.Words.{number_in, none_word}
 
--- `none` and `unloaded`
-abbrev pub none_word : List ℕ
-none_word = 110 ∷ 111 ∷ 110 ∷ 101 ∷ []
-
+-- `unloaded`
 abbrev pub unloaded_word : List ℕ
 unloaded_word = 117 ∷ 110 ∷ 108 ∷ 111 ∷ 97 ∷ 100 ∷ 101 ∷ 100 ∷ []
 

@@ -6,7 +6,7 @@ use Rattle.byte_slices.specs.Bytes.{part}
 use Rattle.cells.specs.Rows.{put_row}
 use Rattle.symbol.specs.Codes.{successor}
 use Rattle.text.specs.Fields.{field_of}
-use Rattle.replay_words.specs.Words.{word_is, number_at}
+use Rattle.replay_words.specs.Words.{word_is, number_at, one_word}
 use Rattle.replay_words.specs.Spelled.{Spelled, put_bytes}
 use Rattle.replay_object.specs.declared.Object.{Object}
 use Rattle.replay_object.specs.declared.Kind.{Kind}
@@ -43,9 +43,6 @@ abbrev pub conversion_in : List ℕ → List ℕ
 conversion_in c = part c 6144 64
 
 -- ---- a section
-
-abbrev pub one_word : List ℕ
-one_word = 49 ∷ []
 
 unfoldable pub flag_of : List ℕ → ℕ → ℕ → ℕ
 flag_of line k value = cond (word_is line k one_word) value 0

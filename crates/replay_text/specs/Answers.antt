@@ -14,6 +14,7 @@ use Rattle.symbol.specs.declared.SymbolVisibility.TheVariants as Visibility
 use Rattle.symbol.specs.declared.SymbolValue.{SymbolValue}
 use Rattle.symbol.specs.declared.SymbolValue.TheVariants as Value
 pub use Rattle.text.specs.Digits.{decimal}
+use Rattle.replay_words.specs.Words.{dash_word, zero_word, one_word}
 
 -- ---- words
 
@@ -24,18 +25,6 @@ refused_word = 114 ∷ 101 ∷ 102 ∷ 117 ∷ 115 ∷ 101 ∷ 100 ∷ 32 ∷ []
 -- ` `
 abbrev pub space_word : List ℕ
 space_word = 32 ∷ []
-
--- `-`
-abbrev pub dash_word : List ℕ
-dash_word = 45 ∷ []
-
--- `0`
-abbrev pub zero_digit : List ℕ
-zero_digit = 48 ∷ []
-
--- `1`
-abbrev pub one_digit : List ℕ
-one_digit = 49 ∷ []
 
 -- ` + `
 abbrev pub plus_word : List ℕ
@@ -143,8 +132,8 @@ value_text Value.ExternallyDefined = external_word ∷ []
 value_text (Value.Undefined z) = undef_word z ∷ []
 
 abbrev pub digit_of : Bool → List ℕ
-digit_of true = one_digit
-digit_of false = zero_digit
+digit_of true = one_word
+digit_of false = zero_word
 
 unfoldable pub flagged : List ℕ → Bool → Pieces
 flagged word flag = word ∷ digit_of flag ∷ []

@@ -7,7 +7,7 @@ use Rattle.std.specs.Prelude.{ℕ, Bool, true, false, cond, List, [], ◌∷◌,
 use Rattle.link.specs.declared.Link.{Link}
 use Rattle.interner.specs.Names.{find_of}
 use Rattle.symbols.specs.Lookup.{get_of, get_global_of, section_symbol_of}
-use Rattle.replay_words.specs.Words.{word_is, number_at, name_at}
+use Rattle.replay_words.specs.Words.{word_is, number_at, name_at, none_word}
 use Rattle.replay_text.specs.Answers.{Pieces, space_word, numbered, refusal_text, symbol_text}
 use Rattle.replay_text.specs.declared.replies.Reply.{Reply}
 
@@ -30,10 +30,6 @@ loaded_word = 108 ∷ 111 ∷ 97 ∷ 100 ∷ 101 ∷ 100 ∷ []
 -- `notneeded`
 abbrev pub not_needed_word : List ℕ
 not_needed_word = 110 ∷ 111 ∷ 116 ∷ 110 ∷ 101 ∷ 101 ∷ 100 ∷ 101 ∷ 100 ∷ []
-
--- `none`
-abbrev pub none_word : List ℕ
-none_word = 110 ∷ 111 ∷ 110 ∷ 101 ∷ []
 
 -- `counts `
 abbrev pub counts_word : List ℕ

@@ -1,6 +1,6 @@
 -- How much of each store is lent, and how many cells of a slice of some length that is.
 -- Assumes nothing.
-use Rattle.std.specs.Prelude.{ℕ, ◌*◌, ◌/◌, cond, List, nat_lt}
+use Rattle.std.specs.Prelude.{ℕ, ◌*◌, ◌/◌, cond, List, ◌++◌, drop, nat_lt}
 use Rattle.replay_words.specs.Words.{number_at}
 use Rattle.replay_words.specs.declared.lend.Lend.{Lend}
 
@@ -29,6 +29,10 @@ everything = 0xffffffffffffffff
 
 abbrev pub all_lent : Lend
 all_lent = lend_of everything everything everything everything everything everything everything everything
+
+-- a store of which the first n cells were lent, once these have changed
+abbrev pub rest_after : List ℕ → ℕ → List ℕ → List ℕ
+rest_after lent n l = lent ++ drop n l
 
 -- of len cells, those of so many rows of a width
 unfoldable pub lent_of : ℕ → ℕ → ℕ → ℕ

@@ -19,9 +19,18 @@ number_in x = value_of (decimal_of x)
 unfoldable pub number_at : List ℕ → ℕ → ℕ
 number_at line k = number_in (field_of line k)
 
--- `-`
-abbrev pub dash : List ℕ
-dash = 45 ∷ []
+-- `-`, `0`, `1` and `none`
+abbrev pub dash_word : List ℕ
+dash_word = 45 ∷ []
+
+abbrev pub zero_word : List ℕ
+zero_word = 48 ∷ []
+
+abbrev pub one_word : List ℕ
+one_word = 49 ∷ []
+
+abbrev pub none_word : List ℕ
+none_word = 110 ∷ 111 ∷ 110 ∷ 101 ∷ []
 
 unfoldable pub name_at : List ℕ → ℕ → List ℕ
-name_at line k = cond (same (field_of line k) dash) [] (field_of line k)
+name_at line k = cond (same (field_of line k) dash_word) [] (field_of line k)

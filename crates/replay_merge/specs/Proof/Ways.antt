@@ -10,7 +10,8 @@ use Rattle.replay_words.specs.declared.lend.Lend.{Lend}
 use Rattle.replay_words.specs.Part as Part
 use Rattle.replay_object.specs.declared.Object.{Object}
 use Rattle.replay_object.specs.Told.{headers_in, entries_in, contents_in}
-use Rattle.replay_merge.specs.Merge.{changed_as, Done, done_of, merge_all, rest_after, merge_lists, merge_lent}
+use Rattle.replay_words.specs.Part.{rest_after}
+use Rattle.replay_merge.specs.Merge.{changed_as, Done, done_of, merge_all, merge_lists, merge_lent}
 
 pub merged-done : (d : Lend) (o : Object) (rows file headers entries contents strings : List ℕ) (a : All) (u : Left) (c : Changed) (t : Done) (b n s x i k w m : ℕ)
     → b ≡ Part.cells_of d.bytes (length a.bytes) → n ≡ Part.wide_rows_of d.names (length a.names)

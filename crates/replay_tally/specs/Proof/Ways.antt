@@ -1,17 +1,14 @@
 -- Answers and lines in std's words.
 -- Assumes nothing.
-use Rattle.std.specs.Prelude.{◌≡◌, refl, ℕ, ◌+◌, ◌-◌, ◌<◌, Bool, true, false, List, [], ◌∷◌, ◌++◌, eqb, length, take, get_or, Option, MatchOption, unwrap_or, nat_eq}
+use Rattle.std.specs.Prelude.{◌≡◌, refl, ℕ, ◌+◌, ◌-◌, ◌<◌, true, false, List, [], ◌∷◌, ◌++◌, eqb, length, take, get_or, Option, MatchOption, unwrap_or, nat_eq}
 use Rattle.std.proofs.Common.{arith, add-one, ap, sym, ◌∙◌}
 use Rattle.std.specs.List.{starts_with, AllWithin, HoldsAt}
 use Rattle.std.specs.Cmp.Lexicographic.{pointwise}
 use Rattle.std.proofs.lemmas.Iterator.{index_from_first}
 use borrow.Author.Tests.{eq-eqb, ne_eqb}
+use Rattle.cells.specs.Proof.Split.{by-test}
 use Rattle.byte_slices.specs.Bytes.{same}
 use Rattle.replay_tally.specs.Answer.{line_length, first_line, meets}
-
-by-test : {P : Type 0} (b : Bool) → (b ≡ true → P) → (b ≡ false → P) → P
-by-test true f g = f refl
-by-test false f g = g refl
 
 -- ---- a line
 

@@ -1,15 +1,12 @@
 -- The order of names is that of std's slices.
 -- Assumes nothing.
-use Rattle.std.specs.Prelude.{◌≡◌, refl, ℕ, ◌<◌, Bool, true, false, List, [], ◌∷◌, ◌==◌, nat_lt, Some}
+use Rattle.std.specs.Prelude.{◌≡◌, refl, ℕ, ◌<◌, true, false, List, [], ◌∷◌, ◌==◌, nat_lt, Some}
 use Rattle.std.proofs.Common.{arith, ltb-true}
 use Rattle.std.specs.Ordering.{nat_cmp, is_some_and, is_lt}
 use Rattle.std.specs.Cmp.Lexicographic.{slice_partial_cmp}
 use borrow.Author.Tests.{ne_eqb}
+use Rattle.cells.specs.Proof.Split.{by-test}
 use Rattle.replay_words.specs.Order.{before_of}
-
-by-test : {P : Type 0} (b : Bool) → (b ≡ true → P) → (b ≡ false → P) → P
-by-test true f g = f refl
-by-test false f g = g refl
 
 pub before-is : (a b : List ℕ) → is_some_and is_lt (slice_partial_cmp (λ x y. Some (nat_cmp x y)) a b) ≡ before_of a b
 unfolding before_of

@@ -1,18 +1,15 @@
 -- Laws of the definitions of Digits.antt.
 -- Assumes nothing.
-use Rattle.std.specs.Prelude.{ℕ, zero, suc, ◌-◌, ◌*◌, ◌/◌, ◌^◌, ◌<◌, ◌≤◌, ◌≡◌, refl, Bool, true, false, List, ltb}
+use Rattle.std.specs.Prelude.{ℕ, zero, suc, ◌-◌, ◌*◌, ◌/◌, ◌^◌, ◌<◌, ◌≤◌, ◌≡◌, refl, true, false, List, ltb}
 use Rattle.std.proofs.Common.{arith, pow-suc, sym, ap, ◌∙◌, subst, ltb-true, ltb-false}
 use Rattle.io.specs.Digits.{last_digits, IsDigitCount}
+use Rattle.cells.specs.Proof.Split.{by-test}
 use Rattle.text.specs.Text.{Text, put_of, PutDecimal}
 use Rattle.text.specs.Digits.{width, decimal}
 
 ten-pos : (j : ℕ) → 0 < 10 ^ j
 ten-pos zero = omega arith
 ten-pos (suc j) = let h : 0 < 10 ^ j = ten-pos j in let e : 10 ^ suc j ≡ 10 ^ j * 10 = pow-suc 10 j in omega arith
-
-by-test : {P : Type 0} (b : Bool) → (b ≡ true → P) → (b ≡ false → P) → P
-by-test true f g = f refl
-by-test false f g = g refl
 
 least-of : (v j : ℕ) → IsDigitCount 10 1 v (suc (suc j)) → 10 ^ suc j ≤ v
 least-of v j f =

@@ -9,15 +9,12 @@ use Rattle.std.proofs.Math.Bool.{true}
 use Rattle.std.proofs.lemmas.Bool.{false≢true}
 use Rattle.std.proofs.Math.ListN.{length, take}
 use borrow.Author.Tests.{eq-eqb, ne_eqb, le-ltb, ltb-false, leb-false}
+use Rattle.cells.specs.Proof.Split.{by-test}
 use Rattle.text.specs.declared.lines.Lines.{Lines}
 use Rattle.text.specs.declared.lines.Taken.{Taken}
 use Rattle.text.specs.Unread.{lines_at}
 use Rattle.text.specs.Line.{Step, step_of, line_end, end_from, end_in, rest_of, unended_of, left_of, settled_at, settle_of, is_more}
 use Rattle.text.specs.Next.{Front, front_as, front_of, longer_of, ReadOn, ReadLine, NextBy, NextLine, past_at, past_of, Skipped}
-
-by-test : {P : Type 0} (b : Bool) → (b ≡ true → P) → (b ≡ false → P) → P
-by-test true f g = f refl
-by-test false f g = g refl
 
 -- ---- a line
 

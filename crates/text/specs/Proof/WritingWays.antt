@@ -1,19 +1,16 @@
 -- Pieces that are put one behind the other.
 -- Assumes nothing.
-use Rattle.std.specs.Prelude.{ℕ, ◌+◌, ◌-◌, ◌<◌, ◌≤◌, ◌≡◌, refl, Bool, true, false, leb, List, [], ◌∷◌, ◌++◌, length}
+use Rattle.std.specs.Prelude.{ℕ, ◌+◌, ◌-◌, ◌<◌, ◌≤◌, ◌≡◌, refl, true, false, leb, List, [], ◌∷◌, ◌++◌, length}
 use Rattle.std.proofs.Common.{ap, ◌∙◌, sym, arith}
 use borrow.Author.Tests.{lt-leb, leb-false}
 use Rattle.io.specs.Digits.{last_digits, IsDigitCount}
+use Rattle.cells.specs.Proof.Split.{by-test}
 use Rattle.byte_slices.specs.Bytes.{copied}
 use Rattle.text.specs.Text.{Text, text_of, put_of, PutDecimal}
 use Rattle.text.specs.Digits.{decimal}
 use Rattle.text.specs.Proof.DigitsWays.{put_is}
 use Rattle.text.specs.Writing.{Pieces, put_all, written, Puts}
 use Rattle.text.specs.declared.out.Writer.{Writer}
-
-by-test : {P : Type 0} (b : Bool) → (b ≡ true → P) → (b ≡ false → P) → P
-by-test true f g = f refl
-by-test false f g = g refl
 
 module _ (b x : List ℕ) (n : ℕ) where
   put-short : length b - n < length x → text_of b n ≡ put_of b n x
