@@ -1,13 +1,35 @@
 // A whole row written at once, and cells cleared from a place on.
-ghost use Rattle.std.specs.Prelude.{◌≡◌, ◌++◌, ◌-◌, length, replicate, take};
+ghost use Rattle.std.specs.Prelude.{◌≡◌, ◌≤◌, ◌+◌, ◌++◌, ◌*◌, ◌-◌, length, replicate, take};
 ghost use Rattle.cells.specs.Rows.{put_row};
 
-// All eight cells of row i.
-pub fn row_store(cells: &mut [u64], i: usize, row: [u64; crate::ROW_CELLS])
+// All eight cells of a row that is there.
+fn store_whole(cells: &mut [u64], i: usize, row: [u64; crate::ROW_CELLS])
+    requires { i * 8 + 8 ≤ length cells.old }
+    ensures { cells.new ≡ put_row cells.old i row }
+{
+    for (f, &v) in row.iter().enumerate() {
+        cells[i * crate::ROW_CELLS + f] = v;
+    }
+}
+
+// Those of a row's eight cells that are there.
+fn store_cut(cells: &mut [u64], i: usize, row: [u64; crate::ROW_CELLS])
     ensures { cells.new ≡ put_row cells.old i row }
 {
     for (f, &v) in row.iter().enumerate() {
         crate::row_put(cells, i, f, v);
+    }
+}
+
+// All eight cells of row i: one test for a row that is there.
+#[inline(always)]
+pub fn row_store(cells: &mut [u64], i: usize, row: [u64; crate::ROW_CELLS])
+    ensures { cells.new ≡ put_row cells.old i row }
+{
+    if i < cells.len() / crate::ROW_CELLS {
+        store_whole(cells, i, row);
+    } else {
+        store_cut(cells, i, row);
     }
 }
 

@@ -66,6 +66,10 @@ unfoldable pub counts_in : List ℕ → Link → List ℕ
 counts_in h l =
     put_row h 0 (l.names ∷ l.bytes ∷ l.symbols ∷ l.sections ∷ l.inputs ∷ l.lists ∷ l.chains ∷ l.slots ∷ [])
 
+-- cells 0 and 1 alone
+unfoldable pub names_in : List ℕ → Link → List ℕ
+names_in h l = set (set h 0 l.names) 1 l.bytes
+
 -- cell 16
 unfoldable pub profile_in : List ℕ → Link → List ℕ
 profile_in h l = set h 16 (flag_of l.gabi)
@@ -85,6 +89,10 @@ told number header = record { number = number; header = header }
 -- a changing call
 unfoldable pub tell_of : List ℕ → Link → Reply → Told
 tell_of h l r = told r.number (header_of h l r)
+
+-- a call that changes no count but those of names
+unfoldable pub tell_names_of : List ℕ → Link → Reply → Told
+tell_names_of h l r = told r.number (reply_in (profile_in (names_in h l) l) (flag_of l.broken) l.key r)
 
 -- a call that doesn't change a link: cells 8, 15 and 16 keep their numbers
 unfoldable pub answer_of : List ℕ → Reply → Told

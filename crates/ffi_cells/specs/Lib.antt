@@ -1,3 +1,4 @@
 pub mod Cells
 pub mod Header
 pub mod Contract
+pub mod Proof

@@ -1,7 +1,7 @@
 // A link and an answer in the cells of a header, for the calls from another language. Cells 0 to 8 hold the link (names, bytes, symbols, sections,
 // inputs, lists, chains, slots, broken), 15 its key and 16 its profile, 9 the number of the refusal, 10 its place, 11 to 14 the values of the answer.
 ghost use Rattle.std.specs.Prelude.{◌≡◌};
-ghost use Rattle.ffi_cells.specs.Header.{is_set, flag_of, link_in, result_of, refusal_of, refused_of, reply_in, counts_in, told, tell_of, answer_of};
+ghost use Rattle.ffi_cells.specs.Header.{is_set, flag_of, link_in, result_of, refusal_of, refused_of, reply_in, counts_in, profile_in, told, tell_of, names_in, tell_names_of, answer_of};
 
 use link::{Link, Refusal};
 
@@ -113,14 +113,40 @@ fn put_counts(header: &mut [u64], l: Link)
     );
 }
 
+#[tactic(auto, unfolding(crate::specs::Header::names_in))]
+fn put_names(header: &mut [u64], l: Link)
+    ensures { header.new ≡ names_in header.old l }
+{
+    cells::put(header, 0, l.names as u64);
+    cells::put(header, 1, l.bytes as u64);
+}
+
+// Behind the counts: the profile, cells 8 and 15, and the answer.
+#[tactic(auto, unfolding(crate::specs::Header::profile_in))]
+fn put_rest(header: &mut [u64], l: Link, r: Reply)
+    ensures { header.new ≡ reply_in (profile_in header.old l) (flag_of l.broken) l.key r }
+{
+    cells::put(header, PROFILE, flag(l.gabi));
+    put_reply(header, flag(l.broken), l.key as u64, r);
+}
+
 // The link that a call hands back, and its answer.
-#[tactic(auto, unfolding(crate::specs::Header::tell_of, crate::specs::Header::header_of, crate::specs::Header::profile_in))]
+#[tactic(auto, unfolding(crate::specs::Header::tell_of, crate::specs::Header::header_of))]
 pub fn tell(header: &mut [u64], l: Link, r: Reply) -> u64
     ensures { told result header.new ≡ tell_of header.old l r }
 {
     put_counts(header, l);
-    cells::put(header, PROFILE, flag(l.gabi));
-    put_reply(header, flag(l.broken), l.key as u64, r);
+    put_rest(header, l, r);
+    r.number
+}
+
+// The same of a call that changes no count but those of names: the other counts are in their cells already.
+#[tactic(auto, unfolding(crate::specs::Header::tell_names_of))]
+pub fn tell_names(header: &mut [u64], l: Link, r: Reply) -> u64
+    ensures { told result header.new ≡ tell_names_of header.old l r }
+{
+    put_names(header, l);
+    put_rest(header, l, r);
     r.number
 }
 

@@ -8,6 +8,7 @@ mod header;
 
 pub use header::{
     HEADER_CELLS, Reply, SHORT, answer, flag, is_set, link_in, refusal, refused, result, tell,
+    tell_names,
 };
 use link::{Interned, SectionId, SymbolId};
 use symbol::{Row, Symbol, Words};

@@ -26,7 +26,7 @@ fn interned(a: Result<Interned, Refusal>) -> Reply
 }
 
 // The value is the name's id.
-#[tactic(auto, unfolding(crate::specs::Calls::intern_call, ffi_cells::specs::Header::is_short))]
+#[tactic(auto, using(crate::specs::Proof::Told::intern_told), unfolding(crate::specs::Calls::intern_call, ffi_cells::specs::Header::is_short))]
 pub fn intern(header: &mut [u64], bytes: &mut [u8], names: &mut [u64], name: &[u8]) -> u64
     ensures { InternMeets header.old bytes.old names.old name.now (intern_exit result header bytes names) }
 {
@@ -39,7 +39,7 @@ pub fn intern(header: &mut [u64], bytes: &mut [u8], names: &mut [u64], name: &[u
         cells: names,
     };
     let answer = lent.intern(name);
-    ffi_cells::tell(header, lent.link, interned(answer))
+    ffi_cells::tell_names(header, lent.link, interned(answer))
 }
 
 // Where a name starts in so many bytes, whatever its row holds.

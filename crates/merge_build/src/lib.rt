@@ -204,7 +204,7 @@ impl Builder<'_> {
     }
 
     // A section whose name is found: 2 of the name; 19, and the name is issued; 2 of the lists; else its row is built.
-    #[tactic(auto, unfolding(crate::specs::Build::section_named, crate::specs::Build::tabled_of, crate::specs::Build::commit_of, crate::specs::Build::kept_of, crate::specs::Build::plan_of, crate::specs::Build::plan_with))]
+    #[tactic(auto, unfolding(crate::specs::Build::section_named, crate::specs::Build::tabled_of, crate::specs::Build::commit_of, crate::specs::Build::kept_of, crate::specs::Build::plan_of, crate::specs::Build::plan_with, interner::specs::Names::find_of, interner::specs::Names::keep_of, interner::specs::Names::keep_at))]
     fn build_named(
         &mut self,
         source: Source<'_>,
@@ -224,7 +224,9 @@ impl Builder<'_> {
             bytes: self.bytes,
             cells: self.names,
         };
-        let id = names.read().find(x);
+        // The name is hashed once.
+        let head = names.read().head(x);
+        let id = names.read().find_from(head, x);
         if !names.read().fits(id, x.len()) {
             return Err(Refusal::new(Cause::NoRoom, n));
         }
@@ -232,7 +234,7 @@ impl Builder<'_> {
         if known && !lists_fit(self.link.lists, self.lists.len(), relocations.symbols.len()) {
             return Err(Refusal::new(Cause::NoRoom, n));
         }
-        names.keep(id, x);
+        names.keep_at(id, head, x);
         self.link = names.link;
         if !known {
             return Err(Refusal::new(Cause::RelocationSymbolWithoutId, n));

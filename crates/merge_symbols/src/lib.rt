@@ -1,7 +1,8 @@
 // The symbol stage of a merge: each symbol's name, the decision, and then what it writes.
 #![tactic(auto)]
 
-ghost use Rattle.std.specs.Prelude.{◌≡◌, ◌≢◌, IfErr, Ok};
+ghost use Rattle.std.specs.Prelude.{◌≡◌, ◌≢◌, IfErr, Ok, length};
+ghost use Rattle.interner.specs.Hash.{head_cell};
 ghost use Rattle.link.specs.Judge.{refused};
 ghost use Rattle.symbol.specs.Codes.{file_cell};
 ghost use Rattle.symbol_resolution.specs.Decide.{decision_of};
@@ -71,9 +72,10 @@ impl Symbols<'_> {
     }
 
     // Writes what was decided: nothing on 2; else the name is issued; then, unless refused, the row, and the symbol's id into its cell.
-    #[tactic(auto, unfolding(crate::specs::Stage::commit_of, crate::specs::Stage::kept_of))]
-    fn commit(&mut self, x: &[u8], plan: Plan, i: usize) -> Result<(), Refusal>
-        requires { Numbered plan.resolution }
+    #[tactic(auto, unfolding(crate::specs::Stage::commit_of, crate::specs::Stage::kept_of, interner::specs::Names::keep_of, interner::specs::Names::keep_at))]
+    fn commit(&mut self, head: usize, x: &[u8], plan: Plan, i: usize) -> Result<(), Refusal>
+        requires numbered_plan { Numbered plan.resolution }
+        requires head_told { head ≡ head_cell self.old.link (length self.old.names.now) x.now }
         ensures loans { same_loans self.old self.new }
         ensures value { state_after self.new result ≡ commit_of (state_before self.old) x.now (planned_as plan) i }
         ensures numbered { IfErr result (λ r. r.number ≢ 0) }
@@ -90,7 +92,7 @@ impl Symbols<'_> {
             bytes: self.bytes,
             cells: self.names,
         };
-        names.keep(plan.id, x);
+        names.keep_at(plan.id, head, x);
         self.link = names.link;
         match plan.resolution {
             Ok(resolution) => {
@@ -118,8 +120,10 @@ impl Symbols<'_> {
         let Some(x) = object.name_in(strings, offset) else {
             return Err(Refusal::new(Cause::SymbolNameMissing, i));
         };
-        let plan = self.plan(object.entries, work, x, i);
-        self.commit(x, plan, i)
+        // The name is hashed once.
+        let head = self.name_table().head(x);
+        let plan = self.plan(object.entries, work, head, x, i);
+        self.commit(head, x, plan, i)
     }
 
     // All symbols of the loaded table, ascending, up to the first refusal. Their names lie in the section of that number.

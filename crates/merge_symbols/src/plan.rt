@@ -1,5 +1,6 @@
 // What the symbol stage of a merge decides on one symbol of an object: read only.
-ghost use Rattle.std.specs.Prelude.{◌≡◌};
+ghost use Rattle.std.specs.Prelude.{◌≡◌, length};
+ghost use Rattle.interner.specs.Hash.{head_cell};
 ghost use Rattle.symbol.specs.Codes.{file_cell};
 ghost use Rattle.symbol_resolution.specs.Decide.{decision_of};
 ghost use Rattle.merge_symbols.specs.Plan.{Numbered, filtered_at, is_first, defines_of, rule_of, judged_of, planned_as, planned_of, place_of, file_after, input_of, view_now};
@@ -67,7 +68,8 @@ fn defines(work: &[u64], section: u64) -> bool
 impl Symbols<'_> {
     // The names, to be read.
     // Kept: as in shared_objects; a trait of structs that hold names would be longer than both.
-    fn name_table(&self) -> Names<'_, '_>
+    #[inline(always)]
+    pub(super) fn name_table(&self) -> Names<'_, '_>
         ensures link { result.link ≡ self.now.link }
         ensures bytes { result.bytes.now ≡ self.now.bytes.now }
         ensures cells { result.cells.now ≡ self.now.names.now }
@@ -124,13 +126,21 @@ impl Symbols<'_> {
         self.resolve(work, i, len == 0, e, row)
     }
 
-    // Symbol i of the table, named x.
-    #[tactic(auto, unfolding(crate::specs::Plan::planned_of, crate::specs::Plan::read_of, crate::specs::Plan::rowed_of))]
-    pub fn plan(&self, entries: &[u64], work: &[u64], x: &[u8], i: usize) -> Plan
+    // Symbol i of the table, named x, where the head of the name's chain is told.
+    #[tactic(auto, unfolding(crate::specs::Plan::planned_of, crate::specs::Plan::read_of, crate::specs::Plan::rowed_of, interner::specs::Names::find_of))]
+    pub(super) fn plan(
+        &self,
+        entries: &[u64],
+        work: &[u64],
+        head: usize,
+        x: &[u8],
+        i: usize,
+    ) -> Plan
+        requires { head ≡ head_cell self.now.link (length self.now.names.now) x.now }
         ensures value { planned_as result ≡ planned_of (view_now self.now) (input_of entries.now work.now) x.now i (file_cell self.now.file) }
         ensures numbered { Numbered result.resolution }
     {
-        let id = self.name_table().find(x);
+        let id = self.name_table().find_from(head, x);
         let e = filtered_at(entries, work, i);
         let cell = cells::row_get(work, e.section as usize, elf_object::WORK_CONVERSION);
         let file = symbol::file_cell(self.file);

@@ -129,17 +129,18 @@ impl Loading<'_> {
     }
 
     // The library's name x, then its contents.
-    #[tactic(auto, unfolding(crate::specs::Stages::library_of, crate::specs::Stages::issued_of, crate::specs::Stages::kept_of))]
+    #[tactic(auto, unfolding(crate::specs::Stages::library_of, crate::specs::Stages::issued_of, crate::specs::Stages::kept_of, interner::specs::Names::find_of))]
     fn load_library(&mut self, library: &Library<'_>, x: &[u8]) -> Result<(), Refusal>
         ensures loans { same_loans self.old self.new }
         ensures value { links_after self.new result ≡ loaded_in library.now (links_before self.old) x.now }
         ensures numbered { IfErr result (λ r. r.number ≢ 0) }
     {
-        let id = self.name_table().find(x);
+        let head = self.name_table().head(x);
+        let id = self.name_table().find_from(head, x);
         if !self.name_table().fits(id, x.len()) {
             return Err(Refusal::new(Cause::NoRoom, 0));
         }
-        self.keep(id, x);
+        self.keep(id, head, x);
         self.load_contents(library, id)
     }
 

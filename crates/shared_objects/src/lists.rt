@@ -1,5 +1,6 @@
 // Names among the lists: those that a shared object lacks, and those of its dependencies. Each is judged in full before its first cell is written.
 ghost use Rattle.std.specs.Prelude.{◌≡◌, ◌≢◌, IfErr, length};
+ghost use Rattle.interner.specs.Hash.{head_cell};
 ghost use Rattle.interner.specs.Names.{keep_of};
 ghost use Rattle.shared_objects.specs.Lent.{same_loans, same_rows, same_lists};
 ghost use Rattle.shared_objects.specs.Record.{record_fits, keep_name, record_of, dependency_of, dependencies_of, recorded_after, recorded_before, store_in};
@@ -23,8 +24,12 @@ impl Loading<'_> {
         }
     }
 
-    // Issues the id for x; nothing changes for a known name.
-    pub(super) fn keep(&mut self, id: Interned, x: &[u8])
+    // Issues the id for x, where the head of its chain is told; nothing changes for a known name.
+    // Inlined, as those that call it: else the link goes through memory.
+    #[inline(always)]
+    #[tactic(auto, unfolding(interner::specs::Names::keep_of, interner::specs::Names::keep_at))]
+    pub(super) fn keep(&mut self, id: Interned, head: usize, x: &[u8])
+        requires { head ≡ head_cell self.old.link (length self.old.names.now) x.now }
         ensures loans { same_loans self.old self.new }
         ensures rows { same_rows self.old self.new }
         ensures lists { same_lists self.old self.new }
@@ -36,7 +41,7 @@ impl Loading<'_> {
             bytes: self.bytes,
             cells: self.names,
         };
-        names.keep(id, x);
+        names.keep_at(id, head, x);
         self.link = names.link;
     }
 
@@ -49,21 +54,24 @@ impl Loading<'_> {
     }
 
     // The name is issued, and its id written behind the lists' last.
+    #[inline(always)]
     #[tactic(auto, unfolding(crate::specs::Record::keep_name))]
-    fn keep_name(&mut self, id: Interned, x: &[u8])
+    fn keep_name(&mut self, id: Interned, head: usize, x: &[u8])
+        requires { head ≡ head_cell self.old.link (length self.old.names.now) x.now }
         ensures loans { same_loans self.old self.new }
         ensures rows { same_rows self.old self.new }
         ensures inputs { self.new.inputs.now ≡ self.old.inputs.now }
         ensures value { recorded_before self.new ≡ keep_name (recorded_before self.old) x.now id }
     {
         let at = self.link.lists;
-        self.keep(id, x);
+        self.keep(id, head, x);
         cells::put(self.lists, at, id.0 as u64);
         self.link.lists = symbol::next(at);
     }
 
     // The name is issued and recorded; without room for both 2, and nothing changes.
-    #[tactic(auto, unfolding(crate::specs::Record::record_of, crate::specs::Record::record_as))]
+    #[inline(always)]
+    #[tactic(auto, unfolding(crate::specs::Record::record_of, crate::specs::Record::record_as, interner::specs::Names::find_of))]
     pub(super) fn record_name(&mut self, x: &[u8], place: usize) -> Result<(), Refusal>
         ensures loans { same_loans self.old self.new }
         ensures rows { same_rows self.old self.new }
@@ -71,11 +79,12 @@ impl Loading<'_> {
         ensures value { recorded_after self.new result ≡ record_of (recorded_before self.old) x.now place }
         ensures numbered { IfErr result (λ r. r.number ≢ 0) }
     {
-        let id = self.name_table().find(x);
+        let head = self.name_table().head(x);
+        let id = self.name_table().find_from(head, x);
         if !self.record_fits(id, x.len()) {
             return Err(Refusal::new(Cause::NoRoom, place));
         }
-        self.keep_name(id, x);
+        self.keep_name(id, head, x);
         Ok(())
     }
 

@@ -1,6 +1,7 @@
 // The symbols of a shared object: one is added for each that it defines, and the names that it lacks are recorded. Each element is judged in full
 // before its first cell is written.
-ghost use Rattle.std.specs.Prelude.{◌≡◌, ◌≢◌, IfErr, Ok};
+ghost use Rattle.std.specs.Prelude.{◌≡◌, ◌≢◌, IfErr, Ok, length};
+ghost use Rattle.interner.specs.Hash.{head_cell};
 ghost use Rattle.symbol_resolution.specs.Decide.{decision_of};
 ghost use Rattle.merge_symbols.specs.Plan.{Numbered};
 ghost use Rattle.shared_objects.specs.Lent.{same_loans, same_lists};
@@ -40,13 +41,14 @@ impl Loading<'_> {
         symbol_resolution::resolve(self.link, symbols, self.sections, row, holder)
     }
 
-    // The symbol named x, as an externally defined one: read only.
-    #[tactic(auto, unfolding(crate::specs::Define::plan_of, crate::specs::Define::external_of, crate::specs::Define::rowed_of))]
-    fn plan(&self, x: &[u8], binding: u64, visibility: u64) -> Definition
+    // The symbol named x, where the head of the name's chain is told, as an externally defined one: read only.
+    #[tactic(auto, unfolding(crate::specs::Define::plan_of, crate::specs::Define::external_of, crate::specs::Define::rowed_of, interner::specs::Names::find_of))]
+    fn plan(&self, head: usize, x: &[u8], binding: u64, visibility: u64) -> Definition
+        requires { head ≡ head_cell self.now.link (length self.now.names.now) x.now }
         ensures value { definition_as result ≡ plan_of (view_in self.now) x.now binding visibility }
         ensures numbered { Numbered result.resolution }
     {
-        let id = self.name_table().find(x);
+        let id = self.name_table().find_from(head, x);
         let row = upcoming_symbol::external_row(self.link.gabi, id, binding, visibility);
         Definition {
             id,
@@ -75,8 +77,9 @@ impl Loading<'_> {
 
     // Writes what was decided: nothing on 2; else the name is issued; then, unless refused, the row.
     #[tactic(auto, unfolding(crate::specs::Define::commit_of, crate::specs::Define::kept_of))]
-    fn commit(&mut self, x: &[u8], plan: Definition, i: usize) -> Result<(), Refusal>
-        requires { Numbered plan.resolution }
+    fn commit(&mut self, head: usize, x: &[u8], plan: Definition, i: usize) -> Result<(), Refusal>
+        requires numbered_plan { Numbered plan.resolution }
+        requires head_told { head ≡ head_cell self.old.link (length self.old.names.now) x.now }
         ensures loans { same_loans self.old self.new }
         ensures lists { same_lists self.old self.new }
         ensures value { added_after self.new result ≡ commit_of (added_before self.old) x.now (definition_as plan) i }
@@ -88,7 +91,7 @@ impl Loading<'_> {
             }
             _ => {}
         }
-        self.keep(plan.id, x);
+        self.keep(plan.id, head, x);
         match plan.resolution {
             Ok(resolution) => {
                 self.accept(plan.row, resolution);
@@ -108,8 +111,10 @@ impl Loading<'_> {
         ensures value { added_after self.new result ≡ define_of (added_before self.old) x.now binding visibility i }
         ensures numbered { IfErr result (λ r. r.number ≢ 0) }
     {
-        let plan = self.plan(x, binding, visibility);
-        self.commit(x, plan, i)
+        // The name is hashed once.
+        let head = self.name_table().head(x);
+        let plan = self.plan(head, x, binding, visibility);
+        self.commit(head, x, plan, i)
     }
 
     // ---- all symbols

@@ -71,6 +71,7 @@ fn room(l: Link, symbols: &[u64], sections: &[u64], row: Row) -> bool
 
 // A local or a new name: value, type, a free row.
 // Kept: a number, as `resolve` tells it.
+#[inline(always)]
 #[tactic(auto, unfolding(crate::specs::Decide::new_of))]
 fn decide_new(l: Link, symbols: &[u64], sections: &[u64], row: Row) -> Result<Resolution, u64>
     ensures decision { decision_of result ≡ new_of l symbols.now sections.now row }
@@ -127,6 +128,7 @@ fn decide_known(gabi: bool, symbols: &[u64], row: Row, id: SymbolId) -> Result<R
 }
 
 // Kept: a number and these parameters, as `resolve`, which hands them on.
+#[inline(always)]
 fn decide_named(
     l: Link,
     symbols: &[u64],
@@ -166,6 +168,8 @@ fn decide_local(
 // On a row under a name of which it is told who holds it: what the add does to the table, or the number that refuses it.
 // Kept: a number and no Cause, since it may stand in the row itself, which may hold any. Five parameters: callers hold the slices in structs of
 // their own.
+// Inlined, as what it calls: else the link and the row go through memory.
+#[inline(always)]
 #[tactic(auto, unfolding(crate::specs::Decide::decide_of))]
 pub fn resolve(
     l: Link,

@@ -57,6 +57,7 @@ fn amend(gabi: bool, symbols: &mut [u64], row: Row, id: SymbolId)
 }
 
 impl Table<'_> {
+    #[inline(always)]
     #[tactic(auto, unfolding(crate::specs::Apply::append_of))]
     fn append(&mut self, row: Row)
         ensures same { same_loans self.old self.new }
@@ -70,6 +71,8 @@ impl Table<'_> {
     }
 
     // What the add of the row does.
+    // Inlined, as what it calls: else the link and the row go through memory.
+    #[inline(always)]
     pub fn apply(&mut self, row: Row, resolution: Resolution)
         ensures same { same_loans self.old self.new }
         ensures done { table_in self.new ≡ applied (table_in self.old) row (decision_of (Ok resolution)) }

@@ -14,6 +14,7 @@ use symbol_resolution::{Holder, Resolution, Table};
 use upcoming_symbol::UpcomingSymbol;
 
 // 22, then 1 of the link's counts, then 1 of the symbol's own fields; all at place 0.
+#[inline(always)]
 #[tactic(auto, unfolding(crate::specs::Add::judge_add_of, link::specs::Judge::judged))]
 fn judge_add(table: &Table<'_>, upcoming: UpcomingSymbol) -> Result<(), Refusal>
     ensures { let t = table_in table.now in result ≡ judged (judge_add_of t.link (lent t) upcoming) }
@@ -60,6 +61,7 @@ fn file_of(u: UpcomingSymbol) -> Option<Interned>
 }
 
 // The row that the symbol would become: a name is empty where its length is 0.
+#[inline(always)]
 fn upcoming_row(table: &Table<'_>, conversion: &[u64], upcoming: UpcomingSymbol) -> Row
     ensures { let t = table_in table.now in result ≡ row_of t.link.gabi conversion.now upcoming (empty_at t.names (name_of upcoming)) }
 {
@@ -86,6 +88,7 @@ fn direct_holder(
 
 // The row that is to be added, under its name's holder: what is decided.
 // Kept: a number, as symbol_resolution::resolve tells it.
+#[inline(always)]
 #[tactic(auto, unfolding(crate::specs::Add::decided_of))]
 fn decide(table: &Table<'_>, row: Row, file: Option<Interned>) -> Result<Resolution, u64>
     ensures decision { decision_of result ≡ decided_of (table_in table.now) row file }
@@ -109,6 +112,7 @@ fn place_of(l: Link, row: Row, file: Option<Interned>, number: u64) -> usize
 
 // Writes what was decided.
 // Kept: a number, as symbol_resolution::resolve tells it.
+#[inline(always)]
 #[tactic(auto, unfolding(crate::specs::Add::committed_of, symbol_resolution::specs::Apply::apply_of))]
 fn commit(
     table: &mut Table<'_>,
@@ -133,6 +137,7 @@ fn commit(
     }
 }
 
+#[inline(always)]
 #[tactic(auto, unfolding(crate::specs::Add::add_row_of))]
 fn add_row(table: &mut Table<'_>, row: Row, file: Option<Interned>) -> Result<SymbolId, Refusal>
     ensures same { same_loans table.old table.new }
@@ -143,6 +148,8 @@ fn add_row(table: &mut Table<'_>, row: Row, file: Option<Interned>) -> Result<Sy
 }
 
 // The id of the symbol, which has its own row or its name's.
+// Inlined, as what it calls: else the link and the row go through memory.
+#[inline(always)]
 #[tactic(auto, unfolding(crate::specs::Add::add_of, link::specs::Judge::judged))]
 pub fn add(
     table: &mut Table<'_>,

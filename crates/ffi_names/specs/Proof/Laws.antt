@@ -11,7 +11,7 @@ use Rattle.interner.specs.Calls.{left, lent, issue_of, intern_of}
 use Rattle.ffi_names.specs.Calls.{first_byte}
 
 -- the two cases of a test
-pick : {A : Type 0} (P : A → Type 0) (t : Bool) (a b : A) → (t ≡ true → P a) → (t ≡ false → P b) → P (cond t a b)
+pub pick : {A : Type 0} (P : A → Type 0) (t : Bool) (a b : A) → (t ≡ true → P a) → (t ≡ false → P b) → P (cond t a b)
 pick P true a b f g = f refl
 pick P false a b f g = g refl
 

@@ -10,7 +10,7 @@ use Rattle.std.specs.Int.{w64}
 use Rattle.cells.specs.Proof.Split.{by-test}
 use Rattle.byte_slices.specs.Proof.Ways.{apart}
 use Rattle.link.specs.declared.Interned.{Interned}
-use Rattle.interner.specs.Names.{Store, room_of, keep_of, added}
+use Rattle.interner.specs.Names.{Store, room_of, keep_at, added_at}
 use Rattle.elf_object.specs.Judge.{range_ok}
 use Rattle.elf_object.specs.Rows.{rows_in}
 use Rattle.elf_object.specs.Proof.Ways.{one_less}
@@ -19,11 +19,11 @@ use Rattle.merge_build.specs.Build.{Object, State, lists_fit, section_of, build_
 -- ---- what is planned
 
 -- a name that is issued leaves the lists
-pub keep-lists : (s : Store) (id : Interned) (x : List ℕ) → (keep_of s id x).link.lists ≡ s.link.lists
-unfolding keep_of
-keep-lists s id x = go (ltb id.0 s.link.names) (room_of s (length x))
+pub keep-lists : (s : Store) (id : Interned) (head : ℕ) (x : List ℕ) → (keep_at s id head x).link.lists ≡ s.link.lists
+unfolding keep_at
+keep-lists s id head x = go (ltb id.0 s.link.names) (room_of s (length x))
   where
-    go : (a b : Bool) → (cond a s (cond b (added s x) s)).link.lists ≡ s.link.lists
+    go : (a b : Bool) → (cond a s (cond b (added_at s head x) s)).link.lists ≡ s.link.lists
     go true b = refl
     go false true = refl
     go false false = refl

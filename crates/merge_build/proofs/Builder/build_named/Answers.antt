@@ -6,7 +6,7 @@ use Rattle.merge_build.proofs.Builder.build_named.Goals.{else-known-via-then-kno
 
 pub build_row-requires : goal.build_row-requires
 build_row-requires c =
-    rw (ap (λ (s : Store). s.link.lists) c.keep.ensures.kept ∙ keep-lists _ _ _)
+    rw (ap (λ (s : Store). s.link.lists) c.keep_at.ensures.kept ∙ keep-lists _ _ _ _)
     (elim c.else-known.branch [
       | else-known-via-then-known+else-not-lists_fit w ↦ search rules
       | else-known-via-else-known w ↦ search rules

@@ -1,6 +1,6 @@
 use Rattle.std.proofs.Common.{arith, ◌∙◌, refl}
 use Rattle.cells.specs.Proof.Rows.{put_row-none, put_row-more}
-use Rattle.cells.proofs.writes.row_store.Goals as goal
+use Rattle.cells.proofs.writes.store_cut.Goals as goal
 
 pub loop-f-init : goal.loop-f-init
 loop-f-init c = put_row-none _ _ c.args.row
