@@ -13,8 +13,7 @@ use Rattle.elf_object.specs.Rows.{rows_in, field, elf_at}
 
 -- ---- the list
 
--- row k: an object's symbol row, but its name's id for the name's offset, and in the last cell 0, or its file's name id and 1. The cell before it
--- isn't read: it is 2026-06's size
+-- row k: an object's symbol row, but its name's id for the name's offset, and in the last cell 0, or its file's name id and 1
 abbrev pub item_at : List ℕ → ℕ → UpcomingSymbol
 item_at adds k = Elf (elf_at adds k) (record { 0 = field adds k 0 }) (file_at (field adds k 7))
 

@@ -1,5 +1,5 @@
 // A list of adds in a single call, under one conversion: the direct adds one by one, up to the first that is refused. A row of the list has 8 cells:
-// the name's id, binding, type, visibility, section, value, one that isn't read, and the file: 0, or its name's id and 1. But for the name and the
+// the name's id, binding, type, visibility, section, value, size, and the file: 0, or its name's id and 1. But for the name and the
 // file these are the cells of an object's symbol row (elf_object).
 #![tactic(auto)]
 

@@ -26,6 +26,7 @@ fn fill(table: &mut OwnedTable, names: &[String]) -> Result<(), Refusal> {
                 kind: STT_FUNC,
                 section: SHN_ABS,
                 value: n as u64,
+                size: 0,
             };
             table.add_elf(&[0], name.as_bytes(), elf)?;
         }

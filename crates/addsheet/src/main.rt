@@ -94,6 +94,7 @@ fn symbol_in(line: &[u8]) -> Result<ElfSymbol, Fault> {
         kind: number_in(line, 3, "type")?,
         section: number_in(line, 4, "section")?,
         value: number_in(line, 5, "value")?,
+        size: 0,
     })
 }
 

@@ -37,6 +37,7 @@ impl fmt::Display for Value {
             SymbolValue::SectionNotLoaded => f.write_str("notloaded 0"),
             SymbolValue::ExternallyDefined => f.write_str("external 0"),
             SymbolValue::Undefined { zero } => write!(f, "undef {}", u8::from(zero)),
+            SymbolValue::Common { alignment } => write!(f, "com {alignment}"),
         }
     }
 }

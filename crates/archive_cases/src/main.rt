@@ -46,6 +46,7 @@ const REFERENCE: ElfSymbol = ElfSymbol {
     kind: STT_NOTYPE,
     section: SHN_UNDEF,
     value: 0,
+    size: 0,
 };
 
 // ---- walks

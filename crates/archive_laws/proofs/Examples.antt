@@ -9,6 +9,7 @@ use Rattle.link.specs.Judge.{judge_sections, judge_names, judge_lists, after_sym
 use Rattle.keyed_hash.specs.Keyed as Keyed
 use Rattle.interner.specs.Hash.{spread, head_cell}
 use Rattle.interner.specs.Names.{chase, seek_of, find_from, find_of}
+use Rattle.symbol.specs.Layout.{scope_in}
 use Rattle.symbol_resolution.specs.Holder.{held_by, holder_of}
 use Rattle.symbol_resolution.specs.RowsUndefined.{strong_undefined}
 use Rattle.archive_index.specs.Index.{count_of, offset_of, after_of, cut_of}
@@ -21,7 +22,7 @@ use Rattle.archive_laws.specs.Runs.{step_run, history, start_run}
 use Rattle.archive_laws.specs.Examples.{All, Right, first_tied, in_both, nothing, p10, p10_in, p11, p11_in, removed_later, weak_ties, weak_ties_none}
 
 pub examples : All (in_both p10_in (in_both p11_in (in_both first_tied (in_both removed_later (in_both nothing (weak_ties ∷ weak_ties_none ∷ []))))))
-unfolding before_zero ended name_at put_row same lesser judge_sections judge_names judge_lists after_symbols after_sections judge_of word_at Keyed.folded Keyed.mixed Keyed.hash_from Keyed.point_of Keyed.hash_of spread head_cell chase seek_of find_from find_of held_by holder_of count_of offset_of after_of cut_of Rows.descend Rows.spot_of Rows.enter_of Rows.enter_all Rows.no_heads Rows.rows_of open_rows_of open_names_of open_entries_of open_of name_chain along bears_of borne_from chained headed_of noted_of judge_table name_holder removed_name strong_undefined ties_row tied_name begun_of start_of offer_of marked enqueue tie_of tie_all removed_of make_of search_of pass_of walk_fits go_of next_of step_run history start_run
+unfolding before_zero ended name_at put_row same lesser judge_sections judge_names judge_lists after_symbols after_sections judge_of word_at Keyed.folded Keyed.mixed Keyed.hash_from Keyed.point_of Keyed.hash_of spread head_cell chase seek_of find_from find_of held_by holder_of count_of offset_of after_of cut_of Rows.descend Rows.spot_of Rows.enter_of Rows.enter_all Rows.no_heads Rows.rows_of open_rows_of open_names_of open_entries_of open_of name_chain along bears_of borne_from chained headed_of noted_of judge_table name_holder removed_name strong_undefined ties_row tied_name begun_of start_of offer_of marked enqueue tie_of tie_all removed_of make_of search_of pass_of walk_fits go_of next_of step_run history start_run scope_in
 examples =
     ((refl, refl, refl), ((refl, refl, refl), ((refl, refl, refl), ((refl, refl, refl), ((refl, refl, refl), ((refl, refl, refl), ((refl, refl, refl), ((refl, refl, refl), ((refl, refl, refl), ((refl, refl, refl), ((refl, refl, refl), ((refl, refl, refl), tt))))))))))))
 

@@ -36,6 +36,7 @@ const REFERENCE: ElfSymbol = ElfSymbol {
     kind: STT_NOTYPE,
     section: SHN_UNDEF,
     value: 0,
+    size: 0,
 };
 
 // Kept: archive_cases' goes to another sink; they are two programs, and a library of one line would be longer.

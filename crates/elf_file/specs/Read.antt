@@ -6,7 +6,7 @@ use Rattle.std.specs.Prelude.{ℕ, zero, suc, ◌+◌, ◌*◌, cond, List, [], 
 use Rattle.cells.specs.Rows.{put_row}
 use Rattle.elf_object.specs.Rows.{row_width}
 use Rattle.elf_file.specs.declared.Header.{Header}
-use Rattle.gabi.specs.File.{section_count, header_table, name_section, symbol_at, st_name, st_bind, st_type, st_visibility, st_shndx, st_value, r_sym, rel_at, rela_at, member_at, bytes_at, sht_rel, sht_group}
+use Rattle.gabi.specs.File.{section_count, header_table, name_section, symbol_at, st_name, st_bind, st_type, st_visibility, st_shndx, st_value, st_size, r_sym, rel_at, rela_at, member_at, bytes_at, sht_rel, sht_group}
 use Rattle.elf_file.specs.File.{header_at}
 use Rattle.elf_file.specs.Check.{file_refusal}
 use Rattle.elf_file.specs.declared.rows.Room.{Room}
@@ -24,7 +24,7 @@ headers_into file names table l i e c (suc k) =
 -- ---- rows of symbols
 
 unfoldable pub symbol_row : List ℕ → List ℕ
-symbol_row e = st_name e ∷ st_bind e ∷ st_type e ∷ st_visibility e ∷ st_shndx e ∷ st_value e ∷ 0 ∷ 0 ∷ []
+symbol_row e = st_name e ∷ st_bind e ∷ st_type e ∷ st_visibility e ∷ st_shndx e ∷ st_value e ∷ st_size e ∷ 0 ∷ []
 
 -- the bytes of a section
 abbrev pub bytes_of : List ℕ → Header → List ℕ

@@ -71,6 +71,8 @@ pub const ST_SHNDX: usize = 6;
 
 pub const ST_VALUE: usize = 8;
 
+pub const ST_SIZE: usize = 16;
+
 pub const REL_SIZE: usize = 16;
 
 pub const RELA_SIZE: usize = 24;

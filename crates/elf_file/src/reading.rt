@@ -121,10 +121,11 @@ fn symbol_row(entry: &[u8], rows: &mut [u64], i: usize)
     let other = crate::byte(entry, crate::ST_OTHER);
     let section = crate::half(entry, crate::ST_SHNDX);
     let value = crate::xword(entry, crate::ST_VALUE);
+    let size = crate::xword(entry, crate::ST_SIZE);
     cells::row_store(
         rows,
         i,
-        [name, info / 16, info % 16, other % 4, section, value, 0, 0],
+        [name, info / 16, info % 16, other % 4, section, value, size, 0],
     );
 }
 

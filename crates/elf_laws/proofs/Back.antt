@@ -40,15 +40,15 @@ header-back h f =
       word_back h.info f.info,
     )
 
-pub symbol-back : (name bind type visibility section value : ℕ) → name < 0x100000000 → bind < 16 → type < 16 → visibility < 4 → section < 0x10000
-    → value < 0x10000000000000000
-    → symbol_row (symbol_bytes name bind type visibility section value) ≡ name ∷ bind ∷ type ∷ visibility ∷ section ∷ value ∷ 0 ∷ 0 ∷ []
+pub symbol-back : (name bind type visibility section value size : ℕ) → name < 0x100000000 → bind < 16 → type < 16 → visibility < 4 → section < 0x10000
+    → value < 0x10000000000000000 → size < 0x10000000000000000
+    → symbol_row (symbol_bytes name bind type visibility section value size) ≡ name ∷ bind ∷ type ∷ visibility ∷ section ∷ value ∷ size ∷ 0 ∷ []
 unfolding symbol_row word_at half_at xword_at
-symbol-back name bind type visibility section value a b c d e f =
+symbol-back name bind type visibility section value size a b c d e f g =
     let p : (bind * 16 + type) / 16 ≡ bind = omega arith in
     let q : (bind * 16 + type) % 16 ≡ type = omega arith in
     let r : visibility % 4 ≡ visibility = omega arith in
-    rw (word_back name a, p, q, r, half_back section e, xword-back value f)
+    rw (word_back name a, p, q, r, half_back section e, xword-back value f, xword-back size g)
 
 pub entry-back : {s : ℕ} (xs : List (Sized s)) (x : Sized s) (i : ℕ) → i < length xs → part (joined xs) (i * s) s ≡ (get_or xs i x).bytes
 unfolding joined

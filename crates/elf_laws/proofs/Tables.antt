@@ -30,15 +30,17 @@ pub record Symbol : Type 0 where
   pub visibility : ℕ
   pub section : ℕ
   pub value : ℕ
+  pub size : ℕ
   pub name-fits : name < 0x100000000
   pub bind-fits : bind < 16
   pub kind_fits : kind < 16
   pub visibility-fits : visibility < 4
   pub section-fits : section < 0x10000
   pub value-fits : value < 0x10000000000000000
+  pub size-fits : size < 0x10000000000000000
 
 abbrev pub symbol_entry : Symbol → Sized 24
-symbol_entry x = record { bytes = symbol_bytes x.name x.bind x.kind x.visibility x.section x.value; is = refl }
+symbol_entry x = record { bytes = symbol_bytes x.name x.bind x.kind x.visibility x.section x.value x.size; is = refl }
 
 abbrev pub symbol_entries : List Symbol → List (Sized 24)
 symbol_entries [] = []
@@ -46,7 +48,7 @@ symbol_entries (x ∷ xs) = symbol_entry x ∷ symbol_entries xs
 
 abbrev pub symbol_rows : List Symbol → List ℕ
 symbol_rows [] = []
-symbol_rows (x ∷ xs) = (x.name ∷ x.bind ∷ x.kind ∷ x.visibility ∷ x.section ∷ x.value ∷ 0 ∷ 0 ∷ []) ++ symbol_rows xs
+symbol_rows (x ∷ xs) = (x.name ∷ x.bind ∷ x.kind ∷ x.visibility ∷ x.section ∷ x.value ∷ x.size ∷ 0 ∷ []) ++ symbol_rows xs
 
 symbols-behind : (x : Sized 24) (l : List ℕ) (k j : ℕ) → symbols_from (x.bytes ++ l) (j + 1) k ≡ symbols_from l j k
 unfolding symbols_from
@@ -59,7 +61,7 @@ symbols-back [] = refl
 symbols-back (x ∷ xs) =
     ap₂ ◌++◌
     (ap symbol_row (entry_first 24 (symbol_entry x) (joined (symbol_entries xs)))
-    ∙ symbol-back x.name x.bind x.kind x.visibility x.section x.value x.name-fits x.bind-fits x.kind_fits x.visibility-fits x.section-fits x.value-fits)
+    ∙ symbol-back x.name x.bind x.kind x.visibility x.section x.value x.size x.name-fits x.bind-fits x.kind_fits x.visibility-fits x.section-fits x.value-fits x.size-fits)
     (symbols-behind (symbol_entry x) (joined (symbol_entries xs)) (length xs) 0 ∙ symbols-back xs)
 
 -- ---- relocations: of each its symbol; the place, the type and the addend are whatever the writer gives

@@ -29,8 +29,8 @@ pub record Fields (h : Header) : Type 0 where
 
 -- ---- a symbol
 
-abbrev pub symbol_bytes : ℕ → ℕ → ℕ → ℕ → ℕ → ℕ → List ℕ
-symbol_bytes name bind type visibility section value = le4 name ((bind * 16 + type) ∷ visibility ∷ le2 section (le8 value (le8 0 [])))
+abbrev pub symbol_bytes : ℕ → ℕ → ℕ → ℕ → ℕ → ℕ → ℕ → List ℕ
+symbol_bytes name bind type visibility section value size = le4 name ((bind * 16 + type) ∷ visibility ∷ le2 section (le8 value (le8 size [])))
 
 -- ---- entries of one size, one after the other
 

@@ -9,7 +9,6 @@ use Rattle.cells.specs.Proof.Split.{by-test}
 use Rattle.gabi.specs.StringTable.{same_name, among}
 use Rattle.gabi.proofs.StringTableLaws.{same-eq, same_refl}
 use Rattle.gabi.specs.SymbolTable.{Sym, is_global, is_weak, is_definition}
-use Rattle.gabi.specs.Resolution.{is_weak_definition}
 use Rattle.gabi.specs.Archive.{Named, offers, extracts}
 use Rattle.extraction_laws.specs.Some.{In, here, there, some}
 use Rattle.extraction_laws.proofs.Some.{clash, and_in, and_left, and_right, or_left, or_right, or-out, or-none, both_ways, some_in, some_out, some_same}
@@ -27,9 +26,13 @@ taken_in gabi tied member = admits_in gabi (λ x. tied x && lists member x) memb
 abbrev pub taken : (List ℕ → Bool) → List Named → Bool
 taken undefined member = taken_in false undefined member
 
+-- a weak symbol that is a definition, common or not
+abbrev pub weakly_defines : Sym → Bool
+weakly_defines s = is_weak s && is_definition s
+
 -- a weak definition of the member bears a wanted name
 abbrev pub weak_offers : List (List ℕ) → List Named → Bool
-weak_offers wanted member = some (λ e. is_weak_definition e.symbol && among e.name wanted) member
+weak_offers wanted member = some (λ e. weakly_defines e.symbol && among e.name wanted) member
 
 -- ---- the gABI's extraction, as a test on some symbol
 
@@ -38,15 +41,15 @@ unfolding extracts some
 extracts-some [] wanted = refl
 extracts-some (e ∷ member) wanted = rw (extracts-some member wanted)
 
-global-offers : (s : Sym) → offers s ≡ true → is_global s ≡ false → is_weak_definition s ≡ true
-unfolding offers is_weak_definition
+global-offers : (s : Sym) → offers s ≡ true → is_global s ≡ false → weakly_defines s ≡ true
+unfolding offers
 global-offers s o g =
     let d : is_definition s ≡ true = and_right (is_global s || is_weak s) (is_definition s) o in
     let w : is_global s || is_weak s ≡ true = and_left (is_global s || is_weak s) (is_definition s) o in
     or-out (is_global s) (is_weak s) w (λ p. clash (is_global s) p g) (λ p. and_in (is_weak s) (is_definition s) p d)
 
-weak-offers : (s : Sym) → is_weak_definition s ≡ true → offers s ≡ true
-unfolding offers is_weak_definition
+weak-offers : (s : Sym) → weakly_defines s ≡ true → offers s ≡ true
+unfolding offers
 weak-offers s h =
     and_in (is_global s || is_weak s) (is_definition s) (or_right (is_global s) (is_weak s) (and_left (is_weak s) (is_definition s) h)) (and_right (is_weak s) (is_definition s) h)
 
@@ -64,7 +67,7 @@ module _ (member : List Named) where
     taking e = is_global e.symbol && (undefined e.name && lists member e.name)
 
     abbrev weakly : Named → Bool
-    weakly e = is_weak_definition e.symbol && among e.name wanted
+    weakly e = weakly_defines e.symbol && among e.name wanted
 
     extracted-then : some offering member ≡ true → some taking member || some weakly member ≡ true
     extracted-then h = go (some_out offering member h)
@@ -89,7 +92,7 @@ module _ (member : List Named) where
                 (and_in (undefined e.name) (lists member e.name) (agree e.name listed ∙ w) listed)))
             by false g =
                 or_right (some taking member) (some weakly member)
-                (some_in weakly member e i (and_in (is_weak_definition e.symbol) (among e.name wanted) (global-offers e.symbol o g) w))
+                (some_in weakly member e i (and_in (weakly_defines e.symbol) (among e.name wanted) (global-offers e.symbol o g) w))
 
     taken_then : some taking member ≡ true → some offering member ≡ true
     taken_then h = go (some_out taking member h)
@@ -118,8 +121,8 @@ module _ (member : List Named) where
         go : ((e : Named) × In e member × (weakly e ≡ true)) → some offering member ≡ true
         go (e, i, q) =
             some_in offering member e i
-            (and_in (offers e.symbol) (among e.name wanted) (weak-offers e.symbol (and_left (is_weak_definition e.symbol) (among e.name wanted) q))
-            (and_right (is_weak_definition e.symbol) (among e.name wanted) q))
+            (and_in (offers e.symbol) (among e.name wanted) (weak-offers e.symbol (and_left (weakly_defines e.symbol) (among e.name wanted) q))
+            (and_right (weakly_defines e.symbol) (among e.name wanted) q))
 
     pub extracts-is : extracts member wanted ≡ taken undefined member || weak_offers wanted member
     extracts-is =

@@ -3,11 +3,11 @@
 use Rattle.std.specs.Prelude.{ℕ, ◌<◌, ◌≡◌, refl, Bool, true, false, not, ◌&&◌, ◌||◌, List, [], ◌∷◌, eqb, leb}
 use Rattle.std.proofs.Common.{arith, sym, ◌∙◌}
 use Rattle.std.proofs.lemmas.Bool.{false≢true}
-use borrow.Author.Tests.{lt-leb, ne_eqb, leb-false}
+use borrow.Author.Tests.{eqb-true, lt-leb, ne_eqb, leb-false}
 use Rattle.cells.specs.Proof.Split.{by-test}
 use Rattle.link.specs.Said.{number_in}
 use Rattle.gabi.specs.SymbolTable.{Sym}
-use Rattle.gabi.specs.Resolution.{Resolution, defined, duplicate, unresolved, zero_value, resolve}
+use Rattle.gabi.specs.Resolution.{Resolution, defined, common, duplicate, unresolved, zero_value, resolve}
 use Rattle.gabi.specs.Archive.{is_unresolved, wants}
 use Rattle.interner.specs.Names.{find_of}
 use Rattle.symbol.specs.declared.Row.{Row}
@@ -25,6 +25,7 @@ use Rattle.archive_walk.specs.Look.{Table, table_of, name_holder, undefined_name
 -- weak references, and nothing else
 abbrev pub is_zero_value : Resolution → Bool
 is_zero_value (defined k) = false
+is_zero_value (common k) = false
 is_zero_value duplicate = false
 is_zero_value unresolved = false
 is_zero_value zero_value = true
@@ -36,6 +37,9 @@ refers : (b w : Bool) → not (not b) && w ≡ true → b ≡ true
 refers true w q = refl
 refers false w q = q
 
+common-not : (kind : ℕ) → eqb kind 8 ≡ true → eqb kind 7 ≡ false
+common-not kind e = let q : kind ≡ 8 = eqb-true _ _ e in rw q
+
 -- what agrees with the gABI's resolution is undefined just there
 pub row-undefined : (gabi : Bool) (c : Row) (cs : List Row) (g : Sym) (gs : List Sym) (row : Row) (v : Resolution) → Agrees gabi c cs g gs row v
     → eqb row.value.kind 7 ≡ is_unresolved v || is_zero_value v
@@ -45,6 +49,7 @@ row-undefined gabi c cs g gs row (defined k) a = defined-not (eqb row.value.kind
     defined-not : (b : Bool) → not b ≡ true → b ≡ false
     defined-not true q = sym q
     defined-not false q = refl
+row-undefined gabi c cs g gs row (common k) a = common-not row.value.kind a.1
 row-undefined gabi c cs g gs row duplicate a = absurd a
 row-undefined false c cs g gs row unresolved a = undefined-is (eqb row.value.kind 7) a.1
   where
@@ -64,6 +69,7 @@ row-strong c cs g gs row (defined k) a = defined-not (eqb row.value.kind 7) (not
     defined-not true w q = absurd (false≢true q)
     defined-not false w q = refl
 row-strong c cs g gs row duplicate a = absurd a
+row-strong c cs g gs row (common k) a = rw (common-not row.value.kind a.1)
 row-strong c cs g gs row unresolved a = refers-so (eqb row.value.kind 7) (weak row) a.1
   where
     refers-so : (b w : Bool) → not (not b) && not w ≡ true → b && not w ≡ true

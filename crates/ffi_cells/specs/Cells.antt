@@ -12,6 +12,7 @@ use Rattle.symbol.specs.declared.SymbolVisibility.TheVariants.{Local, Global}
 use Rattle.symbol.specs.declared.Row.{Row}
 use Rattle.symbol.specs.declared.Words.{Words}
 use Rattle.symbol.specs.Codes.{file_at, file_cell, value_at, words_are, words_of}
+use Rattle.symbol.specs.Layout.{common_kind}
 use Rattle.upcoming_symbol.specs.declared.ElfSymbol.{ElfSymbol}
 use Rattle.upcoming_symbol.specs.declared.UpcomingSymbol.{UpcomingSymbol}
 use Rattle.upcoming_symbol.specs.declared.UpcomingSymbol.TheVariants.{Null, GlobalUnknown, GlobalHidden, Section, ExternallyDefined, Elf}
@@ -33,23 +34,23 @@ visibility_code Local = 0
 visibility_code (Global weak hidden) = global_code weak hidden
 
 unfoldable pub symbol_row : Symbol → Row
-symbol_row s = row_are s.name (type_code s.kind) (file_cell s.file) (visibility_code s.visibility) (words_of s.value)
+symbol_row s = row_are s.name (type_code s.kind) (file_cell s.file) (visibility_code s.visibility) (words_of s.value) s.size
 
--- the id, 1 for a present row, then the row's fields
+-- the id, 1 for a present row, then the row's fields, the size last
 unfoldable pub row_out : List ℕ → SymbolId → Row → List ℕ
 row_out out id r =
-    set (put_row out 0 (id.0 ∷ 1 ∷ r.name.0 ∷ r.kind ∷ r.file ∷ r.visibility ∷ r.value.kind ∷ r.value.a ∷ [])) 8 r.value.b
+    set (set (put_row out 0 (id.0 ∷ 1 ∷ r.name.0 ∷ r.kind ∷ r.file ∷ r.visibility ∷ r.value.kind ∷ r.value.a ∷ [])) 8 r.value.b) 9 r.size
 
 unfoldable pub symbol_out : List ℕ → Symbol → List ℕ
 symbol_out out s = row_out out s.id (symbol_row s)
 
--- ---- a symbol that is to be added: eight cells, the variant and its fields
+-- ---- a symbol that is to be added: nine cells, the variant and its fields
 
 -- an unknown variant, or an unknown kind of value, is no symbol
 unfoldable pub is_item : List ℕ → Bool
 is_item item =
-    cond (ltb (length item) 8) false
-    (cond (ltb 5 (get_or item 0 0)) false (cond (eqb (get_or item 0 0) 2) (cond (ltb 7 (get_or item 2 0)) false true) true))
+    cond (ltb (length item) 9) false
+    (cond (ltb 5 (get_or item 0 0)) false (cond (eqb (get_or item 0 0) 2) (cond (ltb common_kind (get_or item 2 0)) false true) true))
 
 unfoldable pub name_in : List ℕ → ℕ → Interned
 name_in item i = record { 0 = get_or item i 0 }
@@ -65,6 +66,7 @@ elf_in item =
       kind = get_or item 3 0;
       section = get_or item 4 0;
       value = get_or item 5 0;
+      size = get_or item 8 0;
     }
 
 unfoldable pub item_in : List ℕ → UpcomingSymbol

@@ -36,6 +36,7 @@ fn put_row(out: &mut [u64], id: SymbolId, row: Row)
         ],
     );
     cells::put(out, 8, row.value.b);
+    cells::put(out, 9, row.size);
 }
 
 #[tactic(auto, unfolding(crate::specs::Cells::symbol_row, crate::specs::Cells::global_code))]
@@ -48,6 +49,7 @@ fn row_of(s: Symbol) -> Row
         file: symbol::file_cell(s.file),
         visibility: s.visibility.into(),
         value: s.value.into(),
+        size: s.size,
     }
 }
 
@@ -72,14 +74,14 @@ const EXTERNALLY_DEFINED: u64 = 4;
 
 const ELF: u64 = 5;
 
-// Eight cells: the variant, then its fields. An unknown variant, or an unknown kind of value, is no symbol.
+// Nine cells: the variant, then its fields. An unknown variant, or an unknown kind of value, is no symbol.
 #[tactic(auto, unfolding(crate::specs::Cells::is_item))]
 pub fn is_item(item: &[u64]) -> bool
     ensures { result ≡ is_item item.now }
 {
-    item.len() >= 8
+    item.len() >= 9
         && match cells::get(item, 0) {
-            GLOBAL_HIDDEN => cells::get(item, 2) <= symbol::KIND_UNDEFINED,
+            GLOBAL_HIDDEN => cells::get(item, 2) <= symbol::KIND_COMMON,
             variant => variant <= ELF,
         }
 }
@@ -93,6 +95,7 @@ fn elf_in(item: &[u64]) -> ElfSymbol
         kind: cells::get(item, 3),
         section: cells::get(item, 4),
         value: cells::get(item, 5),
+        size: cells::get(item, 8),
     }
 }
 

@@ -26,9 +26,9 @@ abbrev pub found_of : List ℕ → List ℕ → Result Symbol Refusal → FoundL
 found_of h out (Ok s) = found_left (answer_of h (result_of 0 0 0 0)) (symbol_out out s)
 found_of h out (Err r) = found_left (answer_of h (refused_of r)) out
 
--- nine cells for a symbol
+-- ten cells for a symbol
 unfoldable pub no_room : List ℕ → Bool
-no_room out = ltb (length out) 9
+no_room out = ltb (length out) 10
 
 unfoldable pub look_call : List ℕ → List ℕ → Result Symbol Refusal → FoundLeft
 look_call h out f =

@@ -1,5 +1,5 @@
 // Lookups of symbols, for another language: the link and the answer lie in a header (ffi_cells), a symbol that was found in cells of its own
-// (ffi_cells). A header of fewer than 24 cells gives 1, and nothing is read or written; fewer than 9 cells for a symbol give 1 at place 0 and are
+// (ffi_cells). A header of fewer than 24 cells gives 1, and nothing is read or written; fewer than 10 cells for a symbol give 1 at place 0 and are
 // left.
 // Kept: slices one by one, as C lends them.
 ghost use Rattle.std.specs.Prelude.{◌≡◌};
@@ -13,7 +13,7 @@ use symbol::Symbol;
 use symbols::Symbols;
 
 // A symbol's id and the cells of its row.
-const SYMBOL_CELLS: usize = 9;
+const SYMBOL_CELLS: usize = 10;
 
 // A symbol that was found goes out; there are no values.
 fn found(header: &mut [u64], out: &mut [u64], a: Result<Symbol, Refusal>) -> u64

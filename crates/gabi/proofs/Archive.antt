@@ -4,7 +4,7 @@ use Rattle.std.specs.Prelude.{◌≡◌, refl, false, List, [], ◌∷◌, ltb}
 use Rattle.gabi.proofs.Split.{by-test}
 use Rattle.gabi.specs.StringTable.{among}
 use Rattle.gabi.specs.SymbolTable.{Sym}
-use Rattle.gabi.specs.Resolution.{resolve, has, count, is_global_definition, is_weak_definition, is_global_reference}
+use Rattle.gabi.specs.Resolution.{resolve, has, count, is_global_definition, is_common_definition, is_weak_definition, is_global_reference}
 use Rattle.gabi.specs.Archive.{is_unresolved, wants, Named, offers, extracts}
 
 -- ---- laws
@@ -16,7 +16,9 @@ weak-wants-nothing l h =
     by-test (ltb 1 (count is_global_definition l)) (λ a. rw a)
     (λ a.
     by-test (has is_global_definition l) (λ b. rw (a, b))
-    (λ b. by-test (has is_weak_definition l) (λ c. rw (a, b, c)) (λ c. rw (a, b, c, h))))
+    (λ b.
+    by-test (has is_common_definition l) (λ m. rw (a, b, m))
+    (λ m. by-test (has is_weak_definition l) (λ c. rw (a, b, m, c)) (λ c. rw (a, b, m, c, h)))))
 
 -- where nothing is wanted no member is extracted
 pub nothing-wanted : (member : List Named) → extracts member [] ≡ false

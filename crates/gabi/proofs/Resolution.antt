@@ -1,14 +1,14 @@
 -- Laws of the definitions of Resolution.antt.
 -- Assumes nothing.
 use Prim.Native.Nat.{ℕ, suc, ◌+◌, ◌<◌, suc-le-suc}
-use Rattle.std.specs.Prelude.{◌≡◌, Bool, true, false, ltb, length, get_or}
+use Rattle.std.specs.Prelude.{◌≡◌, Bool, true, false, not, ◌&&◌, ◌||◌, ltb, length, get_or}
 use Rattle.std.proofs.Common.{sym, ap, ◌∙◌, not-suc-le-zero}
 use mathlib.Core.List.{List, [], ◌∷◌, ◌++◌}
 use native.Mathlib.Omega.{arith}
 use borrow.Author.Tests.{ltb-true, lt-ltb, eqb-true}
 use Rattle.gabi.proofs.Split.{by-test, both}
-use Rattle.gabi.specs.SymbolTable.{Sym, stb_weak, is_global, is_weak, is_reference, is_definition}
-use Rattle.gabi.specs.Resolution.{is_global_definition, is_weak_definition, is_global_reference, count, has, first, Resolution, resolve, Found, defined, duplicate, unresolved, zero_value, by-global, by_weak}
+use Rattle.gabi.specs.SymbolTable.{Sym, stb_weak, shn_undef, is_global, is_weak, is_reference, is_definition, is_common}
+use Rattle.gabi.specs.Resolution.{is_global_definition, is_weak_definition, is_common_definition, is_global_reference, count, has, first, Resolution, resolve, Found, defined, common, duplicate, unresolved, zero_value, by-global, by_weak}
 
 -- ---- laws: counting
 
@@ -73,6 +73,9 @@ other n p q = absurd (n (sym p ∙ q))
 not-duplicate : (k : ℕ) → duplicate ≡ defined k → ⊥
 not-duplicate k e = let z : ◌≡◌ {A = ℕ} 0 1 = cc in omega arith
 
+not-common : (k j : ℕ) → common j ≡ defined k → ⊥
+not-common k j e = let z : ◌≡◌ {A = ℕ} 0 1 = cc in omega arith
+
 not-unresolved : (k : ℕ) → unresolved ≡ defined k → ⊥
 not-unresolved k e = let z : ◌≡◌ {A = ℕ} 0 1 = cc in omega arith
 
@@ -81,11 +84,11 @@ not-zero k e = let z : ◌≡◌ {A = ℕ} 0 1 = cc in omega arith
 
 global-defines : (s : Sym) → is_global_definition s ≡ true → is_definition s ≡ true
 unfolding is_global_definition
-global-defines s h = (both (is_global s) (is_definition s) h).1
+global-defines s h = (both (is_definition s) (not (is_common s)) (both (is_global s) (is_definition s && not (is_common s)) h).1).0
 
 weak-defines : (s : Sym) → is_weak_definition s ≡ true → is_definition s ≡ true
 unfolding is_weak_definition
-weak-defines s h = (both (is_weak s) (is_definition s) h).1
+weak-defines s h = (both (is_definition s) (not (is_common s)) (both (is_weak s) (is_definition s && not (is_common s)) h).1).0
 
 module _ (l : List Sym) (k : ℕ) where
   found : resolve l ≡ defined k → Found l k
@@ -95,40 +98,47 @@ module _ (l : List Sym) (k : ℕ) where
       (λ a.
       by-test (has is_global_definition l) (λ b. by-global a b (same_place (rw (a, b)) e))
       (λ b.
-      by-test (has is_weak_definition l) (λ c. by_weak a b c (same_place (rw (a, b, c)) e))
+      by-test (has is_common_definition l) (λ m. other (not-common k (first is_common_definition l)) (rw (a, b, m)) e)
+      (λ m.
+      by-test (has is_weak_definition l) (λ c. by_weak a b m c (same_place (rw (a, b, m, c)) e))
       (λ c.
-      by-test (has is_global_reference l) (λ d. other (not-unresolved k) (rw (a, b, c, d)) e)
-      (λ d. other (not-zero k) (rw (a, b, c, d)) e))))
+      by-test (has is_global_reference l) (λ d. other (not-unresolved k) (rw (a, b, m, c, d)) e)
+      (λ d. other (not-zero k) (rw (a, b, m, c, d)) e)))))
 
   -- the place is in the list, and a definition stands there
   placed : (d : Sym) → Found l k → (k < length l) × (is_definition (get_or l k d) ≡ true)
   unfolding has
   placed d (by-global a b e) =
       (rw e at (first-inside is_global_definition l (ltb-true _ _ b)), rw e at (global-defines _ (first_passes is_global_definition l d (ltb-true _ _ b))))
-  placed d (by_weak a b c e) =
+  placed d (by_weak a b m c e) =
       (rw e at (first-inside is_weak_definition l (ltb-true _ _ c)), rw e at (weak-defines _ (first_passes is_weak_definition l d (ltb-true _ _ c))))
 
   pub defined-there : (d : Sym) → resolve l ≡ defined k → (k < length l) × (is_definition (get_or l k d) ≡ true)
   defined-there d e = placed d (found e)
 
-  module _ (s : Sym) (n : is_global_definition s ≡ false) where
+  module _ (s : Sym) (n : is_global_definition s ≡ false) (o : is_common_definition s ≡ false) where
     still : Found l k → resolve (l ++ (s ∷ [])) ≡ defined k
     unfolding resolve has
     still (by-global a b e) =
         rw (count-other is_global_definition l s n, a, b) (ap defined (first-append is_global_definition l (s ∷ []) (ltb-true _ _ b) ∙ e))
-    still (by_weak a b c e) =
-        rw (count-other is_global_definition l s n, a, b, has-append is_weak_definition l (s ∷ []) c)
+    still (by_weak a b m c e) =
+        rw (count-other is_global_definition l s n, a, b, count-other is_common_definition l s o, m, has-append is_weak_definition l (s ∷ []) c)
         (ap defined (first-append is_weak_definition l (s ∷ []) (ltb-true _ _ c) ∙ e))
 
-    -- a symbol that is no global definition never takes a defined name over
+    -- a symbol that is neither a global definition nor a common one never takes a defined name over
     pub later : resolve l ≡ defined k → resolve (l ++ (s ∷ [])) ≡ defined k
     later e = still (found e)
 
--- such are the weak symbols and the references
-pub weak-later : (l : List Sym) (k : ℕ) (s : Sym) → is_weak s ≡ true → resolve l ≡ defined k → resolve (l ++ (s ∷ [])) ≡ defined k
+no-common : (s : Sym) → is_common s ≡ false → is_common_definition s ≡ false
+unfolding is_common_definition
+no-common s e = rw e (by-test (is_global s || is_weak s) (λ t. rw t) (λ t. rw t))
+
+-- such are the weak symbols that are not common, and the references
+pub weak-later : (l : List Sym) (k : ℕ) (s : Sym) → is_weak s ≡ true → is_common s ≡ false → resolve l ≡ defined k → resolve (l ++ (s ∷ [])) ≡ defined k
 unfolding is_global_definition is_weak is_global
-weak-later l k s w = later l k s (rw (eqb-true s.binding stb_weak w))
+weak-later l k s w o = later l k s (rw (eqb-true s.binding stb_weak w)) (no-common s o)
 
 pub reference-later : (l : List Sym) (k : ℕ) (s : Sym) → is_reference s ≡ true → resolve l ≡ defined k → resolve (l ++ (s ∷ [])) ≡ defined k
-unfolding is_global_definition is_definition
-reference-later l k s w = later l k s (rw w (by-test (is_global s) (λ t. rw t) (λ t. rw t)))
+unfolding is_global_definition is_definition is_reference is_common
+reference-later l k s w =
+    later l k s (rw w (by-test (is_global s) (λ t. rw t) (λ t. rw t))) (no-common s (rw (eqb-true s.section shn_undef w)))

@@ -31,4 +31,5 @@ number_of Cause.SecondSymbolTable = 24
 number_of Cause.ArchivedLibraryWithoutSoname = 25
 number_of Cause.NotAnObject = 26
 number_of Cause.BadTable = 27
+number_of Cause.CommonAlignment = 28
 number_of Cause.TooManySections = 30

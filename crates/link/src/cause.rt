@@ -35,6 +35,7 @@ pub enum Cause {
     ArchivedLibraryWithoutSoname = 25,
     NotAnObject = 26,
     BadTable = 27,
+    CommonAlignment = 28,
     TooManySections = 30,
 }
 

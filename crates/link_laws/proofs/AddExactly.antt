@@ -17,7 +17,8 @@ use Rattle.symbol.specs.declared.Row.{Row}
 use Rattle.symbol.specs.declared.SymbolValue.{SymbolValue}
 use Rattle.symbol.specs.declared.SymbolValue.TheVariants as Val
 use Rattle.symbol.specs.Codes.{words_of}
-use Rattle.symbol.specs.Layout.{refuses_scope, refuses_value}
+use Rattle.std.specs.Int.{is_power_of_two}
+use Rattle.symbol.specs.Layout.{refuses_scope, refuses_value, scope_in}
 use Rattle.symbol.specs.Row.{scope_refused, value_refused}
 use Rattle.upcoming_symbol.specs.declared.ElfSymbol.{ElfSymbol}
 use Rattle.upcoming_symbol.specs.declared.UpcomingSymbol.{UpcomingSymbol}
@@ -25,13 +26,13 @@ use Rattle.upcoming_symbol.specs.declared.UpcomingSymbol.TheVariants.{Null, Glob
 use Rattle.upcoming_symbol.specs.Judge as Upcoming
 use Rattle.upcoming_symbol.specs.Judge.{shown_of, hidden_of, section_in_range, elf_in_range, external_in_range, in_range}
 use Rattle.upcoming_symbol.specs.Upcoming as Row
-use Rattle.upcoming_symbol.specs.Upcoming.{in_section, conversion_from, converted_of, undefined_of, value_of, elf_row_of, library_code, external_row_of, name_of}
+use Rattle.upcoming_symbol.specs.Upcoming.{in_section, conversion_from, converted_of, undefined_of, common_of, common_by_binding, value_of, elf_row_of, library_code, external_row_of, given_words, name_of}
 use Rattle.symbol_resolution.specs.declared.rows.Holder.{Holder}
 use Rattle.symbol_resolution.specs.declared.rows.Holder.TheVariants.{Unissued, Nobody, Removed, Known}
 use Rattle.symbol_resolution.specs.Decision.{Decision}
 use Rattle.symbol_resolution.specs.Holder.{holder_of}
-use Rattle.symbol_resolution.specs.Decide.{weak_of, reference_rank, rank_of, type_refusal, section_cell, section_room, room_of, decide_of, refusal_of}
-use Rattle.symbol_resolution.specs.Proof.Outcomes.{absent_under, fresh_under, is_local_row, row_rank, Meets, held_rank, hides, scope-refused, name-absent, new-unvalued, new-untyped, new-full, new-appended, known-unvalued, known-untyped, known-replaced, known_twice, known_kept, known-amended}
+use Rattle.symbol_resolution.specs.Decide.{weak_of, reference_rank, rank_of, joins, type_refusal, section_cell, section_room, room_of, decide_of, refusal_of}
+use Rattle.symbol_resolution.specs.Proof.Outcomes.{absent_under, fresh_under, is_local_row, row_rank, Meets, held_rank, hides, scope-refused, name-absent, new-unvalued, new-untyped, new-full, new-appended, known-unvalued, known-untyped, known-replaced, known_twice, known-joined, known_kept, known-amended}
 use Rattle.symbols.specs.Add.{judge_add_of, file_of, file_issued, issued_of, direct_holder_of, unissued_file, place_of, decided_of, committed_of, empty_at, add_row_of, lent, add_of}
 use Rattle.symbol_laws.proofs.Standing.{library-number, library-refused, library-local, library-weak}
 use Rattle.symbol_laws.specs.History.{State, table}
@@ -40,7 +41,7 @@ use Rattle.link_laws.specs.Calls.{add, refusal_by, call_refusal}
 use Rattle.link_laws.specs.Rules.{Rule, first_refusal, head_rules}
 use Rattle.link_laws.proofs.Rules.{headed, first-is, not-below, head-rules, placeless-is}
 use Rattle.link_laws.proofs.Exactly.{holder-is}
-use Rattle.link_laws.specs.TableRules.{is_issued, is_empty, row_of, is_known, is_removed, is_weak_row, is_undefined_row, no_symbol_row, Value, undefined, common, sectionless, section, defined, is_undefined, is_common, is_sectionless, no_section_cell, Asked, conversion_in, placed_as, elf_value, given_value, asked, is_outside, is_unissued_file, file_id, is_local, is_fresh, replaces, shown_rules, issued_rules, held_rules, add_head, add_rules}
+use Rattle.link_laws.specs.TableRules.{is_issued, is_empty, row_of, is_known, is_removed, class_of, is_weak_row, is_undefined_row, is_common_row, no_symbol_row, Value, undefined, common, sectionless, section, defined, is_undefined, is_common, is_misaligned, is_sectionless, no_section_cell, Asked, conversion_in, placed_as, elf_value, given_value, asked, is_outside, is_unissued_file, file_id, is_local, is_fresh, replaces, shown_rules, issued_rules, held_rules, add_head, add_rules}
 
 -- ---- binding and visibility
 
@@ -107,39 +108,45 @@ module _ (b v : ℕ) where
 
 -- ---- values
 
--- the words of a row that a value becomes
-abbrev pub Reads : Value → Words → Type 0
-Reads undefined w = w.kind ≡ 7
-Reads common w = w.kind ≡ 13
-Reads sectionless w = w.kind ≡ 14
-Reads (section s) w = (w.kind ≡ 2) × (w.a ≡ s)
-Reads defined w = (refuses_value w.kind ≡ false) × (eqb w.kind 7 ≡ false) × (eqb w.kind 2 ≡ false)
+-- the words of a row that a value becomes; a common's by its binding
+abbrev pub Reads : ℕ → Value → Words → Type 0
+Reads b undefined w = w.kind ≡ 7
+Reads b (common a) w = w.kind ≡ cond (eqb b 0) 13 (cond (is_power_of_two a) 8 28)
+Reads b sectionless w = w.kind ≡ 14
+Reads b (section s) w = (w.kind ≡ 2) × (w.a ≡ s)
+Reads b defined w = (refuses_value w.kind ≡ false) × (eqb w.kind 7 ≡ false) × (eqb w.kind 2 ≡ false) × (eqb w.kind 8 ≡ false)
 
-converted-reads : (cell : ℕ) (empty : Bool) (v : ℕ) → Reads (placed_as (conversion_in cell) empty v) (converted_of (conversion_from cell) empty v)
+converted-reads : (b cell : ℕ) (empty : Bool) (v : ℕ) → Reads b (placed_as (conversion_in cell) empty v) (converted_of (conversion_from cell) empty v)
 unfolding converted_of conversion_from in_section
-converted-reads cell empty v =
+converted-reads o cell empty v =
     by-test (eqb cell 0) (λ a. rw a refl)
     (λ a.
-    by-test (eqb cell 1) (λ b. rw (a, b) (refl, refl, refl))
-    (λ b. rw (a, b) (by-test empty (λ c. rw c (by-test (eqb v 0) (λ d. rw d (refl, refl)) (λ d. rw d (refl, refl, refl)))) (λ c. rw c (refl, refl, refl)))))
+    by-test (eqb cell 1) (λ b. rw (a, b) (refl, refl, refl, refl))
+    (λ b. rw (a, b) (by-test empty (λ c. rw c (by-test (eqb v 0) (λ d. rw d (refl, refl)) (λ d. rw d (refl, refl, refl, refl)))) (λ c. rw c (refl, refl, refl, refl)))))
 
-pub elf-reads : (cell : ℕ) (e : ElfSymbol) (empty : Bool) → Reads (elf_value e (conversion_in cell) empty) (value_of (conversion_from cell) e empty)
-unfolding value_of undefined_of
+pub elf-reads : (cell : ℕ) (e : ElfSymbol) (empty : Bool) → Reads e.binding (elf_value e (conversion_in cell) empty) (value_of (conversion_from cell) e empty)
+unfolding value_of undefined_of common_by_binding common_of
 elf-reads cell e empty =
     by-test (eqb e.section 0) (λ a. rw a (by-test (eqb e.binding 2) (λ b. rw b refl) (λ b. rw b refl)))
     (λ a.
-    by-test (eqb e.section 0xfff1) (λ b. rw (a, b) (refl, refl, refl))
-    (λ b. by-test (eqb e.section 0xfff2) (λ c. rw (a, b, c) refl) (λ c. rw (a, b, c) (converted-reads cell empty e.value))))
+    by-test (eqb e.section 0xfff1) (λ b. rw (a, b) (refl, refl, refl, refl))
+    (λ b.
+    by-test (eqb e.section 0xfff2)
+    (λ c. rw (a, b, c) (by-test (eqb e.binding 0) (λ d. rw d refl) (λ d. rw d (by-test (is_power_of_two e.value) (λ f. rw f refl) (λ f. rw f refl)))))
+    (λ c. rw (a, b, c) (converted-reads e.binding cell empty e.value))))
 
-given-reads : (x : SymbolValue) → Reads (given_value x) (words_of x)
-given-reads Val.Null = (refl, refl, refl)
-given-reads (Val.Absolute v) = (refl, refl, refl)
+-- handed in under a strong global name
+given-reads : (x : SymbolValue) → Reads 1 (given_value x) (given_words x)
+unfolding given_words common_of
+given-reads Val.Null = (refl, refl, refl, refl)
+given-reads (Val.Absolute v) = (refl, refl, refl, refl)
 given-reads (Val.Section s) = (refl, refl)
-given-reads (Val.SectionRelative s z) = (refl, refl, refl)
-given-reads (Val.SectionVirtualAddress s v) = (refl, refl, refl)
-given-reads Val.SectionNotLoaded = (refl, refl, refl)
-given-reads Val.ExternallyDefined = (refl, refl, refl)
+given-reads (Val.SectionRelative s z) = (refl, refl, refl, refl)
+given-reads (Val.SectionVirtualAddress s v) = (refl, refl, refl, refl)
+given-reads Val.SectionNotLoaded = (refl, refl, refl, refl)
+given-reads Val.ExternallyDefined = (refl, refl, refl, refl)
 given-reads (Val.Undefined weak) = refl
+given-reads (Val.Common a) = by-test (is_power_of_two a) (λ f. rw f refl) (λ f. rw f refl)
 
 -- a section's symbol has a cell
 cell-is : (l : Link) (n s : ℕ) → ltb (section_cell l n s) n ≡ not (ltb (n / 9) l.slots || not (ltb s l.slots))
@@ -153,23 +160,82 @@ cell-is l n s =
     (λ b. rw (a, b, le-ltb n n (omega arith))))
 
 -- what the definitions ask of the words
-record Valued (t : State) (x : Value) (w : Words) : Type 0 where
-  refused-value : refuses_value w.kind ≡ is_common x || is_sectionless x
-  thirteen : is_common x ≡ true → w.kind ≡ 13
+record Valued (b : ℕ) (t : State) (x : Value) (w : Words) : Type 0 where
+  refused-value : refuses_value w.kind ≡ (eqb b 0 && is_common x) || is_misaligned x || is_sectionless x
+  thirteen : eqb b 0 && is_common x ≡ true → w.kind ≡ 13
+  twenty-eight : eqb b 0 && is_common x ≡ false → is_misaligned x ≡ true → w.kind ≡ 28
   fourteen : is_sectionless x ≡ true → w.kind ≡ 14
   undefined-value : refuses_value w.kind ≡ false → eqb w.kind 7 ≡ is_undefined x
+  common-value : refuses_value w.kind ≡ false → eqb w.kind 8 ≡ is_common x
   cell : cond (eqb w.kind 2) (cond (ltb (section_cell t.link (length t.sections) w.a) (length t.sections)) true false) true ≡ not (no_section_cell t x)
 
-valued : (t : State) (x : Value) (w : Words) → Reads x w → Valued t x w
-valued t undefined w e = record { refused-value = rw e; thirteen = λ q. absurd (false≢true q); fourteen = λ q. absurd (false≢true q); undefined-value = λ q. rw e; cell = rw e }
-valued t common w e = record { refused-value = rw e; thirteen = λ q. e; fourteen = λ q. absurd (false≢true q); undefined-value = λ q. rw e; cell = rw e }
-valued t sectionless w e = record { refused-value = rw e; thirteen = λ q. absurd (false≢true q); fourteen = λ q. e; undefined-value = λ q. rw e; cell = rw e }
-valued t (section s) w e = record { refused-value = rw e.0; thirteen = λ q. absurd (false≢true q); fourteen = λ q. absurd (false≢true q); undefined-value = λ q. rw e.0; cell = rw (e.0, e.1, cell-is t.link (length t.sections) s) (same (ltb (length t.sections / 9) t.link.slots || not (ltb s t.link.slots))) }
+local-none : (b : ℕ) → eqb b 0 && false ≡ false
+local-none b = by-test (eqb b 0) (λ e. rw e) (λ e. rw e)
+
+-- of a value that isn't common, by its kind
+module _ (b : ℕ) (t : State) (x : Value) (w : Words) (plain : is_common x ≡ false) (aligned : is_misaligned x ≡ false) where
+  plainly : refuses_value w.kind ≡ is_sectionless x → (is_sectionless x ≡ true → w.kind ≡ 14) → eqb w.kind 7 ≡ is_undefined x → eqb w.kind 8 ≡ false
+      → cond (eqb w.kind 2) (cond (ltb (section_cell t.link (length t.sections) w.a) (length t.sections)) true false) true ≡ not (no_section_cell t x)
+      → Valued b t x w
+  plainly p q u c d =
+      record {
+        refused-value = p ∙ sym (rw (plain, aligned, local-none b));
+        thirteen = λ e. absurd (false≢true (sym (local-none b) ∙ rw plain at e));
+        twenty-eight = λ n e. absurd (false≢true (sym aligned ∙ e));
+        fourteen = q;
+        undefined-value = λ n. u;
+        common-value = λ n. c ∙ sym plain;
+        cell = d;
+      }
+
+valued : (b : ℕ) (t : State) (x : Value) (w : Words) → Reads b x w → Valued b t x w
+valued b t undefined w e = plainly b t undefined w refl refl (rw e) (λ q. absurd (false≢true q)) (rw e) (rw e) (rw e)
+valued b t (common a) w e =
+    by-test (eqb b 0)
+    (λ o.
+    let k : w.kind ≡ 13 = rw o at e in
+    record {
+      refused-value = rw (k, o);
+      thirteen = λ q. k;
+      twenty-eight = λ n q. absurd (false≢true (sym (rw o at n)));
+      fourteen = λ q. absurd (false≢true q);
+      undefined-value = λ q. rw k;
+      common-value = λ q. absurd (false≢true (sym (rw k at q)));
+      cell = rw k;
+    })
+    (λ o.
+    by-test (is_power_of_two a)
+    (λ p.
+    let k : w.kind ≡ 8 = rw (o, p) at e in
+    record {
+      refused-value = rw (k, o, p);
+      thirteen = λ q. absurd (false≢true (rw o at q));
+      twenty-eight = λ n q. absurd (false≢true (rw p at q));
+      fourteen = λ q. absurd (false≢true q);
+      undefined-value = λ q. rw k;
+      common-value = λ q. rw k;
+      cell = rw k;
+    })
+    (λ p.
+    let k : w.kind ≡ 28 = rw (o, p) at e in
+    record {
+      refused-value = rw (k, o, p);
+      thirteen = λ q. absurd (false≢true (rw o at q));
+      twenty-eight = λ n q. k;
+      fourteen = λ q. absurd (false≢true q);
+      undefined-value = λ q. rw k;
+      common-value = λ q. absurd (false≢true (sym (rw k at q)));
+      cell = rw k;
+    }))
+valued b t sectionless w e = plainly b t sectionless w refl refl (rw e) (λ q. e) (rw e) (rw e) (rw e)
+valued b t (section s) w e =
+    plainly b t (section s) w refl refl (rw e.0) (λ q. absurd (false≢true q)) (rw e.0) (rw e.0)
+    (rw (e.0, e.1, cell-is t.link (length t.sections) s) (same (ltb (length t.sections / 9) t.link.slots || not (ltb s t.link.slots))))
   where
     same : (b : Bool) → cond (not b) true false ≡ not b
     same true = refl
     same false = refl
-valued t defined w e = record { refused-value = e.0; thirteen = λ q. absurd (false≢true q); fourteen = λ q. absurd (false≢true q); undefined-value = λ q. e.1; cell = rw e.2 }
+valued b t defined w e = plainly b t defined w refl refl e.0 (λ q. absurd (false≢true q)) e.1 e.3 (rw e.2)
 
 -- ---- the decision on a row that stands for what is asked
 
@@ -190,7 +256,7 @@ shown-library gabi k =
 pub record Stands (r : Row) (a : Asked) : Type 0 where
   pub kinds : r.kind ≡ a.kind
   pub shows : Shown r.visibility (Upcoming.judge_of a.binding a.visibility)
-  pub values : Reads a.value r.value
+  pub values : Reads a.binding a.value r.value
 
 -- number and place: 21 has its own
 abbrev pub answered : ℕ → ℕ → ℕ → Refusal
@@ -215,49 +281,50 @@ weak-is : (v : ℕ) → weak_of v ≡ eqb v 3 || eqb v 4
 unfolding weak_of
 weak-is v = by-test (eqb v 3) (λ e. rw e) (λ e. rw e (by-test (eqb v 4) (λ f. rw f) (λ f. rw f)))
 
--- ranks: undefined 0, in the gABI profile a strong reference 1; a weak definition 2, a strong one 4
-ranks : (gabi ru rk un wk : Bool)
-    → ltb (cond ru (cond gabi (cond rk 0 1) 0) (cond rk 2 4)) (cond un (cond gabi (cond wk 0 1) 0) (cond wk 2 4))
-    ≡ not un && (ru || rk && not wk) || gabi && un && not wk && ru && rk
-ranks true true true true true = refl
-ranks true true true true false = refl
-ranks true true true false true = refl
-ranks true true true false false = refl
-ranks true true false true true = refl
-ranks true true false true false = refl
-ranks true true false false true = refl
-ranks true true false false false = refl
-ranks true false true true true = refl
-ranks true false true true false = refl
-ranks true false true false true = refl
-ranks true false true false false = refl
-ranks true false false true true = refl
-ranks true false false true false = refl
-ranks true false false false true = refl
-ranks true false false false false = refl
-ranks false true true true true = refl
-ranks false true true true false = refl
-ranks false true true false true = refl
-ranks false true true false false = refl
-ranks false true false true true = refl
-ranks false true false true false = refl
-ranks false true false false true = refl
-ranks false true false false false = refl
-ranks false false true true true = refl
-ranks false false true true false = refl
-ranks false false true false true = refl
-ranks false false true false false = refl
-ranks false false false true true = refl
-ranks false false false true false = refl
-ranks false false false false true = refl
-ranks false false false false false = refl
+-- every choice of truth values passes
+abbrev every : (Bool → Bool) → Bool
+every f = f true && f false
 
-strongest : (gabi un wk : Bool) → eqb (cond un (cond gabi (cond wk 0 1) 0) (cond wk 2 4)) 4 ≡ not un && not wk
-strongest true true true = refl
-strongest true true false = refl
-strongest false true wk = refl
-strongest gabi false true = refl
-strongest gabi false false = refl
+each : (f : Bool → Bool) → every f ≡ true → (b : Bool) → f b ≡ true
+each f e true = by-test (f true) (λ h. h) (λ h. absurd (false≢true (rw h at e)))
+each f e false = by-test (f true) (λ h. rw h at e) (λ h. absurd (false≢true (rw h at e)))
+
+abbrev alike : Bool → Bool → Bool
+alike true b = b
+alike false b = not b
+
+are-alike : (a b : Bool) → alike a b ≡ true → a ≡ b
+are-alike true b e = sym e
+are-alike false true e = absurd (false≢true e)
+are-alike false false e = refl
+
+-- ranks: undefined 0, in the gABI profile a strong reference 1; a weak definition 2, a common 3, a strong definition 4
+abbrev rank-test : Bool → Bool → Bool → Bool → Bool → Bool → Bool → Bool
+rank-test gabi ru rc rk un ac wk =
+    alike
+    (ltb (cond ru (cond gabi (cond rk 0 1) 0) (cond rc 3 (cond rk 2 4))) (cond un (cond gabi (cond wk 0 1) 0) (cond ac 3 (cond wk 2 4))))
+    (not un && (ru || ac && rk && not rc || not ac && not wk && (rk || rc)) || gabi && un && not wk && ru && rk)
+
+ranks : (gabi ru rc rk un ac wk : Bool)
+    → ltb (cond ru (cond gabi (cond rk 0 1) 0) (cond rc 3 (cond rk 2 4))) (cond un (cond gabi (cond wk 0 1) 0) (cond ac 3 (cond wk 2 4)))
+    ≡ not un && (ru || ac && rk && not rc || not ac && not wk && (rk || rc)) || gabi && un && not wk && ru && rk
+ranks gabi ru rc rk un ac wk =
+    are-alike _ _
+    (each (rank-test gabi ru rc rk un ac)
+    (each (λ ac. every (rank-test gabi ru rc rk un ac))
+    (each (λ un. every (λ ac. every (rank-test gabi ru rc rk un ac)))
+    (each (λ rk. every (λ un. every (λ ac. every (rank-test gabi ru rc rk un ac))))
+    (each (λ rc. every (λ rk. every (λ un. every (λ ac. every (rank-test gabi ru rc rk un ac)))))
+    (each (λ ru. every (λ rc. every (λ rk. every (λ un. every (λ ac. every (rank-test gabi ru rc rk un ac))))))
+    (each (λ gabi. every (λ ru. every (λ rc. every (λ rk. every (λ un. every (λ ac. every (rank-test gabi ru rc rk un ac))))))) refl gabi) ru) rc) rk) un) ac) wk)
+
+strongest : (gabi un ac wk : Bool) → eqb (cond un (cond gabi (cond wk 0 1) 0) (cond ac 3 (cond wk 2 4))) 4 ≡ not un && not ac && not wk
+strongest true true ac true = refl
+strongest true true ac false = refl
+strongest false true ac wk = refl
+strongest gabi false true wk = refl
+strongest gabi false false true = refl
+strongest gabi false false false = refl
 
 pub least-below : (a b c : ℕ) → ltb c (lesser a b) ≡ ltb c a && ltb c b
 unfolding lesser
@@ -287,14 +354,15 @@ module _ (k id place : ℕ) where
       by-test (eqb k 4) (λ e. rw (type-four k e, e))
       (λ e. by-test (ltb 4 k) (λ f. rw (type-above k f, e, f)) (λ f. rw (type-is k e f, e, f) (by-test x (λ g. rw g) (λ g. rw g))))
 
-  stays-tree : (rp un wk : Bool) → answered (cond rp (type_refusal k) (cond (not un && not wk) 17 0)) id place
-      ≡ cond (rp && eqb k 4) (refused 15 place) (cond (rp && ltb 4 k) (refused 16 place) (cond (not un && not rp && not wk) (refused 17 place) (refused 0 0)))
-  stays-tree true un wk =
+  stays-tree : (rp un ac wk : Bool) → answered (cond rp (type_refusal k) (cond (not un && not ac && not wk) 17 0)) id place
+      ≡ cond (rp && eqb k 4) (refused 15 place) (cond (rp && ltb 4 k) (refused 16 place) (cond (not un && not ac && not rp && not wk) (refused 17 place) (refused 0 0)))
+  stays-tree true un ac wk =
       by-test (eqb k 4) (λ e. rw (type-four k e, e))
-      (λ e. by-test (ltb 4 k) (λ f. rw (type-above k f, e, f)) (λ f. rw (type-is k e f, e, f) (by-test un (λ g. rw g) (λ g. rw g))))
-  stays-tree false true wk = refl
-  stays-tree false false true = refl
-  stays-tree false false false = refl
+      (λ e. by-test (ltb 4 k) (λ f. rw (type-above k f, e, f)) (λ f. rw (type-is k e f, e, f) (by-test un (λ g. rw g) (λ g. rw g (by-test ac (λ h. rw h) (λ h. rw h))))))
+  stays-tree false true ac wk = refl
+  stays-tree false false true wk = refl
+  stays-tree false false false true = refl
+  stays-tree false false false false = refl
 
 -- local or not; known; removed
 module _ (id : SymbolId) where
@@ -378,8 +446,8 @@ module _ (t : State) (r : Row) (a : Asked) (st : Stands r a) where
           let (lo, h) = known_by (record { 0 = row }) (is_local t a) (is_known t a.name) (is_removed t row) k e in
           record { global = local ∙ lo; known = holder-is t a.name ∙ h }
 
-      v : Valued t a.value r.value
-      v = valued t a.value r.value st.values
+      v : Valued a.binding t a.value r.value
+      v = valued a.binding t a.value r.value st.values
 
       -- 13 and 14, whatever the name
       value-number : (n : ℕ) → r.value.kind ≡ n → refuses_value n ≡ true → refusal_of (decided held) ≡ n
@@ -388,7 +456,7 @@ module _ (t : State) (r : Row) (a : Asked) (st : Stands r a) where
           by-test (is_fresh t a) (λ e. number_is _ _ (new-unvalued t.link t.symbols t.sections r low held (fresh e) w) ∙ q)
           (λ e. number_is _ _ (known-unvalued t.link t.symbols t.sections r low held (record { 0 = row }) (meets e) w) ∙ q)
 
-      module _ (c : is_common a.value ≡ false) (d : is_sectionless a.value ≡ false) where
+      module _ (c : is_local t a && is_common a.value ≡ false) (m : is_misaligned a.value ≡ false) (d : is_sectionless a.value ≡ false) where
         abbrev at : SymbolId
         at = record { 0 = row }
 
@@ -396,7 +464,7 @@ module _ (t : State) (r : Row) (a : Asked) (st : Stands r a) where
         typed b z = ap (λ (n : ℕ). eqb (type_refusal n) 0) st.kinds ∙ z
 
         kept : value_refused r ≡ false
-        kept = v.refused-value ∙ rw (c, d)
+        kept = v.refused-value ∙ rw (c, m, d)
 
         room-is : room_of t.link t.symbols t.sections r ≡ not (no_symbol_row t || is_local t a && no_section_cell t a.value)
         unfolding room_of section_room
@@ -420,17 +488,17 @@ module _ (t : State) (r : Row) (a : Asked) (st : Stands r a) where
 
         -- the ranks, by what is asked
         yields-is : ltb (held_rank t.link.gabi t.symbols (record { 0 = row })) (row_rank r t.link.gabi) ≡ replaces t a
-        unfolding rank_of reference_rank
+        unfolding rank_of reference_rank scope_in
         yields-is =
-            rw (v.undefined-value kept, weak, weak-is (get_or t.symbols (row * 8 + 4) 0))
-            (ranks t.link.gabi (is_undefined_row t row) (is_weak_row t row) (is_undefined a.value) (eqb a.binding 2))
+            rw (v.undefined-value kept, v.common-value kept, weak, weak-is (class_of t row))
+            (ranks t.link.gabi (is_undefined_row t row) (is_common_row t row) (is_weak_row t row) (is_undefined a.value) (is_common a.value) (eqb a.binding 2))
 
-        strong-is : eqb (row_rank r t.link.gabi) 4 ≡ not (is_undefined a.value) && not (eqb a.binding 2)
+        strong-is : eqb (row_rank r t.link.gabi) 4 ≡ not (is_undefined a.value) && not (is_common a.value) && not (eqb a.binding 2)
         unfolding rank_of reference_rank
-        strong-is = rw (v.undefined-value kept, weak) (strongest t.link.gabi (is_undefined a.value) (eqb a.binding 2))
+        strong-is = rw (v.undefined-value kept, v.common-value kept, weak) (strongest t.link.gabi (is_undefined a.value) (is_common a.value) (eqb a.binding 2))
 
         known-number : is_fresh t a ≡ false
-            → refusal_of (decided held) ≡ cond (replaces t a) (type_refusal a.kind) (cond (not (is_undefined a.value) && not (eqb a.binding 2)) 17 0)
+            → refusal_of (decided held) ≡ cond (replaces t a) (type_refusal a.kind) (cond (not (is_undefined a.value) && not (is_common a.value) && not (eqb a.binding 2)) 17 0)
         known-number e =
             by-test (replaces t a)
             (λ y.
@@ -439,24 +507,29 @@ module _ (t : State) (r : Row) (a : Asked) (st : Stands r a) where
             (λ z. number_is _ _ (known-replaced t.link t.symbols t.sections r low held at (meets e) kept (yields-is ∙ y) (typed true z)) ∙ sym (eqb-true _ _ z))
             (λ z. number_is _ _ (known-untyped t.link t.symbols t.sections r low held at (meets e) kept (yields-is ∙ y) (typed false z)) ∙ ap type_refusal st.kinds)))
             (λ y.
-            by-test (not (is_undefined a.value) && not (eqb a.binding 2))
+            by-test (not (is_undefined a.value) && not (is_common a.value) && not (eqb a.binding 2))
             (λ s. rw (y, s) (number_is _ _ (known_twice t.link t.symbols t.sections r low held at (meets e) kept (yields-is ∙ y) (strong-is ∙ s))))
             (λ s.
             rw (y, s)
-            (by-test (hides t.link.gabi t.symbols r at)
-            (λ h. number_is _ _ (known-amended t.link t.symbols t.sections r low held at (meets e) kept (yields-is ∙ y) (strong-is ∙ s) h))
-            (λ h. number_is _ _ (known_kept t.link t.symbols t.sections r low held at (meets e) kept (yields-is ∙ y) (strong-is ∙ s) h)))))
+            (by-test (joins (held_rank t.link.gabi t.symbols at) (row_rank r t.link.gabi))
+            (λ j. number_is _ _ (known-joined t.link t.symbols t.sections r low held at (meets e) kept (yields-is ∙ y) (strong-is ∙ s) j))
+            (λ j.
+            by-test (hides t.link.gabi t.symbols r at)
+            (λ h. number_is _ _ (known-amended t.link t.symbols t.sections r low held at (meets e) kept (yields-is ∙ y) (strong-is ∙ s) j h))
+            (λ h. number_is _ _ (known_kept t.link t.symbols t.sections r low held at (meets e) kept (yields-is ∙ y) (strong-is ∙ s) j h))))))
 
     -- a removed row, the value, then a new or a known name
     pub held_first : (place : ℕ) → answered (refusal_of (decided held)) a.name place ≡ first_refusal (held_rules t a place)
     held_first place =
         first-is (not (is_local t a) && is_known t a.name && is_removed t row) _ _ (λ e. rw (decided-removed e))
         (λ k.
-        first-is (is_common a.value) _ _ (λ e. rw (value-number k 13 ((valued t a.value r.value st.values).thirteen e) refl))
+        first-is (is_local t a && is_common a.value) _ _ (λ e. rw (value-number k 13 ((valued a.binding t a.value r.value st.values).thirteen e) refl))
         (λ c.
-        first-is (is_sectionless a.value) _ _ (λ e. rw (value-number k 14 ((valued t a.value r.value st.values).fourteen e) refl))
-        (λ d. by-test (is_fresh t a) (λ e. rw (new-number k c d e, e) (fresh-tree a.kind a.name place (no_symbol_row t || is_local t a && no_section_cell t a.value)))
-        (λ e. rw (known-number k c d e, e) (stays-tree a.kind a.name place (replaces t a) (is_undefined a.value) (eqb a.binding 2))))))
+        first-is (is_misaligned a.value) _ _ (λ e. rw (value-number k 28 ((valued a.binding t a.value r.value st.values).twenty-eight c e) refl))
+        (λ m.
+        first-is (is_sectionless a.value) _ _ (λ e. rw (value-number k 14 ((valued a.binding t a.value r.value st.values).fourteen e) refl))
+        (λ d. by-test (is_fresh t a) (λ e. rw (new-number k c m d e, e) (fresh-tree a.kind a.name place (no_symbol_row t || is_local t a && no_section_cell t a.value)))
+        (λ e. rw (known-number k c m d e, e) (stays-tree a.kind a.name place (replaces t a) (is_undefined a.value) (is_common a.value) (eqb a.binding 2)))))))
 
     decided-unissued : refusal_of (decided Unissued) ≡ 21
     decided-unissued = number_is _ _ (name-absent t.link t.symbols t.sections r low Unissued refl)
@@ -496,12 +569,12 @@ range-is (Elf e name file) =
 module _ (t : State) (conversion : List ℕ) where
   stands : (u : UpcomingSymbol) → Stands (Row.row_of t.link.gabi conversion u (empty_at t.names (name_of u))) (asked t conversion u)
   unfolding elf_row_of external_row_of Upcoming.judge_of shown_of hidden_of
-  stands Null = record { kinds = refl; shows = shown-same _; values = (refl, refl, refl) }
+  stands Null = record { kinds = refl; shows = shown-same _; values = (refl, refl, refl, refl) }
   stands (GlobalUnknown name) = record { kinds = refl; shows = shown-same _; values = refl }
   stands (GlobalHidden name value) = record { kinds = refl; shows = shown-same _; values = given-reads value }
   stands (Section s) = record { kinds = refl; shows = shown-same _; values = (refl, refl) }
   stands (ExternallyDefined name visibility binding) =
-      record { kinds = refl; shows = shown-library t.link.gabi (Upcoming.judge_of binding visibility); values = (refl, refl, refl) }
+      record { kinds = refl; shows = shown-library t.link.gabi (Upcoming.judge_of binding visibility); values = (refl, refl, refl, refl) }
   stands (Elf e name file) =
       record {
         kinds = refl;

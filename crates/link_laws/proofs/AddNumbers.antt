@@ -20,7 +20,8 @@ use Rattle.upcoming_symbol.specs.declared.UpcomingSymbol.TheVariants.{Null, Glob
 use Rattle.upcoming_symbol.specs.Judge.{shown_of, hidden_of, judge_of}
 use Rattle.upcoming_symbol.specs.declared.Conversion.{Conversion}
 use Rattle.upcoming_symbol.specs.declared.Conversion.TheVariants as To
-use Rattle.upcoming_symbol.specs.Upcoming.{in_section, conversion_from, converted_of, undefined_of, value_of, elf_row_of, external_row_of, row_of}
+use Rattle.std.specs.Int.{is_power_of_two}
+use Rattle.upcoming_symbol.specs.Upcoming.{in_section, conversion_from, converted_of, undefined_of, value_of, elf_row_of, external_row_of, row_of, common_of, common_by_binding, given_words}
 use Rattle.symbol_resolution.specs.declared.rows.Holder.{Holder}
 use Rattle.symbol_resolution.specs.Decision.{Decision}
 use Rattle.symbol_resolution.specs.Decide.{type_refusal, decide_of, refusal_of}
@@ -67,9 +68,9 @@ module _ (In : ℕ → Type 0) (in0 : In 0) (in2 : In 2) (in17 : In 17) (in21 : 
     external-fields gabi name binding visibility =
         record { shown = library-holds In gabi (judge_of binding visibility) (judged-shown binding visibility); valued = λ e. apart e; typed = in0 }
 
-    -- ---- values and types: 13, 14, 15, 16
+    -- ---- values and types: 13, 28, 14, 15, 16
 
-    module _ (in13 : In 13) (in14 : In 14) (in15 : In 15) (in16 : In 16) where
+    module _ (in13 : In 13) (in28 : In 28) (in14 : In 14) (in15 : In 15) (in16 : In 16) where
       abbrev Valued : Words → Type 0
       Valued w = refuses_value w.kind ≡ true → In w.kind
 
@@ -81,18 +82,26 @@ module _ (In : ℕ → Type 0) (in0 : In 0) (in2 : In 2) (in17 : In 17) (in21 : 
           pick Valued empty _ _ (λ t. pick Valued (eqb v 0) _ _ (λ t e. apart e) (λ t e. apart e)) (λ t e. apart e)
 
       judged-valued : (c : Conversion) (e : ElfSymbol) (empty : Bool) → Valued (value_of c e empty)
-      unfolding value_of undefined_of
+      unfolding value_of undefined_of common_by_binding common_of
       judged-valued c e empty =
           pick Valued (eqb e.section 0) _ _ (λ t. pick Valued (eqb e.binding 2) _ _ (λ t e. apart e) (λ t e. apart e))
           (λ t.
           pick Valued (eqb e.section 0xfff1) _ _ (λ t e. apart e)
-          (λ t. pick Valued (eqb e.section 0xfff2) _ _ (λ t e. in13) (λ t. judged-converted c empty e.value)))
+          (λ t.
+          pick Valued (eqb e.section 0xfff2) _ _
+          (λ t. pick Valued (eqb e.binding 0) _ _ (λ t e. in13) (λ t. pick Valued (is_power_of_two e.value) _ _ (λ t e. apart e) (λ t e. in28)))
+          (λ t. judged-converted c empty e.value)))
 
       typed-numbers : (k : ℕ) → In (type_refusal k)
       unfolding type_refusal
       typed-numbers k = pick In (ltb k 4) _ _ (λ t. in0) (λ t. pick In (eqb k 4) _ _ (λ t. in15) (λ t. in16))
 
-      words-valued : (v : SymbolValue) → refuses_value (words_of v).kind ≡ true → In (words_of v).kind
+      common-valued : (a : ℕ) → Valued (common_of a)
+      unfolding common_of
+      common-valued a = pick Valued (is_power_of_two a) _ _ (λ t e. apart e) (λ t e. in28)
+
+      words-valued : (v : SymbolValue) → Valued (given_words v)
+      unfolding given_words common_of
       words-valued Val.Null e = apart e
       words-valued (Val.Absolute v) e = apart e
       words-valued (Val.Section s) e = apart e
@@ -101,6 +110,7 @@ module _ (In : ℕ → Type 0) (in0 : In 0) (in2 : In 2) (in17 : In 17) (in21 : 
       words-valued Val.SectionNotLoaded e = apart e
       words-valued Val.ExternallyDefined e = apart e
       words-valued (Val.Undefined zero) e = apart e
+      words-valued (Val.Common a) e = common-valued a e
 
       -- a symbol that is added directly
       pub upcoming-fields : (gabi : Bool) (conversion : List ℕ) (u : UpcomingSymbol) (empty : Bool) → Fields (row_of gabi conversion u empty)

@@ -56,7 +56,7 @@ Bears b n r (k ∷ ks) s met (later p) = Bears b n r ks (call_next k s) (met ++ 
 
 add-id : (gabi : _) (conversion : List ℕ) (empty : _) (r : Row) (u : _) → FromAdd gabi conversion empty r u → r.name ≡ name_of u
 add-id gabi conversion empty r u (Direct.unknown name a b c d) = a.named
-add-id gabi conversion empty r u (Direct.hidden name value a b c d e) = a.named
+add-id gabi conversion empty r u (Direct.hidden name value a b c d e f) = a.named
 add-id gabi conversion empty r u (Direct.external name visibility binding p a b c d) = a.named
 add-id gabi conversion empty r u (Direct.elf e name file p a b c d) = a.named
 

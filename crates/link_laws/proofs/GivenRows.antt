@@ -144,7 +144,7 @@ module _ (s : State) (few : 1 ≤ s.link.symbols) (r : Row) where
       decides _ e
       (λ v. absurd (k.global v), λ v l. (rw (ne_eqb _ _ v) (get_or-set_same s.names (r.name.0 * 8 + 3) s.link.symbols 0 l), λ q. omega (arith, few, q)))
   given (local e f v) ok =
-      decides _ e (λ z. (omega (arith, one_more f), stored_row s.symbols (record { 0 = s.link.symbols }) r f.fits), λ u. absurd (u v))
+      decides _ e (λ z. (omega (arith, one_more f), stored_row s.symbols (record { 0 = s.link.symbols }) r f.packs f.fits), λ u. absurd (u v))
 
   pub put-given : refusal_of (decided (table s) r) ≡ 0 → Both (put_of s r)
   put-given ok = given (view (table s) r) ok

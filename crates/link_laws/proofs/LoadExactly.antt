@@ -192,7 +192,7 @@ module _ (o : Input) (s : Symbols.State) (i : ℕ) (c : Chained (state_store s))
 
     row-stands : Stands row want
     unfolding external_row_of
-    row-stands = record { kinds = refl; shows = shown-library now.link.gabi _; values = (refl, refl, refl) }
+    row-stands = record { kinds = refl; shows = shown-library now.link.gabi _; values = (refl, refl, refl, refl) }
 
     added-exactly : answered (Decide.refusal_of (decide_of now.link now.symbols now.sections row (holder_of now.link now.names now.symbols (record { 0 = id })))) id i
         ≡ first_refusal (shown_rules now want i ++ held_rules now want i)

@@ -19,10 +19,11 @@ use Rattle.load_laws.proofs.LawsOwn.{provides-own, own-provides}
 use Rattle.load_laws.specs.Needed.{Records, Lacked, undefined, recorded, Needed}
 use Rattle.load_laws.proofs.LawsLists.{has-holds, holds_has}
 use Rattle.load_laws.proofs.Exact.{needed-sound, needed-complete}
+use Rattle.symbol.specs.Layout.{scope_in}
 use Rattle.symbol_laws.specs.History.{State, store}
 use Rattle.link_laws.specs.Rules.{some}
 use Rattle.link_laws.proofs.Exactly.{holder-is}
-use Rattle.link_laws.specs.TableRules.{is_issued, is_known, row_of, is_removed, is_undefined_row, is_strong_row, id_in}
+use Rattle.link_laws.specs.TableRules.{is_issued, is_known, row_of, is_removed, is_undefined_row, is_strong_row, id_in, class_of}
 use Rattle.link_laws.specs.ObjectRules.{cell_at}
 use Rattle.link_laws.proofs.MergeSymbols.{find-is}
 use Rattle.link_laws.specs.LoadRules.{library_name, is_named, bytes, is_defined, is_global, is_weak, is_undefined_in, has, is_library, dependencies, undefined_names, is_named_by, is_lacked, is_needed}
@@ -101,8 +102,8 @@ module _ (o : Input) (t : State) (inputs lists : List ℕ) (c : Chained (store t
       tree false false false = refl
 
   strong-is : (id : ℕ) → strong_undefined t.symbols (record { 0 = id }) ≡ is_undefined_row t id && is_strong_row t id
-  unfolding strong_undefined
-  strong-is id = tree (is_undefined_row t id) (eqb (get_or t.symbols (id * 8 + 4) 0) 1) (eqb (get_or t.symbols (id * 8 + 4) 0) 2)
+  unfolding strong_undefined scope_in
+  strong-is id = tree (is_undefined_row t id) (eqb (class_of t id) 1) (eqb (class_of t id) 2)
     where
       tree : (x y z : Bool) → cond x (cond y true (cond z true false)) false ≡ x && (y || z)
       tree true true z = refl

@@ -19,12 +19,12 @@ use Rattle.symbol.specs.declared.Row.{Row}
 use Rattle.symbol.specs.Codes.{successor}
 use Rattle.symbol.specs.Row.{field, state_at, visibility_code_at, set_row}
 use Rattle.symbol.specs.Hidden.{hide_code, passes, hide_if, pass_hidden}
-use Rattle.symbol_laws.proofs.Standing.{pass-none}
+use Rattle.symbol_laws.proofs.Standing.{pass-none, pass-packs, joined-packs, joined-rest}
 use Rattle.symbol_resolution.specs.Decision.{Decision, Refuse, Append, Replace, Amend}
 use Rattle.symbol_resolution.specs.Holder.{global_at}
 use Rattle.symbol_resolution.specs.Decide.{refusal_of, section_cell, section_room}
 use Rattle.symbol_resolution.specs.Proof.Outcomes.{appended-room}
-use Rattle.symbol_resolution.specs.Apply.{Table, table_of, note_name, set_section_symbol, note_section, append_of, replaced_in, amended_in, apply_of}
+use Rattle.symbol_resolution.specs.Apply.{Table, table_of, note_name, set_section_symbol, note_section, append_of, replaced_in, amended_in, apply_of, joined}
 use Rattle.symbols.specs.Calls.{Left, lent_of}
 use Rattle.symbols.specs.Add.{direct_holder_of, decided_of, committed_of, add_row_of}
 use Rattle.symbols.specs.Lookup.{section_symbol_at}
@@ -35,7 +35,7 @@ use Rattle.symbol_laws.proofs.View.{Named, Free, View, refused, kept, amended, r
 use Rattle.symbol_laws.proofs.ContentWords.{decided-passes}
 use Rattle.symbol_laws.proofs.Refused.{commit-refused, remove-link}
 use Rattle.symbol_laws.specs.Proof.Rows.{row_at}
-use Rattle.symbol_laws.proofs.Rows.{stored_there, stored_row, there-kept, row_kept}
+use Rattle.symbol_laws.proofs.Rows.{stored_there, stored_row, there-kept, row_kept, Packs, read-packs}
 use Rattle.symbol_laws.proofs.Held.{Inv}
 use Rattle.symbol_laws.proofs.Issue.{FreeRow, linked-new, linked-old, room-free}
 use Rattle.symbol_laws.specs.History.{State, table, store, with_table, with_store, issue, put, put_of, id_of}
@@ -77,13 +77,13 @@ module _ (s t : State) (i : ℕ) where
 
   stands-coded : Stands s t i → visibility_code_at s.symbols i < 5 → visibility_code_at t.symbols i < 5
   stands-coded (same e) h = rw (ap (λ (r : Row). r.visibility) e) h
-  stands-coded (other u v c) h = c
+  stands-coded (other u v c) h = c h
 
   stands-both : (u : State) → Stands s t i → Stands t u i → Stands s u i
   stands-both u (same e) (same f) = same (f ∙ e)
-  stands-both u (same e) (other a b c) = other (rw (← ap (λ (r : Row). r.visibility) e) a) b c
-  stands-both u (other a b c) (same f) = other a (rw (ap (λ (r : Row). r.visibility) f) b) (rw (ap (λ (r : Row). r.visibility) f) c)
-  stands-both u (other a b c) (other d e f) = other a e f
+  stands-both u (same e) (other a b c) = other (rw (← ap (λ (r : Row). r.visibility) e) a) b (λ h. c (rw (ap (λ (r : Row). r.visibility) e) h))
+  stands-both u (other a b c) (same f) = other a (rw (ap (λ (r : Row). r.visibility) f) b) (λ h. rw (ap (λ (r : Row). r.visibility) f) (c h))
+  stands-both u (other a b c) (other d e f) = other a e (λ h. f (c h))
 
 module _ (s t u : State) (a : Onto s t) (b : Onto t u) where
   own_on : (i y : ℕ) → i < t.link.symbols → is_own u i y ≡ is_own t i y
@@ -208,7 +208,7 @@ module _ (s : State) (g : Ready s) (w : Shown s) (r : Row) where
   one_more f = rw (lt-ltb s.link.symbols 0xffffffffffffffff (omega (arith, f.few)))
 
   -- a name's row written: x in its place
-  module _ (k : Named (table s) r) (z : id ≢ 0) (x : Row) (n : x.visibility ≢ 0) where
+  module _ (k : Named (table s) r) (z : id ≢ 0) (x : Row) (p : Packs x) (n : x.visibility ≢ 0) where
     abbrev over : State
     over = with_table s (table_of s.names (set_row s.symbols (record { 0 = id }) x) s.sections s.link)
 
@@ -219,7 +219,7 @@ module _ (s : State) (g : Ready s) (w : Shown s) (r : Row) where
     fits = omega (arith, g.room, low)
 
     own_row : row_at over.symbols id ≡ x
-    own_row = stored_row s.symbols (record { 0 = id }) x fits
+    own_row = stored_row s.symbols (record { 0 = id }) x p fits
 
     other_row : (i : ℕ) → i ≢ id → row_at over.symbols i ≡ row_at s.symbols i
     other_row i u = row_kept s.symbols (record { 0 = id }) x i u
@@ -228,8 +228,8 @@ module _ (s : State) (g : Ready s) (w : Shown s) (r : Row) where
     own_code = ap (λ (r : Row). r.visibility) own_row
 
     -- it was a name's row, and still is one
-    still : x.visibility < 5 → Stands s over id
-    still c = other (w r.name.0 k.issued z) (λ e. n (sym own_code ∙ e)) (rw own_code c)
+    still : (visibility_code_at s.symbols id < 5 → x.visibility < 5) → Stands s over id
+    still c = other (w r.name.0 k.issued z) (λ e. n (sym own_code ∙ e)) (λ h. rw own_code (c h))
 
     at_own : (P : ℕ → Type 0) (i : ℕ) → P id → (i ≢ id → P i) → P i
     at_own P i p q = by-test (eqb i id) (λ e. subst P (sym (eqb-true _ _ e)) p) (λ e. q (eqb-false _ _ e))
@@ -253,26 +253,30 @@ module _ (s : State) (g : Ready s) (w : Shown s) (r : Row) where
           since = λ y. none refl (λ i h l. absurd (omega arith));
         }
 
-  replaced-onto : Named (table s) r → id ≢ 0 → r.visibility < 5 → Onto s (with_table s (apply_of (table s) r (Replace (record { 0 = id }))))
+  replaced-onto : Named (table s) r → id ≢ 0 → Packs r → r.visibility < 5 → Onto s (with_table s (apply_of (table s) r (Replace (record { 0 = id }))))
   unfolding apply_of replaced_in
-  replaced-onto k z c =
+  replaced-onto k z t c =
       let p = pass-coded s.link.gabi (visibility_code_at s.symbols id) r k.global c in
-      written-onto k z (pass_hidden s.link.gabi (visibility_code_at s.symbols id) r) p.0
-      (still k z (pass_hidden s.link.gabi (visibility_code_at s.symbols id) r) p.0 p.1)
+      let x : Row = pass_hidden s.link.gabi (visibility_code_at s.symbols id) r in
+      let q = pass-packs s.link.gabi (visibility_code_at s.symbols id) r t in
+      written-onto k z x q p.0 (still k z x q p.0 (λ h. p.1))
 
   amended-onto : Named (table s) r → id ≢ 0 → Onto s (with_table s (apply_of (table s) r (Amend (record { 0 = id }))))
   unfolding apply_of amended_in
   amended-onto k z =
-      let x : Row = pass_hidden s.link.gabi r.visibility (row_at s.symbols id) in
+      let old : Row = row_at s.symbols id in
+      let stays : (joined old r).visibility ≡ visibility_code_at s.symbols id = (joined-rest old r).scope in
+      let x : Row = pass_hidden s.link.gabi r.visibility (joined old r) in
+      let p : Packs x = pass-packs s.link.gabi r.visibility (joined old r) (joined-packs old r (read-packs s.symbols id)) in
       by-test (passes s.link.gabi r.visibility)
       (λ a.
-      let e : x.visibility ≡ hide_code (visibility_code_at s.symbols id) = pass-code s.link.gabi r.visibility (row_at s.symbols id) a in
+      let e : x.visibility ≡ hide_code (visibility_code_at s.symbols id) = pass-code s.link.gabi r.visibility (joined old r) a ∙ ap hide_code stays in
       let n : x.visibility ≢ 0 = λ q. (hide-coded (visibility_code_at s.symbols id)).0 (sym e ∙ q) in
-      written-onto k z x n (still k z x n (rw e (hide-coded (visibility_code_at s.symbols id)).1)))
+      written-onto k z x p n (still k z x p n (λ h. rw e (hide-coded (visibility_code_at s.symbols id)).1)))
       (λ a.
-      let e : x ≡ row_at s.symbols id = pass-none s.link.gabi r.visibility (row_at s.symbols id) a in
-      let n : x.visibility ≢ 0 = λ q. w r.name.0 k.issued z (sym (ap (λ (y : Row). y.visibility) e) ∙ q) in
-      written-onto k z x n (same (own_row k z x n ∙ e)))
+      let e : x.visibility ≡ visibility_code_at s.symbols id = ap (λ (y : Row). y.visibility) (pass-none s.link.gabi r.visibility (joined old r) a) ∙ stays in
+      let n : x.visibility ≢ 0 = λ q. w r.name.0 k.issued z (sym e ∙ q) in
+      written-onto k z x p n (still k z x p n (λ h. rw e h)))
 
   -- a row appended
   module _ (e : decided (table s) r ≡ Append) (f : Free (table s) r) where
@@ -288,7 +292,7 @@ module _ (s : State) (g : Ready s) (w : Shown s) (r : Row) where
 
     new_row : row_at on.symbols at ≡ r
     unfolding append_of
-    new_row = stored_row s.symbols (record { 0 = at }) r f.fits
+    new_row = stored_row s.symbols (record { 0 = at }) r f.packs f.fits
 
     old_row : (i : ℕ) → i ≢ at → row_at on.symbols i ≡ row_at s.symbols i
     unfolding append_of
@@ -337,7 +341,7 @@ module _ (s : State) (g : Ready s) (w : Shown s) (r : Row) where
         let k : n ≡ r.name.0 = eqb-true _ _ q in
         let own : global_at noted n ≡ at = subst (λ (m : ℕ). global_at noted m ≢ 0 → global_at noted m ≡ at) (sym k) noted-own z in
         subst (λ (i : ℕ). visibility_code_at (set_row s.symbols (record { 0 = at }) r) i ≢ 0) (sym own)
-        (λ d. eqb-false _ _ v (sym (ap (λ (r : Row). r.visibility) (stored_row s.symbols (record { 0 = at }) r f.fits)) ∙ d)))
+        (λ d. eqb-false _ _ v (sym (ap (λ (r : Row). r.visibility) (stored_row s.symbols (record { 0 = at }) r f.packs f.fits)) ∙ d)))
         (λ q.
         let o = noted_other n (eqb-false _ _ q) in
         let y : global_at s.names n ≢ 0 = λ d. z (o ∙ d) in
@@ -402,7 +406,7 @@ module _ (s : State) (g : Ready s) (w : Shown s) (r : Row) where
       decides (Refuse n) e (subst (λ (t : Table). Onto s (with_table s t)) (sym (commit-refused (table s) r None n z).0) (onto-none s w))
   viewed (kept e k z o q p) = decides _ e (onto-none s w)
   viewed (amended e k z o q) = decides _ e (amended-onto k z)
-  viewed (replaced e k z o) = decides _ e (replaced-onto k z (coded_by s r _ e refl))
+  viewed (replaced e k z o) = decides _ e (replaced-onto k z o.packs (coded_by s r _ e refl))
   viewed (appended e f k z) = decides _ e (appended-onto e f)
   viewed (local e f v) = decides _ e (appended-onto e f)
 

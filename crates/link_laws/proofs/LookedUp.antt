@@ -27,7 +27,7 @@ use Rattle.symbols.specs.Remove.{Rows, rows_of, remove_row_of, remove_of}
 use Rattle.gc_laws.proofs.Terms as CollectionLaws
 use Rattle.symbol_laws.specs.History as History
 use Rattle.symbol_laws.specs.History.{State, Entry, only, rows, opened}
-use Rattle.symbol_laws.specs.Rank.{first_by_rank}
+use Rattle.symbol_laws.specs.Rank.{first_by_rank, joined_in}
 use Rattle.symbol_laws.specs.Standing.{hidden_by}
 use Rattle.symbol_laws.proofs.Rows.{stored_there}
 use Rattle.symbol_laws.proofs.View.{lesser-second}
@@ -275,7 +275,7 @@ module _ (s : Linked) (past : List Entry) (met : List (List ℕ)) (g : Reached s
 
   pub interned-row : (x : Entry) (xs : List Entry) → only id_now past ≡ x ∷ xs
       → call_left (get_global (record { 0 = id_now })) (call_next (intern b) s)
-      ≡ Ok (symbol_of (record { 0 = x.id }) (hidden_by (call_next (intern b) s).table.link.gabi (rows (x ∷ xs)) (first_by_rank (call_next (intern b) s).table.link.gabi x.row (rows xs))))
+      ≡ Ok (symbol_of (record { 0 = x.id }) (hidden_by (call_next (intern b) s).table.link.gabi (rows (x ∷ xs)) (joined_in (rows (x ∷ xs)) (first_by_rank (call_next (intern b) s).table.link.gabi x.row (rows xs)))))
   interned-row x xs e =
       Within.lookup-row (call_next (intern b) s).table (past ++ []) interned.held (reached-within (call_next (intern b) s) _ _ interned) id_now x xs
       (ap (only id_now) (append-nil past) ∙ e)

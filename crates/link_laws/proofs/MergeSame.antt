@@ -75,6 +75,7 @@ module _ (o : Object) (a : All) (few : length o.headers / 8 ≤ 65280) (lent : l
           kind = cell_at (d o a).entries i 2;
           section = left b;
           value = cell_at (d o a).entries i 5;
+          size = cell_at (d o a).entries i 6;
         }
 
     abbrev x : List ℕ

@@ -112,7 +112,7 @@ add-numbers t conversion u =
     (λ a.
     commit-numbers t r (file_of u) (decided_of t r (file_of u))
     (AddNumbers.decide-numbers (Among add_numbers) refl refl refl refl t.link t.symbols t.sections r
-    (AddNumbers.upcoming-fields (Among add_numbers) refl refl refl refl refl refl refl refl refl refl refl t.link.gabi conversion u (empty_at t.names (name_of u))) h))
+    (AddNumbers.upcoming-fields (Among add_numbers) refl refl refl refl refl refl refl refl refl refl refl refl t.link.gabi conversion u (empty_at t.names (name_of u))) h))
     (λ a. judge-add-numbers t.link (Add.lent t) u)
 
 -- ---- the table's other calls

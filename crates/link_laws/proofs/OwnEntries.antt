@@ -1,18 +1,19 @@
 -- The inputs' own entries behind a name's accepted adds: those of objects, of libraries and of direct adds; what the rows mean is what they say.
 -- Assumes nothing.
 use Prim.Native.Nat.{ℕ}
-use Rattle.std.specs.Prelude.{◌≡◌, refl, Bool, true, false, cond, not, ◌&&◌, eqb, ltb}
-use Rattle.std.proofs.Common.{sym, ap, ◌∙◌, eqb-true, eq-eqb, ne_eqb, lt-ltb}
+use Rattle.std.specs.Prelude.{◌≡◌, ◌≢◌, refl, Bool, true, false, cond, not, ◌&&◌, eqb, ltb}
+use Rattle.std.proofs.Common.{arith, sym, ap, ◌∙◌, eqb-true, eq-eqb, ne_eqb, lt-ltb}
 use Rattle.std.proofs.lemmas.Bool.{false≢true}
 use mathlib.Core.List.{List, [], ◌∷◌, ◌++◌}
 use Rattle.cells.specs.Proof.Split.{by-test}
-use Rattle.gabi.specs.SymbolTable.{Sym, stb_global, stb_weak, stv_default, stv_hidden, shn_undef, shn_abs, shn_loreserve, is_reference, is_weak, is_global}
+use Rattle.gabi.specs.SymbolTable.{Sym, stb_global, stb_weak, stv_default, stv_hidden, shn_undef, shn_abs, shn_common, shn_loreserve, is_reference, is_common, is_weak, is_global}
 use Rattle.gabi.specs.Groups.{undefine}
 use Rattle.symbol.specs.declared.Row.{Row}
 use Rattle.symbol.specs.declared.Words.{Words}
 use Rattle.symbol.specs.declared.SymbolVisibility.{SymbolVisibility}
 use Rattle.symbol.specs.declared.SymbolVisibility.TheVariants.{Local, Global}
 use Rattle.symbol.specs.declared.SymbolValue.{SymbolValue}
+use Rattle.symbol.specs.declared.SymbolValue.TheVariants as Val
 use Rattle.symbol.specs.Codes.{visibility_at, value_at}
 use Rattle.symbol_resolution.specs.Decide.{weak_of}
 use Rattle.upcoming_symbol.specs.declared.ElfSymbol.{ElfSymbol}
@@ -25,7 +26,7 @@ use Rattle.symbol_laws.specs.Gabi.{Means, AllMean}
 use Rattle.symbol_laws.specs.Hidden.{hides, AllShow}
 use Rattle.symbol_laws.specs.ContentWords.{Admitted, shows, shared_entry}
 use Rattle.symbol_laws.specs.DirectContents as Direct
-use Rattle.symbol_laws.specs.DirectContents.{FromAdd, ElfValue, is_undefined, symbol_of}
+use Rattle.symbol_laws.specs.DirectContents.{FromAdd, ElfValue, is_undefined, is_common_value, symbol_of}
 use Rattle.merge_stages.specs.Stages as Stages
 use Rattle.merge_laws.specs.MergeWords as Words
 use Rattle.merge_laws.proofs.ObjectContents as Objects
@@ -46,10 +47,10 @@ object_entry o a met i =
     let table = Words.symbols_of o.headers o.entries o.contents o.image in
     cond (ltb (entry table i).section shn_loreserve && Objects.is_discarded o.headers o.entries o.contents o.image a.stage.link.sections met table i) (undefine (entry table i)) (entry table i)
 
--- of a direct add, ExternallyDefined as a shared object's: a definition other than an Elf symbol's counts as absolute
+-- of a direct add, ExternallyDefined as a shared object's: a definition other than an Elf symbol's counts as absolute, if it isn't common
 abbrev pub add_entry : {gabi : Bool} {conversion : List ℕ} {empty : Bool} {r : Row} {u : UpcomingSymbol} → FromAdd gabi conversion empty r u → Sym
 add_entry (Direct.unknown name a b c d) = symbol_of stb_global 0 stv_default shn_undef 0
-add_entry (Direct.hidden name value a b c d e) = symbol_of stb_global 0 stv_hidden (cond (is_undefined value) shn_undef shn_abs) 0
+add_entry (Direct.hidden name value a b c d e f) = symbol_of stb_global 0 stv_hidden (cond (is_undefined value) shn_undef (cond (is_common_value value) shn_common shn_abs)) 0
 add_entry {gabi} (Direct.external name visibility binding p a b c d) = shared_entry gabi (symbol_of binding 0 visibility shn_abs 0)
 add_entry (Direct.elf e name file p a b c d) = symbol_of e.binding e.kind e.visibility e.section e.value
 
@@ -83,7 +84,27 @@ undefined-is w =
     by-test (eqb w.kind 5) (λ f. let e : w.kind ≡ 5 = eqb-true _ _ f in rw (a, b, c, d, f, e))
     (λ f.
     by-test (eqb w.kind 6) (λ g. let e : w.kind ≡ 6 = eqb-true _ _ g in rw (a, b, c, d, f, g, e))
-    (λ g. by-test (eqb w.kind 7) (λ h. rw (a, b, c, d, f, g, h)) (λ h. rw (a, b, c, d, f, g, h))))))))
+    (λ g.
+    by-test (eqb w.kind 7) (λ h. rw (a, b, c, d, f, g, h))
+    (λ h. by-test (eqb w.kind 8) (λ i. rw (a, b, c, d, f, g, h, i)) (λ i. rw (a, b, c, d, f, g, h, i)))))))))
+
+common-is : (w : Words) → is_common_value (value_at w) ≡ eqb w.kind 8
+unfolding value_at
+common-is w =
+    by-test (eqb w.kind 1) (λ a. let e : w.kind ≡ 1 = eqb-true _ _ a in rw (a, e))
+    (λ a.
+    by-test (eqb w.kind 2) (λ b. let e : w.kind ≡ 2 = eqb-true _ _ b in rw (a, b, e))
+    (λ b.
+    by-test (eqb w.kind 3) (λ c. let e : w.kind ≡ 3 = eqb-true _ _ c in rw (a, b, c, e))
+    (λ c.
+    by-test (eqb w.kind 4) (λ d. let e : w.kind ≡ 4 = eqb-true _ _ d in rw (a, b, c, d, e))
+    (λ d.
+    by-test (eqb w.kind 5) (λ f. let e : w.kind ≡ 5 = eqb-true _ _ f in rw (a, b, c, d, f, e))
+    (λ f.
+    by-test (eqb w.kind 6) (λ g. let e : w.kind ≡ 6 = eqb-true _ _ g in rw (a, b, c, d, f, g, e))
+    (λ g.
+    by-test (eqb w.kind 7) (λ h. let e : w.kind ≡ 7 = eqb-true _ _ h in rw (a, b, c, d, f, g, h, e))
+    (λ h. by-test (eqb w.kind 8) (λ i. rw (a, b, c, d, f, g, h, i)) (λ i. rw (a, b, c, d, f, g, h, i)))))))))
 
 -- weak, hidden and definedness of a row and of a symbol
 pub record Stands (r : Row) (s : Sym) : Type 0 where
@@ -92,11 +113,11 @@ pub record Stands (r : Row) (s : Sym) : Type 0 where
   pub seen : eqb s.visibility stv_default ≡ not (eqb s.visibility stv_hidden)
 
 stands : (r : Row) (s : Sym) → visibility_at r.visibility ≡ Global (eqb s.binding stb_weak) (eqb s.visibility stv_hidden) → eqb s.binding stb_global ≡ not (eqb s.binding stb_weak)
-    → eqb s.visibility stv_default ≡ not (eqb s.visibility stv_hidden) → is_undefined (value_at r.value) ≡ eqb s.section shn_undef → Stands r s
-unfolding is_reference is_weak is_global weakness
-stands r s v b e u =
+    → eqb s.visibility stv_default ≡ not (eqb s.visibility stv_hidden) → is_undefined (value_at r.value) ≡ eqb s.section shn_undef → is_common_value (value_at r.value) ≡ eqb s.section shn_common → Stands r s
+unfolding is_reference is_common is_weak is_global weakness
+stands r s v b e u w =
     record {
-      means = record { refers = sym (undefined-is r.value) ∙ u; weakly = weak-is r.visibility ∙ ap weakness v; bound = b };
+      means = record { refers = sym (undefined-is r.value) ∙ u; commonly = sym (common-is r.value) ∙ w; weakly = weak-is r.visibility ∙ ap weakness v; bound = b };
       hidden = ap hides v;
       seen = e;
     }
@@ -111,8 +132,8 @@ module _ (o : Stages.Object) (a : Stages.All) (met : List (List ℕ)) (r : Row) 
       let e : Sym = entry table p.number in
       let c = p.content in
       by-test (ltb e.section shn_loreserve && gone)
-      (λ t. rw t (stands r (undefine e) c.shown c.passed.bound c.passed.seen (lost t (value_at r.value) c.value)))
-      (λ t. rw t (stands r e c.shown c.passed.bound c.passed.seen (left t (value_at r.value) c.value)))
+      (λ t. rw t (stands r (undefine e) c.shown c.passed.bound c.passed.seen (lost t (value_at r.value) c.value) (lost-common t (value_at r.value) c.value)))
+      (λ t. rw t (stands r e c.shown c.passed.bound c.passed.seen (left t (value_at r.value) c.value) (left-common t (value_at r.value) c.value)))
     where
       abbrev-table : List ℕ
       abbrev-table = Words.symbols_of o.headers o.entries o.contents o.image
@@ -138,51 +159,104 @@ module _ (o : Stages.Object) (a : Stages.All) (met : List (List ℕ)) (r : Row) 
       absolute-high : sec ≡ shn_abs → ltb sec shn_loreserve ≡ true → ⊥
       absolute-high q t = false≢true (sym (ap (λ (n : ℕ). ltb n shn_loreserve) q) ∙ t)
 
+      common-high : sec ≡ shn_common → ltb sec shn_loreserve ≡ true → ⊥
+      common-high q t = false≢true (sym (ap (λ (n : ℕ). ltb n shn_loreserve) q) ∙ t)
+
       lost : ltb sec shn_loreserve && gone ≡ true → (v : SymbolValue) → IsValue v → is_undefined v ≡ eqb shn_undef shn_undef
       lost t v (Objects.undefined q) = refl
       lost t v (Objects.discarded q g) = refl
       lost t v (Objects.absolute q) = absurd (absolute-high q (low (ltb sec shn_loreserve) gone t))
-      lost t v (Objects.unloaded n g q x y) = absurd (out (ltb sec shn_loreserve) gone t g)
-      lost t v (Objects.whole n g q x) = absurd (out (ltb sec shn_loreserve) gone t g)
-      lost t v (Objects.within z n g q x y) = absurd (out (ltb sec shn_loreserve) gone t g)
+      lost t v (Objects.common q b a) = absurd (common-high q (low (ltb sec shn_loreserve) gone t))
+      lost t v (Objects.unloaded n m g q x y) = absurd (out (ltb sec shn_loreserve) gone t g)
+      lost t v (Objects.whole n m g q x) = absurd (out (ltb sec shn_loreserve) gone t g)
+      lost t v (Objects.within z n m g q x y) = absurd (out (ltb sec shn_loreserve) gone t g)
+
+      lost-common : ltb sec shn_loreserve && gone ≡ true → (v : SymbolValue) → IsValue v → is_common_value v ≡ eqb shn_undef shn_common
+      lost-common t v (Objects.undefined q) = refl
+      lost-common t v (Objects.discarded q g) = refl
+      lost-common t v (Objects.absolute q) = absurd (absolute-high q (low (ltb sec shn_loreserve) gone t))
+      lost-common t v (Objects.common q b a) = absurd (common-high q (low (ltb sec shn_loreserve) gone t))
+      lost-common t v (Objects.unloaded n m g q x y) = absurd (out (ltb sec shn_loreserve) gone t g)
+      lost-common t v (Objects.whole n m g q x) = absurd (out (ltb sec shn_loreserve) gone t g)
+      lost-common t v (Objects.within z n m g q x y) = absurd (out (ltb sec shn_loreserve) gone t g)
 
       left : ltb sec shn_loreserve && gone ≡ false → (v : SymbolValue) → IsValue v → is_undefined v ≡ eqb sec shn_undef
       left t v (Objects.undefined q) = sym (eq-eqb sec shn_undef q)
       left t v (Objects.discarded q g) = absurd (false≢true (sym t ∙ rw (lt-ltb sec shn_loreserve q, g)))
       left t v (Objects.absolute q) = sym (ap (λ (n : ℕ). eqb n shn_undef) q)
-      left t v (Objects.unloaded n g q x y) = sym (ne_eqb sec shn_undef n)
-      left t v (Objects.whole n g q x) = sym (ne_eqb sec shn_undef n)
-      left t v (Objects.within z n g q x y) = sym (ne_eqb sec shn_undef n)
+      left t v (Objects.common q b a) = sym (ap (λ (n : ℕ). eqb n shn_undef) q)
+      left t v (Objects.unloaded n m g q x y) = sym (ne_eqb sec shn_undef n)
+      left t v (Objects.whole n m g q x) = sym (ne_eqb sec shn_undef n)
+      left t v (Objects.within z n m g q x y) = sym (ne_eqb sec shn_undef n)
+
+      left-common : ltb sec shn_loreserve && gone ≡ false → (v : SymbolValue) → IsValue v → is_common_value v ≡ eqb sec shn_common
+      left-common t v (Objects.undefined q) = sym (ap (λ (n : ℕ). eqb n shn_common) q)
+      left-common t v (Objects.discarded q g) = absurd (false≢true (sym t ∙ rw (lt-ltb sec shn_loreserve q, g)))
+      left-common t v (Objects.absolute q) = sym (ap (λ (n : ℕ). eqb n shn_common) q)
+      left-common t v (Objects.common q b a) = sym (eq-eqb sec shn_common q)
+      left-common t v (Objects.unloaded n m g q x y) = sym (ne_eqb sec shn_common m)
+      left-common t v (Objects.whole n m g q x) = sym (ne_eqb sec shn_common m)
+      left-common t v (Objects.within z n m g q x y) = sym (ne_eqb sec shn_common m)
 
 -- ---- of a library
 
-shared-stands : (gabi : Bool) (r : Row) (e : Sym) → Admitted e → visibility_at r.visibility ≡ shows (shared_entry gabi e) → is_undefined (value_at r.value) ≡ eqb e.section shn_undef
-    → Stands r (shared_entry gabi e)
-shared-stands false r e p v u = stands r e v p.bound p.seen u
-shared-stands true r e p v u = stands r (shared_entry true e) v p.bound refl u
+shared-stands : (gabi : Bool) (r : Row) (e : Sym) → Admitted e → visibility_at r.visibility ≡ shows (shared_entry gabi e) → value_at r.value ≡ Val.ExternallyDefined
+    → e.section ≢ shn_undef → Stands r (shared_entry gabi e)
+shared-stands gabi r e p v x u = stands r (shared_entry gabi e) v p.bound (seen gabi) (ap is_undefined x ∙ sym defined) (ap is_common_value x ∙ sym own)
+  where
+    seen : (g : Bool) → eqb (cond g stv_default e.visibility) stv_default ≡ not (eqb (cond g stv_default e.visibility) stv_hidden)
+    seen true = refl
+    seen false = p.seen
+
+    defined : eqb (cond (eqb e.section shn_common) shn_abs e.section) shn_undef ≡ false
+    defined = by-test (eqb e.section shn_common) (λ c. rw c) (λ c. rw (c, ne_eqb e.section shn_undef u))
+
+    own : eqb (cond (eqb e.section shn_common) shn_abs e.section) shn_common ≡ false
+    own = by-test (eqb e.section shn_common) (λ c. rw c) (λ c. rw (c, c))
 
 library-stands : (o : Shared.Input) (a : Shared.All) (r : Row) (p : FromLibrary o a r) → Stands r (shared_entry a.link.gabi (entry o.entries p.number))
 library-stands o a r p =
-    shared-stands a.link.gabi r (entry o.entries p.number) p.passed p.shown (ap is_undefined p.value ∙ sym (ne_eqb _ _ p.defines))
+    shared-stands a.link.gabi r (entry o.entries p.number) p.passed p.shown p.value p.defines
 
 -- ---- of a direct add
 
 elf-undefined : (conversion : List ℕ) (empty : Bool) (e : ElfSymbol) (v : SymbolValue) → ElfValue conversion empty e v → is_undefined v ≡ eqb e.section shn_undef
 elf-undefined conversion empty e v (Direct.undefined q) = sym (eq-eqb _ _ q)
 elf-undefined conversion empty e v (Direct.absolute q) = sym (ap (λ (n : ℕ). eqb n shn_undef) q)
-elf-undefined conversion empty e v (Direct.unloaded n q) = sym (ne_eqb _ _ n)
-elf-undefined conversion empty e v (Direct.whole i n q x) = sym (ne_eqb _ _ n)
-elf-undefined conversion empty e v (Direct.within i z n q x y) = sym (ne_eqb _ _ n)
+elf-undefined conversion empty e v (Direct.common q b a) = sym (ap (λ (n : ℕ). eqb n shn_undef) q)
+elf-undefined conversion empty e v (Direct.unloaded n m q) = sym (ne_eqb _ _ n)
+elf-undefined conversion empty e v (Direct.whole i n m q x) = sym (ne_eqb _ _ n)
+elf-undefined conversion empty e v (Direct.within i z n m q x y) = sym (ne_eqb _ _ n)
+
+elf-common : (conversion : List ℕ) (empty : Bool) (e : ElfSymbol) (v : SymbolValue) → ElfValue conversion empty e v → is_common_value v ≡ eqb e.section shn_common
+elf-common conversion empty e v (Direct.undefined q) = sym (ap (λ (n : ℕ). eqb n shn_common) q)
+elf-common conversion empty e v (Direct.absolute q) = sym (ap (λ (n : ℕ). eqb n shn_common) q)
+elf-common conversion empty e v (Direct.common q b a) = sym (eq-eqb _ _ q)
+elf-common conversion empty e v (Direct.unloaded n m q) = sym (ne_eqb _ _ m)
+elf-common conversion empty e v (Direct.whole i n m q x) = sym (ne_eqb _ _ m)
+elf-common conversion empty e v (Direct.within i z n m q x y) = sym (ne_eqb _ _ m)
 
 add-stands : (gabi : Bool) (conversion : List ℕ) (empty : Bool) (r : Row) (u : UpcomingSymbol) (p : FromAdd gabi conversion empty r u) → Stands r (add_entry p)
-add-stands gabi conversion empty r u (Direct.unknown name a b c d) = stands r _ c refl refl (ap is_undefined d)
-add-stands gabi conversion empty r u (Direct.hidden name value a b c d e) = stands r _ c refl refl (e ∙ back (is_undefined value))
+add-stands gabi conversion empty r u (Direct.unknown name a b c d) = stands r _ c refl refl (ap is_undefined d) (ap is_common_value d)
+add-stands gabi conversion empty r u (Direct.hidden name value a b c d e f) = stands r _ c refl refl (e ∙ back (is_undefined value) (is_common_value value)) (f ∙ shared value)
   where
-    back : (b : Bool) → b ≡ eqb (cond b shn_undef shn_abs) shn_undef
-    back true = refl
-    back false = refl
-add-stands gabi conversion empty r u (Direct.external name visibility binding p a b c d) = shared-stands gabi r _ p c (ap is_undefined d)
-add-stands gabi conversion empty r u (Direct.elf e name file p a b c d) = stands r _ c p.bound p.seen (elf-undefined conversion empty e (value_at r.value) d)
+    back : (b c : Bool) → b ≡ eqb (cond b shn_undef (cond c shn_common shn_abs)) shn_undef
+    back true c = refl
+    back false true = refl
+    back false false = refl
+
+    shared : (v : SymbolValue) → is_common_value v ≡ eqb (cond (is_undefined v) shn_undef (cond (is_common_value v) shn_common shn_abs)) shn_common
+    shared Val.Null = refl
+    shared (Val.Absolute v) = refl
+    shared (Val.Section s) = refl
+    shared (Val.SectionRelative s z) = refl
+    shared (Val.SectionVirtualAddress s v) = refl
+    shared Val.SectionNotLoaded = refl
+    shared Val.ExternallyDefined = refl
+    shared (Val.Undefined default) = refl
+    shared (Val.Common alignment) = refl
+add-stands gabi conversion empty r u (Direct.external name visibility binding p a b c d) = shared-stands gabi r _ p c d (λ z. omega arith)
+add-stands gabi conversion empty r u (Direct.elf e name file p a b c d) = stands r _ c p.bound p.seen (elf-undefined conversion empty e (value_at r.value) d) (elf-common conversion empty e (value_at r.value) d)
 
 -- ---- of any call
 

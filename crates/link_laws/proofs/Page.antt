@@ -42,7 +42,7 @@ use Rattle.archive_laws.proofs.PassList.{is_in, without, first_seen, offered, Ov
 use Rattle.gc_laws.proofs.Terms as CollectionLaws
 use Rattle.gc_laws.specs.Reached as Roots
 use Rattle.merge_stages.specs.Stages as Stages
-use Rattle.symbol_laws.specs.Rank.{first_by_rank}
+use Rattle.symbol_laws.specs.Rank.{first_by_rank, joined_in}
 use Rattle.symbol_laws.specs.Hidden.{is_hidden, some_hidden}
 use Rattle.symbol_laws.specs.Standing.{SameButHidden, hidden_by}
 use Rattle.symbol_laws.specs.Proof.Rows.{row_at}
@@ -136,7 +136,8 @@ module _ (key : ℕ) (gabi : Bool) (bytes names symbols sections inputs lists : 
 
     -- ---- 2. against the gABI
 
-    -- the content of a name (demand-3a) is that of an entry of an object or a library, or of a direct add, in document 01's words (FromCalls, Contents.antt)
+    -- the content of a name (demand-3a), but a joined common's size and alignment, is that of an entry of an object or a library, or of a direct add, in
+    -- document 01's words (FromCalls, Contents.antt)
     pub contents : (b : List ℕ) (x : Entry) (xs : List Entry) → adds b ks s0 ≡ x ∷ xs → FromCalls (first_by_rank gabi x.row (rows xs)) ks s0 []
     contents b = Terms.contents key gabi bytes names symbols sections inputs lists new ks quiet (id_of b end).0
 
@@ -158,13 +159,14 @@ module _ (key : ℕ) (gabi : Bool) (bytes names symbols sections inputs lists : 
     named = Terms.adds-bear key gabi bytes names symbols sections inputs lists new ks quiet
 
     -- ---- 3. "each global name has the id of its first accepted add and the content of its first accepted strong definition, else weak definition, else add"
+    -- 2026-06: "a name's holder is the first strong definition that is no common, else the commons joined, else as before" (joined_in)
 
     -- in the gABI profile "A name without a definition thus holds its first accepted strong reference, if there is one" (first_by_rank), and hidden is apart
     pub demand-3a : (b : List ℕ) (x : Entry) (xs : List Entry) → adds b ks s0 ≡ x ∷ xs
-        → lookup b end ≡ Ok (symbol_of (record { 0 = x.id }) (hidden_by gabi (rows (x ∷ xs)) (first_by_rank gabi x.row (rows xs))))
+        → lookup b end ≡ Ok (symbol_of (record { 0 = x.id }) (hidden_by gabi (rows (x ∷ xs)) (joined_in (rows (x ∷ xs)) (first_by_rank gabi x.row (rows xs)))))
     demand-3a b = Terms.lookup-row key gabi bytes names symbols sections inputs lists new ks quiet lent (id_of b end).0
 
-    pub content-3a : (b : List ℕ) (x : Entry) (xs : List Entry) → adds b ks s0 ≡ x ∷ xs → SameButHidden (row_at end.table.symbols x.id) (first_by_rank gabi x.row (rows xs))
+    pub content-3a : (b : List ℕ) (x : Entry) (xs : List Entry) → adds b ks s0 ≡ x ∷ xs → SameButHidden (row_at end.table.symbols x.id) (joined_in (rows (x ∷ xs)) (first_by_rank gabi x.row (rows xs)))
     content-3a b = Terms.content-3a key gabi bytes names symbols sections inputs lists new ks quiet (id_of b end).0
 
     -- which "is taken from all accepted object adds", direct ones among them; a direct add of `ExternallyDefined` is never hidden (contents: FromAdd, Contents.antt)
@@ -320,7 +322,7 @@ module _ (key : ℕ) (gabi : Bool) (bytes names symbols sections inputs lists : 
 
     pub grown-3a : (b : List ℕ) (x : Entry) (xs : List Entry)
         → Terms.grown_adds key gabi bytes names symbols sections inputs lists new ts calm lent (id_of b grown_end).0 ≡ x ∷ xs
-        → lookup b grown_end ≡ Ok (symbol_of (record { 0 = x.id }) (hidden_by gabi (rows (x ∷ xs)) (first_by_rank gabi x.row (rows xs))))
+        → lookup b grown_end ≡ Ok (symbol_of (record { 0 = x.id }) (hidden_by gabi (rows (x ∷ xs)) (joined_in (rows (x ∷ xs)) (first_by_rank gabi x.row (rows xs)))))
     grown-3a b = Terms.grown-row key gabi bytes names symbols sections inputs lists new ts calm lent (id_of b grown_end).0
 
     pub grown-hidden : (b : List ℕ) (x : Entry) (xs : List Entry)

@@ -119,7 +119,7 @@ row-only t conversion u =
     other =
         AddNumbers.decide-numbers In (differ 0 22 refl) (differ 2 22 refl) (differ 17 22 refl) (differ 21 22 refl) t.link t.symbols t.sections r
         (AddNumbers.upcoming-fields In (differ 0 22 refl) (differ 2 22 refl) (differ 17 22 refl) (differ 21 22 refl) (differ 10 22 refl) (differ 11 22 refl)
-        (differ 12 22 refl) (differ 13 22 refl) (differ 14 22 refl) (differ 15 22 refl) (differ 16 22 refl) t.link.gabi conversion u (empty_at t.names (name_of u)))
+        (differ 12 22 refl) (differ 13 22 refl) (differ 28 22 refl) (differ 14 22 refl) (differ 15 22 refl) (differ 16 22 refl) t.link.gabi conversion u (empty_at t.names (name_of u)))
         (direct_holder_of t.link t.names t.symbols r.name (file_of u))
 
 add-only : (t : Table) (conversion : List ℕ) (u : UpcomingSymbol) → number_in (add_of t conversion u).said ≡ 22 → t.link.broken ≡ true

@@ -94,7 +94,8 @@ section-code w y e =
     (λ f.
     by-test (eqb w.kind 6) (λ g. absurd (no (rw (a, b, c, d, f, g) at q)))
     (λ g.
-    by-test (eqb w.kind 7) (λ h. absurd (no (rw (a, b, c, d, f, g, h) at q))) (λ h. absurd (no (rw (a, b, c, d, f, g, h) at q)))))))))
+    by-test (eqb w.kind 7) (λ h. absurd (no (rw (a, b, c, d, f, g, h) at q)))
+    (λ h. by-test (eqb w.kind 8) (λ i. absurd (no (rw (a, b, c, d, f, g, h, i) at q))) (λ i. absurd (no (rw (a, b, c, d, f, g, h, i) at q))))))))))
   where
     no : 0 ≡ y.0 + 1 → ⊥
     no e = omega (arith, e)
@@ -279,7 +280,7 @@ null-fresh gabi symbols sections s some e =
     (record {
       one = refl;
       clear = λ y. cleared-symbol _ sections y refl;
-      null = stored_row symbols (record { 0 = 0 }) null_row (omega (arith, some, m));
+      null = stored_row symbols (record { 0 = 0 }) null_row (record { scope = omega arith; type = omega arith }) (omega (arith, some, m));
     }))
 
 pub new-fresh : (key : ℕ) (gabi : Bool) (bytes names symbols sections : List ℕ) → number_in (new_of key gabi bytes names symbols sections).said ≡ 0

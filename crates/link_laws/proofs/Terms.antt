@@ -57,7 +57,10 @@ use Rattle.archive_laws.proofs.Terms.{walked}
 use Rattle.archive_laws.proofs.PassList.{Over, offered, without, first_seen, tied_members}
 use Rattle.gc_laws.proofs.Terms as CollectionLaws
 use Rattle.gc_laws.specs.Reached as Roots
-use Rattle.symbol_laws.specs.Rank.{ranked, FirstOfGreatestRank, first_by_rank}
+use Rattle.symbol_laws.specs.ContentWords.{shared_entry}
+use Rattle.symbol_laws.proofs.Standing.{hidden-joined}
+use Rattle.symbol_laws.specs.Demand.{HeldBy}
+use Rattle.symbol_laws.specs.Rank.{ranked, FirstOfGreatestRank, first_by_rank, joined_in}
 use Rattle.symbol_laws.specs.Proof.Rows.{row_at}
 use Rattle.symbol_laws.specs.History.{opened, Entry, only, rows, store, upcoming, table}
 use Rattle.symbol_laws.proofs.Start.{new-inv}
@@ -203,7 +206,7 @@ use Rattle.link_laws.proofs.OneByOne as OneByOne
 use Rattle.add_list.specs.AddList.{items_of, list_left}
 
 -- ---- 1. "The answer to every call is a result or, exactly where document 01's rules in their order give it, one of the refusals 1 to 25"; document 02 adds
--- 26, 27 and 30
+-- 26, 27, 28 and 30
 
 -- which, and at which place, is what the definition gives that the call's contract cites; it is 0, a result, or a number that document 01 gives the call
 pub answers : (k : Call) (s : Linked) → one_of (call_number k s) (0 ∷ call_numbers k) ≡ true
@@ -383,8 +386,8 @@ file-unread-leaves file cells work ids s u =
 pub not-needed-leaves : (o : Shared.Input) (marks : List ℕ) (s : Linked) → (call_left (load o marks) s).answer ≡ Ok NotNeeded → call_next (load o marks) s ≡ s
 not-needed-leaves = LeavesLaws.load-unneeded
 
--- otherwise it is refused at one of its elements, with that one's place: "that call's earlier elements stay merged", all is left at it, on 10 to 14, 16
--- and 19 but for its name, and the link is broken
+-- otherwise it is refused at one of its elements, with that one's place: "that call's earlier elements stay merged", all is left at it, on 10 to 14, 16,
+-- 19 and 28 but for its name, and the link is broken
 pub merge-leaves : (o : Stages.Object) (work ids : List ℕ) (s : Linked) → call_number (merge o work ids) s ≢ 0 → Elements.MergeLeft o work ids s
 merge-leaves = Elements.merge-leaves
 
@@ -818,10 +821,10 @@ module _ (key : ℕ) (gabi : Bool) (bytes names symbols sections inputs lists : 
         ∙ hidden-objects (grown_adds n) (only-shown n (log_turns ts start) (turns-shown ts start calm (new-profile key gabi bytes names symbols sections new ∙ g)))
 
     pub grown-row : (n : ℕ) (x : Entry) (xs : List Entry) → grown_adds n ≡ x ∷ xs
-        → call_left (get_global (record { 0 = n })) grown_end ≡ Ok (symbol_of (record { 0 = x.id }) (hidden_by gabi (rows (x ∷ xs)) (first_by_rank gabi x.row (rows xs))))
+        → call_left (get_global (record { 0 = n })) grown_end ≡ Ok (symbol_of (record { 0 = x.id }) (hidden_by gabi (rows (x ∷ xs)) (joined_in (rows (x ∷ xs)) (first_by_rank gabi x.row (rows xs)))))
     grown-row n x xs e =
         Within.lookup-row grown_end.table _ some.reached.held (reached-within grown_end _ _ some.reached) n x xs e
-        ∙ ap (λ (g : Bool). Ok (symbol_of (record { 0 = x.id }) (hidden_by g (rows (x ∷ xs)) (first_by_rank g x.row (rows xs))))) grown-profile
+        ∙ ap (λ (g : Bool). Ok (symbol_of (record { 0 = x.id }) (hidden_by g (rows (x ∷ xs)) (joined_in (rows (x ∷ xs)) (first_by_rank g x.row (rows xs)))))) grown-profile
 
     pub grown-none : (n : ℕ) → grown_adds n ≡ [] → call_left (get_global (record { 0 = n })) grown_end ≡ not_found 23 0
     grown-none = Within.lookup-none grown_end.table _ some.reached.held (reached-within grown_end _ _ some.reached)
@@ -873,15 +876,15 @@ module _ (key : ℕ) (gabi : Bool) (bytes names symbols sections inputs lists : 
       within = reached-within end _ _ reached
 
     -- "each global name has the id of its first accepted add and the content of its first accepted strong definition, else weak
-    -- definition, else add"
+    -- definition, else add"; 2026-06: "the first strong definition that is no common, else the commons joined, else as before"
     pub demand-3a : (n : ℕ) (x : Entry) (xs : List Entry) → accepted_adds n ≡ x ∷ xs → Demand.Resolved gabi end.table n x xs
     demand-3a n x xs e = subst (λ (g : Bool). Demand.Resolved g end.table n x xs) (profile ks) (DemandLaws.resolved end.table _ held n x xs e)
 
     -- apart from hidden that is the row, in both profiles; in the old one it is the whole row
-    pub content-3a : (n : ℕ) (x : Entry) (xs : List Entry) → accepted_adds n ≡ x ∷ xs → SameButHidden (row_at end.table.symbols x.id) (first_by_rank gabi x.row (rows xs))
+    pub content-3a : (n : ℕ) (x : Entry) (xs : List Entry) → accepted_adds n ≡ x ∷ xs → SameButHidden (row_at end.table.symbols x.id) (joined_in (rows (x ∷ xs)) (first_by_rank gabi x.row (rows xs)))
     content-3a n x xs e = DemandLaws.content-apart end.table n x xs gabi (demand-3a n x xs e)
 
-    pub content-old : (n : ℕ) (x : Entry) (xs : List Entry) → accepted_adds n ≡ x ∷ xs → gabi ≡ false → FirstOfGreatestRank (ranked false) (rows (x ∷ xs)) (row_at end.table.symbols x.id)
+    pub content-old : (n : ℕ) (x : Entry) (xs : List Entry) → accepted_adds n ≡ x ∷ xs → gabi ≡ false → HeldBy (ranked false) (rows (x ∷ xs)) (row_at end.table.symbols x.id)
     content-old n x xs e g = DemandLaws.content-old end.table n x xs (subst (λ (g : Bool). Demand.Resolved g end.table n x xs) g (demand-3a n x xs e))
 
     -- in the gABI profile the row is hidden just if one of the adds is
@@ -933,7 +936,7 @@ module _ (key : ℕ) (gabi : Bool) (bytes names symbols sections inputs lists : 
 
     -- ---- the inputs' own entries
 
-    -- the content of a name (demand-3a) is that of an entry of an object, of a library or of a direct add: its type, section, value, weak and hidden are what
+    -- the content of a name (demand-3a), but a joined common's size and alignment, is that of an entry of an object, of a library or of a direct add: its type, section, value, weak and hidden are what
     -- the entry says, in document 01's words (FromSymbol, FromLibrary, FromAdd); a library's is hidden in the old profile only
     pub contents : (n : ℕ) (x : Entry) (xs : List Entry) → accepted_adds n ≡ x ∷ xs → FromCalls (first_by_rank gabi x.row (rows xs)) ks start []
     contents n x xs e =
@@ -967,8 +970,11 @@ module _ (key : ℕ) (gabi : Bool) (bytes names symbols sections inputs lists : 
           ∙ ap (λ (b : Bool). cond b stv_hidden stv_default) (sym (hidden-3a n x xs e g))
 
       pub hidden-differs : (old : gabi ≡ false)
-          → combined own_entries ≡ cond (is_hidden (row_at end.table.symbols x.id) || not_passed_on (content-old n x xs e old)) stv_hidden stv_default
-      hidden-differs old = HiddenLaws.hidden-differs (rows (x ∷ xs)) own_entries (all-show ks start [] (rows (x ∷ xs)) from) _ (content-old n x xs e old)
+          → combined own_entries ≡ cond (is_hidden (row_at end.table.symbols x.id) || not_passed_on (content-old n x xs e old).first) stv_hidden stv_default
+      hidden-differs old =
+          let f : HeldBy (ranked false) (rows (x ∷ xs)) (row_at end.table.symbols x.id) = content-old n x xs e old in
+          HiddenLaws.hidden-differs (rows (x ∷ xs)) own_entries (all-show ks start [] (rows (x ∷ xs)) from) f.holder f.first
+          ∙ ap (λ (h : Bool). cond (h || not_passed_on f.first) stv_hidden stv_default) (sym (ap is_hidden f.is ∙ hidden-joined (rows (x ∷ xs)) f.holder))
 
     -- a further add, global, of a symbol whose binding, visibility and value pass, is refused with 17 exactly where the gABI sees a duplicate, those of
     -- shared objects counted like any other (see gabi-agrees)
@@ -1031,7 +1037,7 @@ module _ (key : ℕ) (gabi : Bool) (bytes names symbols sections inputs lists : 
 
       -- the entry is undefined by now if its section is removed
       pub merge-row-means : (i : ℕ) → Judges (merge_row i) → Means (merge_row i) (sym_of (InMerge.entry_to o (all_in end work ids) i))
-      merge-row-means i j = InMerge.row-means o (all_in end work ids) i j.global j.passes
+      merge-row-means i j = InMerge.row-means o (all_in end work ids) i j.global j.passes j.valued
 
     -- and of one more load, whose symbols count like any other (see gabi-agrees)
     module _ (o : Shared.Input) (marks : List ℕ) where
@@ -1056,17 +1062,17 @@ module _ (key : ℕ) (gabi : Bool) (bytes names symbols sections inputs lists : 
       pub load-log : (i : ℕ) → InLoad.Comes o (library_in end marks) i → InLoad.LogBegins o (library_in end marks) i
       load-log = InLoad.log-begins o (library_in end marks)
 
-      pub load-row-means : (i : ℕ) → InLoad.Adds o (library_in end marks) i → Judges (loaded_row i) → Means (loaded_row i) (sym_of (elf_at o.entries i))
+      pub load-row-means : (i : ℕ) → InLoad.Adds o (library_in end marks) i → Judges (loaded_row i) → Means (loaded_row i) (shared_entry end.table.link.gabi (sym_of (elf_at o.entries i)))
       load-row-means i s j = InLoad.row-means o (library_in end marks) i s j.global j.passes
 
     -- a lent list has fewer than 2^64 cells
     module _ (lent : length lists ≤ not_lent) where
       -- what a lookup by the name then answers
       pub lookup-row : (n : ℕ) (x : Entry) (xs : List Entry) → accepted_adds n ≡ x ∷ xs
-          → call_left (get_global (record { 0 = n })) end ≡ Ok (symbol_of (record { 0 = x.id }) (hidden_by gabi (rows (x ∷ xs)) (first_by_rank gabi x.row (rows xs))))
+          → call_left (get_global (record { 0 = n })) end ≡ Ok (symbol_of (record { 0 = x.id }) (hidden_by gabi (rows (x ∷ xs)) (joined_in (rows (x ∷ xs)) (first_by_rank gabi x.row (rows xs)))))
       lookup-row n x xs e =
           Within.lookup-row end.table _ held (within lent) n x xs e
-          ∙ ap (λ (g : Bool). Ok (symbol_of (record { 0 = x.id }) (hidden_by g (rows (x ∷ xs)) (first_by_rank g x.row (rows xs))))) (profile ks)
+          ∙ ap (λ (g : Bool). Ok (symbol_of (record { 0 = x.id }) (hidden_by g (rows (x ∷ xs)) (joined_in (rows (x ∷ xs)) (first_by_rank g x.row (rows xs)))))) (profile ks)
 
       pub lookup-none : (n : ℕ) → accepted_adds n ≡ [] → call_left (get_global (record { 0 = n })) end ≡ not_found 23 0
       lookup-none = Within.lookup-none end.table _ held (within lent)
@@ -1078,10 +1084,10 @@ module _ (key : ℕ) (gabi : Bool) (bytes names symbols sections inputs lists : 
 
         pub lookup-interned : (x : Entry) (xs : List Entry) → accepted_adds id_now ≡ x ∷ xs
             → call_left (get_global (record { 0 = id_now })) (call_next (intern b) end)
-            ≡ Ok (symbol_of (record { 0 = x.id }) (hidden_by gabi (rows (x ∷ xs)) (first_by_rank gabi x.row (rows xs))))
+            ≡ Ok (symbol_of (record { 0 = x.id }) (hidden_by gabi (rows (x ∷ xs)) (joined_in (rows (x ∷ xs)) (first_by_rank gabi x.row (rows xs)))))
         lookup-interned x xs e =
             LookedUp.interned-row end _ _ (reached lent) b x xs e
-            ∙ ap (λ (g : Bool). Ok (symbol_of (record { 0 = x.id }) (hidden_by g (rows (x ∷ xs)) (first_by_rank g x.row (rows xs))))) (call-profile (intern b) end ∙ profile ks)
+            ∙ ap (λ (g : Bool). Ok (symbol_of (record { 0 = x.id }) (hidden_by g (rows (x ∷ xs)) (joined_in (rows (x ∷ xs)) (first_by_rank g x.row (rows xs)))))) (call-profile (intern b) end ∙ profile ks)
 
         pub lookup-interned-none : accepted_adds id_now ≡ [] → call_left (get_global (record { 0 = id_now })) (call_next (intern b) end) ≡ not_found 23 0
         lookup-interned-none = LookedUp.interned-none end _ _ (reached lent) b

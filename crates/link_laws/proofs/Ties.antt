@@ -19,7 +19,8 @@ use Rattle.symbol_resolution.specs.Decide.{weak_of}
 use Rattle.interner_laws.specs.Good.{find}
 use Rattle.archive_walk.specs.Look.{is_undefined, name_holder, undefined_name, tied_name}
 use Rattle.archive_laws.proofs.Profiles.{is_strong, strong_name, tied-gabi}
-use Rattle.symbol_laws.specs.Rank.{weak, first_by_rank}
+use Rattle.symbol_laws.proofs.Standing.{joined-stays}
+use Rattle.symbol_laws.specs.Rank.{weak, first_by_rank, joined_in}
 use Rattle.symbol_laws.specs.Hidden.{some_hidden}
 use Rattle.symbol_laws.specs.Standing.{hidden_by}
 use Rattle.symbol_laws.specs.Proof.Rows.{row_at}
@@ -51,7 +52,7 @@ OfName r = is_of_name (visibility_at r.visibility) ≡ true
 
 add-of-name : {gabi : Bool} {conversion : List ℕ} {empty : Bool} (r : Row) (u : UpcomingSymbol) → FromAdd gabi conversion empty r u → OfName r
 add-of-name r u (Direct.unknown name a b c d) = ap is_of_name c
-add-of-name r u (Direct.hidden name value a b c d e) = ap is_of_name c
+add-of-name r u (Direct.hidden name value a b c d e f) = ap is_of_name c
 add-of-name r u (Direct.external name visibility binding p a b c d) = ap is_of_name c
 add-of-name r u (Direct.elf e name file p a b c d) = ap is_of_name c
 
@@ -116,7 +117,8 @@ module _ (s : State) (past : List Entry) (inv : Inv s past) (gabi : s.link.gabi 
       let is : Resolved true s n x xs = subst (λ (g : Bool). Resolved g s n x xs) gabi (resolved s past inv n x xs e) in
       ap (is_strong s.symbols) (holder_known s past inv n x xs e)
       ∙ ap (λ (q : Row). strong_code q.visibility) is.terms
-      ∙ hidden-strong true (rows (x ∷ xs)) r o ∙ ap not (sym (content-apart s n x xs true is).weakness)
+      ∙ hidden-strong true (rows (x ∷ xs)) (joined_in (rows (x ∷ xs)) r) (joined-stays Bool (λ q. is_of_name (visibility_at q.visibility)) (λ r s a. refl) (rows (x ∷ xs)) r ∙ o)
+      ∙ ap not (sym (content-apart s n x xs true is).weakness)
 
   pub ties-wanted : (x : Entry) (xs : List Entry) → only n past ≡ x ∷ xs → OfName (first_by_rank true x.row (rows xs)) → (g : Sym) (gs : List Sym) → AllMean (rows (x ∷ xs)) (g ∷ gs)
       → tied_name (view_in s) b ≡ wants (g ∷ gs)

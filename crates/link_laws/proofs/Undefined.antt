@@ -11,6 +11,7 @@ use Rattle.symbol.specs.declared.Row.{Row}
 use Rattle.symbol.specs.declared.Words.{Words}
 use Rattle.interner_laws.specs.Good.{find}
 use Rattle.archive_walk.specs.Look.{is_undefined, name_holder, undefined_name}
+use Rattle.symbol_laws.proofs.Standing.{joined-stays}
 use Rattle.symbol_laws.specs.Rank.{first_by_rank}
 use Rattle.symbol_laws.specs.Proof.Rows.{row_at}
 use Rattle.symbol_laws.specs.History.{State, store, Entry, only, rows}
@@ -40,6 +41,7 @@ module _ (s : State) (past : List Entry) (inv : Inv s past) (b : List ℕ) where
   content : (x : Entry) (xs : List Entry) → only (find (store s) b) past ≡ x ∷ xs → is_undefined_row (row_at s.symbols x.id) ≡ is_undefined_row (first_by_rank s.link.gabi x.row (rows xs))
   content x xs e =
       ap (λ (w : Words). eqb w.kind 7) (content-apart s (find (store s) b) x xs s.link.gabi (resolved s past inv (find (store s) b) x xs e)).value
+      ∙ joined-stays Bool is_undefined_row (λ r s a. refl) (rows (x ∷ xs)) (first_by_rank s.link.gabi x.row (rows xs))
 
   pub undefined-name : (x : Entry) (xs : List Entry) → only (find (store s) b) past ≡ x ∷ xs
       → undefined_name (view_in s) b ≡ is_undefined_row (first_by_rank s.link.gabi x.row (rows xs))

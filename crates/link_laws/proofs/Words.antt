@@ -15,9 +15,9 @@ use Rattle.archive_laws.proofs.Profiles.{strong_name, tied-old, tied-gabi}
 use Rattle.archive_laws.specs.Walked.{tied_in}
 use Rattle.archive_laws.proofs.PassList.{members_from, tied_members}
 use Rattle.load_laws.proofs.Own as Need
-use Rattle.symbol_laws.specs.Rank.{first_by_rank}
+use Rattle.symbol_laws.specs.Rank.{first_by_rank, joined_in}
 use Rattle.symbol_laws.specs.Standing.{hidden_by}
-use Rattle.symbol_laws.proofs.Standing.{same_by}
+use Rattle.symbol_laws.proofs.Standing.{same_by, joined-stays}
 use Rattle.symbol_laws.specs.History.{Entry, store, only, rows}
 use Rattle.symbol_laws.proofs.Demand.{resolved, holder_known, holder-none}
 use Rattle.symbol_laws.proofs.Within as Within
@@ -53,8 +53,9 @@ module _ (s : Linked) (past : List Entry) (met : List (List ℕ)) (r : Reached s
           Undefined.undefined-name s.table past r.held b x xs e
           ∙ sym
           (ap is_undefined (Within.lookup-row s.table past r.held (reached-within s past met r) n x xs e)
-          ∙ row-undefined x.id (hidden_by s.table.link.gabi (rows (x ∷ xs)) (first_by_rank s.table.link.gabi x.row (rows xs)))
-          ∙ ap (λ (w : Words). eqb w.kind 7) (same_by s.table.link.gabi (rows (x ∷ xs)) (first_by_rank s.table.link.gabi x.row (rows xs))).value)
+          ∙ row-undefined x.id (hidden_by s.table.link.gabi (rows (x ∷ xs)) (joined_in (rows (x ∷ xs)) (first_by_rank s.table.link.gabi x.row (rows xs))))
+          ∙ ap (λ (w : Words). eqb w.kind 7) (same_by s.table.link.gabi (rows (x ∷ xs)) (joined_in (rows (x ∷ xs)) (first_by_rank s.table.link.gabi x.row (rows xs)))).value
+          ∙ joined-stays Bool (λ (r : Row). eqb r.value.kind 7) (λ r t a. refl) (rows (x ∷ xs)) (first_by_rank s.table.link.gabi x.row (rows xs)))
 
   strong-seen : (b : List ℕ) → strong_name (view_in s.table) b ≡ strong b s
   unfolding strong_name name_holder symbol_of
@@ -73,7 +74,7 @@ module _ (s : Linked) (past : List Entry) (met : List (List ℕ)) (r : Reached s
           ∙ sym (ap is_strong (Within.lookup-row s.table past r.held (reached-within s past met r) n x xs e) ∙ Need.strong-code held.visibility ∙ tree (eqb held.visibility 1) (eqb held.visibility 2))
         where
           held : Row
-          held = hidden_by s.table.link.gabi (rows (x ∷ xs)) (first_by_rank s.table.link.gabi x.row (rows xs))
+          held = hidden_by s.table.link.gabi (rows (x ∷ xs)) (joined_in (rows (x ∷ xs)) (first_by_rank s.table.link.gabi x.row (rows xs)))
 
           tree : (a b : Bool) → cond a true (cond b true false) ≡ a || b
           tree true b = refl

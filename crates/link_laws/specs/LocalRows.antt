@@ -33,7 +33,7 @@ Counted s = (y : ℕ) → symbol_in s y < s.link.symbols
 -- row i, counted in s: as it was, or a name's row before and after
 pub data Stands (s t : State) (i : ℕ) : Type 0 where
   same : row_at t.symbols i ≡ row_at s.symbols i → Stands s t i
-  other : visibility_code_at s.symbols i ≢ 0 → visibility_code_at t.symbols i ≢ 0 → visibility_code_at t.symbols i < 5 → Stands s t i
+  other : visibility_code_at s.symbols i ≢ 0 → visibility_code_at t.symbols i ≢ 0 → (visibility_code_at s.symbols i < 5 → visibility_code_at t.symbols i < 5) → Stands s t i
 
 -- the symbol of section y: that of the newest local `Section` row of it since s, else the one in s
 pub data Since (s t : State) (y : ℕ) : Type 0 where

@@ -17,7 +17,7 @@ use Rattle.merge_laws.specs.MergeSteps.{group_first, symbol_first}
 use Rattle.merge_laws.proofs.Stops.{prepared, symbol_reader, marked, builder, before2, before1, before0}
 use Rattle.link_laws.specs.Rules.{Rule, ◌gives◌at◌, least, some, each, each_of, in_turn, lent_rows, head_rules}
 use Rattle.link_laws.specs.TableRules.{id_in, is_unroomed, names_of, Conversion, nothing, not_loaded, to_section, elf_asked, Asked, shown_rules, held_rules}
-use Rattle.link_laws.specs.ObjectRules.{is_excluded, is_kind, is_section, is_named, name_in, object_rules, name_offset, link_at, info_at, first_at, count_at, symbol_name, binding_at, type_at, visibility_at, section_at, value_at}
+use Rattle.link_laws.specs.ObjectRules.{is_excluded, is_kind, is_section, is_named, name_in, object_rules, name_offset, link_at, info_at, first_at, count_at, symbol_name, binding_at, type_at, visibility_at, section_at, value_at, size_at}
 use Rattle.link_laws.specs.GroupRules.{is_met, signature, listed, own_group_rules}
 
 -- ---- sections
@@ -152,6 +152,7 @@ module _ (k : Reading) (o : Stages.Tabled) (i : ℕ) where
         kind = type_at o.entries i;
         section = cond (is_removed_in k (section_at o.entries i)) 0 (section_at o.entries i);
         value = value_at o.entries i;
+        size = size_at o.entries i;
       }
 
   -- the table links to its strings

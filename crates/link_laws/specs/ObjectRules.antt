@@ -55,6 +55,9 @@ section_at entries i = cell_at entries i 4
 abbrev pub value_at : List ℕ → ℕ → ℕ
 value_at entries i = cell_at entries i 5
 
+abbrev pub size_at : List ℕ → ℕ → ℕ
+size_at entries i = cell_at entries i 6
+
 abbrev pub is_excluded : List ℕ → ℕ → Bool
 is_excluded headers n = eqb (flags_at headers n % 2) 1
 
@@ -99,6 +102,7 @@ entry_at entries i =
       visibility = visibility_at entries i;
       section = section_at entries i;
       value = value_at entries i;
+      size = size_at entries i;
     }
 
 -- "Symbol rows [..] to 65,535"

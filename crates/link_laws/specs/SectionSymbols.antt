@@ -44,6 +44,7 @@ section_number (Val.SectionVirtualAddress s v) = 0
 section_number Val.SectionNotLoaded = 0
 section_number Val.ExternallyDefined = 0
 section_number (Val.Undefined weak) = 0
+section_number (Val.Common alignment) = 0
 
 abbrev pub symbol_number : Option SymbolId → ℕ
 symbol_number None = 0

@@ -2,7 +2,8 @@
 -- judges.
 -- Assumes nothing.
 use Rattle.link.specs.declared.Interned.{Interned}
-use Rattle.std.specs.Prelude.{ℕ, zero, suc, ◌+◌, ◌*◌, ◌/◌, ◌-◌, Bool, true, false, cond, not, ◌&&◌, ◌||◌, List, [], ◌∷◌, ◌++◌, eqb, ltb, get_or, length, Option, None, Some}
+use Rattle.std.specs.Prelude.{ℕ, zero, suc, ◌+◌, ◌*◌, ◌/◌, ◌%◌, ◌-◌, Bool, true, false, cond, not, ◌&&◌, ◌||◌, List, [], ◌∷◌, ◌++◌, eqb, ltb, get_or, length, Option, None, Some}
+use Rattle.std.specs.Int.{is_power_of_two}
 use Rattle.byte_slices.specs.Bytes.{same, part}
 use Rattle.link.specs.declared.Link.{Link}
 use Rattle.link.specs.Bounds.{not_lent}
@@ -32,18 +33,25 @@ row_of t name = get_or t.names (name * 8 + 3) 0
 abbrev pub is_known : State → ℕ → Bool
 is_known t name = is_issued t name && (not (eqb (row_of t name) 0) && ltb (row_of t name) t.link.symbols)
 
--- a symbol's row: its state is 2 where it was removed; its class is 1 or 2 where it is strong, 3 or 4 where it is weak, shown or hidden; a value of kind 7 is undefined
+-- a symbol's row: its state is 2 where it was removed; its class, beside its type in one cell, is 1 or 2 where it is strong, 3 or 4 where it is weak, shown or
+-- hidden; a value of kind 7 is undefined, one of kind 8 common
 abbrev pub is_removed : State → ℕ → Bool
 is_removed t id = eqb (get_or t.symbols (id * 8 + 0) 0) 2
 
+abbrev pub class_of : State → ℕ → ℕ
+class_of t id = get_or t.symbols (id * 8 + 4) 0 % 8
+
 abbrev pub is_weak_row : State → ℕ → Bool
-is_weak_row t id = eqb (get_or t.symbols (id * 8 + 4) 0) 3 || eqb (get_or t.symbols (id * 8 + 4) 0) 4
+is_weak_row t id = eqb (class_of t id) 3 || eqb (class_of t id) 4
 
 abbrev pub is_strong_row : State → ℕ → Bool
-is_strong_row t id = eqb (get_or t.symbols (id * 8 + 4) 0) 1 || eqb (get_or t.symbols (id * 8 + 4) 0) 2
+is_strong_row t id = eqb (class_of t id) 1 || eqb (class_of t id) 2
 
 abbrev pub is_undefined_row : State → ℕ → Bool
 is_undefined_row t id = eqb (get_or t.symbols (id * 8 + 5) 0) 7
+
+abbrev pub is_common_row : State → ℕ → Bool
+is_common_row t id = eqb (get_or t.symbols (id * 8 + 5) 0) 8
 
 -- "Symbol rows [..] to 65,535; [..] always also the lent length"
 abbrev pub no_symbol_row : State → Bool
@@ -122,7 +130,8 @@ names_of bytes names l = record { bytes = bytes; names = names; symbols = []; se
 -- what a value is, as far as a rule asks
 pub data Value : Type 0 where
   undefined : Value
-  common : Value
+  -- its alignment
+  common : ℕ → Value
   -- its section has no id, "not loaded" neither
   sectionless : Value
   -- the section itself: "An empty name with value 0"
@@ -132,21 +141,29 @@ pub data Value : Type 0 where
 
 abbrev pub is_undefined : Value → Bool
 is_undefined undefined = true
-is_undefined common = false
+is_undefined (common a) = false
 is_undefined sectionless = false
 is_undefined (section s) = false
 is_undefined defined = false
 
 abbrev pub is_common : Value → Bool
 is_common undefined = false
-is_common common = true
+is_common (common a) = true
 is_common sectionless = false
 is_common (section s) = false
 is_common defined = false
 
+-- "alignment zero or no power of two"
+abbrev pub is_misaligned : Value → Bool
+is_misaligned undefined = false
+is_misaligned (common a) = not (is_power_of_two a)
+is_misaligned sectionless = false
+is_misaligned (section s) = false
+is_misaligned defined = false
+
 abbrev pub is_sectionless : Value → Bool
 is_sectionless undefined = false
-is_sectionless common = false
+is_sectionless (common a) = false
 is_sectionless sectionless = true
 is_sectionless (section s) = false
 is_sectionless defined = false
@@ -154,7 +171,7 @@ is_sectionless defined = false
 -- a local one becomes its section's symbol, which takes a cell: without one the table is full, as without a row
 abbrev pub no_section_cell : State → Value → Bool
 no_section_cell t undefined = false
-no_section_cell t common = false
+no_section_cell t (common a) = false
 no_section_cell t sectionless = false
 no_section_cell t (section s) = ltb (length t.sections / 9) t.link.slots || not (ltb s t.link.slots)
 no_section_cell t defined = false
@@ -184,11 +201,11 @@ placed_as nothing empty v = sectionless
 placed_as not_loaded empty v = defined
 placed_as (to_section s) empty v = cond (empty && eqb v 0) (section s) defined
 
--- "section (0 undefined, 0xfff1 absolute, 0xfff2 common, else ..)"
+-- "section (0 undefined, 0xfff1 absolute, 0xfff2 common, else ..)"; 2026-06: "an alignment: a common's value field"
 abbrev pub elf_value : ElfSymbol → Conversion → Bool → Value
 elf_value e c empty =
     cond (eqb e.section 0) undefined
-    (cond (eqb e.section 0xfff1) defined (cond (eqb e.section 0xfff2) common (placed_as c empty e.value)))
+    (cond (eqb e.section 0xfff1) defined (cond (eqb e.section 0xfff2) (common e.value) (placed_as c empty e.value)))
 
 abbrev pub given_value : SymbolValue → Value
 given_value Val.Null = defined
@@ -199,6 +216,7 @@ given_value (Val.SectionVirtualAddress s v) = defined
 given_value Val.SectionNotLoaded = defined
 given_value Val.ExternallyDefined = defined
 given_value (Val.Undefined weak) = undefined
+given_value (Val.Common a) = common a
 
 abbrev pub asked_of : ℕ → ℕ → ℕ → ℕ → Option Interned → Value → Asked
 asked_of binding visibility kind name file value =
@@ -245,9 +263,14 @@ module _ (t : State) (a : Asked) where
   abbrev pub is_fresh : Bool
   is_fresh = is_local || not (is_known t a.name)
 
-  -- "if the row is undefined, or weak under a strong add"
+  -- "if the row is undefined, or weak under a strong add"; 2026-06: "a weak definition doesn't displace" a common, "and it displaces a weak one"; a strong
+  -- definition displaces it
   abbrev pub displaces : Bool
-  displaces = not (is_undefined a.value) && (is_undefined_row t (row_of t a.name) || is_weak_row t (row_of t a.name) && not (eqb a.binding 2))
+  displaces =
+      not (is_undefined a.value)
+      && (is_undefined_row t (row_of t a.name)
+      || is_common a.value && is_weak_row t (row_of t a.name) && not (is_common_row t (row_of t a.name))
+      || not (is_common a.value) && not (eqb a.binding 2) && (is_weak_row t (row_of t a.name) || is_common_row t (row_of t a.name)))
 
   -- "an undefined add is accepted and changes nothing"; 2026-07: "In the gABI profile a strong reference now turns a weak undefined row into a strong
   -- undefined one"
@@ -273,14 +296,16 @@ module _ (t : State) (a : Asked) where
   held_rules place =
       -- "or a global or weak name whose row was removed"
       (not is_local && is_known t a.name && is_removed t (row_of t a.name) gives 21 at a.name)
-      ∷ (is_common a.value gives 13 at place)
+      ∷ (is_local && is_common a.value gives 13 at place)
+      -- 2026-06: "28, alignment zero or no power of two, in place of 13 for a global or weak common"
+      ∷ (is_misaligned a.value gives 28 at place)
       ∷ (is_sectionless a.value gives 14 at place)
       ∷ (is_fresh && eqb a.kind 4 gives 15 at place)
       ∷ (is_fresh && ltb 4 a.kind gives 16 at place)
       ∷ (is_fresh && (no_symbol_row t || is_local && no_section_cell t a.value) gives 2 at place)
       ∷ (not is_fresh && replaces && eqb a.kind 4 gives 15 at place)
       ∷ (not is_fresh && replaces && ltb 4 a.kind gives 16 at place)
-      ∷ (not is_fresh && not (is_undefined a.value) && not replaces && not (eqb a.binding 2) gives 17 at place)
+      ∷ (not is_fresh && not (is_undefined a.value) && not (is_common a.value) && not replaces && not (eqb a.binding 2) gives 17 at place)
       ∷ []
 
 -- "else 0, as for a direct add but 21"

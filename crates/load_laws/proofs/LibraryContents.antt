@@ -50,7 +50,7 @@ use Rattle.load_laws.proofs.SymbolDuplicates.{symbols_to, steps_to, table_to, st
 use Rattle.load_laws.proofs.Accepted.{record-none, lists-none}
 
 -- the row of symbol i of the library: it is defined, whatever its section, type and value; weak and, in the old profile, hidden are its entry's; in the link that
--- the load leaves its name has the bytes of the symbol's; it has no file
+-- the load leaves its name has the bytes of the symbol's; it has neither file nor size
 module _ (o : Input) (a : All) where
   pub record FromLibrary (r : Row) : Type 0 where
     pub number : ℕ
@@ -63,6 +63,7 @@ module _ (o : Input) (a : All) where
     pub found : has_name o.image (entry_name o.entries number) ≡ true
     pub named : Issued (store (table_in (load_of o a).cells)) r.name.0 (name_at o.image (entry_name o.entries number))
     pub filed : file_at r.file ≡ None
+    pub size : r.size ≡ 0
 
 -- ---- one symbol's steps add its planned row, or none
 
@@ -200,6 +201,7 @@ module _ (o : Input) (a : All) where
           found = found;
           named = row_named met known head needed fits i h going found d z;
           filed = refl;
+          size = refl;
         }
 
     rows-from : (head_in o a).number ≡ 0 → (want o a).needed ≡ true → Stops.fits entries file o.needs (links_in a) (name_of o) ≡ true

@@ -29,6 +29,7 @@ is_undefined (Val.SectionVirtualAddress s v) = false
 is_undefined Val.SectionNotLoaded = false
 is_undefined Val.ExternallyDefined = false
 is_undefined (Val.Undefined zero) = true
+is_undefined (Val.Common alignment) = false
 
 abbrev pub is_strong : SymbolVisibility → Bool
 is_strong Local = false
@@ -49,7 +50,9 @@ undefined-code w =
     by-test (eqb w.kind 5) (λ e. rw (a, b, c, d, e, eqb-true w.kind 5 e))
     (λ e.
     by-test (eqb w.kind 6) (λ f. rw (a, b, c, d, e, f, eqb-true w.kind 6 f))
-    (λ f. by-test (eqb w.kind 7) (λ g. rw (a, b, c, d, e, f, g)) (λ g. rw (a, b, c, d, e, f, g))))))))
+    (λ f.
+    by-test (eqb w.kind 7) (λ g. rw (a, b, c, d, e, f, g))
+    (λ g. by-test (eqb w.kind 8) (λ h. rw (a, b, c, d, e, f, g, h)) (λ h. rw (a, b, c, d, e, f, g, h)))))))))
 
 pub strong-code : (k : ℕ) → is_strong (visibility_at k) ≡ cond (eqb k 1) true (cond (eqb k 2) true false)
 unfolding visibility_at

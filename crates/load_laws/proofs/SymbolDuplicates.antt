@@ -39,6 +39,7 @@ use Rattle.symbol_laws.specs.History.{store, Entry, only, rows, issue, id_of}
 use Rattle.symbol_laws.proofs.History.{log-append}
 use Rattle.symbol_laws.proofs.Held.{Inv}
 use Rattle.symbol_laws.specs.Gabi.{Means, AllMean, sym_of}
+use Rattle.symbol_laws.specs.ContentWords.{shared_entry}
 use Rattle.symbol_laws.proofs.Gabi.{external-means}
 use Rattle.merge_laws.specs.Steps.{Step, part, others, step_next, step_notes, run_steps, log_steps}
 use Rattle.merge_laws.specs.Loop.{loop_steps}
@@ -160,10 +161,10 @@ module _ (o : Input) (a : All) where
     pub found : (symbol_name o.entries o.image i).found ≡ true
     pub defines : eqb (field o.entries i 4) 0 ≡ false
 
-  pub row-means : (i : ℕ) → Adds i → (row_to i).visibility ≢ 0 → scope_refused (row_to i) ≡ false → Means (row_to i) (sym_of (elf_at o.entries i))
+  pub row-means : (i : ℕ) → Adds i → (row_to i).visibility ≢ 0 → scope_refused (row_to i) ≡ false → Means (row_to i) (shared_entry a.link.gabi (sym_of (elf_at o.entries i)))
   unfolding plan_of external_of rowed_of
   row-means i is z p =
-      external-means To.Nothing (elf_at o.entries i) (id_of (table_to i) (symbol_name o.entries o.image i).name) false 0 _ is.defines z p
+      external-means To.Nothing (elf_at o.entries i) (id_of (table_to i) (symbol_name o.entries o.image i).name) false 0 _ a.link.gabi is.defines z p
 
   module _ (past : List Entry) (inv : Inv (table_in a) past) (i : ℕ) where
     kept-to : Inv (table_to i) (past_to past i)

@@ -10,7 +10,7 @@ use Rattle.link.specs.declared.Interned.{Interned}
 use Rattle.link.specs.Said.{number_in}
 use Rattle.gabi.specs.SymbolTable.{Sym}
 use Rattle.gabi.specs.Resolution as Gabi
-use Rattle.gabi.specs.Resolution.{defined, duplicate, unresolved, zero_value, is_global_definition, is_weak_definition, is_global_reference, has, resolve}
+use Rattle.gabi.specs.Resolution.{defined, duplicate, unresolved, zero_value, is_global_definition, is_weak_definition, is_global_reference, has, resolve, common, is_common_definition}
 use Rattle.interner.specs.Names.{fits_of, keep_of}
 use Rattle.symbol.specs.declared.Row.{Row}
 use Rattle.symbol.specs.Row.{scope_refused, value_refused}
@@ -111,6 +111,9 @@ module _ (numbers : List ℕ) (other : one_of 17 numbers ≡ false) where
 at_place : {k : ℕ} → defined k ≡ duplicate → ⊥
 at_place q = let z : ◌≡◌ {A = ℕ} 0 1 = cc in omega arith
 
+commonly : {k : ℕ} → common k ≡ duplicate → ⊥
+commonly q = let z : ◌≡◌ {A = ℕ} 0 1 = cc in omega arith
+
 reference : unresolved ≡ duplicate → ⊥
 reference q = let z : ◌≡◌ {A = ℕ} 0 1 = cc in omega arith
 
@@ -128,5 +131,7 @@ one-alone g d =
     let a = count-alone g in
     by-test (has is_global_definition l) (λ b. at_place (rw (a, b) at d))
     (λ b.
-    by-test (has is_weak_definition l) (λ c. at_place (rw (a, b, c) at d))
-    (λ c. by-test (has is_global_reference l) (λ f. reference (rw (a, b, c, f) at d)) (λ f. zero-value (rw (a, b, c, f) at d))))
+    by-test (has is_common_definition l) (λ m. commonly (rw (a, b, m) at d))
+    (λ m.
+    by-test (has is_weak_definition l) (λ c. at_place (rw (a, b, m, c) at d))
+    (λ c. by-test (has is_global_reference l) (λ f. reference (rw (a, b, m, c, f) at d)) (λ f. zero-value (rw (a, b, m, c, f) at d)))))

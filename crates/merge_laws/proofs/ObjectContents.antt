@@ -1,6 +1,7 @@
 -- What an object's symbol says of the row that its add makes, in document 01's words: type, weak and hidden, and the value through the object's own sections.
 -- Assumes nothing.
-use Prim.Native.Nat.{ℕ, ◌+◌, ◌-◌, ◌*◌, ◌/◌, ◌<◌, ◌≤◌}
+use Prim.Native.Nat.{ℕ, ◌+◌, ◌-◌, ◌*◌, ◌/◌, ◌^◌, ◌<◌, ◌≤◌}
+use Rattle.std.specs.Int.{is_power_of_two}
 use native.Mathlib.Omega.{arith}
 use Rattle.std.proofs.Math.Path.{◌≡◌, sym, ap}
 use Rattle.std.specs.Prelude.{refl, Bool, ◌&&◌, ◌≢◌, ℤ, eqb, ltb, get_or, length, take, drop}
@@ -11,7 +12,7 @@ use mathlib.Core.List.{List}
 use borrow.Author.Tests.{eqb-true, eqb-false, ltb-true, ltb-false, lt-ltb, ne_eqb}
 use Rattle.cells.specs.Proof.Split.{by-test}
 use Rattle.gabi.specs.StringTable.{name_at}
-use Rattle.gabi.specs.SymbolTable.{stb_local, stb_weak, shn_undef, shn_loreserve, shn_abs}
+use Rattle.gabi.specs.SymbolTable.{stb_local, stb_weak, shn_undef, shn_loreserve, shn_abs, shn_common}
 use Rattle.interner.specs.Names.{store_of, fits_of}
 use Rattle.symbol.specs.declared.Row.{Row}
 use Rattle.symbol.specs.declared.Words.{Words}
@@ -23,7 +24,7 @@ use Rattle.symbol.specs.Layout.{refuses_scope, refuses_value}
 use Rattle.symbol.specs.Row.{scope_refused, value_refused}
 use Rattle.symbol_resolution.specs.Decide.{refusal_of}
 use Rattle.symbol_resolution.specs.Holder.{holder_of}
-use Rattle.upcoming_symbol.specs.Upcoming.{in_section, conversion_from, converted_of, undefined_of, value_of, elf_row_of}
+use Rattle.upcoming_symbol.specs.Upcoming.{in_section, conversion_from, converted_of, undefined_of, common_of, common_by_binding, value_of, elf_row_of}
 use Rattle.upcoming_symbol.specs.Judge.{shown_of, hidden_of, judge_of}
 use Rattle.elf_object.specs.Rows as Elf
 use Rattle.elf_object.specs.Rows.{rows_in, field, conversion_at, mark_at, table_entries, entries_from, section_of}
@@ -33,7 +34,9 @@ use Rattle.merge_symbols.specs.Plan.{input_of, is_first, defines_of, rule_of, ju
 use Rattle.merge_symbols.specs.Stage as Symbols
 use Rattle.merge_stages.specs.Stages.{All, Object}
 use Rattle.merge_elf.specs.Merge.{head_in}
-use Rattle.symbol_laws.specs.ObjectWords.{sections_in, is_section, is_excluded, loaded_as, group, entry, entry_name}
+use Rattle.symbol_laws.specs.ObjectWords.{sections_in, is_section, is_excluded, loaded_as, group, entry, entry_name, entry_size}
+use Rattle.symbol_laws.specs.DirectContents.{IsAlignment}
+use Rattle.symbol_laws.proofs.Alignment.{power-alignment}
 use Rattle.symbol_laws.specs.ContentWords.{IsType, IsOffset, Admitted, shows}
 use Rattle.symbol_laws.proofs.ContentWords.{type-is, offset-is, shown-is, admitted-is, decided-passes}
 use Rattle.merge_laws.specs.MergeWords.{is_rowed, rowed_below, symbol_names, symbols_of, is_removed}
@@ -75,18 +78,21 @@ module _ (headers entries contents file : List ℕ) (count : ℕ) (met : List (L
     -- "Non-local symbols there become undefined"
     discarded : section < shn_loreserve → is_discarded ≡ true → IsValue reference
     absolute : section ≡ shn_abs → IsValue (Val.Absolute (entry table i).value)
+    -- 2026-06: its alignment is its value field
+    common : section ≡ shn_common → (entry table i).binding ≢ stb_local → ((entry table i).value < 2 ^ 64 → IsAlignment (entry table i).value) → IsValue (Val.Common (entry table i).value)
     -- "Non-excluded sections other than kinds 1 and 2 are "not loaded", which is a definition"
-    unloaded : section ≢ shn_undef → is_discarded ≡ false → is_section headers section ≡ true → is_excluded headers section ≡ false → is_rowed headers section ≡ false → IsValue Val.SectionNotLoaded
+    unloaded : section ≢ shn_undef → section ≢ shn_common → is_discarded ≡ false → is_section headers section ≡ true → is_excluded headers section ≡ false → is_rowed headers section ≡ false → IsValue Val.SectionNotLoaded
     -- "An empty name with value 0 gives `Section`"
-    whole : section ≢ shn_undef → is_discarded ≡ false → is_rowed headers section ≡ true → is_bare ≡ true → IsValue (Val.Section (record { 0 = count + rowed_below headers section }))
+    whole : section ≢ shn_undef → section ≢ shn_common → is_discarded ≡ false → is_rowed headers section ≡ true → is_bare ≡ true → IsValue (Val.Section (record { 0 = count + rowed_below headers section }))
     -- "A value in a section becomes a signed offset"
-    within : (z : ℤ) → section ≢ shn_undef → is_discarded ≡ false → is_rowed headers section ≡ true → is_bare ≡ false → IsOffset (entry table i).value z → IsValue (Val.SectionRelative (record { 0 = count + rowed_below headers section }) z)
+    within : (z : ℤ) → section ≢ shn_undef → section ≢ shn_common → is_discarded ≡ false → is_rowed headers section ≡ true → is_bare ≡ false → IsOffset (entry table i).value z → IsValue (Val.SectionRelative (record { 0 = count + rowed_below headers section }) z)
 
   pub record Content (r : Row) : Type 0 where
     pub passed : Admitted (entry table i)
     pub type : IsType (entry table i).type (type_at r.kind)
     pub shown : visibility_at r.visibility ≡ shows (entry table i)
     pub value : IsValue (value_at r.value)
+    pub size : r.size ≡ entry_size table i
 
   -- of a local symbol
   pub record LocalContent (r : Row) : Type 0 where
@@ -94,6 +100,7 @@ module _ (headers entries contents file : List ℕ) (count : ℕ) (met : List (L
     pub type : IsType (entry table i).type (type_at r.kind)
     pub shown : visibility_at r.visibility ≡ Local
     pub value : IsValue (value_at r.value)
+    pub size : r.size ≡ entry_size table i
 
   -- "undefined" by now
   pub data IsUndefined : Type 0 where
@@ -244,9 +251,9 @@ module _ (o : Object) (a : All) (head : (head_in o a).number ≡ 0) (goes : (res
   id-small r h =
       omega (arith, (noted o a head goes).counted, reserve-full o a head goes, few (reserved o a).reserved.link.slots, rowed-own headers sec rows r h)
 
-  converted-value : sec ≢ shn_undef → ltb sec 0xff00 && gone ≡ false → refuses_value (converted_of (conversion_from (conversion_at work sec)) empty (field t i 5)).kind ≡ false → Value (value_at (converted_of (conversion_from (conversion_at work sec)) empty (field t i 5)))
+  converted-value : sec ≢ shn_undef → sec ≢ shn_common → ltb sec 0xff00 && gone ≡ false → refuses_value (converted_of (conversion_from (conversion_at work sec)) empty (field t i 5)).kind ≡ false → Value (value_at (converted_of (conversion_from (conversion_at work sec)) empty (field t i 5)))
   unfolding converted_of conversion_from conversion_of value_at
-  converted-value n stays p =
+  converted-value n m stays p =
       let (j, h, e) = entry_in headers o.entries (reserved o a).reserved.table i low in
       by-test (ltb sec rows)
       (λ b.
@@ -263,10 +270,10 @@ module _ (o : Object) (a : All) (head : (head_in o a).number ≡ 0) (goes : (res
       let z : conversion_at work sec ≡ id + 1 + 1 = c ∙ rw (k, r) (ap successor (next-is id s) ∙ two-more id s) in
       let d : id + 1 + 1 - 2 ≡ id = omega arith in
       rw (z, ne_eqb (id + 1 + 1) 0 (λ q. omega arith), ne_eqb (id + 1 + 1) 1 (λ q. omega arith), d)
-      (section-value id (field t i 5) empty Value (λ q. whole n g w (rw (← empty-is) q)) (λ q z o. within z n g w (rw (← empty-is) q) o)))
+      (section-value id (field t i 5) empty Value (λ q. whole n m g w (rw (← empty-is) q)) (λ q z o. within z n m g w (rw (← empty-is) q) o)))
       (λ r.
       let z : conversion_at work sec ≡ 1 = c ∙ rw (k, r) in
-      rw z (unloaded n g b (excluded-class headers sec (eqb-false _ _ k)) (sym (class-rowed headers sec l) ∙ r)))))
+      rw z (unloaded n m g b (excluded-class headers sec (eqb-false _ _ k)) (sym (class-rowed headers sec l) ∙ r)))))
       (λ b.
       let z : conversion_at work sec ≡ 0 = conversion-none o a head goes j sec h e (ltb-false _ _ b) in
       absurd (false≢true (sym (rw z at p))))
@@ -276,7 +283,7 @@ module _ (o : Object) (a : All) (head : (head_in o a).number ≡ 0) (goes : (res
   words = value_of (conversion_from (conversion_at work after)) (filtered_at t work i) empty
 
   value-is : refuses_value words.kind ≡ false → Value (value_at words)
-  unfolding value_of value_at
+  unfolding value_of common_by_binding common_of value_at
   value-is p =
       by-test (ltb sec 0xff00 && gone)
       (λ b.
@@ -290,8 +297,14 @@ module _ (o : Object) (a : All) (head : (head_in o a).number ≡ 0) (goes : (res
       (λ c.
       by-test (eqb sec 0xfff1) (λ d. rw (c, d) (absolute (eqb-true _ _ d)))
       (λ d.
-      by-test (eqb sec 0xfff2) (λ f. absurd (false≢true (sym (rw (z, c, d, f) at p))))
-      (λ f. rw (c, d, f) (converted-value (eqb-false _ _ c) b (rw (z, c, d, f) at p)))))))
+      by-test (eqb sec 0xfff2)
+      (λ f.
+      by-test (eqb (field t i 1) 0) (λ g. absurd (false≢true (sym (rw (z, c, d, f, g) at p))))
+      (λ g.
+      by-test (is_power_of_two (field t i 5))
+      (λ h. rw (c, d, f, g, h) (common (eqb-true _ _ f) (eqb-false _ _ g) (λ w. power-alignment (field t i 5) w h)))
+      (λ h. absurd (false≢true (sym (rw (z, c, d, f, g, h) at p))))))
+      (λ f. rw (c, d, f) (converted-value (eqb-false _ _ c) (eqb-false _ _ f) b (rw (z, c, d, f) at p)))))))
 
   after-zero : after ≡ 0 → IsUndefined headers o.entries o.contents o.image a.stage.link.sections met t i
   after-zero e =
@@ -351,7 +364,7 @@ module _ (o : Object) (a : All) (head : (head_in o a).number ≡ 0) (goes : (res
     unfolding planned_of read_of rowed_of elf_row_of
     content-own global =
         let (p, q) = row-passes in
-        record { passed = admitted-is (entry t i) global p; type = type-is (field t i 2); shown = shown-is (field t i 1) (field t i 3) global p; value = value-is q }
+        record { passed = admitted-is (entry t i) global p; type = type-is (field t i 2); shown = shown-is (field t i 1) (field t i 3) global p; value = value-is q; size = refl }
 
     -- of the object's own table, and not local
     pub content : row.visibility ≢ 0 → Content headers o.entries o.contents o.image a.stage.link.sections met (symbols_of headers o.entries o.contents o.image) i row
@@ -361,7 +374,7 @@ module _ (o : Object) (a : All) (head : (head_in o a).number ≡ 0) (goes : (res
     unfolding planned_of read_of rowed_of elf_row_of
     local-own z =
         let (p, q) = row-passes in
-        record { bound = local-is (field t i 1) (field t i 3) z; type = type-is (field t i 2); shown = ap visibility_at z ∙ local-shown; value = value-is q }
+        record { bound = local-is (field t i 1) (field t i 3) z; type = type-is (field t i 2); shown = ap visibility_at z ∙ local-shown; value = value-is q; size = refl }
 
     -- and local
     pub local-content : row.visibility ≡ 0 → LocalContent headers o.entries o.contents o.image a.stage.link.sections met (symbols_of headers o.entries o.contents o.image) i row

@@ -23,7 +23,8 @@ use Rattle.upcoming_symbol.specs.declared.ElfSymbol.{ElfSymbol}
 use Rattle.upcoming_symbol.specs.Judge.{shown_of, hidden_of, judge_of}
 use Rattle.upcoming_symbol.specs.declared.Conversion.{Conversion}
 use Rattle.upcoming_symbol.specs.declared.Conversion.TheVariants as To
-use Rattle.upcoming_symbol.specs.Upcoming.{in_section, conversion_from, converted_of, undefined_of, value_of, elf_row_of}
+use Rattle.std.specs.Int.{is_power_of_two}
+use Rattle.upcoming_symbol.specs.Upcoming.{in_section, conversion_from, converted_of, undefined_of, common_of, common_by_binding, value_of, elf_row_of}
 use Rattle.symbol_resolution.specs.declared.rows.Holder.{Holder}
 use Rattle.symbol_resolution.specs.declared.rows.Holder.TheVariants.{Nobody, Known}
 use Rattle.symbol_resolution.specs.Decision.{Decision}
@@ -192,12 +193,16 @@ judged-converted (To.Section id) empty v =
     pick Valued empty _ _ (λ t. pick Valued (eqb v 0) _ _ (λ t e. apart e) (λ t e. apart e)) (λ t e. apart e)
 
 judged-valued : (c : Conversion) (e : ElfSymbol) (empty : Bool) → Valued (value_of c e empty)
-unfolding value_of undefined_of
+unfolding value_of undefined_of common_by_binding common_of
 judged-valued c e empty =
     pick Valued (eqb e.section 0) _ _ (λ t. pick Valued (eqb e.binding 2) _ _ (λ t e. apart e) (λ t e. apart e))
     (λ t.
     pick Valued (eqb e.section 0xfff1) _ _ (λ t e. apart e)
-    (λ t. pick Valued (eqb e.section 0xfff2) _ _ (λ t e u w. refl) (λ t. judged-converted c empty e.value)))
+    (λ t.
+    pick Valued (eqb e.section 0xfff2) _ _
+    (λ t.
+    pick Valued (eqb e.binding 0) _ _ (λ t e u w. refl) (λ t. pick Valued (is_power_of_two e.value) _ _ (λ t e. apart e) (λ t e u w. refl)))
+    (λ t. judged-converted c empty e.value)))
 
 judged-typed : (k : ℕ) → eqb k 4 ≡ false → Judged (type_refusal k)
 unfolding type_refusal

@@ -187,11 +187,11 @@ module _ (o : Object) (a : All) where
   abbrev pub entry_to : ℕ → ElfSymbol
   entry_to i = filtered_at (object o a).entries (marked o a).work i
 
-  pub row-means : (i : ℕ) → (row_to i).visibility ≢ 0 → scope_refused (row_to i) ≡ false → Means (row_to i) (sym_of (entry_to i))
+  pub row-means : (i : ℕ) → (row_to i).visibility ≢ 0 → scope_refused (row_to i) ≡ false → value_refused (row_to i) ≡ false → Means (row_to i) (sym_of (entry_to i))
   unfolding planned_of read_of rowed_of
-  row-means i z p =
+  row-means i z p v =
       let x : List ℕ = (name_of (symbol_reader o a) i).name in
-      elf-means (conversion_from (conversion_at (marked o a).work (entry_to i).section)) (entry_to i) (id_of (table_to i) x) (eqb (length x) 0) (symbols_to o a i).stage.file z p
+      elf-means (conversion_from (conversion_at (marked o a).work (entry_to i).section)) (entry_to i) (id_of (table_to i) x) (eqb (length x) 0) (symbols_to o a i).stage.file z p v
 
   -- its name is found, and it is to be added: it is neither the first symbol, nor a file's, nor of a section that defines a group
   pub record Adds (i : ℕ) : Type 0 where

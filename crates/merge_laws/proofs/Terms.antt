@@ -23,7 +23,7 @@ use Rattle.merge_symbols.specs.Plan.{input_of, filtered_at}
 use Rattle.merge_symbols.specs.Stage as Symbols
 use Rattle.merge_stages.specs.Stages.{All, Object}
 use Rattle.merge_elf.specs.Merge.{leave, head_in, merge_of}
-use Rattle.symbol_laws.specs.Rank.{first_by_rank}
+use Rattle.symbol_laws.specs.Rank.{first_by_rank, joined_in}
 use Rattle.symbol_laws.specs.History.{opened, Entry, only, rows, issue, put_of, part_next}
 use Rattle.symbol_laws.proofs.Held.{Inv}
 use Rattle.symbol_laws.proofs.Start.{new-inv}
@@ -141,10 +141,10 @@ module _ (key : ℕ) (gabi : Bool) (bytes names symbols sections inputs lists : 
       within = Lookups.calls-within ks start quiet (Within.new-within key gabi bytes names symbols sections new) (new-lists key gabi bytes names symbols sections lists) lent
 
       pub lookup-row : (n : ℕ) (x : Entry) (xs : List Entry) → accepted_adds n ≡ x ∷ xs
-          → get_global_of end.table.link end.table.names end.table.symbols (record { 0 = n }) ≡ Ok (symbol_of (record { 0 = x.id }) (hidden_by gabi (rows (x ∷ xs)) (first_by_rank gabi x.row (rows xs))))
+          → get_global_of end.table.link end.table.names end.table.symbols (record { 0 = n }) ≡ Ok (symbol_of (record { 0 = x.id }) (hidden_by gabi (rows (x ∷ xs)) (joined_in (rows (x ∷ xs)) (first_by_rank gabi x.row (rows xs)))))
       lookup-row n x xs e =
           Within.lookup-row end.table _ kept within n x xs e
-          ∙ ap (λ (g : Bool). Ok (symbol_of (record { 0 = x.id }) (hidden_by g (rows (x ∷ xs)) (first_by_rank g x.row (rows xs))))) profile
+          ∙ ap (λ (g : Bool). Ok (symbol_of (record { 0 = x.id }) (hidden_by g (rows (x ∷ xs)) (joined_in (rows (x ∷ xs)) (first_by_rank g x.row (rows xs)))))) profile
 
       pub lookup-none : (n : ℕ) → accepted_adds n ≡ [] → get_global_of end.table.link end.table.names end.table.symbols (record { 0 = n }) ≡ not_found 23 0
       lookup-none = Within.lookup-none end.table _ kept within
@@ -228,7 +228,7 @@ module _ (o : Object) (a : All) where
   pub merged-whole : (head_in o a).number ≡ 0 → Stages.number o a ≡ 0 → ByNumber.MergeLeaves o a
   merged-whole = ByNumber.accepted-stays o a
 
-  -- it leaves every cell as the elements before the refused one left it; on 10 to 14, 16 and 19 that one's name is issued besides
+  -- it leaves every cell as the elements before the refused one left it; on 10 to 14, 16, 19 and 28 that one's name is issued besides
   pub refused-leaves : Stages.number o a ≢ 0 → ByNumber.Leaves o a
   refused-leaves = ByNumber.refused-leaves o a
 

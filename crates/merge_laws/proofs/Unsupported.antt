@@ -5,7 +5,7 @@ use Rattle.link.specs.Bounds.{lesser}
 use Rattle.symbol_resolution.specs.Decide as Symbols
 use Rattle.symbol_resolution.specs.Decide.{type_refusal, section_room, new_of, decide_of}
 use Rattle.upcoming_symbol.specs.Judge.{shown_of, hidden_of, judge_of}
-use Rattle.upcoming_symbol.specs.Upcoming.{in_section, converted_of, undefined_of, value_of, elf_row_of}
+use Rattle.upcoming_symbol.specs.Upcoming.{in_section, converted_of, undefined_of, common_by_binding, value_of, elf_row_of}
 use Rattle.elf_object.specs.Rows.{is_excluded}
 use Rattle.sections.specs.Rows as Sections
 use Rattle.merge_sections.specs.Reserve as Reserve
@@ -15,5 +15,5 @@ use Rattle.merge_laws.specs.Unsupported.{answers, cases, numbers}
 
 -- every case is answered with its number
 pub unsupported : answers cases ≡ numbers cases
-unfolding lesser Sections.room_of is_excluded kind_class class_of Reserve.reserve_number shape_of shown_of hidden_of judge_of in_section converted_of undefined_of value_of elf_row_of type_refusal section_room Symbols.room_of new_of decide_of
+unfolding lesser Sections.room_of is_excluded kind_class class_of Reserve.reserve_number shape_of shown_of hidden_of judge_of in_section converted_of undefined_of common_by_binding value_of elf_row_of type_refusal section_room Symbols.room_of new_of decide_of
 unsupported = refl

@@ -30,9 +30,9 @@ filter_causes = 8 ∷ []
 abbrev pub binding_causes : List ℕ
 binding_causes = 10 ∷ 11 ∷ 12 ∷ []
 
--- "common", "section without id"
+-- "common", 2026-06: "28, alignment zero or no power of two, in place of 13 for a global or weak common"; "section without id"
 abbrev pub value_causes : List ℕ
-value_causes = 13 ∷ 14 ∷ []
+value_causes = 13 ∷ 28 ∷ 14 ∷ []
 
 -- "type above 4"
 abbrev pub type_causes : List ℕ

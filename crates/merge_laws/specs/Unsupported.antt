@@ -23,7 +23,7 @@ abbrev pub symbol : ℕ → ℕ → ℕ → ℕ → ℕ
 symbol b v k s =
     Symbols.refusal_of
     (decide_of link (replicate {A = ℕ} 16 0) []
-    (elf_row_of (To.Section (record { 0 = 1 })) (record { binding = b; visibility = v; kind = k; section = s; value = 0 }) (record { 0 = 0 }) false 0) Nobody)
+    (elf_row_of (To.Section (record { 0 = 1 })) (record { binding = b; visibility = v; kind = k; section = s; value = 0; size = 0 }) (record { 0 = 0 }) false 0) Nobody)
 
 -- to a group with these flags (8 is COMDAT) and so many sections; its signature is symbol 0 of table 1
 abbrev pub group : ℕ → ℕ → ℕ
@@ -70,8 +70,8 @@ cases =
     -- bindings that are left to the system (10) and to the processor (13)
     ∷ case (symbol 10 stv_default stt_func 1) 12
     ∷ case (symbol 13 stv_default stt_func 1) 12
-    -- a common symbol
-    ∷ case (symbol stb_global stv_default stt_func shn_common) 13
+    -- a local common symbol
+    ∷ case (symbol stb_local stv_default stt_func shn_common) 13
     -- types common and thread-local, and one that is left to the system (10)
     ∷ case (symbol stb_global stv_default stt_common 1) 16
     ∷ case (symbol stb_global stv_default stt_tls 1) 16

@@ -13,7 +13,7 @@ use Rattle.symbol_resolution.specs.Decision.{Decision, Refuse, Nothing, Keep}
 use Rattle.symbol_resolution.specs.Holder.{holder_of}
 use Rattle.symbol_resolution.specs.Decide.{decision_of, decide_of}
 use Rattle.gabi.specs.SymbolTable.{stt_notype, stt_file, shn_undef, shn_loreserve}
-use Rattle.elf_object.specs.Rows.{binding_at, type_at, visibility_at, section_at, value_at, conversion_at, mark_at, group_mark}
+use Rattle.elf_object.specs.Rows.{binding_at, type_at, visibility_at, section_at, value_at, size_at, conversion_at, mark_at, group_mark}
 use Rattle.section_groups.specs.Filter.{section_after}
 use Rattle.cells.specs.Slice.{Slice}
 use Rattle.merge_symbols.specs.declared.Symbols.{Symbols}
@@ -28,6 +28,7 @@ filtered_at entries work i =
       kind = type_at entries i;
       section = section_after work (section_at entries i);
       value = value_at entries i;
+      size = size_at entries i;
     }
 
 -- "The first symbol, if named empty, undefined and of type 0, maps to id 0 whatever its binding and visibility"

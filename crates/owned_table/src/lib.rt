@@ -194,6 +194,7 @@ mod tests {
             kind: STT_NOTYPE,
             section: SHN_UNDEF,
             value: 0,
+            size: 0,
         };
         let added = owned.add_elf(&[0], b"mute", reference);
         assert!(rt; added.is_ok_and(|id| id.0 == 1));

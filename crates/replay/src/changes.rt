@@ -31,6 +31,7 @@ fn value(line: &[u8]) -> SymbolValue {
         b"notloaded" => SymbolValue::SectionNotLoaded,
         b"external" => SymbolValue::ExternallyDefined,
         b"undef" => SymbolValue::Undefined { zero: number == 1 },
+        b"com" => SymbolValue::Common { alignment: number },
         b"sec" => SymbolValue::Section { section },
         b"rel" => SymbolValue::SectionRelative {
             section,
@@ -50,6 +51,7 @@ fn elf(line: &[u8]) -> ElfSymbol {
         kind: replay_words::number(line, 4),
         section: replay_words::number(line, 6),
         value: replay_words::number(line, 7),
+        size: replay_words::optional(line, 10),
     }
 }
 

@@ -6,7 +6,7 @@ use Rattle.byte_slices.specs.Bytes.{part}
 use Rattle.cells.specs.Rows.{put_row}
 use Rattle.symbol.specs.Codes.{successor}
 use Rattle.text.specs.Fields.{field_of}
-use Rattle.replay_words.specs.Words.{word_is, number_at, one_word}
+use Rattle.replay_words.specs.Words.{word_is, number_at, optional_at, one_word}
 use Rattle.replay_words.specs.Spelled.{Spelled, put_bytes}
 use Rattle.replay_object.specs.declared.Object.{Object}
 use Rattle.replay_object.specs.declared.Kind.{Kind}
@@ -133,5 +133,5 @@ unfoldable pub symbol_of : List ℕ → Object → List ℕ → Cells
 symbol_of c o line =
     cells_as
     (put_row c (wrapped (256 + o.entries))
-    (number_at line 1 ∷ number_at line 2 ∷ number_at line 3 ∷ number_at line 4 ∷ number_at line 5 ∷ number_at line 6 ∷ 0 ∷ 0 ∷ []))
+    (number_at line 1 ∷ number_at line 2 ∷ number_at line 3 ∷ number_at line 4 ∷ number_at line 5 ∷ number_at line 6 ∷ optional_at line 7 ∷ 0 ∷ []))
     (more_of o o.headers (successor o.entries) o.contents o.bytes)

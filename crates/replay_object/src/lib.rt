@@ -234,7 +234,7 @@ impl Object {
         self.bytes = self.bytes.wrapping_add(bytes);
     }
 
-    // `symbol NAMEOFFSET BINDING TYPE VISIBILITY SECTION VALUE`
+    // `symbol NAMEOFFSET BINDING TYPE VISIBILITY SECTION VALUE`, and a size behind it where it isn't 0
     #[tactic(auto, unfolding(crate::specs::Told::symbol_of))]
     pub fn symbol(&mut self, cells: &mut [u64], line: &[u8])
         ensures { cells_as cells.new self.new ≡ symbol_of cells.old self.old line.now }
@@ -249,7 +249,7 @@ impl Object {
                 replay_words::number(line, 4),
                 replay_words::number(line, 5),
                 replay_words::number(line, 6),
-                0,
+                replay_words::optional(line, 7),
                 0,
             ],
         );

@@ -70,6 +70,14 @@ undef_one = 32 ∷ 117 ∷ 110 ∷ 100 ∷ 101 ∷ 102 ∷ 32 ∷ 49 ∷ []
 abbrev pub undef_zero : List ℕ
 undef_zero = 32 ∷ 117 ∷ 110 ∷ 100 ∷ 101 ∷ 102 ∷ 32 ∷ 48 ∷ []
 
+-- ` com `
+abbrev pub com_word : List ℕ
+com_word = 32 ∷ 99 ∷ 111 ∷ 109 ∷ 32 ∷ []
+
+-- ` size `
+abbrev pub size_word : List ℕ
+size_word = 32 ∷ 115 ∷ 105 ∷ 122 ∷ 101 ∷ 32 ∷ []
+
 -- ` local 0`
 abbrev pub local_word : List ℕ
 local_word = 32 ∷ 108 ∷ 111 ∷ 99 ∷ 97 ∷ 108 ∷ 32 ∷ 48 ∷ []
@@ -130,6 +138,14 @@ value_text (Value.SectionVirtualAddress s a) = numbered addr_word s.0 ++ numbere
 value_text Value.SectionNotLoaded = not_loaded_word ∷ []
 value_text Value.ExternallyDefined = external_word ∷ []
 value_text (Value.Undefined z) = undef_word z ∷ []
+value_text (Value.Common alignment) = numbered com_word alignment
+
+-- a size of 0 isn't told
+unfoldable pub size_text : ℕ → Pieces
+size_text size = cond (eqb size 0) [] (numbered size_word size)
+
+unfoldable pub held_text : Symbol → Pieces
+held_text s = value_text s.value ++ size_text s.size
 
 abbrev pub digit_of : Bool → List ℕ
 digit_of true = one_word
@@ -165,6 +181,6 @@ file_text bytes names (Some id) = file_word ∷ name_text bytes names id.0
 unfoldable pub head_text : List ℕ → List ℕ → Symbol → Pieces
 head_text bytes names s = numbered symbol_word s.id.0 ++ (space_word ∷ name_text bytes names s.name.0)
 
--- `symbol ID NAME CLASS HIDDEN TYPE OPTNAME VALUE`
+-- `symbol ID NAME CLASS HIDDEN TYPE OPTNAME VALUE`, and ` size N`
 unfoldable pub symbol_text : List ℕ → List ℕ → Symbol → Pieces
-symbol_text bytes names s = head_text bytes names s ++ (kind_text s ++ (file_text bytes names s.file ++ value_text s.value))
+symbol_text bytes names s = head_text bytes names s ++ (kind_text s ++ (file_text bytes names s.file ++ held_text s))

@@ -3,7 +3,7 @@
 
 ghost use Rattle.std.specs.Prelude.{◌≡◌, [], ◌∷◌};
 ghost use Rattle.text.specs.Writing.{Puts};
-ghost use Rattle.replay_text.specs.Answers.{numbered, refusal_text, shown, name_text, signed_text, value_text, flagged, visibility_text, type_text, file_text, symbol_text};
+ghost use Rattle.replay_text.specs.Answers.{numbered, refusal_text, shown, name_text, signed_text, value_text, size_text, flagged, visibility_text, type_text, file_text, symbol_text};
 
 mod replies;
 
@@ -85,6 +85,17 @@ fn put_value(out: &mut Writer<'_>, v: SymbolValue)
         SymbolValue::ExternallyDefined => out.put(b" external"),
         SymbolValue::Undefined { zero: true } => out.put(b" undef 1"),
         SymbolValue::Undefined { zero: false } => out.put(b" undef 0"),
+        SymbolValue::Common { alignment } => put_numbered(out, b" com ", alignment),
+    }
+}
+
+// A size of 0 isn't told.
+#[tactic(auto, using(text::specs::Proof::WritingWays::puts_none), unfolding(crate::specs::Answers::size_text))]
+fn put_size(out: &mut Writer<'_>, size: u64)
+    ensures { Puts out.old out.new (size_text size) }
+{
+    if size != 0 {
+        put_numbered(out, b" size ", size);
     }
 }
 
@@ -140,7 +151,7 @@ fn put_file(out: &mut Writer<'_>, names: Names<'_>, f: Option<Interned>)
     }
 }
 
-// `symbol ID NAME CLASS HIDDEN TYPE OPTNAME VALUE`
+// `symbol ID NAME CLASS HIDDEN TYPE OPTNAME VALUE`, and ` size N`
 pub fn put_symbol(out: &mut Writer<'_>, names: Names<'_>, s: Symbol)
     ensures { Puts out.old out.new (symbol_text names.entry.bytes.now names.entry.cells.now s) }
 {
@@ -151,4 +162,5 @@ pub fn put_symbol(out: &mut Writer<'_>, names: Names<'_>, s: Symbol)
     put_type(out, s.kind);
     put_file(out, names, s.file);
     put_value(out, s.value);
+    put_size(out, s.size);
 }

@@ -1,6 +1,6 @@
 -- Words of an operation's line, and the numbers and names that they are.
 -- Assumes nothing.
-use Rattle.std.specs.Prelude.{ℕ, Bool, cond, List, [], ◌∷◌, Option, Some, None}
+use Rattle.std.specs.Prelude.{ℕ, Bool, cond, List, [], ◌∷◌, eqb, length, Option, Some, None}
 use Rattle.byte_slices.specs.Bytes.{same}
 use Rattle.text.specs.Fields.{field_of}
 use Rattle.text.specs.Decimal.{decimal_of}
@@ -18,6 +18,10 @@ number_in x = value_of (decimal_of x)
 
 unfoldable pub number_at : List ℕ → ℕ → ℕ
 number_at line k = number_in (field_of line k)
+
+-- of a word that a line may lack: 0 then
+unfoldable pub optional_at : List ℕ → ℕ → ℕ
+optional_at line k = cond (eqb (length (field_of line k)) 0) 0 (number_at line k)
 
 -- `-`, `0`, `1` and `none`
 abbrev pub dash_word : List ℕ

@@ -2,7 +2,7 @@
 #![tactic(auto)]
 
 ghost use Rattle.std.specs.Prelude.{◌≡◌, ◌<◌, slice_set};
-ghost use Rattle.replay_words.specs.Words.{word_is, number_in, number_at, name_at};
+ghost use Rattle.replay_words.specs.Words.{word_is, number_in, number_at, optional_at, name_at};
 ghost use Rattle.replay_words.specs.Order.{before_of};
 ghost use Rattle.replay_words.specs.Spelled.{digit_of, spelled_of, spelled, put_bytes};
 
@@ -33,6 +33,17 @@ pub fn number(line: &[u8], k: usize) -> u64
     ensures { result ≡ number_at line.now k }
 {
     number_in(text::field(line, k))
+}
+
+// A word that a line may lack: 0 then.
+#[tactic(auto, unfolding(crate::specs::Words::optional_at))]
+pub fn optional(line: &[u8], k: usize) -> u64
+    ensures { result ≡ optional_at line.now k }
+{
+    if text::field(line, k).is_empty() {
+        return 0;
+    }
+    number(line, k)
 }
 
 // `-` is the empty name.

@@ -39,7 +39,7 @@ unfoldable pub passes : Bool → ℕ → Bool
 passes gabi v = cond gabi (hidden_code v) false
 
 abbrev pub with_visibility : Row → ℕ → Row
-with_visibility r v = record { name = r.name; kind = r.kind; file = r.file; visibility = v; value = r.value }
+with_visibility r v = record { name = r.name; kind = r.kind; file = r.file; visibility = v; value = r.value; size = r.size }
 
 unfoldable pub hide_if : Bool → Row → Row
 hide_if h r = cond h (with_visibility r (hide_code r.visibility)) r

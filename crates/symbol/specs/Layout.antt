@@ -1,6 +1,6 @@
 -- The layout of a symbol's row, the cells of a name's row that the symbol table uses, and the codes that stand in them.
 -- Assumes nothing.
-use Rattle.std.specs.Prelude.{ℕ, Bool, leb}
+use Rattle.std.specs.Prelude.{ℕ, ◌+◌, ◌*◌, ◌/◌, ◌%◌, Bool, leb}
 
 -- ---- a symbol's row: 8 cells
 
@@ -10,13 +10,13 @@ state_cell = 0
 abbrev pub name_cell : ℕ
 name_cell = 1
 
-abbrev pub type_cell : ℕ
-type_cell = 2
+abbrev pub size_cell : ℕ
+size_cell = 2
 
 abbrev pub source_cell : ℕ
 source_cell = 3
 
--- local, global or weak, shown or hidden
+-- the scope and the type, in one cell
 abbrev pub scope_cell : ℕ
 scope_cell = 4
 
@@ -55,6 +55,17 @@ weak = 3
 abbrev pub weak_hidden : ℕ
 weak_hidden = 4
 
+-- ---- the scope below 8, and behind it the type, below 16
+
+unfoldable pub scope_and_type : ℕ → ℕ → ℕ
+scope_and_type scope type = scope % 8 + type % 16 * 8
+
+unfoldable pub scope_in : ℕ → ℕ
+scope_in cell = cell % 8
+
+unfoldable pub type_in : ℕ → ℕ
+type_in cell = cell / 8 % 16
+
 -- ---- the kinds of a value
 
 abbrev pub null_kind : ℕ
@@ -80,6 +91,9 @@ external_kind = 6
 
 abbrev pub undefined_kind : ℕ
 undefined_kind = 7
+
+abbrev pub common_kind : ℕ
+common_kind = 8
 
 -- ---- from 5 on a scope, from 13 on a kind of a value, is the number of a refusal (Row.antt)
 

@@ -8,7 +8,7 @@ use Rattle.symbol.specs.declared.Row.{Row}
 use Rattle.symbol.specs.Row.{state_at}
 use Rattle.symbol_resolution.specs.declared.rows.Holder.TheVariants.{Nobody, Known}
 use Rattle.symbol_resolution.specs.Holder.{global_at, held_by, holder_of}
-use Rattle.symbol_laws.specs.Rank.{ranked, FirstOfGreatestRank, first_by_rank}
+use Rattle.symbol_laws.specs.Rank.{ranked, FirstOfGreatestRank, first_by_rank, joined_in}
 use Rattle.symbol_laws.proofs.Rank.{best-first, best-terms}
 use Rattle.symbol_laws.specs.Hidden.{is_hidden, some_hidden}
 use Rattle.symbol_laws.specs.Standing.{hidden_by, row_after, SameButHidden}
@@ -16,21 +16,22 @@ use Rattle.symbol_laws.proofs.Standing.{hidden-by, same_by}
 use Rattle.symbol_laws.specs.Proof.Rows.{row_at}
 use Rattle.symbol_laws.specs.History.{State, Entry, only, rows}
 use Rattle.symbol_laws.proofs.Held.{Holds, Held, Inv}
-use Rattle.symbol_laws.specs.Demand.{Resolved}
+use Rattle.symbol_laws.specs.Demand.{Resolved, HeldBy}
 
 module _ (s : State) (n : ℕ) (x : Entry) (xs : List Entry) where
   -- the content, apart from hidden
-  pub content-apart : (gabi : Bool) → Resolved gabi s n x xs → SameButHidden (row_at s.symbols x.id) (first_by_rank gabi x.row (rows xs))
-  content-apart gabi h = subst (λ (r : Row). SameButHidden r (first_by_rank gabi x.row (rows xs))) (sym h.terms) (same_by gabi (rows (x ∷ xs)) _)
+  pub content-apart : (gabi : Bool) → Resolved gabi s n x xs → SameButHidden (row_at s.symbols x.id) (joined_in (rows (x ∷ xs)) (first_by_rank gabi x.row (rows xs)))
+  content-apart gabi h = subst (λ (r : Row). SameButHidden r (joined_in (rows (x ∷ xs)) (first_by_rank gabi x.row (rows xs)))) (sym h.terms) (same_by gabi (rows (x ∷ xs)) _)
 
   -- "hidden is taken from all accepted object adds": a shared object's is never hidden (Standing.library-shown)
   pub hidden-gabi : Resolved true s n x xs → is_hidden (row_at s.symbols x.id) ≡ some_hidden (rows (x ∷ xs))
   hidden-gabi h =
-      ap is_hidden (h.terms ∙ ap (hidden_by true (rows (x ∷ xs))) (sym (best-terms true x.row (rows xs)))) ∙ hidden-by x.row (rows xs)
+      ap is_hidden (h.terms ∙ ap (λ (r : Row). hidden_by true (rows (x ∷ xs)) (joined_in (rows (x ∷ xs)) r)) (sym (best-terms true x.row (rows xs))))
+      ∙ hidden-by x.row (rows xs)
 
   -- the old profile: hidden is part of the content
-  pub content-old : Resolved false s n x xs → FirstOfGreatestRank (ranked false) (rows (x ∷ xs)) (row_at s.symbols x.id)
-  content-old h = subst (FirstOfGreatestRank (ranked false) (rows (x ∷ xs))) (sym h.terms) h.content
+  pub content-old : Resolved false s n x xs → HeldBy (ranked false) (rows (x ∷ xs)) (row_at s.symbols x.id)
+  content-old h = record { holder = first_by_rank false x.row (rows xs); first = h.content; is = h.terms }
 
 module _ (s : State) (past : List Entry) (inv : Inv s past) (n : ℕ) where
   low : (x : Entry) (xs : List Entry) → only n past ≡ x ∷ xs → n < s.link.names
@@ -51,7 +52,7 @@ module _ (s : State) (past : List Entry) (inv : Inv s past) (n : ℕ) where
         counted = h.below;
         present = h.there;
         bears = ap (λ (r : Row). r.name.0) h.content ∙ h.named;
-        terms = h.content ∙ ap (hidden_by s.link.gabi (rows (x ∷ xs))) (best-terms s.link.gabi x.row (rows xs));
+        terms = h.content ∙ ap (λ (r : Row). hidden_by s.link.gabi (rows (x ∷ xs)) (joined_in (rows (x ∷ xs)) r)) (best-terms s.link.gabi x.row (rows xs));
         content = subst (FirstOfGreatestRank (ranked s.link.gabi) (rows (x ∷ xs))) (best-terms s.link.gabi x.row (rows xs)) (best-first (ranked s.link.gabi) x.row (rows xs));
       }
 

@@ -1,9 +1,9 @@
 -- "Known places where gABI differs": those of the symbol table, each with its smallest input; and a shared object's definition beside an object's.
 -- Assumes nothing.
 use Rattle.std.specs.Prelude.{ℕ, ◌≡◌, refl, true, false, [], ◌∷◌}
-use Rattle.gabi.specs.SymbolTable.{stv_hidden, is_global, is_weak, is_reference, is_definition}
+use Rattle.gabi.specs.SymbolTable.{stv_hidden, is_global, is_weak, is_reference, is_definition, is_common}
 use Rattle.gabi.specs.Resolution as Gabi
-use Rattle.gabi.specs.Resolution.{unresolved, is_global_definition, is_weak_definition, is_global_reference, has, resolve}
+use Rattle.gabi.specs.Resolution.{unresolved, is_global_definition, is_common_definition, is_weak_definition, is_global_reference, has, resolve}
 use Rattle.gabi.specs.Visibility.{rank, combine, combined}
 use Rattle.symbol.specs.declared.Row.{Row}
 use Rattle.symbol.specs.declared.SymbolVisibility.TheVariants.{Global}
@@ -22,7 +22,7 @@ use Rattle.symbol_laws.specs.Gabi.{sym_of}
 
 -- binding, visibility, section; of no type, at value 0
 abbrev pub elf : ℕ → ℕ → ℕ → ElfSymbol
-elf b v s = record { binding = b; visibility = v; kind = 0; section = s; value = 0 }
+elf b v s = record { binding = b; visibility = v; kind = 0; section = s; value = 0; size = 0 }
 
 -- the row that it becomes under name 1, where section 1 has id 1
 abbrev pub row : ElfSymbol → Row
@@ -33,7 +33,7 @@ pub weak-reference-stays :
     (resolve (sym_of (elf 2 0 0) ∷ sym_of (elf 1 0 0) ∷ []) ≡ unresolved)
     × (value_at (first_by_rank false (row (elf 2 0 0)) (row (elf 1 0 0) ∷ [])).value ≡ Undefined true)
     × (visibility_at (first_by_rank false (row (elf 2 0 0)) (row (elf 1 0 0) ∷ [])).visibility ≡ Global true false)
-unfolding resolve has Gabi.count is_global_definition is_weak_definition is_global_reference is_global is_weak is_reference is_definition visibility_at value_at weak_of shown_of hidden_of judge_of in_section converted_of undefined_of value_of elf_row_of
+unfolding resolve has Gabi.count is_global_definition is_common_definition is_weak_definition is_global_reference is_global is_weak is_reference is_definition is_common visibility_at value_at weak_of shown_of hidden_of judge_of in_section converted_of undefined_of value_of elf_row_of
 weak-reference-stays = (refl, refl, refl)
 
 -- in the gABI profile it turns the row strong (2026-07)

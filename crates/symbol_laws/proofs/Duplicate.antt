@@ -11,7 +11,7 @@ use Rattle.link.specs.Said.{number_in}
 use Rattle.cells.specs.Proof.Split.{by-test}
 use Rattle.gabi.specs.SymbolTable.{Sym}
 use Rattle.gabi.specs.Resolution as Gabi
-use Rattle.gabi.specs.Resolution.{defined, duplicate, unresolved, zero_value, is_global_definition, is_weak_definition, is_global_reference, has, resolve}
+use Rattle.gabi.specs.Resolution.{defined, common, duplicate, unresolved, zero_value, is_global_definition, is_common_definition, is_weak_definition, is_global_reference, has, resolve}
 use Rattle.symbol.specs.declared.Row.{Row}
 use Rattle.symbol.specs.Row.{scope_refused, value_refused}
 use Rattle.link.specs.declared.SymbolId.{SymbolId}
@@ -23,7 +23,7 @@ use Rattle.symbols.specs.Add.{issued_of, direct_holder_of, decided_of}
 use Rattle.symbols.specs.Proof.AddOutcomes.{added-number}
 use Rattle.symbol_laws.specs.Rank.{ranked, strong_definition, first_by_rank, count}
 use Rattle.symbol_laws.proofs.Rank.{best-terms, best-counts, count-append, strong-rank, rank_most, rank-strong}
-use Rattle.symbol_laws.proofs.Standing.{rank-by}
+use Rattle.symbol_laws.proofs.Standing.{rank-after}
 use Rattle.symbol_laws.proofs.View.{decided}
 use Rattle.symbol_laws.specs.History.{State, table, Entry, only, rows, put_of}
 use Rattle.symbol_laws.proofs.Held.{Inv}
@@ -59,9 +59,9 @@ module _ (s : State) (past : List Entry) (inv : Inv s past) (r : Row) (x : Entry
   meets : Meets r (direct_holder_of s.link s.names s.symbols r.name None) id
   meets = record { global = ne_eqb r.visibility 0 global; known = holder }
 
-  -- hidden doesn't enter the rank of the row that the name has
+  -- neither hidden nor a size enters the rank of the row that the name has
   held-rank : held_rank s.link.gabi s.symbols id ≡ ranked s.link.gabi old
-  held-rank = ap (ranked s.link.gabi) found.terms ∙ rank-by s.link.gabi (rows (x ∷ xs)) old
+  held-rank = ap (ranked s.link.gabi) found.terms ∙ rank-after s.link.gabi (rows (x ∷ xs)) old
 
   pub second-strong : strong_definition r ≡ true → strong_definition old ≡ true → number ≡ 17
   unfolding decided_of
@@ -115,12 +115,17 @@ module _ (s : State) (past : List Entry) (inv : Inv s past) (r : Row) (x : Entry
         (λ a.
         by-test (has is_global_definition more) (λ b. absurd (at_place (rw (a, b) at d)))
         (λ b.
-        by-test (has is_weak_definition more) (λ c. absurd (at_place (rw (a, b, c) at d)))
+        by-test (has is_common_definition more) (λ m. absurd (commonly (rw (a, b, m) at d)))
+        (λ m.
+        by-test (has is_weak_definition more) (λ c. absurd (at_place (rw (a, b, m, c) at d)))
         (λ c.
-        by-test (has is_global_reference more) (λ f. absurd (reference (rw (a, b, c, f) at d))) (λ f. absurd (zero-value (rw (a, b, c, f) at d))))))
+        by-test (has is_global_reference more) (λ f. absurd (reference (rw (a, b, m, c, f) at d))) (λ f. absurd (zero-value (rw (a, b, m, c, f) at d)))))))
       where
         at_place : {k : ℕ} → defined k ≡ duplicate → ⊥
         at_place q = let z : ◌≡◌ {A = ℕ} 0 1 = cc in omega arith
+
+        commonly : {k : ℕ} → common k ≡ duplicate → ⊥
+        commonly q = let z : ◌≡◌ {A = ℕ} 0 1 = cc in omega arith
 
         reference : unresolved ≡ duplicate → ⊥
         reference q = let z : ◌≡◌ {A = ℕ} 0 1 = cc in omega arith

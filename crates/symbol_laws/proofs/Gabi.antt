@@ -2,6 +2,7 @@
 -- Assumes nothing.
 use Prim.Native.Nat.{ℕ, suc, ◌<◌}
 use Rattle.std.proofs.Common.{arith, not-suc-le-zero, ◌∙◌}
+use Rattle.std.specs.Int.{is_power_of_two}
 use Rattle.std.specs.Prelude.{◌≡◌, Bool, true, false, not, ◌≢◌, eqb, get_or}
 use Rattle.std.proofs.Math.Path.{refl, sym, ap}
 use Rattle.std.proofs.Math.Bool.{cond, false≢true}
@@ -9,31 +10,44 @@ use mathlib.Core.List.{List, [], ◌∷◌}
 use borrow.Author.Tests.{eqb-true, eq-eqb}
 use Rattle.cells.specs.Proof.Split.{by-test}
 use Rattle.link.specs.declared.Interned.{Interned}
-use Rattle.gabi.specs.SymbolTable.{Sym, stb_global, stb_weak, stv_default, stv_hidden, shn_undef, shn_abs, is_global, is_weak, is_reference}
+use Rattle.gabi.specs.SymbolTable.{Sym, stb_global, stb_weak, stv_default, stv_hidden, shn_undef, shn_abs, shn_common, is_global, is_weak, is_reference, is_common}
 use Rattle.gabi.specs.Resolution as Gabi
 use Rattle.gabi.specs.Visibility.{combined}
 use Rattle.symbol.specs.declared.Row.{Row}
 use Rattle.symbol.specs.Layout.{refuses_scope}
-use Rattle.symbol.specs.Row.{scope_refused}
+use Rattle.symbol.specs.Row.{scope_refused, value_refused}
 use Rattle.symbol_resolution.specs.Decide.{weak_of}
 use Rattle.upcoming_symbol.specs.declared.ElfSymbol.{ElfSymbol}
 use Rattle.upcoming_symbol.specs.Judge.{shown_of, hidden_of, judge_of}
 use Rattle.upcoming_symbol.specs.declared.Conversion.{Conversion}
 use Rattle.upcoming_symbol.specs.declared.Conversion.TheVariants as To
-use Rattle.upcoming_symbol.specs.Upcoming.{in_section, converted_of, undefined_of, value_of, elf_row_of, external_row_of}
-use Rattle.symbol_laws.specs.Rank.{weak, first, count}
+use Rattle.upcoming_symbol.specs.Upcoming.{in_section, converted_of, undefined_of, common_of, common_by_binding, value_of, elf_row_of, external_row_of}
+use Rattle.symbol_laws.specs.Rank.{weak, common, first, count}
+use Rattle.symbol_laws.proofs.Rank.{undefined-not-common}
+use Rattle.symbol_laws.specs.ContentWords.{shared_entry}
 use Rattle.symbol_laws.specs.Hidden.{is_hidden, some_hidden, AllShow, attribute}
 use Rattle.symbol_laws.proofs.HiddenLemmas.{combined-is}
 use Rattle.symbol_laws.proofs.Standing.{library-refused, library-local, library-weak}
 use Rattle.symbol_laws.specs.Gabi.{AllMean, Means, Zeroes, sym_of, sym_of_row, syms_of}
 
 pub means-own : (r : Row) → Means r (sym_of_row r)
-unfolding is_reference is_weak is_global
-means-own r = record { refers = referred (eqb r.value.kind 7); weakly = weakened (weak r); bound = bounded (weak r) }
+unfolding is_reference is_common is_weak is_global
+means-own r =
+    record {
+      refers = referred (eqb r.value.kind 7) (common r);
+      commonly = by-test (eqb r.value.kind 7) (λ u. rw (u, undefined-not-common r.value.kind u)) (λ u. rw u (commoned (common r)));
+      weakly = weakened (weak r);
+      bound = bounded (weak r);
+    }
   where
-    referred : (b : Bool) → b ≡ eqb (cond b shn_undef shn_abs) shn_undef
-    referred true = refl
-    referred false = refl
+    referred : (b c : Bool) → b ≡ eqb (cond b shn_undef (cond c shn_common shn_abs)) shn_undef
+    referred true c = refl
+    referred false true = refl
+    referred false false = refl
+
+    commoned : (c : Bool) → c ≡ eqb (cond c shn_common shn_abs) shn_common
+    commoned true = refl
+    commoned false = refl
 
     weakened : (b : Bool) → b ≡ eqb (cond b stb_weak stb_global) stb_weak
     weakened true = refl
@@ -79,12 +93,40 @@ module _ (to : Conversion) (e : ElfSymbol) (name : Interned) (empty : Bool) (fil
   converted-kind (To.Section id) v = section-kind id.0 v
 
   reference-kind : eqb row.value.kind 7 ≡ is_reference (sym_of e)
-  unfolding elf_row_of value_of undefined_of is_reference
+  unfolding elf_row_of value_of undefined_of common_by_binding common_of is_reference
   reference-kind =
       by-test (eqb e.section 0) (λ a. by-test (eqb e.binding 2) (λ b. rw (a, b)) (λ b. rw (a, b)))
       (λ a.
       by-test (eqb e.section 0xfff1) (λ b. rw (a, b))
-      (λ b. by-test (eqb e.section 0xfff2) (λ c. rw (a, b, c)) (λ c. rw (a, b, c) (converted-kind _ e.value))))
+      (λ b.
+      by-test (eqb e.section 0xfff2)
+      (λ c. by-test (eqb e.binding 0) (λ d. rw (a, b, c, d)) (λ d. by-test (is_power_of_two e.value) (λ f. rw (a, b, c, d, f)) (λ f. rw (a, b, c, d, f))))
+      (λ c. rw (a, b, c) (converted-kind _ e.value))))
+
+  common-in : (s v : ℕ) → eqb (in_section s empty v).kind 8 ≡ false
+  unfolding in_section
+  common-in s v = by-test empty (λ a. by-test (eqb v 0) (λ b. rw (a, b)) (λ b. rw (a, b))) (λ a. rw a)
+
+  common-converted : (c : Conversion) (v : ℕ) → eqb (converted_of c empty v).kind 8 ≡ false
+  unfolding converted_of
+  common-converted To.Nothing v = refl
+  common-converted To.NotLoaded v = refl
+  common-converted (To.Section id) v = common-in id.0 v
+
+  -- a common whose value passes
+  common-kind : value_refused row ≡ false → common row ≡ is_common (sym_of e)
+  unfolding elf_row_of value_of undefined_of common_by_binding common_of is_common
+  common-kind p =
+      by-test (eqb e.section 0)
+      (λ a. let q : e.section ≡ 0 = eqb-true _ _ a in by-test (eqb e.binding 2) (λ b. rw (q, b)) (λ b. rw (q, b)))
+      (λ a.
+      by-test (eqb e.section 0xfff1) (λ b. let q : e.section ≡ 0xfff1 = eqb-true _ _ b in rw q)
+      (λ b.
+      by-test (eqb e.section 0xfff2)
+      (λ c.
+      by-test (eqb e.binding 0) (λ d. absurd (false≢true (sym (rw (a, b, c, d) at p))))
+      (λ d. by-test (is_power_of_two e.value) (λ f. rw (a, b, c, d, f)) (λ f. absurd (false≢true (sym (rw (a, b, c, d, f) at p))))))
+      (λ c. rw (a, b, c) (common-converted _ e.value))))
 
   pub elf-zeroes : Zeroes row (sym_of e)
   unfolding elf_row_of value_of undefined_of is_reference is_weak
@@ -118,21 +160,26 @@ module _ (to : Conversion) (e : ElfSymbol) (name : Interned) (empty : Bool) (fil
       (λ b. rw (a, b) (bound-code 11 2 4 (λ z q. false≢true (sym q)) refl refl (rw (a, b) at n) (rw (a, b) at p)))
       (λ b. absurd (false≢true (sym (rw (a, b) at p)))))
 
-  -- an Elf symbol that isn't local, and whose visibility passes
-  pub elf-means : row.visibility ≢ 0 → scope_refused row ≡ false → Means row (sym_of e)
+  -- an Elf symbol that isn't local, and whose visibility and value pass
+  pub elf-means : row.visibility ≢ 0 → scope_refused row ≡ false → value_refused row ≡ false → Means row (sym_of e)
   unfolding elf_row_of
-  elf-means z p =
+  elf-means z p v =
       let b : Bound (judge_of e.binding e.visibility) = bound-judged z p in
-      record { refers = reference-kind; weakly = b.weak-code; bound = b.one_of }
+      record { refers = reference-kind; commonly = common-kind v; weakly = b.weak-code; bound = b.one_of }
 
-  -- a shared object's definition, which becomes a row without type and value
-  pub external-means : (gabi : Bool) → eqb e.section 0 ≡ false → (external_row_of gabi name e.binding e.visibility).visibility ≢ 0
-      → scope_refused (external_row_of gabi name e.binding e.visibility) ≡ false → Means (external_row_of gabi name e.binding e.visibility) (sym_of e)
-  unfolding external_row_of is_reference
-  external-means gabi d z p =
+  -- a shared object's definition, which becomes a row without type and value, a common one too
+  pub external-means : (gabi profile : Bool) → eqb e.section 0 ≡ false → (external_row_of gabi name e.binding e.visibility).visibility ≢ 0
+      → scope_refused (external_row_of gabi name e.binding e.visibility) ≡ false → Means (external_row_of gabi name e.binding e.visibility) (shared_entry profile (sym_of e))
+  unfolding external_row_of is_reference is_common is_weak is_global
+  external-means gabi profile d z p =
       let k : ℕ = judge_of e.binding e.visibility in
       let b : Bound k = bound-judged (λ q. z (eqb-true _ _ (library-local gabi k ∙ eq-eqb k 0 q))) (sym (library-refused gabi k) ∙ p) in
-      record { refers = sym d; weakly = library-weak gabi k ∙ b.weak-code; bound = b.one_of }
+      record {
+        refers = by-test (eqb e.section 0xfff2) (λ c. rw c) (λ c. rw (c, d));
+        commonly = by-test (eqb e.section 0xfff2) (λ c. rw c) (λ c. rw (c, c));
+        weakly = library-weak gabi k ∙ b.weak-code;
+        bound = b.one_of;
+      }
 
 -- ---- lists: a test on rows and the same test on symbols
 

@@ -12,6 +12,7 @@ pub mod Below
 pub mod Differences
 pub mod Demand
 pub mod DirectContents
+pub mod Alignment
 pub mod View
 pub mod Gabi
 pub mod Agreement

@@ -18,16 +18,16 @@ use Rattle.symbol.specs.Row.{state_at, set_row}
 use Rattle.symbol.specs.Hidden.{pass_hidden}
 use Rattle.symbol_resolution.specs.Decision.{Decision, Refuse}
 use Rattle.symbol_resolution.specs.Holder.{global_at}
-use Rattle.symbol_resolution.specs.Apply.{Table, note_name, append_of, replaced_in, amended_in, apply_of}
+use Rattle.symbol_resolution.specs.Apply.{Table, note_name, append_of, replaced_in, joined, amended_in, apply_of}
 use Rattle.symbols.specs.Calls.{Left}
 use Rattle.symbols.specs.Add.{committed_of, add_row_of}
 use Rattle.symbol_laws.specs.Rank.{ranked, best, strong_definition, count}
 use Rattle.symbol_laws.proofs.Rank.{count-append, strong-rank, rank_most, best-low}
 use Rattle.symbol_laws.specs.Standing.{standing, row_after}
-use Rattle.symbol_laws.proofs.Standing.{after_first, rank-by, pass-rest}
+use Rattle.symbol_laws.proofs.Standing.{after_first, rank-after, pass-rest, pass-packs, joined-packs, joined-rest}
 use Rattle.symbol_laws.specs.Proof.Rows.{row_at}
-use Rattle.symbol_laws.proofs.Rows.{stored_there, stored_row, there-kept, row_kept}
-use Rattle.symbol_laws.proofs.View.{Named, Free, View, refused, kept, amended, replaced, appended, local, view, decided, yields}
+use Rattle.symbol_laws.proofs.Rows.{Packs, read-packs, stored_there, stored_row, there-kept, row_kept}
+use Rattle.symbol_laws.proofs.View.{Named, Free, Takes, View, refused, kept, amended, replaced, appended, local, view, decided, yields}
 use Rattle.symbol_laws.proofs.Refused.{commit-refused}
 use Rattle.symbol_laws.proofs.BelowLemmas.{inv-below}
 use Rattle.symbol_laws.specs.History.{State, table, with_table, Source, Entry, noted, only, rows, put_of}
@@ -67,23 +67,24 @@ module _ (s : State) (past : List Entry) (inv : Inv s past) (r : Row) (from : So
         by-test (ltb (ranked s.link.gabi now) (ranked s.link.gabi r)) (λ t. rw t (ap (λ (i : Interned). i.0) (pass-rest s.link.gabi now.visibility r).name))
         (λ t.
         rw t
-        (ap (λ (i : Interned). i.0) (pass-rest s.link.gabi r.visibility now).name ∙ ap (λ (c : Row). c.name.0) content-now ∙ h.named))
+        (ap (λ (i : Interned). i.0) ((pass-rest s.link.gabi r.visibility (joined now r)).name ∙ (joined-rest now r).name) ∙ ap (λ (c : Row). c.name.0) content-now
+        ∙ h.named))
 
   kept-own : (l : List Entry) → Held s n l → at ≢ 0 → left ≡ now → Held s n (l ++ (entry at ∷ []))
   kept-own [] h z o = absurd (z h)
   kept-own (y ∷ ys) h z o = subst (Holds s n y.id) (sym (stood y ys h ∙ o ∙ content-now y ys h)) h
 
-  written-own : (x : Row) → x ≡ left → (l : List Entry) → Held s n l → at ≢ 0
+  written-own : (x : Row) → x ≡ left → Packs x → (l : List Entry) → Held s n l → at ≢ 0
       → Held (with_symbols s (set_row s.symbols (record { 0 = at }) x)) n (l ++ (entry at ∷ []))
-  written-own x e [] h z = absurd (z h)
-  written-own x e (y ∷ ys) h z =
+  written-own x e p [] h z = absurd (z h)
+  written-own x e p (y ∷ ys) h z =
       let q : row_after s.link.gabi y.row (rows (ys ++ (entry at ∷ []))) ≡ left = stood y ys h in
       let w : y.id ≡ at = sym h.found in
       let g : at * 8 + 8 ≤ length s.symbols = omega (arith, h.below, inv.room) in
       record {
         found = h.found;
         there = ap (state_at (set_row s.symbols (record { 0 = at }) x)) w ∙ stored_there s.symbols (record { 0 = at }) x g;
-        content = ap (row_at (set_row s.symbols (record { 0 = at }) x)) w ∙ stored_row s.symbols (record { 0 = at }) x g ∙ e ∙ sym q;
+        content = ap (row_at (set_row s.symbols (record { 0 = at }) x)) w ∙ stored_row s.symbols (record { 0 = at }) x p g ∙ e ∙ sym q;
         named = ap (λ (c : Row). c.name.0) q ∙ left-named y ys h;
         above = h.above;
         below = h.below;
@@ -123,7 +124,7 @@ module _ (s : State) (past : List Entry) (inv : Inv s past) (r : Row) (from : So
   strong-before (y ∷ ys) h z o =
       let g : Bool = s.link.gabi in
       let c : Row = best (ranked g) y.row (rows ys) in
-      let e : ranked g now ≡ ranked g c = ap (ranked g) (content-now y ys h) ∙ rank-by g (y.row ∷ rows ys) c in
+      let e : ranked g now ≡ ranked g c = ap (ranked g) (content-now y ys h) ∙ rank-after g (y.row ∷ rows ys) c in
       let k : ranked g c < ranked g r = omega (arith, e, ltb-true (ranked g now) (ranked g r) o) in
       best-low g y.row (rows ys) (omega (arith, k, rank_most r g))
 
@@ -149,9 +150,9 @@ module _ (s : State) (past : List Entry) (inv : Inv s past) (r : Row) (from : So
       }
 
   -- the add's row in its place, or its own made hidden
-  on-written : (x : Row) → x ≡ left → Named (table s) r → at ≢ 0 → strong (only n past) + strong (entry at ∷ []) ≤ 1
+  on-written : (x : Row) → x ≡ left → Packs x → Named (table s) r → at ≢ 0 → strong (only n past) + strong (entry at ∷ []) ≤ 1
       → Inv (with_symbols s (set_row s.symbols (record { 0 = at }) x)) (past ++ (entry at ∷ []))
-  on-written x e k z one =
+  on-written x e p k z one =
       let t : State = with_symbols s (set_row s.symbols (record { 0 = at }) x) in
       record {
         some = inv.some;
@@ -159,7 +160,7 @@ module _ (s : State) (past : List Entry) (inv : Inv s past) (r : Row) (from : So
         few = inv.few;
         names-room = inv.names-room;
         held_by =
-            names-held t refl (entry at) refl k.issued (written-own x e (only n past) (inv.held_by n k.issued) z)
+            names-held t refl (entry at) refl k.issued (written-own x e p (only n past) (inv.held_by n k.issued) z)
             (λ m h u.
             held_kept s t m (only m past) refl (omega arith) refl
             (λ i d p. (
@@ -175,16 +176,17 @@ module _ (s : State) (past : List Entry) (inv : Inv s past) (r : Row) (from : So
       other m u i d p [] h = absurd (z h)
       other m u i d p (y ∷ ys) h = λ q. apart s m n i y.id d _ u p h (q ∙ h.found)
 
-  on-replaced : Named (table s) r → at ≢ 0 → yields (table s) r ≡ true
+  on-replaced : Named (table s) r → at ≢ 0 → Takes (table s) r
       → Inv (with_symbols s (set_row s.symbols (record { 0 = at }) (pass_hidden s.link.gabi now.visibility r))) (past ++ (entry at ∷ []))
   on-replaced k z o =
-      on-written (pass_hidden s.link.gabi now.visibility r) (rw o) k z
-      (omega (arith, strong-before (only n past) (inv.held_by n k.issued) z o, strong-one at))
+      on-written (pass_hidden s.link.gabi now.visibility r) (rw o.yielding) (pass-packs s.link.gabi now.visibility r o.packs) k z
+      (omega (arith, strong-before (only n past) (inv.held_by n k.issued) z o.yielding, strong-one at))
 
   on-amended : Named (table s) r → at ≢ 0 → yields (table s) r ≡ false → ranked s.link.gabi r ≢ 4
-      → Inv (with_symbols s (set_row s.symbols (record { 0 = at }) (pass_hidden s.link.gabi r.visibility now))) (past ++ (entry at ∷ []))
+      → Inv (with_symbols s (set_row s.symbols (record { 0 = at }) (pass_hidden s.link.gabi r.visibility (joined now r)))) (past ++ (entry at ∷ []))
   on-amended k z o w =
-      on-written (pass_hidden s.link.gabi r.visibility now) (rw o) k z (omega (arith, inv.once n, strong-none at w))
+      on-written (pass_hidden s.link.gabi r.visibility (joined now r)) (rw o)
+      (pass-packs s.link.gabi r.visibility (joined now r) (joined-packs now r (read-packs s.symbols at))) k z (omega (arith, inv.once n, strong-none at w))
 
   -- a row is appended: no name's row moves
   module _ (f : Free (table s) r) where
@@ -212,7 +214,7 @@ module _ (s : State) (past : List Entry) (inv : Inv s past) (r : Row) (from : So
               ap (λ (l : List ℕ). global_at l n) (note k)
               ∙ get_or-set_same s.names (n * 8 + 3) s.link.symbols 0 (omega (arith, inv.names-room, k.issued));
           there = stored_there s.symbols id r f.fits;
-          content = stored_row s.symbols id r f.fits;
+          content = stored_row s.symbols id r f.packs f.fits;
           named = refl;
           above = inv.some;
           below = omega (arith, one_more);

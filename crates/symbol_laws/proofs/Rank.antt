@@ -1,13 +1,13 @@
 -- Theorems over specs/Rank.antt.
 -- Assumes nothing.
 use Rattle.std.specs.Prelude.{ℕ, zero, suc, ◌+◌, ◌<◌, ◌≤◌, ◌≡◌, refl, Bool, cond, not, ◌&&◌, List, [], ◌∷◌, ◌++◌, eqb, ltb}
-use Rattle.std.proofs.Common.{arith, sym, ap, ◌∙◌, append_assoc, append-nil, ltb-true, ltb-false, eqb-true, eq-eqb, ne_eqb}
+use Rattle.std.proofs.Common.{arith, sym, ap, ◌∙◌, subst, append_assoc, append-nil, ltb-true, ltb-false, eqb-true, eq-eqb, ne_eqb}
 use Rattle.std.proofs.Math.Bool.{true, false}
 use Rattle.std.proofs.lemmas.Bool.{eqb-false}
 use Rattle.cells.specs.Proof.Split.{by-test}
 use Rattle.symbol.specs.declared.Row.{Row}
 use Rattle.symbol_resolution.specs.Decide.{reference_rank, rank_of}
-use Rattle.symbol_laws.specs.Rank.{All, count, defines, first, first_by_rank, ranked, reference_of, strong_definition, strong_reference, weak, weak_definition}
+use Rattle.symbol_laws.specs.Rank.{All, common, count, defines, first, first_by_rank, ranked, reference_of, strong_definition, strong_reference, weak, weak_definition}
 use Rattle.symbol_laws.specs.Rank as Base
 
 module _ (P : Row → Type 0) where
@@ -107,33 +107,41 @@ module _ (rank : Row → ℕ) where
         (all_map _ _ (λ y m. below k (rank y) (rank (best c xs)) (omega (arith, m)) u) b.before b.lower)
         (t, all_map _ _ (λ y m. below k (rank y) (rank (best c xs)) m u) b.after b.no-higher))))
 
--- a row's rank, by whether it defines and whether it is weak
-module _ (r : Row) (P : ℕ → Bool → Bool → Type 0) where
-  by_kind : (gabi : Bool) → P 4 true false → P 2 true true → P (cond gabi 1 0) false false → P 0 false true → P (ranked gabi r) (defines r) (weak r)
+pub undefined-not-common : (kind : ℕ) → eqb kind 7 ≡ true → eqb kind 8 ≡ false
+undefined-not-common kind u = let q : kind ≡ 7 = eqb-true _ _ u in rw q
+
+-- a row's rank, by whether it defines, whether it is common and whether it is weak
+module _ (r : Row) (P : ℕ → Bool → Bool → Bool → Type 0) where
+  by_kind : (gabi : Bool) → P 4 true false false → ((w : Bool) → P 3 true true w) → P 2 true false true → P (cond gabi 1 0) false false false → P 0 false false true
+      → P (ranked gabi r) (defines r) (common r) (weak r)
   unfolding rank_of reference_rank
-  by_kind true sd wd sr wr =
-      by-test (eqb r.value.kind 7) (λ u. by-test (weak r) (λ w. rw (u, w) wr) (λ w. rw (u, w) sr)) (λ u. by-test (weak r) (λ w. rw (u, w) wd) (λ w. rw (u, w) sd))
-  by_kind false sd wd sr wr =
-      by-test (eqb r.value.kind 7) (λ u. by-test (weak r) (λ w. rw (u, w) wr) (λ w. rw (u, w) sr)) (λ u. by-test (weak r) (λ w. rw (u, w) wd) (λ w. rw (u, w) sd))
+  by_kind true sd cd wd sr wr =
+      by-test (eqb r.value.kind 7)
+      (λ u. let c = undefined-not-common r.value.kind u in by-test (weak r) (λ w. rw (u, c, w) wr) (λ w. rw (u, c, w) sr))
+      (λ u. by-test (common r) (λ c. rw (u, c) (cd (weak r))) (λ c. by-test (weak r) (λ w. rw (u, c, w) wd) (λ w. rw (u, c, w) sd)))
+  by_kind false sd cd wd sr wr =
+      by-test (eqb r.value.kind 7)
+      (λ u. let c = undefined-not-common r.value.kind u in by-test (weak r) (λ w. rw (u, c, w) wr) (λ w. rw (u, c, w) sr))
+      (λ u. by-test (common r) (λ c. rw (u, c) (cd (weak r))) (λ c. by-test (weak r) (λ w. rw (u, c, w) wd) (λ w. rw (u, c, w) sd)))
 
 module _ (r : Row) where
   four_is : (gabi : Bool) → eqb (ranked gabi r) 4 ≡ strong_definition r
-  four_is true = by_kind r (λ n d w. eqb n 4 ≡ (d && not w)) true refl refl refl refl
-  four_is false = by_kind r (λ n d w. eqb n 4 ≡ (d && not w)) false refl refl refl refl
+  four_is true = by_kind r (λ n d c w. eqb n 4 ≡ ((d && not c) && not w)) true refl (λ w. refl) refl refl refl
+  four_is false = by_kind r (λ n d c w. eqb n 4 ≡ ((d && not c) && not w)) false refl (λ w. refl) refl refl refl
 
-  three-never : (gabi : Bool) → eqb (ranked gabi r) 3 ≡ false
-  three-never true = by_kind r (λ n d w. eqb n 3 ≡ false) true refl refl refl refl
-  three-never false = by_kind r (λ n d w. eqb n 3 ≡ false) false refl refl refl refl
+  pub three-is : (gabi : Bool) → eqb (ranked gabi r) 3 ≡ common r
+  three-is true = by_kind r (λ n d c w. eqb n 3 ≡ c) true refl (λ w. refl) refl refl refl
+  three-is false = by_kind r (λ n d c w. eqb n 3 ≡ c) false refl (λ w. refl) refl refl refl
 
   two_is : (gabi : Bool) → eqb (ranked gabi r) 2 ≡ weak_definition r
-  two_is true = by_kind r (λ n d w. eqb n 2 ≡ (d && w)) true refl refl refl refl
-  two_is false = by_kind r (λ n d w. eqb n 2 ≡ (d && w)) false refl refl refl refl
+  two_is true = by_kind r (λ n d c w. eqb n 2 ≡ ((d && not c) && w)) true refl (λ w. refl) refl refl refl
+  two_is false = by_kind r (λ n d c w. eqb n 2 ≡ ((d && not c) && w)) false refl (λ w. refl) refl refl refl
 
   one-is : eqb (ranked true r) 1 ≡ strong_reference r
-  one-is = by_kind r (λ n d w. eqb n 1 ≡ (not d && not w)) true refl refl refl refl
+  one-is = by_kind r (λ n d c w. eqb n 1 ≡ (not d && not w)) true refl (λ w. refl) refl refl refl
 
   one-never : eqb (ranked false r) 1 ≡ false
-  one-never = by_kind r (λ n d w. eqb n 1 ≡ false) false refl refl refl refl
+  one-never = by_kind r (λ n d c w. eqb n 1 ≡ false) false refl (λ w. refl) refl refl refl
 
   pub strong-rank : (gabi : Bool) → strong_definition r ≡ true → ranked gabi r ≡ 4
   strong-rank gabi e = eqb-true _ _ (four_is gabi ∙ e)
@@ -142,8 +150,8 @@ module _ (r : Row) where
   rank-strong gabi e = sym (four_is gabi) ∙ eq-eqb _ _ e
 
   pub rank_most : (gabi : Bool) → ranked gabi r ≤ 4
-  rank_most true = by_kind r (λ n d w. n ≤ 4) true (omega arith) (omega arith) (omega arith) (omega arith)
-  rank_most false = by_kind r (λ n d w. n ≤ 4) false (omega arith) (omega arith) (omega arith) (omega arith)
+  rank_most true = by_kind r (λ n d c w. n ≤ 4) true (omega arith) (λ w. omega arith) (omega arith) (omega arith) (omega arith)
+  rank_most false = by_kind r (λ n d c w. n ≤ 4) false (omega arith) (λ w. omega arith) (omega arith) (omega arith) (omega arith)
 
 -- both profiles' wordings are the first of the greatest rank
 pub best-terms : (gabi : Bool) (c : Row) (xs : List Row) → best (ranked gabi) c xs ≡ first_by_rank gabi c xs
@@ -152,12 +160,25 @@ best-terms gabi c xs =
     best-highest (ranked gabi) c xs 4 (rank_most (best (ranked gabi) c xs) gabi)
     ∙ first-same (λ x. eqb (ranked gabi x) 4) strong_definition (λ x. four_is x gabi) l _
     ∙ ap (first strong_definition l)
-    (first-never (λ x. eqb (ranked gabi x) 3) (λ x. three-never x gabi) l _
-    ∙ first-same (λ x. eqb (ranked gabi x) 2) weak_definition (λ x. two_is x gabi) l _ ∙ ap (first weak_definition l) (reference gabi))
+    (first-same (λ x. eqb (ranked gabi x) 3) common (λ x. three-is x gabi) l _
+    ∙ ap (first common l)
+    (first-same (λ x. eqb (ranked gabi x) 2) weak_definition (λ x. two_is x gabi) l _ ∙ ap (first weak_definition l) (reference gabi)))
   where
     reference : (g : Bool) → first (λ x. eqb (ranked g x) 1) (c ∷ xs) c ≡ reference_of g c xs
     reference true = first-same (λ x. eqb (ranked true x) 1) strong_reference one-is (c ∷ xs) c
     reference false = first-never (λ x. eqb (ranked false x) 1) one-never (c ∷ xs) c
+
+-- under a holder of a rank below a common's there is no common
+pub best-under : (gabi : Bool) (c : Row) (xs : List Row) → ranked gabi (best (ranked gabi) c xs) < 3 → All (λ x. common x ≡ false) (c ∷ xs)
+best-under gabi c xs h =
+    let r : Row = best (ranked gabi) c xs in
+    let b = best-first (ranked gabi) c xs in
+    subst (All (λ x. common x ≡ false)) (sym b.place)
+    (all_append (λ x. common x ≡ false) b.before (r ∷ b.after) (all_map _ _ (λ y k. low y (omega arith)) b.before b.lower)
+    (low r h, all_map _ _ (λ y k. low y (omega arith)) b.after b.no-higher))
+  where
+    low : (y : Row) → ranked gabi y < 3 → common y ≡ false
+    low y k = sym (three-is y gabi) ∙ ne_eqb (ranked gabi y) 3 (λ q. omega (arith, k, q))
 
 -- ---- strong definitions
 

@@ -1,10 +1,10 @@
 -- Theorems over specs/Standing.antt.
 -- Assumes nothing.
-use Rattle.std.specs.Prelude.{ℕ, ◌≡◌, refl, Bool, ◌||◌, List, [], ◌∷◌, ◌++◌, eqb, ltb}
-use Rattle.std.proofs.Common.{sym, ap, ◌∙◌, subst}
+use Rattle.std.specs.Prelude.{ℕ, ◌<◌, ◌≡◌, refl, Bool, cond, ◌||◌, List, [], ◌∷◌, ◌++◌, eqb, ltb, max}
+use Rattle.std.proofs.Common.{arith, sym, ap, ◌∙◌, subst, ltb-true, eq-eqb, eqb-true}
+use Rattle.std.proofs.Math.Nat.{max-zero, zero-max, max_comm}
 use Rattle.std.proofs.Math.Bool.{true, false}
 use Rattle.std.proofs.lemmas.Bool.{false≢true}
-use borrow.Author.Tests.{eqb-true}
 use Rattle.cells.specs.Proof.Split.{by-test}
 use Rattle.link.specs.declared.Interned.{Interned}
 use Rattle.symbol.specs.declared.Row.{Row}
@@ -12,10 +12,12 @@ use Rattle.symbol.specs.Codes.{visibility_at}
 use Rattle.symbol.specs.Hidden.{hidden_code, hide_code, show_code, passes, with_visibility, hide_if, pass_hidden}
 use Rattle.symbol.specs.Layout.{refuses_scope}
 use Rattle.symbol_resolution.specs.Decide.{weak_of, reference_rank, rank_of}
+use Rattle.symbol_resolution.specs.Apply.{joined}
 use Rattle.upcoming_symbol.specs.Judge.{judge_of}
 use Rattle.upcoming_symbol.specs.Upcoming.{library_code, external_row_of}
-use Rattle.symbol_laws.specs.Rank.{ranked, best}
-use Rattle.symbol_laws.proofs.Rank.{best-first, best-snoc}
+use Rattle.symbol_laws.specs.Rank.{All, common, ranked, best, largest, size, alignment, sized, joined_in}
+use Rattle.symbol_laws.proofs.Rank.{best-first, best-snoc, best-under, three-is}
+use Rattle.symbol_laws.proofs.Rows.{Packs}
 use Rattle.symbol_laws.specs.Hidden.{hides, is_hidden, some_hidden}
 use Rattle.symbol_laws.specs.Standing.{SameButHidden, hidden_by, row_after, standing, unhidden}
 
@@ -66,8 +68,8 @@ hidden-if false r = refl
 
 pub hide-rest : (h : Bool) (r : Row) → SameButHidden (hide_if h r) r
 unfolding hide_if
-hide-rest true r = record { name = refl; kind = refl; file = refl; weakness = weak-code r.visibility; value = refl }
-hide-rest false r = record { name = refl; kind = refl; file = refl; weakness = refl; value = refl }
+hide-rest true r = record { name = refl; kind = refl; file = refl; weakness = weak-code r.visibility; value = refl; size = refl }
+hide-rest false r = record { name = refl; kind = refl; file = refl; weakness = refl; value = refl; size = refl }
 
 rank-if : (gabi h : Bool) (r : Row) → ranked gabi (hide_if h r) ≡ ranked gabi r
 unfolding hide_if rank_of reference_rank
@@ -100,14 +102,105 @@ any-best rank c xs =
     ap some_hidden b.place ∙ any_append b.before (r ∷ b.after) in
     ap (λ (h : Bool). h || is_hidden r) e ∙ or-again (some_hidden b.before) (is_hidden r) (some_hidden b.after) ∙ sym e
 
+-- ---- commons joined
+
+largest-none : (f : Row → ℕ) (l : List Row) → All (λ x. common x ≡ false) l → largest f l ≡ 0
+largest-none f [] a = refl
+largest-none f (x ∷ l) a = rw a.0 (largest-none f l a.1)
+
+max_assoc : (a b c : ℕ) → max (max a b) c ≡ max a (max b c)
+max_assoc a b c = omega arith
+
+-- one more at the end
+largest-snoc : (f : Row → ℕ) (l : List Row) (y : Row) → largest f (l ++ (y ∷ [])) ≡ cond (common y) (max (largest f l) (f y)) (largest f l)
+largest-snoc f [] y = by-test (common y) (λ c. rw (c, max-zero (f y), zero-max (f y))) (λ c. rw c)
+largest-snoc f (x ∷ l) y =
+    by-test (common x)
+    (λ d. rw (d, largest-snoc f l y) (by-test (common y) (λ c. rw c (sym (max_assoc (f x) (largest f l) (f y)))) (λ c. rw c)))
+    (λ d. rw (d, largest-snoc f l y))
+
+joined-common : (l : List Row) (r : Row) → common r ≡ true → joined_in l r ≡ sized r (largest size l) (largest alignment l)
+joined-common l r c = rw c
+
+-- what isn't common is joined with nothing
+pub joined-plain : (l : List Row) (r : Row) → common r ≡ false → joined_in l r ≡ r
+joined-plain l r c = rw c
+
+join-plain : (r y : Row) → common r ≡ false → joined r y ≡ r
+unfolding joined
+join-plain r y c = rw c
+
+join-behind : (r y : Row) → common r ≡ true → common y ≡ false → joined r y ≡ r
+unfolding joined
+join-behind r y c d = rw (c, d)
+
+join-common : (r y : Row) → common r ≡ true → common y ≡ true → joined r y ≡ sized r (max r.size y.size) (max r.value.a y.value.a)
+unfolding joined
+join-common r y c d = rw (c, d)
+
+resized : (r : Row) (s t a b : ℕ) → s ≡ t → a ≡ b → sized r s a ≡ sized r t b
+resized r s t a b p q = rw (p, q)
+
+largest-common : (f : Row → ℕ) (l : List Row) (y : Row) → common y ≡ true → largest f (l ++ (y ∷ [])) ≡ max (largest f l) (f y)
+largest-common f l y c = largest-snoc f l y ∙ rw c
+
+largest-behind : (f : Row → ℕ) (l : List Row) (y : Row) → common y ≡ false → largest f (l ++ (y ∷ [])) ≡ largest f l
+largest-behind f l y c = largest-snoc f l y ∙ rw c
+
+-- a row that holds the name, joined with one more add that stays behind it
+joined-snoc : (l : List Row) (r y : Row) → joined_in (l ++ (y ∷ [])) r ≡ joined (joined_in l r) y
+joined-snoc l r y =
+    let more : List Row = l ++ (y ∷ []) in
+    by-test (common r)
+    (λ c.
+    let now : Row = sized r (largest size l) (largest alignment l) in
+    joined-common more r c
+    ∙ by-test (common y)
+    (λ d. resized r _ _ _ _ (largest-common size l y d) (largest-common alignment l y d) ∙ sym (join-common now y c d))
+    (λ d. resized r _ _ _ _ (largest-behind size l y d) (largest-behind alignment l y d) ∙ sym (join-behind now y c d))
+    ∙ ap (λ (q : Row). joined q y) (sym (joined-common l r c)))
+    (λ c. joined-plain more r c ∙ sym (join-plain r y c) ∙ ap (λ (q : Row). joined q y) (sym (joined-plain l r c)))
+
+-- an add that takes the name from rows of lower rank: the commons among them are none
+joined-own : (l : List Row) (y : Row) → (common y ≡ true → All (λ x. common x ≡ false) l) → joined_in (l ++ (y ∷ [])) y ≡ y
+joined-own l y f =
+    by-test (common y)
+    (λ c. joined-common (l ++ (y ∷ [])) y c ∙ resized y _ _ _ _ (own size c) (own alignment c))
+    (λ c. joined-plain (l ++ (y ∷ [])) y c)
+  where
+    own : (g : Row → ℕ) → common y ≡ true → largest g (l ++ (y ∷ [])) ≡ g y
+    own g c = largest-common g l y c ∙ rw (largest-none g l (f c), zero-max (g y))
+
+-- hidden and joined are apart
+joined-hidden : (a : Bool) (r y : Row) → joined (hide_if a r) y ≡ hide_if a (joined r y)
+unfolding hide_if joined
+joined-hidden true r y = by-test (common r) (λ c. rw c (by-test (common y) (λ d. rw d) (λ d. rw d))) (λ c. rw c)
+joined-hidden false r y = refl
+
+pub hidden-joined : (l : List Row) (r : Row) → is_hidden (joined_in l r) ≡ is_hidden r
+hidden-joined l r = by-test (common r) (λ c. rw c) (λ c. rw c)
+
+-- so are its kind, its scope and its names
+pub joined-stays : (A : Type 0) (f : Row → A) → ((r : Row) (s a : ℕ) → f (sized r s a) ≡ f r) → (l : List Row) (r : Row) → f (joined_in l r) ≡ f r
+joined-stays A f g l r = by-test (common r) (λ c. ap f (joined-common l r c) ∙ g r (largest size l) (largest alignment l)) (λ c. ap f (joined-plain l r c))
+
+rank-joined : (gabi : Bool) (l : List Row) (r : Row) → ranked gabi (joined_in l r) ≡ ranked gabi r
+unfolding rank_of reference_rank
+rank-joined gabi l r = by-test (common r) (λ c. ap (ranked gabi) (joined-common l r c)) (λ c. ap (ranked gabi) (joined-plain l r c))
+
 pub rank-by : (gabi : Bool) (l : List Row) (r : Row) → ranked gabi (hidden_by gabi l r) ≡ ranked gabi r
 rank-by false l r = refl
 rank-by true l r = rank-if true (some_hidden l) r
 
+-- of a name's row, hidden and joined
+pub rank-after : (gabi : Bool) (l : List Row) (r : Row) → ranked gabi (hidden_by gabi l (joined_in l r)) ≡ ranked gabi r
+rank-after gabi l r = rank-by gabi l (joined_in l r) ∙ rank-joined gabi l r
+
 -- the first add
 pub after_first : (gabi : Bool) (r : Row) → row_after gabi r [] ≡ r
-after_first false r = refl
-after_first true r = ap (λ (h : Bool). hide_if h r) (or-none (is_hidden r)) ∙ hide-own r
+after_first false r = joined-own [] r (λ c. tt)
+after_first true r =
+    ap (hidden_by true (r ∷ [])) (joined-own [] r (λ c. tt)) ∙ ap (λ (h : Bool). hide_if h r) (or-none (is_hidden r)) ∙ hide-own r
 
 -- a: whether an earlier add is hidden. To an add that takes the place, and to a row that stays
 taken : (a : Bool) (y : Row) → hide_if (a || is_hidden y) y ≡ hide_if a y
@@ -121,25 +214,45 @@ passed true false b = refl
 passed false true b = refl
 passed false false b = refl
 
+-- an add of greater rank: if it is common, none before it was
+under : (gabi : Bool) (c : Row) (xs : List Row) (y : Row) → ltb (ranked gabi (best (ranked gabi) c xs)) (ranked gabi y) ≡ true → common y ≡ true
+    → All (λ x. common x ≡ false) (c ∷ xs)
+under gabi c xs y t k =
+    let q : ranked gabi y ≡ 3 = eqb-true _ _ (three-is y gabi ∙ k) in
+    best-under gabi c xs (omega (arith, q, ltb-true (ranked gabi (best (ranked gabi) c xs)) (ranked gabi y) t))
+
 pub after-snoc : (gabi : Bool) (c : Row) (xs : List Row) (y : Row) → row_after gabi c (xs ++ (y ∷ [])) ≡ standing gabi (row_after gabi c xs) y
 unfolding pass_hidden passes
-after-snoc false c xs y = best-snoc (ranked false) c xs y ∙ sym (rw (hide-none y, hide-none (best (ranked false) c xs)))
+after-snoc false c xs y =
+    let b : Row = best (ranked false) c xs in
+    rw (best-snoc (ranked false) c xs y, rank-joined false (c ∷ xs) b, hide-none y, hide-none (joined (joined_in (c ∷ xs) b) y))
+    (by-test (ltb (ranked false b) (ranked false y)) (λ t. rw t (joined-own (c ∷ xs) y (under false c xs y t)))
+    (λ t. rw t (joined-snoc (c ∷ xs) b y)))
 after-snoc true c xs y =
     let a : Bool = some_hidden (c ∷ xs) in
     let b : Row = best (ranked true) c xs in
+    let j : Row = joined_in (c ∷ xs) b in
     let more : some_hidden ((c ∷ xs) ++ (y ∷ [])) ≡ (a || is_hidden y) = any_append (c ∷ xs) (y ∷ []) ∙ ap (◌||◌ a) (or-none (is_hidden y)) in
-    let old : hidden_code (hide_if a b).visibility ≡ a = code-hides (hide_if a b).visibility ∙ hidden-if a b ∙ any-best (ranked true) c xs in
-    rw (more, best-snoc (ranked true) c xs y, rank-if true a b, old, code-hides y.visibility)
-    (by-test (ltb (ranked true b) (ranked true y)) (λ t. rw t (taken a y)) (λ t. rw t (passed a (is_hidden y) b)))
+    let old : hidden_code (hide_if a j).visibility ≡ a =
+    code-hides (hide_if a j).visibility ∙ hidden-if a j ∙ ap (◌||◌ a) (hidden-joined (c ∷ xs) b) ∙ any-best (ranked true) c xs in
+    rw (more, best-snoc (ranked true) c xs y, rank-if true a j, rank-joined true (c ∷ xs) b, old, code-hides y.visibility)
+    (by-test (ltb (ranked true b) (ranked true y))
+    (λ t. rw t (ap (hide_if (a || is_hidden y)) (joined-own (c ∷ xs) y (under true c xs y t)) ∙ taken a y))
+    (λ t.
+    rw t
+    (ap (hide_if (a || is_hidden y)) (joined-snoc (c ∷ xs) b y) ∙ passed a (is_hidden y) (joined j y)
+    ∙ ap (hide_if (is_hidden y)) (sym (joined-hidden a j y)))))
 
 -- ---- what the row is, by profile
 
 -- hidden exactly if some add of the name is
 pub hidden-by : (c : Row) (xs : List Row) → is_hidden (row_after true c xs) ≡ some_hidden (c ∷ xs)
-hidden-by c xs = hidden-if (some_hidden (c ∷ xs)) (best (ranked true) c xs) ∙ any-best (ranked true) c xs
+hidden-by c xs =
+    hidden-if (some_hidden (c ∷ xs)) (joined_in (c ∷ xs) (best (ranked true) c xs))
+    ∙ ap (◌||◌ (some_hidden (c ∷ xs))) (hidden-joined (c ∷ xs) (best (ranked true) c xs)) ∙ any-best (ranked true) c xs
 
 pub same_by : (gabi : Bool) (l : List Row) (r : Row) → SameButHidden (hidden_by gabi l r) r
-same_by false l r = record { name = refl; kind = refl; file = refl; weakness = refl; value = refl }
+same_by false l r = record { name = refl; kind = refl; file = refl; weakness = refl; value = refl; size = refl }
 same_by true l r = hide-rest (some_hidden l) r
 
 pub pass-rest : (gabi : Bool) (v : ℕ) (r : Row) → SameButHidden (pass_hidden gabi v r) r
@@ -212,3 +325,37 @@ library-weak = library-by (λ x k. weak_of x ≡ weak_of k) (λ k. refl) refl re
 pub library-old : (name : Interned) (b v : ℕ) → (external_row_of false name b v).visibility ≡ judge_of b v
 unfolding external_row_of library_code passes
 library-old name b v = refl
+
+-- ---- in a cell of scope and type
+
+hide-small : (v : ℕ) → v < 8 → hide_code v < 8
+unfolding hide_code
+hide-small v h = by-test (eqb v 3) (λ a. rw a (omega arith)) (λ a. by-test (eqb v 4) (λ b. rw (a, b) (omega arith)) (λ b. rw (a, b) (omega arith)))
+
+hide-packs : (h : Bool) (r : Row) → Packs r → Packs (hide_if h r)
+unfolding hide_if
+hide-packs true r p = record { scope = hide-small r.visibility p.scope; type = p.type }
+hide-packs false r p = p
+
+pub pass-packs : (gabi : Bool) (v : ℕ) (r : Row) → Packs r → Packs (pass_hidden gabi v r)
+unfolding pass_hidden
+pass-packs gabi v r p = hide-packs (passes gabi v) r p
+
+pub joined-packs : (r y : Row) → Packs r → Packs (joined r y)
+unfolding joined
+joined-packs r y p = by-test (common r) (λ c. rw c (by-test (common y) (λ d. rw d (record { scope = p.scope; type = p.type })) (λ d. rw d p))) (λ c. rw c p)
+
+-- what joining leaves of a row: all but its size and its alignment
+pub record Rest (r q : Row) : Type 0 where
+  pub name : r.name ≡ q.name
+  pub file : r.file ≡ q.file
+  pub scope : r.visibility ≡ q.visibility
+  pub kind : r.value.kind ≡ q.value.kind
+  pub b : r.value.b ≡ q.value.b
+
+pub joined-rest : (r y : Row) → Rest (joined r y) r
+unfolding joined
+joined-rest r y = by-test (common r) (λ c. rw c (by-test (common y) (λ d. rw d (record { name = refl; file = refl; scope = refl; kind = refl; b = refl })) (λ d. rw d same))) (λ c. rw c same)
+  where
+    same : Rest r r
+    same = record { name = refl; file = refl; scope = refl; kind = refl; b = refl }

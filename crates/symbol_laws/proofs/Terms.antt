@@ -15,7 +15,7 @@ use Rattle.symbols.specs.New.{new_of}
 use Rattle.symbols.specs.Lookup.{not_found, get_global_of}
 use Rattle.upcoming_symbol.specs.declared.UpcomingSymbol.{UpcomingSymbol}
 use Rattle.symbols.specs.Add.{add_of}
-use Rattle.symbol_laws.specs.Rank.{first_by_rank}
+use Rattle.symbol_laws.specs.Rank.{first_by_rank, joined_in}
 use Rattle.symbol_laws.specs.Proof.Rows.{row_at}
 use Rattle.symbol_laws.specs.History.{State, opened, Entry, only, rows, Part, put_of, run_parts, log_parts, Call, add, intern, call_next, call_number, run_calls, log_calls, Removes, RemovesNothing}
 use Rattle.symbol_laws.proofs.Held.{Inv}
@@ -75,12 +75,12 @@ module _ (key : ℕ) (gabi : Bool) (bytes names symbols sections : List ℕ) (ne
     profile = Profile.calls-profile ks start ∙ Profile.new-profile key gabi bytes names symbols sections new
 
     -- "each global name has the id of its first accepted add and the content of its first accepted strong definition, else weak
-    -- definition, else add"; in the old profile that is the whole row, in gABI's hidden is apart from it
+    -- definition, else add"; 2026-06: "else the commons joined, else as before". In the old profile that is the whole row, in gABI's hidden is apart from it
     pub demand-3a : (n : ℕ) (x : Entry) (xs : List Entry) → adds n ≡ x ∷ xs → Demand.Resolved gabi end n x xs
     demand-3a n x xs e = subst (λ (g : Bool). Demand.Resolved g end n x xs) profile (DemandLaws.resolved end _ kept n x xs e)
 
     -- the row apart from hidden, in both
-    pub content-3a : (n : ℕ) (x : Entry) (xs : List Entry) → adds n ≡ x ∷ xs → SameButHidden (row_at end.symbols x.id) (first_by_rank gabi x.row (rows xs))
+    pub content-3a : (n : ℕ) (x : Entry) (xs : List Entry) → adds n ≡ x ∷ xs → SameButHidden (row_at end.symbols x.id) (joined_in (rows (x ∷ xs)) (first_by_rank gabi x.row (rows xs)))
     content-3a n x xs e = DemandLaws.content-apart end n x xs gabi (demand-3a n x xs e)
 
     -- hidden in the gABI profile
@@ -89,10 +89,10 @@ module _ (key : ℕ) (gabi : Bool) (bytes names symbols sections : List ℕ) (ne
 
     -- what a lookup by the name then answers
     pub lookup-row : (n : ℕ) (x : Entry) (xs : List Entry) → adds n ≡ x ∷ xs
-        → get_global_of end.link end.names end.symbols (record { 0 = n }) ≡ Ok (symbol_of (record { 0 = x.id }) (hidden_by gabi (rows (x ∷ xs)) (first_by_rank gabi x.row (rows xs))))
+        → get_global_of end.link end.names end.symbols (record { 0 = n }) ≡ Ok (symbol_of (record { 0 = x.id }) (hidden_by gabi (rows (x ∷ xs)) (joined_in (rows (x ∷ xs)) (first_by_rank gabi x.row (rows xs)))))
     lookup-row n x xs e =
         Within.lookup-row end _ kept within n x xs e
-        ∙ ap (λ (g : Bool). Ok (symbol_of (record { 0 = x.id }) (hidden_by g (rows (x ∷ xs)) (first_by_rank g x.row (rows xs))))) profile
+        ∙ ap (λ (g : Bool). Ok (symbol_of (record { 0 = x.id }) (hidden_by g (rows (x ∷ xs)) (joined_in (rows (x ∷ xs)) (first_by_rank g x.row (rows xs)))))) profile
 
     -- a name without accepted global add has no row, issued or not
     pub no_row : (n : ℕ) → adds n ≡ [] → n < end.link.names → global_at end.names n ≡ 0

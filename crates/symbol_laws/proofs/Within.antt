@@ -32,7 +32,7 @@ use Rattle.symbols.specs.Add.{decided_of, add_row_of}
 use Rattle.symbols.specs.Proof.AddOutcomes.{added-left}
 use Rattle.symbols.specs.New.{null_of, new_of}
 use Rattle.symbols.specs.Lookup.{found_at, held_of, not_found, get_of, get_global_of}
-use Rattle.symbol_laws.specs.Rank.{first_by_rank}
+use Rattle.symbol_laws.specs.Rank.{first_by_rank, joined_in}
 use Rattle.symbol_laws.specs.Standing.{hidden_by}
 use Rattle.symbol_laws.proofs.Rows.{means}
 use Rattle.symbol_laws.proofs.View.{lesser-first}
@@ -232,7 +232,7 @@ module _ (s : State) (f : Fits s) (w : Within s.link s.names) where
 
 module _ (s : State) (past : List Entry) (inv : Inv s past) (w : Within s.link s.names) where
   pub lookup-row : (n : ℕ) (x : Entry) (xs : List Entry) → only n past ≡ x ∷ xs
-      → get_global_of s.link s.names s.symbols (record { 0 = n }) ≡ Ok (symbol_of (record { 0 = x.id }) (hidden_by s.link.gabi (rows (x ∷ xs)) (first_by_rank s.link.gabi x.row (rows xs))))
+      → get_global_of s.link s.names s.symbols (record { 0 = n }) ≡ Ok (symbol_of (record { 0 = x.id }) (hidden_by s.link.gabi (rows (x ∷ xs)) (joined_in (rows (x ∷ xs)) (first_by_rank s.link.gabi x.row (rows xs)))))
   lookup-row n x xs e =
       looked s (inv-fits s past inv) w n (Known (record { 0 = x.id })) (holder_known s past inv n x xs e)
       ∙ ap Ok (means s.symbols (record { 0 = x.id }) ∙ ap (symbol_of (record { 0 = x.id })) (resolved s past inv n x xs e).terms)

@@ -14,12 +14,13 @@ use Rattle.symbol.specs.declared.Words.{Words}
 use Rattle.symbol.specs.Row.{field, state_at, row_at, cells_of}
 use Rattle.symbol.specs.Hidden.{pass_hidden}
 use Rattle.symbol_resolution.specs.Decision.{Decision, Refuse}
-use Rattle.symbol_resolution.specs.Apply.{Table, append_of, replaced_in, amended_in, apply_of}
+use Rattle.symbol_resolution.specs.Apply.{Table, append_of, replaced_in, joined, amended_in, apply_of}
 use Rattle.symbols.specs.Calls.{Left}
 use Rattle.symbols.specs.Add.{committed_of, add_row_of}
 use Rattle.symbol_laws.proofs.View.{View, refused, kept, amended, replaced, appended, local, view, decided}
 use Rattle.symbol_laws.proofs.Refused.{commit-refused, row-refused, row-accepted}
-use Rattle.symbol_laws.proofs.Standing.{pass-rest}
+use Rattle.symbol_laws.specs.Standing.{SameButHidden}
+use Rattle.symbol_laws.proofs.Standing.{pass-rest, Rest, joined-rest}
 
 module _ (t : Table) (r : Row) where
   abbrev OneRow : Left → Type 0
@@ -46,22 +47,28 @@ module _ (t : Table) (r : Row) where
       (λ a. subst OneRow (sym (row-accepted t r file (eqb-true _ _ a))) (viewed (view t r)))
       (λ a j f h u. ap (λ (t : Table). field t.symbols j f) (row-refused t r file (eqb-false _ _ a)))
 
--- of a present row that only becomes hidden no cell changes but its visibility's
+-- of a present row that stays no cell changes but that of its scope, and of a common that is joined its size and its alignment
 module _ (gabi : Bool) (symbols : List ℕ) (r : Row) (id : SymbolId) (present : state_at symbols id.0 ≡ 1) where
   abbrev amended-row : Row
-  amended-row = pass_hidden gabi r.visibility (row_at symbols id.0)
+  amended-row = pass_hidden gabi r.visibility (joined (row_at symbols id.0) r)
 
-  amended-cell : (f : ℕ) → f < 8 → f ≢ 4 → get_or (cells_of amended-row) f 0 ≡ field symbols id.0 f
-  amended-cell zero h u = sym present
-  amended-cell (suc zero) h u = ap (λ (n : Interned). n.0) (pass-rest gabi r.visibility (row_at symbols id.0)).name
-  amended-cell (suc (suc zero)) h u = (pass-rest gabi r.visibility (row_at symbols id.0)).kind
-  amended-cell (suc (suc (suc zero))) h u = (pass-rest gabi r.visibility (row_at symbols id.0)).file
-  amended-cell (suc (suc (suc (suc zero)))) h u = absurd (u refl)
-  amended-cell (suc (suc (suc (suc (suc zero))))) h u = ap (λ (w : Words). w.kind) (pass-rest gabi r.visibility (row_at symbols id.0)).value
-  amended-cell (suc (suc (suc (suc (suc (suc zero)))))) h u = ap (λ (w : Words). w.a) (pass-rest gabi r.visibility (row_at symbols id.0)).value
-  amended-cell (suc (suc (suc (suc (suc (suc (suc zero))))))) h u = ap (λ (w : Words). w.b) (pass-rest gabi r.visibility (row_at symbols id.0)).value
-  amended-cell (suc (suc (suc (suc (suc (suc (suc (suc f)))))))) h u = absurd (omega arith)
+  abbrev passed : SameButHidden amended-row (joined (row_at symbols id.0) r)
+  passed = pass-rest gabi r.visibility (joined (row_at symbols id.0) r)
 
-  pub amend-one-cell : id.0 * 8 + 8 ≤ length symbols → (f : ℕ) → f < 8 → f ≢ 4 → field (amended_in gabi symbols r id) id.0 f ≡ field symbols id.0 f
+  abbrev rest : Rest (joined (row_at symbols id.0) r) (row_at symbols id.0)
+  rest = joined-rest (row_at symbols id.0) r
+
+  amended-cell : (f : ℕ) → f < 8 → f ≢ 2 → f ≢ 4 → f ≢ 6 → get_or (cells_of amended-row) f 0 ≡ field symbols id.0 f
+  amended-cell zero h t u v = sym present
+  amended-cell (suc zero) h t u v = ap (λ (n : Interned). n.0) (passed.name ∙ rest.name)
+  amended-cell (suc (suc zero)) h t u v = absurd (t refl)
+  amended-cell (suc (suc (suc zero))) h t u v = passed.file ∙ rest.file
+  amended-cell (suc (suc (suc (suc zero)))) h t u v = absurd (u refl)
+  amended-cell (suc (suc (suc (suc (suc zero))))) h t u v = ap (λ (w : Words). w.kind) passed.value ∙ rest.kind
+  amended-cell (suc (suc (suc (suc (suc (suc zero)))))) h t u v = absurd (v refl)
+  amended-cell (suc (suc (suc (suc (suc (suc (suc zero))))))) h t u v = ap (λ (w : Words). w.b) passed.value ∙ rest.b
+  amended-cell (suc (suc (suc (suc (suc (suc (suc (suc f)))))))) h t u v = absurd (omega arith)
+
+  pub amend-one-cell : id.0 * 8 + 8 ≤ length symbols → (f : ℕ) → f < 8 → f ≢ 2 → f ≢ 4 → f ≢ 6 → field (amended_in gabi symbols r id) id.0 f ≡ field symbols id.0 f
   unfolding amended_in
-  amend-one-cell g f h u = field-same symbols id amended-row f h g ∙ amended-cell f h u
+  amend-one-cell g f h t u v = field-same symbols id amended-row f h g ∙ amended-cell f h t u v

@@ -5,11 +5,12 @@ use Rattle.std.proofs.Math.Bool.{true}
 use mathlib.Core.List.{List, ◌∷◌}
 use Rattle.gabi.specs.SymbolTable.{Sym, is_weak}
 use Rattle.gabi.specs.Resolution as Gabi
-use Rattle.gabi.specs.Resolution.{Resolution, defined, duplicate, unresolved, zero_value, is_global_reference}
+use Rattle.gabi.specs.Resolution.{Resolution, defined, common, duplicate, unresolved, zero_value, is_global_reference}
 use Rattle.symbol.specs.declared.Row.{Row}
-use Rattle.symbol_laws.specs.Rank.{defines, strong_reference, weak_reference, first_by_rank}
+use Rattle.symbol_laws.specs.Rank as Rank
+use Rattle.symbol_laws.specs.Rank.{defines, strong_reference, weak_reference, joined_in}
 use Rattle.symbol_laws.specs.Standing.{hidden_by}
-use Rattle.symbol_laws.specs.Gabi.{Zeroes, AllMean}
+use Rattle.symbol_laws.specs.Gabi.{Zeroes}
 
 -- ---- agreement
 
@@ -24,11 +25,8 @@ Unresolved true c cs s ss row =
 -- what the gABI says of the symbols s and ss, and what the row is in that profile
 abbrev pub Agrees : Bool → Row → List Row → Sym → List Sym → Row → Resolution → Type 0
 Agrees gabi c cs s ss row (defined k) = (row ≡ hidden_by gabi (c ∷ cs) (get_or (c ∷ cs) k c)) × (defines row ≡ true)
+-- "the commons joined"
+Agrees gabi c cs s ss row (common k) = (row ≡ hidden_by gabi (c ∷ cs) (joined_in (c ∷ cs) (get_or (c ∷ cs) k c))) × (Rank.common row ≡ true)
 Agrees gabi c cs s ss row duplicate = ⊥
 Agrees gabi c cs s ss row unresolved = Unresolved gabi c cs s ss row
 Agrees gabi c cs s ss row zero_value = (row ≡ hidden_by gabi (c ∷ cs) c) × (weak_reference row ≡ true) × (Zeroes c s → row.value.a ≡ 1)
-
-module _ (gabi : Bool) (c : Row) (cs : List Row) (s : Sym) (ss : List Sym) (m : AllMean (c ∷ cs) (s ∷ ss)) where
-  -- the row: its content, hidden by the others
-  abbrev pub row : Row
-  row = hidden_by gabi (c ∷ cs) (first_by_rank gabi c cs)

@@ -1,8 +1,8 @@
 -- What a symbol's entry says of the row that it becomes, in document 01's words: type, weak and hidden, value. Words for statements, and what accepted rows
 -- have of them.
 -- Assumes nothing.
-use Rattle.std.specs.Prelude.{ℕ, suc, ◌-◌, ◌^◌, ◌<◌, ◌≤◌, ◌≡◌, Bool, true, false, not, ℤ, pos, negsuc, eqb}
-use Rattle.gabi.specs.SymbolTable.{Sym, stb_global, stb_weak, stt_notype, stt_object, stt_func, stt_section, stt_file, stv_default, stv_hidden}
+use Rattle.std.specs.Prelude.{ℕ, suc, ◌-◌, ◌^◌, ◌<◌, ◌≤◌, ◌≡◌, Bool, true, false, cond, not, ℤ, pos, negsuc, eqb}
+use Rattle.gabi.specs.SymbolTable.{Sym, stb_global, stb_weak, stt_notype, stt_object, stt_func, stt_section, stt_file, stv_default, stv_hidden, shn_abs, shn_common}
 use Rattle.symbol.specs.declared.SymbolType.{SymbolType}
 use Rattle.symbol.specs.declared.SymbolType.TheVariants as Ty
 use Rattle.symbol.specs.declared.SymbolVisibility.{SymbolVisibility}
@@ -27,10 +27,17 @@ pub data IsOffset (v : ℕ) : ℤ → Type 0 where
 abbrev pub shows : Sym → SymbolVisibility
 shows e = Global (eqb e.binding stb_weak) (eqb e.visibility stv_hidden)
 
--- an entry of a shared object, by the profile: "Adds from shared objects hide no row", so in gABI's its visibility counts as the default
+-- an entry of a shared object. Each becomes external, so that a common one counts as any other definition. By the profile: "Adds from shared objects hide no
+-- row", so in gABI's its visibility counts as the default
 abbrev pub shared_entry : Bool → Sym → Sym
-shared_entry false e = e
-shared_entry true e = record { binding = e.binding; type = e.type; visibility = stv_default; section = e.section; value = e.value }
+shared_entry gabi e =
+    record {
+      binding = e.binding;
+      type = e.type;
+      visibility = cond gabi stv_default e.visibility;
+      section = cond (eqb e.section shn_common) shn_abs e.section;
+      value = e.value;
+    }
 
 -- "visibility: 0 and 2 pass", and of an add that isn't local the binding is 1 or 2
 pub record Admitted (e : Sym) : Type 0 where

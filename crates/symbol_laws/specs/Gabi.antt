@@ -3,16 +3,17 @@
 use Rattle.std.specs.Prelude.{◌≡◌, true, not, eqb}
 use Rattle.std.proofs.Math.Bool.{cond}
 use mathlib.Core.List.{List, [], ◌∷◌}
-use Rattle.gabi.specs.SymbolTable.{Sym, stb_global, stb_weak, shn_undef, shn_abs, is_global, is_weak, is_reference}
+use Rattle.gabi.specs.SymbolTable.{Sym, stb_global, stb_weak, shn_undef, shn_abs, shn_common, is_global, is_weak, is_reference, is_common}
 use Rattle.symbol.specs.declared.Row.{Row}
 use Rattle.upcoming_symbol.specs.declared.ElfSymbol.{ElfSymbol}
-use Rattle.symbol_laws.specs.Rank.{weak}
+use Rattle.symbol_laws.specs.Rank.{weak, common}
 use Rattle.symbol_laws.specs.Hidden.{is_hidden, attribute}
 
 -- ---- a row and the symbol that it stands for
 
 pub record Means (r : Row) (s : Sym) : Type 0 where
   pub refers : eqb r.value.kind 7 ≡ is_reference s
+  pub commonly : common r ≡ is_common s
   pub weakly : weak r ≡ is_weak s
   pub bound : is_global s ≡ not (is_weak s)
 
@@ -27,15 +28,15 @@ AllMean [] (s ∷ ss) = ⊥
 AllMean (r ∷ rs) [] = ⊥
 AllMean (r ∷ rs) (s ∷ ss) = Means r s × AllMean rs ss
 
--- the symbol that a row stands for: its binding, its visibility, its type, and whether it is undefined. The gABI asks for no more: a definition is given as
--- absolute, of value 0
+-- the symbol that a row stands for: its binding, its visibility, its type, and whether it is undefined or common. The gABI asks for no more: another
+-- definition is given as absolute, of value 0
 abbrev pub sym_of_row : Row → Sym
 sym_of_row r =
     record {
       binding = cond (weak r) stb_weak stb_global;
       type = r.kind;
       visibility = attribute (is_hidden r);
-      section = cond (eqb r.value.kind 7) shn_undef shn_abs;
+      section = cond (eqb r.value.kind 7) shn_undef (cond (common r) shn_common shn_abs);
       value = 0;
     }
 

@@ -101,6 +101,10 @@ module _ (table : List ℕ) (i : ℕ) where
   abbrev pub entry_name : ℕ
   entry_name = cell table i 0
 
+  -- 2026-06: "Every symbol row gains a size"
+  abbrev pub entry_size : ℕ
+  entry_size = cell table i 6
+
   -- gABI's numbers
   abbrev pub entry : Sym
   entry = record { binding = cell table i 1; type = cell table i 2; visibility = cell table i 3; section = cell table i 4; value = cell table i 5 }

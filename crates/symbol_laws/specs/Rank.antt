@@ -1,6 +1,6 @@
--- The first row of the greatest rank, for any rank, and the documents' wording of it in each profile.
+-- The first row of the greatest rank, for any rank, the documents' wording of it in each profile, and the commons of a name joined.
 -- Assumes nothing.
-use Rattle.std.specs.Prelude.{ℕ, suc, ◌<◌, ◌≤◌, ◌≡◌, Bool, cond, not, ◌&&◌, List, [], ◌∷◌, ◌++◌, eqb, ltb}
+use Rattle.std.specs.Prelude.{ℕ, suc, ◌<◌, ◌≤◌, ◌≡◌, Bool, cond, not, ◌&&◌, List, [], ◌∷◌, ◌++◌, eqb, ltb, max}
 use Rattle.std.proofs.Math.Bool.{true, false}
 use Rattle.symbol.specs.declared.Row.{Row}
 use Rattle.symbol_resolution.specs.Decide.{weak_of, rank_of}
@@ -46,11 +46,19 @@ defines r = not (eqb r.value.kind 7)
 abbrev pub weak : Row → Bool
 weak r = weak_of r.visibility
 
+-- 2026-06: a common, whose binding doesn't count
+abbrev pub common : Row → Bool
+common r = eqb r.value.kind 8
+
+-- a definition "that is no common"
+abbrev pub plain : Row → Bool
+plain r = defines r && not (common r)
+
 abbrev pub strong_definition : Row → Bool
-strong_definition r = defines r && not (weak r)
+strong_definition r = plain r && not (weak r)
 
 abbrev pub weak_definition : Row → Bool
-weak_definition r = defines r && weak r
+weak_definition r = plain r && weak r
 
 abbrev pub strong_reference : Row → Bool
 strong_reference r = not (defines r) && not (weak r)
@@ -63,6 +71,36 @@ abbrev pub reference_of : Bool → Row → List Row → Row
 reference_of false c xs = c
 reference_of true c xs = first strong_reference (c ∷ xs) c
 
--- "its first accepted strong definition, else weak definition, else add"
+-- "its first accepted strong definition, else weak definition, else add"; 2026-06: "the first strong definition that is no common, else the commons
+-- joined, else as before"
 abbrev pub first_by_rank : Bool → Row → List Row → Row
-first_by_rank gabi c xs = first strong_definition (c ∷ xs) (first weak_definition (c ∷ xs) (reference_of gabi c xs))
+first_by_rank gabi c xs = first strong_definition (c ∷ xs) (first common (c ∷ xs) (first weak_definition (c ∷ xs) (reference_of gabi c xs)))
+
+-- ---- "the commons joined": "the first common's other content, the larger size and the larger alignment"
+
+-- the largest number that a common of the list has, 0 where it has no common
+abbrev pub largest : (Row → ℕ) → List Row → ℕ
+largest f [] = 0
+largest f (x ∷ xs) = cond (common x) (max (f x) (largest f xs)) (largest f xs)
+
+abbrev pub size : Row → ℕ
+size r = r.size
+
+-- "a common's value field, as in gABI"
+abbrev pub alignment : Row → ℕ
+alignment r = r.value.a
+
+abbrev pub sized : Row → ℕ → ℕ → Row
+sized r s a =
+    record {
+      name = r.name;
+      kind = r.kind;
+      file = r.file;
+      visibility = r.visibility;
+      value = record { kind = r.value.kind; a = a; b = r.value.b };
+      size = s;
+    }
+
+-- r, which holds the name of the rows l: a common has the largest size and alignment of them, any other its own
+abbrev pub joined_in : List Row → Row → Row
+joined_in l r = cond (common r) (sized r (largest size l) (largest alignment l)) r

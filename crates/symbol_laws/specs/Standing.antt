@@ -1,4 +1,4 @@
--- Hidden and the rest of a row: what passes from row to row in the gABI profile is hidden alone, and it is never lost.
+-- Hidden and the rest of a row: hidden passes from row to row in the gABI profile, and is never lost; commons are joined.
 -- Assumes nothing.
 use Rattle.std.specs.Prelude.{◌≡◌, Bool, cond, List, ◌∷◌, ltb}
 use Rattle.std.proofs.Math.Bool.{true, false}
@@ -6,7 +6,8 @@ use Rattle.symbol.specs.declared.Row.{Row}
 use Rattle.symbol.specs.declared.SymbolVisibility.{SymbolVisibility}
 use Rattle.symbol.specs.declared.SymbolVisibility.TheVariants.{Local, Global}
 use Rattle.symbol.specs.Hidden.{hide_if, pass_hidden}
-use Rattle.symbol_laws.specs.Rank.{ranked, best, weak}
+use Rattle.symbol_resolution.specs.Apply.{joined}
+use Rattle.symbol_laws.specs.Rank.{ranked, best, weak, joined_in}
 use Rattle.symbol_laws.specs.Hidden.{some_hidden}
 
 -- all but the hidden half of the visibility
@@ -16,6 +17,7 @@ pub record SameButHidden (r q : Row) : Type 0 where
   pub file : r.file ≡ q.file
   pub weakness : weak r ≡ weak q
   pub value : r.value ≡ q.value
+  pub size : r.size ≡ q.size
 
 -- ---- of a list of adds
 
@@ -26,13 +28,13 @@ hidden_by true l r = hide_if (some_hidden l) r
 
 -- ---- what stands after an accepted add
 
--- of row c and add x the one of the greater rank, hidden passed to it from the other
+-- of row c and add x the one of the greater rank, hidden passed to it from the other; of two commons the first, joined with the other
 abbrev pub standing : Bool → Row → Row → Row
-standing gabi c x = cond (ltb (ranked gabi c) (ranked gabi x)) (pass_hidden gabi c.visibility x) (pass_hidden gabi x.visibility c)
+standing gabi c x = cond (ltb (ranked gabi c) (ranked gabi x)) (pass_hidden gabi c.visibility x) (pass_hidden gabi x.visibility (joined c x))
 
 -- and after all accepted adds of a name, c and then xs
 abbrev pub row_after : Bool → Row → List Row → Row
-row_after gabi c xs = hidden_by gabi (c ∷ xs) (best (ranked gabi) c xs)
+row_after gabi c xs = hidden_by gabi (c ∷ xs) (joined_in (c ∷ xs) (best (ranked gabi) c xs))
 
 abbrev pub unhidden : SymbolVisibility → SymbolVisibility
 unhidden Local = Local

@@ -1,12 +1,12 @@
 -- What a decision writes: the row, the name's global symbol, the section's symbol.
 -- Assumes nothing.
-use Rattle.std.specs.Prelude.{ℕ, ◌+◌, ◌*◌, Bool, cond, List, eqb, set, length}
+use Rattle.std.specs.Prelude.{ℕ, ◌+◌, ◌*◌, Bool, cond, List, eqb, set, length, max}
 use Rattle.link.specs.declared.Link.{Link}
 use Rattle.link.specs.declared.SymbolId.{SymbolId}
 use Rattle.link.specs.Counts.{with_symbols}
 use Rattle.symbol.specs.declared.Row.{Row}
-use Rattle.symbol.specs.Codes.{successor}
-use Rattle.symbol.specs.Row.{visibility_code_at, row_at, set_row}
+use Rattle.symbol.specs.Codes.{successor, words_are}
+use Rattle.symbol.specs.Row.{visibility_code_at, row_at, set_row, is_common}
 use Rattle.symbol.specs.Hidden.{pass_hidden}
 use Rattle.symbol.specs.Layout.{local, section_kind, symbol_cell}
 use Rattle.symbol_resolution.specs.Decision.{Decision, Refuse, Nothing, Keep, Append, Replace, Amend}
@@ -43,9 +43,24 @@ append_of t r =
 unfoldable pub replaced_in : Bool → List ℕ → Row → SymbolId → List ℕ
 replaced_in gabi symbols r id = set_row symbols id (pass_hidden gabi (visibility_code_at symbols id.0) r)
 
--- the row as it is, hidden too if the add is and hidden passes
+-- "Two commons under a name keep the row's id, the first common's other content, the larger size and the larger alignment"
+abbrev pub with_larger : Row → Row → Row
+with_larger r add =
+    record {
+      name = r.name;
+      kind = r.kind;
+      file = r.file;
+      visibility = r.visibility;
+      value = words_are r.value.kind (max r.value.a add.value.a) r.value.b;
+      size = max r.size add.size;
+    }
+
+unfoldable pub joined : Row → Row → Row
+joined r add = cond (is_common r) (cond (is_common add) (with_larger r add) r) r
+
+-- the row as it is, joined with the add if both are common; hidden too if the add is and hidden passes
 unfoldable pub amended_in : Bool → List ℕ → Row → SymbolId → List ℕ
-amended_in gabi symbols r id = set_row symbols id (pass_hidden gabi r.visibility (row_at symbols id.0))
+amended_in gabi symbols r id = set_row symbols id (pass_hidden gabi r.visibility (joined (row_at symbols id.0) r))
 
 abbrev pub applied : Table → Row → Decision → Table
 applied t r (Refuse n) = t

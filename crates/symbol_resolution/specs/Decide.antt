@@ -1,6 +1,6 @@
 -- The decision on a row under a name of which it is told who holds it. Document 01, "Symbols": "Add checks in this order".
 -- Assumes nothing.
-use Rattle.std.specs.Prelude.{ℕ, ◌+◌, ◌*◌, Bool, true, false, cond, List, eqb, ltb, leb, length, Result, Ok, Err}
+use Rattle.std.specs.Prelude.{ℕ, ◌+◌, ◌*◌, Bool, true, false, cond, ◌&&◌, List, eqb, ltb, leb, length, Result, Ok, Err}
 use Rattle.gabi.specs.SymbolTable.{stt_file}
 use Rattle.link.specs.declared.Link.{Link}
 use Rattle.link.specs.declared.cause.Cause.{Cause}
@@ -9,7 +9,7 @@ use Rattle.link.specs.declared.SymbolId.{SymbolId}
 use Rattle.link.specs.Bounds.{symbol_rows, section_slots}
 use Rattle.symbol.specs.declared.Row.{Row}
 use Rattle.symbol.specs.Row.{visibility_code_at, kind_at, scope_refused, scope_refusal, value_refused, value_refusal}
-use Rattle.symbol.specs.Layout.{local, weak, weak_hidden, section_kind, undefined_kind}
+use Rattle.symbol.specs.Layout.{local, weak, weak_hidden, section_kind, undefined_kind, common_kind}
 use Rattle.symbol.specs.Hidden.{hidden_code, passes}
 use Rattle.symbol_resolution.specs.declared.rows.Holder.{Holder}
 use Rattle.symbol_resolution.specs.declared.rows.Holder.TheVariants.{Unissued, Nobody, Removed, Known}
@@ -43,9 +43,13 @@ weak_of v = cond (eqb v weak) true (cond (eqb v weak_hidden) true false)
 unfoldable pub reference_rank : Bool → ℕ → ℕ
 reference_rank gabi visibility = cond gabi (cond (weak_of visibility) 0 1) 0
 
--- "A definition is any value but `Undefined`": a reference, then a weak definition, a strong one
+-- "A definition is any value but `Undefined`": a reference, then a weak definition, a common (2026-06: "a third rank: above undefined, below any
+-- global definition that is no common", whatever its binding), a strong definition
 abbrev pub weak_rank : ℕ
 weak_rank = 2
+
+abbrev pub common_rank : ℕ
+common_rank = 3
 
 abbrev pub strong_rank : ℕ
 strong_rank = 4
@@ -54,10 +58,13 @@ abbrev pub rank_number : Rank → ℕ
 rank_number By.Reference = 0
 rank_number By.StrongReference = 1
 rank_number By.WeakDefinition = weak_rank
+rank_number By.Common = common_rank
 rank_number By.StrongDefinition = strong_rank
 
 unfoldable pub rank_of : Bool → ℕ → ℕ → ℕ
-rank_of gabi visibility value = cond (eqb value undefined_kind) (reference_rank gabi visibility) (cond (weak_of visibility) weak_rank strong_rank)
+rank_of gabi visibility value =
+    cond (eqb value undefined_kind) (reference_rank gabi visibility)
+    (cond (eqb value common_kind) common_rank (cond (weak_of visibility) weak_rank strong_rank))
 
 -- "type 4 in add" (15), above (16)
 unfoldable pub type_refusal : ℕ → ℕ
@@ -76,7 +83,7 @@ section_room l sections r =
 unfoldable pub room_of : Link → List ℕ → List ℕ → Row → Bool
 room_of l symbols sections r = cond (leb (symbol_rows (length symbols)) l.symbols) false (section_room l sections r)
 
--- "a local or a new name: type (15, 16), then a free row (2)", after the value (13, 14)
+-- "a local or a new name: type (15, 16), then a free row (2)", after the value (13, 14, 28)
 unfoldable pub new_of : Link → List ℕ → List ℕ → Row → Decision
 new_of l symbols sections r =
     cond (value_refused r) (Refuse (value_refusal r))
@@ -90,11 +97,19 @@ replace_of r id = cond (eqb (type_refusal r.kind) 0) (Replace id) (Refuse (type_
 unfoldable pub kept_of : Bool → ℕ → ℕ → SymbolId → Decision
 kept_of gabi old new id = cond (passes gabi new) (cond (hidden_code old) (Keep id) (Amend id)) (Keep id)
 
+-- 2026-06: two commons are joined in the row that stays
+abbrev pub joins : ℕ → ℕ → Bool
+joins old new = eqb old common_rank && eqb new common_rank
+
+unfoldable pub stays_of : Bool → ℕ → ℕ → ℕ → Row → SymbolId → Decision
+stays_of gabi v old new r id = cond (joins old new) (Amend id) (kept_of gabi v r.visibility id)
+
 -- a row of visibility v and rank old yields to a greater rank; two strong definitions are 17; else the row stays
 unfoldable pub ranked_of : Bool → ℕ → ℕ → ℕ → Row → SymbolId → Decision
-ranked_of gabi v old new r id = cond (ltb old new) (replace_of r id) (cond (eqb new strong_rank) (Refuse 17) (kept_of gabi v r.visibility id))
+ranked_of gabi v old new r id =
+    cond (ltb old new) (replace_of r id) (cond (eqb new strong_rank) (Refuse 17) (stays_of gabi v old new r id))
 
--- a known name, after the value (13, 14)
+-- a known name, after the value (13, 14, 28)
 unfoldable pub known_of : Bool → List ℕ → Row → SymbolId → Decision
 known_of gabi symbols r id =
     cond (value_refused r) (Refuse (value_refusal r))

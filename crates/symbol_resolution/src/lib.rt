@@ -2,7 +2,7 @@
 #![tactic(auto)]
 
 ghost use Rattle.std.specs.Prelude.{◌≡◌, ◌≢◌, IfErr};
-ghost use Rattle.symbol_resolution.specs.Decide.{cause_number, rank_number, decision_of, weak_of, rank_of, type_refusal, room_of, new_of, kept_of, known_of, global_of, local_of, decide_of};
+ghost use Rattle.symbol_resolution.specs.Decide.{cause_number, rank_number, decision_of, weak_of, rank_of, type_refusal, room_of, new_of, kept_of, stays_of, known_of, global_of, local_of, decide_of};
 
 mod rows;
 mod write;
@@ -21,12 +21,13 @@ fn is_weak(visibility: u64) -> bool
     SymbolVisibility::from(visibility).is_weak()
 }
 
-// A row yields to an add of a greater rank. In the gABI profile a strong reference stands above a weak one.
+// A row yields to an add of a greater rank. In the gABI profile a strong reference stands above a weak one. A common's binding doesn't count.
 #[derive(Clone, Copy, Debug, PartialEq, Eq, PartialOrd, Ord)]
 enum Rank {
     Reference,
     StrongReference,
     WeakDefinition,
+    Common,
     StrongDefinition,
 }
 
@@ -35,11 +36,12 @@ impl Rank {
     fn of(gabi: bool, visibility: u64, value: u64) -> Rank
         ensures { rank_number result ≡ rank_of gabi visibility value }
     {
-        match (value == symbol::KIND_UNDEFINED, is_weak(visibility)) {
-            (true, false) if gabi => Rank::StrongReference,
-            (true, _) => Rank::Reference,
-            (false, true) => Rank::WeakDefinition,
-            (false, false) => Rank::StrongDefinition,
+        match (value, is_weak(visibility)) {
+            (symbol::KIND_UNDEFINED, false) if gabi => Rank::StrongReference,
+            (symbol::KIND_UNDEFINED, _) => Rank::Reference,
+            (symbol::KIND_COMMON, _) => Rank::Common,
+            (_, true) => Rank::WeakDefinition,
+            (_, false) => Rank::StrongDefinition,
         }
     }
 }
@@ -100,6 +102,18 @@ fn keep(gabi: bool, old: u64, new: u64, id: SymbolId) -> Resolution
     }
 }
 
+// A row that stays under an add of that rank: two commons are joined.
+#[tactic(auto, unfolding(crate::specs::Decide::stays_of))]
+fn stay(gabi: bool, scope: u64, old: Rank, new: Rank, row: Row, id: SymbolId) -> Resolution
+    ensures { decision_of (Ok result) ≡ stays_of gabi scope (rank_number old) (rank_number new) row id }
+{
+    if old == Rank::Common && new == Rank::Common {
+        Resolution::Amend { id }
+    } else {
+        keep(gabi, scope, row.visibility, id)
+    }
+}
+
 // A known name: value, then by rank.
 // Kept: a number, as `resolve` tells it.
 #[tactic(auto, unfolding(crate::specs::Decide::known_of, crate::specs::Decide::ranked_of, crate::specs::Decide::replace_of))]
@@ -111,7 +125,7 @@ fn decide_known(gabi: bool, symbols: &[u64], row: Row, id: SymbolId) -> Result<R
         return Err(row.value.kind);
     }
     let new = Rank::of(gabi, row.visibility, row.value.kind);
-    let scope = cells::row_get(symbols, id.0, symbol::CELL_SCOPE);
+    let scope = symbol::scope_at(symbols, id);
     let old = Rank::of(
         gabi,
         scope,
@@ -124,7 +138,7 @@ fn decide_known(gabi: bool, symbols: &[u64], row: Row, id: SymbolId) -> Result<R
     if new == Rank::StrongDefinition {
         return Err(Cause::DuplicateStrong.into());
     }
-    Ok(keep(gabi, scope, row.visibility, id))
+    Ok(stay(gabi, scope, old, new, row, id))
 }
 
 // Kept: a number and these parameters, as `resolve`, which hands them on.

@@ -16,7 +16,7 @@ pub enum Holder {
 }
 
 // What an accepted add does to the table. Nothing: the symbol gets no id, and nothing is written. Keep writes nothing; Amend passes hidden to the
-// row that stays.
+// row that stays, and joins two commons.
 #[derive(Clone, Copy)]
 pub enum Resolution {
     Nothing,
@@ -65,7 +65,7 @@ pub fn is_strong_undefined(symbols: &[u64], id: SymbolId) -> bool
     ensures { result ≡ strong_undefined symbols.now id }
 {
     let kind = cells::row_get(symbols, id.0, symbol::CELL_KIND);
-    let scope = cells::row_get(symbols, id.0, symbol::CELL_SCOPE);
+    let scope = symbol::scope_at(symbols, id);
     kind == symbol::KIND_UNDEFINED && matches!(scope, symbol::GLOBAL | symbol::GLOBAL_HIDDEN)
 }
 

@@ -1,12 +1,12 @@
 // What an accepted add writes.
 ghost use Rattle.std.specs.Prelude.{◌≡◌, Ok};
-ghost use Rattle.symbol_resolution.specs.Apply.{note_name, note_section, append_of, replaced_in, amended_in, applied};
+ghost use Rattle.symbol_resolution.specs.Apply.{note_name, note_section, append_of, replaced_in, joined, amended_in, applied};
 ghost use Rattle.symbol_resolution.specs.Decide.{decision_of};
 ghost use Rattle.symbol_resolution.specs.Lent.{same_loans, table_in};
 
 use crate::rows::Resolution;
 use link::{Link, SectionId, SymbolId};
-use symbol::Row;
+use symbol::{Row, Words};
 
 // The lent cells that an add may write, and the counts.
 // Kept: that the loans stay is said by each call (`same_loans`), since no field's type says which memory it lends.
@@ -43,17 +43,32 @@ fn note_section(l: Link, sections: &mut [u64], row: Row, id: usize)
 fn replace(gabi: bool, symbols: &mut [u64], row: Row, id: SymbolId)
     ensures { symbols.new ≡ replaced_in gabi symbols.old row id }
 {
-    let old = cells::row_get(symbols, id.0, symbol::CELL_SCOPE);
+    let old = symbol::scope_at(symbols, id);
     row.pass_hidden(gabi, old).store(symbols, id);
 }
 
-// The row stays, and takes hidden from the add.
+// Of two commons the first, with the larger size and the larger alignment.
+#[tactic(auto, unfolding(crate::specs::Apply::joined))]
+fn join(row: Row, add: Row) -> Row
+    ensures { result ≡ joined row add }
+{
+    if !row.is_common() || !add.is_common() {
+        return row;
+    }
+    Row {
+        value: Words::new(row.value.kind, row.value.a.max(add.value.a), row.value.b),
+        size: row.size.max(add.size),
+        ..row
+    }
+}
+
+// The row stays, joined with the add if both are common, and takes hidden from the add.
 #[tactic(auto, unfolding(crate::specs::Apply::amended_in))]
 fn amend(gabi: bool, symbols: &mut [u64], row: Row, id: SymbolId)
     ensures { symbols.new ≡ amended_in gabi symbols.old row id }
 {
-    let old = Row::at(symbols, id);
-    old.pass_hidden(gabi, row.visibility).store(symbols, id);
+    let joined = join(Row::at(symbols, id), row);
+    joined.pass_hidden(gabi, row.visibility).store(symbols, id);
 }
 
 impl Table<'_> {

@@ -18,7 +18,7 @@ use Rattle.link.specs.Counts.{no_rows, with_symbols, with_slots, with_profile}
 use Rattle.symbols.specs.Calls.{said}
 
 abbrev pub null_row : Row
-null_row = record { name = record { 0 = 0 }; kind = stt_notype; file = 0; visibility = local; value = words_are null_kind 0 0 }
+null_row = record { name = record { 0 = 0 }; kind = stt_notype; file = 0; visibility = local; value = words_are null_kind 0 0; size = 0 }
 
 -- every lent cell, the counts and the answer
 pub record NewLeft : Type 0 where

@@ -2,7 +2,7 @@
 ghost use Rattle.std.specs.Prelude.{◌≡◌, cond};
 ghost use Rattle.symbol.specs.Codes.{words_of};
 ghost use Rattle.upcoming_symbol.specs.Judge.{scope_of, shown_of, hidden_of, judge_of};
-ghost use Rattle.upcoming_symbol.specs.Upcoming.{words_or, in_section, converted_of, value_of, elf_row_of, library_code, external_row_of, local_row, global_row};
+ghost use Rattle.upcoming_symbol.specs.Upcoming.{words_or, in_section, converted_of, common_of, common_by_binding, value_of, elf_row_of, library_code, external_row_of, local_row, global_row, given_words};
 
 use crate::{Conversion, ElfSymbol};
 use link::{Cause, Interned};
@@ -69,6 +69,29 @@ fn converted(c: Conversion, empty: bool, value: u64) -> Result<Words, Cause>
     }
 }
 
+// The alignment of a common is a power of two.
+#[tactic(auto, unfolding(crate::specs::Upcoming::common_of))]
+fn common(alignment: u64) -> Result<Words, Cause>
+    ensures { words_or result ≡ common_of alignment }
+{
+    if alignment.is_power_of_two() {
+        Ok(Words::from(SymbolValue::Common { alignment }))
+    } else {
+        Err(Cause::CommonAlignment)
+    }
+}
+
+#[tactic(auto, unfolding(crate::specs::Upcoming::common_by_binding))]
+fn common_by_binding(binding: u64, alignment: u64) -> Result<Words, Cause>
+    ensures { words_or result ≡ common_by_binding binding alignment }
+{
+    if binding == crate::STB_LOCAL {
+        Err(Cause::Common)
+    } else {
+        common(alignment)
+    }
+}
+
 #[tactic(auto, unfolding(crate::specs::Upcoming::value_of, crate::specs::Upcoming::undefined_of))]
 fn value_of(c: Conversion, e: ElfSymbol, empty: bool) -> Result<Words, Cause>
     ensures { words_or result ≡ value_of c e empty }
@@ -78,7 +101,7 @@ fn value_of(c: Conversion, e: ElfSymbol, empty: bool) -> Result<Words, Cause>
             zero: e.binding == crate::STB_WEAK,
         })),
         crate::SHN_ABS => Ok(Words::from(SymbolValue::Absolute { value: e.value })),
-        crate::SHN_COMMON => Err(Cause::Common),
+        crate::SHN_COMMON => common_by_binding(e.binding, e.value),
         _ => converted(c, empty, e.value),
     }
 }
@@ -105,6 +128,7 @@ pub fn elf_row(c: Conversion, e: ElfSymbol, name: Interned, empty: bool, file: u
         file,
         visibility: scope(judge(e.binding, e.visibility)),
         value: words(value_of(c, e, empty)),
+        size: e.size,
     }
 }
 
@@ -131,6 +155,7 @@ pub fn external_row(gabi: bool, name: Interned, binding: u64, visibility: u64) -
         file: 0,
         visibility: library_code(gabi, scope(judge(binding, visibility))),
         value: SymbolValue::ExternallyDefined.into(),
+        size: 0,
     }
 }
 
@@ -144,12 +169,24 @@ pub(super) fn local(kind: u64, value: SymbolValue) -> Row
         file: 0,
         visibility: symbol::LOCAL,
         value: value.into(),
+        size: 0,
+    }
+}
+
+// A value that a caller hands in.
+#[tactic(auto, unfolding(crate::specs::Upcoming::given_words))]
+pub(super) fn given_words(value: SymbolValue) -> Words
+    ensures { result ≡ given_words value }
+{
+    match value {
+        SymbolValue::Common { alignment } => words(common(alignment)),
+        _ => value.into(),
     }
 }
 
 // Of a strong global without a type.
-pub(super) fn global(name: Interned, hidden: bool, value: SymbolValue) -> Row
-    ensures { result ≡ global_row name hidden (words_of value) }
+pub(super) fn global(name: Interned, hidden: bool, value: Words) -> Row
+    ensures { result ≡ global_row name hidden value }
 {
     Row {
         name,
@@ -160,6 +197,7 @@ pub(super) fn global(name: Interned, hidden: bool, value: SymbolValue) -> Row
             hidden,
         }
         .into(),
-        value: value.into(),
+        value,
+        size: 0,
     }
 }

@@ -5,6 +5,7 @@ use Rattle.link.specs.declared.cause.Refusal.{Refusal}
 use Rattle.std.specs.Prelude.{ℕ, zero, suc, ◌+◌, ◌*◌, ◌-◌, ◌^◌, ◌≡◌, Bool, true, false, List, [], ◌∷◌, ℤ, pos, negsuc, length, replicate, Result, None, Ok}
 use Rattle.link.specs.Said.{Said, accepted, refusing}
 use Rattle.link.specs.Judge as Judge
+use Rattle.gabi.specs.SymbolTable.{shn_common}
 use Rattle.symbol.specs.declared.Symbol.{Symbol}
 use Rattle.symbol.specs.declared.SymbolType.{SymbolType}
 use Rattle.symbol.specs.declared.SymbolType.TheVariants as Ty
@@ -50,7 +51,11 @@ gabi = true
 
 -- name, binding, visibility, type, section, value
 abbrev pub line : ℕ → ℕ → ℕ → ℕ → ℕ → ℕ → UpcomingSymbol
-line n b v k s x = Elf (record { binding = b; visibility = v; kind = k; section = s; value = x }) (record { 0 = n }) None
+line n b v k s x = Elf (record { binding = b; visibility = v; kind = k; section = s; value = x; size = 0 }) (record { 0 = n }) None
+
+-- a common: name, binding, visibility, type, alignment, size
+abbrev pub common : ℕ → ℕ → ℕ → ℕ → ℕ → ℕ → UpcomingSymbol
+common n b v k alignment size = Elf (record { binding = b; visibility = v; kind = k; section = shn_common; value = alignment; size = size }) (record { 0 = n }) None
 
 -- what a shared object defines: name, binding, visibility
 abbrev pub shared : ℕ → ℕ → ℕ → UpcomingSymbol
@@ -108,7 +113,11 @@ Right (collection e) = Collections.Right e
 Right (plain_collection e) = PlainCollections.Right e
 
 abbrev pub symbol : ℕ → ℕ → SymbolType → SymbolVisibility → SymbolValue → Symbol
-symbol i n k w v = record { id = record { 0 = i }; name = record { 0 = n }; kind = k; file = None; visibility = w; value = v }
+symbol i n k w v = record { id = record { 0 = i }; name = record { 0 = n }; kind = k; file = None; visibility = w; value = v; size = 0 }
+
+-- a common of that alignment and size
+abbrev pub common_row : ℕ → ℕ → SymbolType → SymbolVisibility → ℕ → ℕ → Symbol
+common_row i n k w alignment size = record { id = record { 0 = i }; name = record { 0 = n }; kind = k; file = None; visibility = w; value = Val.Common alignment; size = size }
 
 abbrev pub null : Symbol
 null = symbol 0 0 Ty.NoType Local Val.Null
@@ -132,7 +141,7 @@ abbrev pub cases : List Case
 cases =
     -- P1: the sheet's rows 1 and 2
     both 4 (line 1 2 0 2 1 16 ∷ line 1 1 0 2 2 0 ∷ []) (accepted 1 ∷ accepted 1 ∷ []) (null ∷ symbol 1 1 Ty.Function strong (relative 2 0) ∷ [])
-    -- P2: strong then weak, not hidden: unchanged
+    -- P2: strong then weak, not hidden, no two commons: unchanged
     ∷ both 4 (line 1 1 0 2 2 0 ∷ line 1 2 0 2 1 16 ∷ []) (accepted 1 ∷ accepted 1 ∷ []) (null ∷ symbol 1 1 Ty.Function strong (relative 2 0) ∷ [])
     -- P3: the offset of 2^63 is -2^63
     ∷ offset (2 ^ 63) (negsuc (2 ^ 63 - 1))
@@ -201,6 +210,30 @@ cases =
     ∷ adds gabi 4 (line 1 1 2 0 0 0 ∷ shared 1 1 0 ∷ []) (accepted 1 ∷ accepted 1 ∷ []) (null ∷ symbol 1 1 Ty.NoType hidden Val.ExternallyDefined ∷ [])
     -- a refused add hides nothing
     ∷ both 4 (line 1 1 0 2 1 0 ∷ line 1 1 2 2 2 0 ∷ []) (accepted 1 ∷ refused 17 ∷ []) (null ∷ symbol 1 1 Ty.Function strong (relative 1 0) ∷ [])
+    -- 2026-06, commons. Two: "the first common's other content, the larger size and the larger alignment"; the second's type, 9, isn't checked
+    ∷ both 4 (common 1 1 0 1 4 4 ∷ common 1 1 0 9 2 8 ∷ []) (accepted 1 ∷ accepted 1 ∷ []) (null ∷ common_row 1 1 Ty.Object strong 4 8 ∷ [])
+    -- "it displaces a weak one", its type checked
+    ∷ both 4 (line 1 2 0 2 1 0 ∷ common 1 1 0 9 8 4 ∷ common 1 1 0 1 8 4 ∷ []) (accepted 1 ∷ refused 16 ∷ accepted 1 ∷ []) (null ∷ common_row 1 1 Ty.Object strong 8 4 ∷ [])
+    -- "alignment zero or no power of two" 28, under any holder
+    ∷ both 4 (line 1 2 0 2 1 0 ∷ common 1 1 0 1 3 4 ∷ common 1 2 0 1 0 4 ∷ common 2 1 0 1 0 4 ∷ []) (accepted 1 ∷ refused 28 ∷ refused 28 ∷ refused 28 ∷ [])
+    (null ∷ symbol 1 1 Ty.Function weak (relative 1 0) ∷ [])
+    -- "a weak definition doesn't displace it", nor does a reference of any type
+    ∷ both 4 (common 1 1 0 1 4 4 ∷ line 1 2 0 2 1 0 ∷ line 1 1 0 9 0 0 ∷ []) (accepted 1 ∷ accepted 1 ∷ accepted 1 ∷ []) (null ∷ common_row 1 1 Ty.Object strong 4 4 ∷ [])
+    -- a definition that is no common takes its row; under it a common "is accepted unchanged", whatever its type
+    ∷ both 4 (common 1 1 0 1 4 4 ∷ line 1 1 0 2 1 0 ∷ common 1 1 0 9 64 64 ∷ line 1 1 0 2 2 0 ∷ []) (accepted 1 ∷ accepted 1 ∷ accepted 1 ∷ refused 17 ∷ [])
+    (null ∷ symbol 1 1 Ty.Function strong (relative 1 0) ∷ [])
+    -- but 28 comes first
+    ∷ both 4 (line 1 1 0 2 1 0 ∷ common 1 1 0 1 0 4 ∷ []) (accepted 1 ∷ refused 28 ∷ []) (null ∷ symbol 1 1 Ty.Function strong (relative 1 0) ∷ [])
+    -- "global or weak common": one rank, and the row stays weak
+    ∷ both 4 (common 1 2 0 0 1 1 ∷ common 1 1 0 0 2 2 ∷ []) (accepted 1 ∷ accepted 1 ∷ []) (null ∷ common_row 1 1 Ty.NoType weak 2 2 ∷ [])
+    ∷ both 4 (line 1 2 0 2 1 0 ∷ common 1 2 0 1 4 4 ∷ []) (accepted 1 ∷ accepted 1 ∷ []) (null ∷ common_row 1 1 Ty.Object weak 4 4 ∷ [])
+    -- a local one 13, after the binding
+    ∷ both 4 (common 1 0 0 1 4 4 ∷ common 1 3 0 1 4 4 ∷ common 1 1 0 1 16 4 ∷ []) (refused 13 ∷ refused 12 ∷ accepted 1 ∷ []) (null ∷ common_row 1 1 Ty.Object strong 16 4 ∷ [])
+    -- under a shared object's definition
+    ∷ both 4 (shared 1 1 0 ∷ common 1 1 0 1 4 4 ∷ []) (accepted 1 ∷ accepted 1 ∷ []) (null ∷ symbol 1 1 Ty.NoType strong Val.ExternallyDefined ∷ [])
+    -- "Hidden passes as before"
+    ∷ adds old 4 (common 1 1 0 1 4 4 ∷ common 1 1 2 1 8 8 ∷ []) (accepted 1 ∷ accepted 1 ∷ []) (null ∷ common_row 1 1 Ty.Object strong 8 8 ∷ [])
+    ∷ adds gabi 4 (common 1 1 0 1 4 4 ∷ common 1 1 2 1 8 8 ∷ []) (accepted 1 ∷ accepted 1 ∷ []) (null ∷ common_row 1 1 Ty.Object hidden 8 8 ∷ [])
     ∷ []
 
 abbrev pub All : (Case → Type 0) → List Case → Type 0

@@ -35,6 +35,8 @@ pub(crate) enum Direct {
     Section(u64),
     Unknown(String),
     Hidden(String, SymbolValue),
+    /// A hidden common by its alignment, which the Rust doesn't have.
+    HiddenCommon(String, u64),
     External {
         name: String,
         binding: u64,
@@ -54,7 +56,13 @@ impl Direct {
             "null" => Direct::Null,
             "section" => Direct::Section(words.number()?),
             "unknown" => Direct::Unknown(words.name()?),
-            "hidden" => Direct::Hidden(words.name()?, value(words)?),
+            "hidden" => {
+                let name = words.name()?;
+                match words.word()? {
+                    "com" => Direct::HiddenCommon(name, words.number()?),
+                    kind => Direct::Hidden(name, value(kind, words)?),
+                }
+            }
             "external" => Direct::External {
                 name: words.name()?,
                 binding: words.below(16)?,
@@ -66,10 +74,11 @@ impl Direct {
                 let rest = words.rest();
                 let (fields, file) = rest.split_at(rest.len().min(5));
                 let line = format!("0 {}", fields.join(" "));
-                let row = SymbolRow::read(&mut Words::of(&line))?;
+                let mut row = SymbolRow::read(&mut Words::of(&line))?;
                 let file = file.join(" ");
                 let mut file = Words::of(&file);
                 let there = file.optional_name()?;
+                row.size = file.optional_number()?;
                 file.end()?;
                 Direct::Elf { name, row, file: there }
             }
@@ -78,8 +87,8 @@ impl Direct {
     }
 }
 
-fn value(words: &mut Words) -> Result<SymbolValue, Fault> {
-    Ok(match words.word()? {
+fn value(kind: &str, words: &mut Words) -> Result<SymbolValue, Fault> {
+    Ok(match kind {
         "null" => SymbolValue::Null,
         "abs" => SymbolValue::Absolute { value: words.number()?.into() },
         "sec" => SymbolValue::Section { section: SectionId::of(words.number()?) },
@@ -135,6 +144,7 @@ impl Machine {
             Direct::Hidden(name, value) => {
                 UpcomingSymbol::GlobalHidden { name: intern(name), value: *value }
             }
+            Direct::HiddenCommon(..) => unreachable!("Machine::ask refuses it"),
             Direct::External { name, binding, visibility } => UpcomingSymbol::ExternallyDefined {
                 name: intern(name),
                 span,

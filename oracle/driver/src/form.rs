@@ -28,6 +28,11 @@ impl<'a> Words<'a> {
         }
     }
 
+    /// A number that a line may lack: 0 then.
+    pub(crate) fn optional_number(&mut self) -> Result<u64, Fault> {
+        if self.words.clone().next().is_none() { Ok(0) } else { self.number() }
+    }
+
     pub(crate) fn below(&mut self, limit: u64) -> Result<u64, Fault> {
         let number = self.number()?;
         if number < limit { Ok(number) } else { Err(format!("{number} is not below {limit}")) }
@@ -96,6 +101,11 @@ pub(crate) fn optional_name(there: Option<&str>) -> String {
         Some(text) => format!("1 {}", name(text)),
         None => "0 -".into(),
     }
+}
+
+/// A size behind a row's fields; one of 0 isn't told.
+pub(crate) fn size(size: u64) -> String {
+    if size == 0 { String::new() } else { format!(" {size}") }
 }
 
 /// A count and that many words.

@@ -53,7 +53,9 @@ impl Machine {
         match keyword {
             "link" => {
                 if let [profile, ..] = words.rest()[..] {
-                    return Err(format!("the Rust has the old profile alone, not {profile:?}"));
+                    return Err(format!(
+                        "the Rust has the old profile alone, without commons, not {profile:?}"
+                    ));
                 }
                 cuddld_ar::clear_shelf();
                 cuddld_elf::clear_shelf();
@@ -63,6 +65,9 @@ impl Machine {
             }
             "add" => {
                 let add = Direct::read(&mut words)?;
+                if let Direct::HiddenCommon(..) = add {
+                    return Err("the Rust has no commons".into());
+                }
                 answers.push(self.add(&add));
             }
             "remove" => answers.push(self.remove(words.number()?)),

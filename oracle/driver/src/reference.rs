@@ -1,5 +1,5 @@
 //! What this port is compared with: the Rust for links of the old profile, the plain reading of the
-//! documents for those of the gABI profile, which the Rust doesn't have.
+//! documents for those of the gABI profile and those with commons, which the Rust doesn't have.
 use crate::announced::Announced;
 use crate::form::Fault;
 use crate::machine::Machine;
@@ -8,8 +8,8 @@ use crate::model::{Model, Seen};
 pub struct Reference {
     pub(crate) machine: Machine,
     model: Model,
-    /// The link is of the gABI profile.
-    gabi: bool,
+    /// The link is of the gABI profile, or has commons.
+    read: bool,
 }
 
 /// Whether a line begins a link.
@@ -20,20 +20,20 @@ pub fn begins(line: &str) -> bool {
 impl Reference {
     #[allow(clippy::new_without_default)]
     pub fn new() -> Self {
-        Reference { machine: Machine::new(), model: Model::new(), gabi: false }
+        Reference { machine: Machine::new(), model: Model::new(), read: false }
     }
 
     /// The answers to a line, without their `> `.
     pub fn line(&mut self, line: &str) -> Result<Vec<String>, Fault> {
         if begins(line) {
-            self.gabi = line != "link";
+            self.read = line != "link";
         }
         if line.starts_with("conversion") {
             // It outlives the link.
             self.model.line(line)?;
             return self.machine.line(line);
         }
-        if self.gabi { self.model.line(line) } else { self.machine.line(line) }
+        if self.read { self.model.line(line) } else { self.machine.line(line) }
     }
 
     /// What the gABI profile was tried on.
@@ -42,12 +42,12 @@ impl Reference {
     }
 
     pub(crate) fn rows(&self) -> &Announced {
-        if self.gabi { self.model.rows() } else { &self.machine.rows }
+        if self.read { self.model.rows() } else { &self.machine.rows }
     }
 
     /// How many rows of symbols and of sections the link has.
     pub(crate) fn counts(&self) -> (u64, u64) {
-        if self.gabi {
+        if self.read {
             return self.model.counts();
         }
         let object = &self.machine.link.object;

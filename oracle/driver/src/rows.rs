@@ -31,6 +31,8 @@ pub(crate) struct SymbolRow {
     pub(crate) visibility: u64,
     pub(crate) section: u64,
     pub(crate) value: u64,
+    /// Document 02, 2026-06. The Rust has none.
+    pub(crate) size: u64,
 }
 
 #[derive(Debug, Clone, Default)]
@@ -94,6 +96,7 @@ impl SymbolRow {
             visibility: words.below(4)?,
             section: words.number()?,
             value: words.number()?,
+            size: words.optional_number()?,
         };
         if row.section >= 0xff00 && row.section != ABSOLUTE && row.section != COMMON {
             return Err(format!("{} is no section number", row.section));
@@ -102,10 +105,16 @@ impl SymbolRow {
     }
 
     pub(crate) fn line(&self) -> String {
+        let size = form::size(self.size);
         format!(
-            "symbol {} {} {} {} {} {}",
+            "symbol {} {} {} {} {} {}{size}",
             self.name, self.binding, self.kind, self.visibility, self.section, self.value
         )
+    }
+
+    /// A common of binding 1 or 2, which the Rust doesn't have.
+    pub(crate) fn is_common(&self) -> bool {
+        self.section == COMMON && (self.binding == 1 || self.binding == 2)
     }
 
     pub(crate) fn elf(&self, strings: u64) -> ElfSymbol {

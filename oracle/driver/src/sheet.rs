@@ -19,7 +19,7 @@ pub(crate) fn answer(sheet: &str) -> Result<String, Fault> {
         let Ok(&[binding, visibility, kind, section, value]) = fields.as_deref() else {
             return Err(format!("line {}: a name and five numbers expected", line + 1));
         };
-        let row = SymbolRow { name: 0, binding, kind, visibility, section, value };
+        let row = SymbolRow { name: 0, binding, kind, visibility, section, value, size: 0 };
         let name = if *name == "-" { "" } else { name }.to_string();
         let number = if in_range(&row) {
             machine.try_add(&Direct::Elf { name, row, file: None }).err()

@@ -28,6 +28,13 @@ pub struct Domain {
     empty_library: bool,
     /// The library whose rows follow has one.
     bare: bool,
+    /// The Rust has no commons of binding 1 or 2, and no sizes (document 02, 2026-06): it is asked
+    /// for links that have none, the plain reading for all others. The object announced last has one;
+    /// one of the archive's members.
+    asked: bool,
+    in_library: bool,
+    common_object: bool,
+    common_member: bool,
 }
 
 impl Domain {
@@ -38,16 +45,32 @@ impl Domain {
         match keyword {
             // What was announced outlives the link.
             "link" => {
-                let Domain { empty_object, empty_library, .. } = *self;
-                *self = Domain { empty_object, empty_library, ..Domain::default() };
+                let Domain { empty_object, empty_library, common_object, in_library, .. } = *self;
+                let asked = line == "link";
+                *self = Domain { empty_object, empty_library, common_object, ..Domain::default() };
+                (self.asked, self.in_library) = (asked, in_library);
             }
-            "object" => (self.empty_object, self.bare) = (false, false),
+            "object" => {
+                (self.empty_object, self.common_object, self.bare) = (false, false, false);
+                self.in_library = false;
+            }
+            "add" if self.asked && is_common(line) => self.left = true,
             "section" => self.empty_object |= is_empty_table(line),
-            "library" => (self.empty_library, self.bare) = (false, false),
+            "library" => {
+                (self.empty_library, self.bare, self.in_library) = (false, false, true);
+            }
             "strings" => self.bare = line == "strings -",
-            "symbol" => self.empty_library |= self.bare,
-            "archive" => self.empty_member = false,
-            "member" => self.empty_member |= self.empty_object,
+            "symbol" => {
+                self.empty_library |= self.bare;
+                self.common_object |= !self.in_library && is_common(line);
+            }
+            "archive" => (self.empty_member, self.common_member) = (false, false),
+            "member" => {
+                self.empty_member |= self.empty_object;
+                self.common_member |= self.common_object;
+            }
+            "merge" if self.asked && self.common_object => self.left = true,
+            "walk" if self.asked && self.common_member => self.left = true,
             "merge" | "admit" if self.empty_object => self.left = true,
             "walk" if self.empty_member => self.left = true,
             "load" if self.empty_library => self.left = true,
@@ -66,6 +89,20 @@ impl Domain {
 fn is_empty_table(line: &str) -> bool {
     let words: Vec<&str> = line.split(' ').collect();
     words.get(1) == Some(&"4") && words.get(9) == Some(&"-")
+}
+
+/// A symbol of an object or of a direct add that is common and not local, or has a size.
+fn is_common(line: &str) -> bool {
+    let words: Vec<&str> = line.split(' ').collect();
+    // Binding, type, visibility, section, value; of an add its file's name too, in two words.
+    let (fields, count) = match words[..] {
+        ["symbol", _, ref fields @ ..] => (fields, 5),
+        ["add", "elf", _, ref fields @ ..] => (fields, 7),
+        ["add", "hidden", _, kind, ..] => return kind == "com",
+        _ => return false,
+    };
+    let common = fields.get(3) == Some(&"65522");
+    common && matches!(fields[0], "1" | "2") || fields.len() > count
 }
 
 /// This port beside the Rust's answers, line by line.
@@ -135,6 +172,35 @@ mod tests {
         assert!(outcomes.iter().all(|outcome| matches!(outcome, Outcome::Same)));
         let outcomes = run(&["link", "library 0 0 - 1 l.so 0 0", "strings -", "load", "dump"]);
         assert!(outcomes.iter().all(|outcome| matches!(outcome, Outcome::Same)));
+    }
+
+    /// The oracle answers 13 to every common, this port to a local one alone.
+    #[test]
+    fn commons_and_sizes_are_left_out_where_the_rust_is_asked() {
+        let adds = [
+            "add elf a 1 1 0 65522 8 0 -",
+            "add elf a 2 1 0 65522 8 0 -",
+            "add elf a 1 1 0 65521 8 0 - 4",
+            "add elf a 0 1 0 65522 8 0 -",
+        ];
+        let left = |outcome: &Outcome| matches!(outcome, Outcome::LeftOut);
+        let same = |outcome: &Outcome| matches!(outcome, Outcome::Same);
+        for (add, out) in adds.iter().zip([true, true, true, false]) {
+            assert_eq!(run(&["link", add])[1..].iter().all(left), out);
+            assert!(run(&["link commons", add, "dump", "link gabi", add, "dump"]).iter().all(same));
+        }
+        let table = "section 3 0 0 0 0 1 0 0 - 2 0 1";
+        let strings = "section 4 0 0 0 0 0 0 0 006100 0";
+        let object =
+            |link, symbol| [link, "object 2 1 1", table, strings, symbol, "merge", "global a"];
+        for symbol in ["symbol 1 1 0 0 65522 8", "symbol 1 1 0 0 0 0 8"] {
+            assert!(run(&object("link", symbol))[5..].iter().all(left));
+            assert!(run(&object("link commons", symbol)).iter().all(same));
+        }
+        // A library's common is external, and its size isn't kept.
+        let library =
+            ["link", "library 0 0 - 1 l 1 0", "strings 006100", "symbol 1 1 0 0 65522 8 8"];
+        assert!(run(&[&library[..], &["load", "dump"]].concat()).iter().all(same));
     }
 
     #[test]

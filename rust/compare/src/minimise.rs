@@ -116,11 +116,11 @@ fn smaller(block: &Block, step: usize) -> Option<Option<Block>> {
         Block::Library(rows) => {
             let mut rows = rows.clone();
             let symbols = rows.symbols.len();
-            let fields = symbols * 6;
+            let fields = symbols * 7;
             match step {
                 _ if step < symbols => drop(rows.symbols.remove(step)),
                 _ if step < symbols + fields => {
-                    zero_symbol(&mut rows.symbols[(step - symbols) / 6], (step - symbols) % 6);
+                    zero_symbol(&mut rows.symbols[(step - symbols) / 7], (step - symbols) % 7);
                 }
                 _ if step < symbols + fields + rows.needs.len() => {
                     rows.needs.remove(step - symbols - fields);
@@ -148,7 +148,8 @@ fn zero_symbol(row: &mut SymbolRow, field: usize) {
         2 => row.kind = 0,
         3 => row.visibility = 0,
         4 => row.section = 0,
-        _ => row.value = 0,
+        5 => row.value = 0,
+        _ => row.size = 0,
     }
 }
 
@@ -176,11 +177,11 @@ fn smaller_object(rows: &ObjectRows, step: usize) -> Option<Option<ObjectRows>> 
         return Some(Some(out));
     }
     at -= sections;
-    if at < symbols * 6 {
+    if at < symbols * 7 {
         zero_symbol(&mut out.symbols[at / 6], at % 6);
         return Some(Some(out));
     }
-    at -= symbols * 6;
+    at -= symbols * 7;
     if at < sections * SECTION_FIELDS {
         let row = &mut out.sections[at / SECTION_FIELDS];
         let table = row.kind == 3 || row.kind == 10;

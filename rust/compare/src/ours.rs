@@ -107,7 +107,8 @@ impl Ours {
         let (keyword, mut words) = Words::of(line);
         match keyword {
             "link" => self.clear(match words.0.next() {
-                None => Profile::Old,
+                // With commons the Rust isn't asked; here nothing differs.
+                None | Some("commons") => Profile::Old,
                 Some("gabi") => Profile::Gabi,
                 Some(other) => panic!("no profile {other:?}"),
             }),
@@ -213,15 +214,17 @@ impl Ours {
             },
             "elf" => {
                 let name = self.intern(words.name());
-                let elf = ElfSymbol {
+                let mut elf = ElfSymbol {
                     name: 0,
                     binding: words.number(),
                     kind: words.number(),
                     visibility: words.number(),
                     section: words.number() as usize,
                     value: words.number(),
+                    size: 0,
                 };
                 let file = words.optional_name().map(|file| self.intern(file));
+                elf.size = words.optional_number();
                 UpcomingSymbol::Elf { elf, name, file, conversion: &self.conversion }
             }
             other => panic!("no add {other:?}"),
@@ -376,7 +379,10 @@ impl Ours {
             shown(self.name(symbol.name)),
             hidden as u8,
             value_line(symbol.value)
-        )
+        ) + &match symbol.size {
+            0 => String::new(),
+            size => format!(" size {size}"),
+        }
     }
 
     fn dump(&self) -> Vec<String> {
@@ -494,6 +500,7 @@ fn value(words: &mut Words) -> SymbolValue {
         "notloaded" => SymbolValue::SectionNotLoaded,
         "external" => SymbolValue::ExternallyDefined,
         "undef" => SymbolValue::Undefined { default_zero: words.flag() },
+        "com" => SymbolValue::Common { alignment: words.number() },
         other => panic!("no value {other:?}"),
     }
 }
@@ -513,13 +520,14 @@ fn value_line(value: SymbolValue) -> String {
         SymbolValue::SectionNotLoaded => "notloaded".into(),
         SymbolValue::ExternallyDefined => "external".into(),
         SymbolValue::Undefined { default_zero } => format!("undef {}", default_zero as u8),
+        SymbolValue::Common { alignment } => format!("com {alignment}"),
     }
 }
 
 fn symbol(row: &SymbolRow) -> ElfSymbol {
-    let SymbolRow { name, binding, kind, visibility, section, value } = *row;
+    let SymbolRow { name, binding, kind, visibility, section, value, size } = *row;
     let [name, section] = [name, section].map(|number| number as usize);
-    ElfSymbol { name, binding, kind, visibility, section, value }
+    ElfSymbol { name, binding, kind, visibility, section, value, size }
 }
 
 /// The object's rows; its string tables, one after the other, are its file.

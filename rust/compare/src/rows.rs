@@ -18,6 +18,11 @@ impl<'a> Words<'a> {
         self.word().parse().expect("a number")
     }
 
+    /// One that a line may lack: 0 then.
+    pub fn optional_number(&mut self) -> u64 {
+        self.0.next().map_or(0, |word| word.parse().expect("a number"))
+    }
+
     pub fn flag(&mut self) -> bool {
         self.word() == "1"
     }
@@ -121,6 +126,7 @@ pub struct SymbolRow {
     pub visibility: u64,
     pub section: u64,
     pub value: u64,
+    pub size: u64,
 }
 
 impl SymbolRow {
@@ -132,14 +138,16 @@ impl SymbolRow {
             visibility: words.number(),
             section: words.number(),
             value: words.number(),
+            size: words.optional_number(),
         }
     }
 }
 
 impl fmt::Display for SymbolRow {
     fn fmt(&self, f: &mut fmt::Formatter<'_>) -> fmt::Result {
-        let SymbolRow { name, binding, kind, visibility, section, value } = self;
-        write!(f, "symbol {name} {binding} {kind} {visibility} {section} {value}")
+        let SymbolRow { name, binding, kind, visibility, section, value, size } = self;
+        write!(f, "symbol {name} {binding} {kind} {visibility} {section} {value}")?;
+        if *size == 0 { Ok(()) } else { write!(f, " {size}") }
     }
 }
 

@@ -15,12 +15,15 @@
  *   inputs    8 cells for each object or library
  *   lists     a cell for each relocation's symbol, undefined name of a library and dependency
  *
- * A symbol to add (an item, 8 cells) is its variant and its fields: 0 null; 1 global unknown (name); 2 global
+ * A symbol to add (an item, 9 cells) is its variant and its fields: 0 null; 1 global unknown (name); 2 global
  * hidden (name, kind of the value and its two words); 3 section (id); 4 externally defined (name, visibility,
- * binding); 5 of an ELF file (binding, visibility, type, section, value, name, 0 or the file's name id and 1).
+ * binding); 5 of an ELF file (binding, visibility, type, section, value, name, 0 or the file's name id and 1,
+ * size). A common symbol's value is its alignment.
  *
- * A symbol found (9 cells) is its id and its row: 1, name, type, 0 or the file's name id and 1, scope
- * (HIDVORN_LOCAL ..), kind of the value (HIDVORN_ABSOLUTE ..) and its two words.
+ * A symbol found (10 cells) is its id and its fields: 1, name, type, 0 or the file's name id and 1, scope
+ * (HIDVORN_LOCAL ..), kind of the value (HIDVORN_ABSOLUTE ..) and its two words (of a common one the first is
+ * its alignment), size. Its row in the lent cells has the size for the type, and the scope and 8 times the type
+ * for the scope.
  */
 #ifndef HIDVORN_H
 #define HIDVORN_H
@@ -35,8 +38,8 @@ extern "C" {
 
 #define HIDVORN_HEADER 24
 #define HIDVORN_WALK 7
-#define HIDVORN_ITEM 8
-#define HIDVORN_FOUND 9
+#define HIDVORN_ITEM 9
+#define HIDVORN_FOUND 10
 
 /* cells of the header */
 #define HIDVORN_NAMES 0
@@ -65,6 +68,7 @@ extern "C" {
 #define HIDVORN_NOT_LOADED 5
 #define HIDVORN_EXTERNAL 6
 #define HIDVORN_UNDEFINED 7
+#define HIDVORN_COMMON_VALUE 8
 
 /* A new link: the empty name and the null symbol. Key: any number, best a random one; no answer
    depends on it. Profile: 0 the old one, 1 the gABI's. Value: the id of the null symbol. */
@@ -96,7 +100,7 @@ uint64_t hidvorn_add(
     size_t conversion_len, const uint64_t *item, size_t item_len);
 
 /* Adds the symbols of a list under one conversion, up to the first that is refused. A row has 8 cells:
-   the name's id, binding, type, visibility, section, value, 0, and 0 or the file's name id and 1.
+   the name's id, binding, type, visibility, section, value, size, and 0 or the file's name id and 1.
    The id of each accepted add is put into its cell of ids; the other cells stay. Value, of a refusal
    too: the position of the refused add, else how many there are. Fewer ids than rows: 2 at place 0. */
 uint64_t hidvorn_add_list(
@@ -109,12 +113,12 @@ uint64_t hidvorn_remove(
     uint64_t *header, size_t header_len, uint64_t *symbols, size_t symbols_len, uint64_t *sections,
     size_t sections_len, size_t id);
 
-/* A symbol by its id, put into out (9 cells: id, then its row's). */
+/* A symbol by its id, put into out (10 cells: id, then its fields). */
 uint64_t hidvorn_get(
     uint64_t *header, size_t header_len, const uint64_t *symbols, size_t symbols_len, size_t id,
     uint64_t *out, size_t out_len);
 
-/* The global or weak symbol that holds a name, put into out (9 cells). 23: nobody; 21: removed. */
+/* The global or weak symbol that holds a name, put into out (10 cells). 23: nobody; 21: removed. */
 uint64_t hidvorn_get_global(
     uint64_t *header, size_t header_len, const uint64_t *names, size_t names_len, const uint64_t *symbols,
     size_t symbols_len, size_t name, uint64_t *out, size_t out_len);

@@ -466,7 +466,7 @@ pub(crate) fn add(
     symbols: &mut [u64],
     sections: &mut [u64],
     conversion: &[u64],
-    item: &[u64; 8],
+    item: &[u64; 9],
 ) -> Result<(), Refusal> {
     // SAFETY: see the module.
     unsafe {
@@ -544,7 +544,7 @@ pub(crate) fn get(
     header: &mut Header,
     symbols: &[u64],
     id: usize,
-    out: &mut [u64; 9],
+    out: &mut [u64; 10],
 ) -> Result<(), Refusal> {
     // SAFETY: see the module.
     unsafe {
@@ -566,7 +566,7 @@ pub(crate) fn get_global(
     names: &[u64],
     symbols: &[u64],
     name: usize,
-    out: &mut [u64; 9],
+    out: &mut [u64; 10],
 ) -> Result<(), Refusal> {
     // SAFETY: see the module.
     unsafe {

@@ -126,8 +126,11 @@ fn read(file: &[u8]) -> Result<Rows, Refused> {
                         let [info, other] = [4, 5].map(|byte| field(file, at + byte, 1));
                         let section = field(file, at + 6, 2);
                         let [name, value] = [field(file, at, 4), field(file, at + 8, 8)];
-                        let symbol = [name, info >> 4, info & 15, other & 3, section, value, 0, 0];
-                        rows.entries.extend(symbol);
+                        let kind = [info >> 4, info & 15, other & 3];
+                        let size = field(file, at + 16, 8);
+                        rows.entries.push(name);
+                        rows.entries.extend(kind);
+                        rows.entries.extend([section, value, size, 0]);
                         number += 1;
                     }
                 }

@@ -279,14 +279,14 @@ impl Link {
 
     /// The symbol of that id; 21 if it is absent or removed.
     pub fn get(&self, id: SymbolId) -> Result<Symbol, Refusal> {
-        let (mut header, mut out) = (self.header, [0; 9]);
+        let (mut header, mut out) = (self.header, [0; 10]);
         ffi::get(&mut header, &self.symbols, id.0, &mut out)?;
         Ok(found(&out))
     }
 
     /// The symbol that holds a name; 23 if there is none, 21 if it was removed.
     pub fn get_global(&self, name: Interned) -> Result<Symbol, Refusal> {
-        let (mut header, mut out) = (self.header, [0; 9]);
+        let (mut header, mut out) = (self.header, [0; 10]);
         ffi::get_global(&mut header, &self.names, &self.symbols, name.0, &mut out)?;
         Ok(found(&out))
     }
@@ -518,8 +518,8 @@ impl Default for Link {
     }
 }
 
-/// A symbol from the cells of an answer: its id, then its row.
-fn found(out: &[u64; 9]) -> Symbol {
-    let [id, row @ ..] = out;
-    Symbol::of_row(SymbolId::of_cell(*id), row)
+/// A symbol from the cells of an answer: its id, then its fields.
+fn found(out: &[u64; 10]) -> Symbol {
+    let [id, fields @ ..] = out;
+    Symbol::of_fields(SymbolId::of_cell(*id), fields)
 }

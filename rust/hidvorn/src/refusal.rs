@@ -13,7 +13,7 @@ macro_rules! causes {
 
         impl Cause {
             /// Every cause, by ascending number.
-            pub const ALL: [Cause; 28] = [$(Cause::$name),*];
+            pub const ALL: [Cause; 29] = [$(Cause::$name),*];
 
             fn words(self) -> &'static str {
                 match self {
@@ -50,8 +50,8 @@ causes! {
     LocalHidden = 11: "hidden local symbol",
     /// 12: a binding above 2.
     UnsupportedBinding = 12: "unsupported symbol binding",
-    /// 13: a common symbol.
-    Common = 13: "common symbol",
+    /// 13: a local common symbol.
+    Common = 13: "local common symbol",
     /// 14: a symbol in a section that stands for nothing.
     SectionWithoutId = 14: "symbol in a section without id",
     /// 15: a direct add of a symbol of type 4.
@@ -80,12 +80,14 @@ causes! {
     NotAnObject = 26: "no relocatable ELF file of 64 bits, little-endian",
     /// 27: section headers or a table past the file's end, a cut last entry or an empty group.
     BadTable = 27: "section headers or table past the file's end, cut entry or empty group",
+    /// 28: a global or weak common symbol whose alignment is zero or no power of two.
+    CommonAlignment = 28: "common symbol whose alignment is zero or no power of two",
     /// 30: more built sections than the plain collector takes.
     TooManySections = 30: "more built sections than the plain collector takes",
 }
 
 impl Cause {
-    /// The number in the table: 1 to 27, and 30.
+    /// The number in the table: 1 to 28, and 30.
     pub const fn number(self) -> u64 {
         self as u64
     }
@@ -147,7 +149,7 @@ pub struct Refusal {
 }
 
 impl Refusal {
-    /// The cause's number in the table: 1 to 27, and 30.
+    /// The cause's number in the table: 1 to 28, and 30.
     pub const fn number(&self) -> u64 {
         self.cause.number()
     }

@@ -66,6 +66,12 @@ pub enum SymbolValue {
         /// It is worth zero if nothing defines it (a weak reference).
         default_zero: bool,
     },
+    /// Common: the linker finds room for it, of the symbol's size. A definition that yields to every
+    /// strong one of another kind; of several under a name the largest size and alignment stay.
+    Common {
+        /// A power of two.
+        alignment: u64,
+    },
 }
 
 impl SymbolValue {
@@ -95,6 +101,7 @@ impl SymbolValue {
             SymbolValue::SectionNotLoaded => [5, 0, 0],
             SymbolValue::ExternallyDefined => [6, 0, 0],
             SymbolValue::Undefined { default_zero } => [7, default_zero as u64, 0],
+            SymbolValue::Common { alignment } => [8, alignment, 0],
         }
     }
 
@@ -108,6 +115,7 @@ impl SymbolValue {
             5 => SymbolValue::SectionNotLoaded,
             6 => SymbolValue::ExternallyDefined,
             7 => SymbolValue::Undefined { default_zero: a == 1 },
+            8 => SymbolValue::Common { alignment: a },
             _ => SymbolValue::Null,
         }
     }
@@ -128,12 +136,29 @@ pub struct Symbol {
     pub visibility: SymbolVisibility,
     /// Where it lies.
     pub value: SymbolValue,
+    /// Its size; 0 of what isn't an object's symbol.
+    pub size: u64,
 }
 
 impl Symbol {
-    /// From the cells of a row: state, name, type, file, visibility, kind of value, two words.
+    /// The alignment that a common symbol asks for; 0 of every other.
+    pub fn alignment(&self) -> u64 {
+        match self.value {
+            SymbolValue::Common { alignment } => alignment,
+            _ => 0,
+        }
+    }
+
+    /// From the cells of a link's row: state, name, size, file, visibility and 8 times the type, kind of
+    /// value, two words.
     pub(crate) fn of_row(id: SymbolId, row: &[u64; 8]) -> Self {
-        let [_, name, kind, file, visibility, value @ ..] = *row;
+        let [state, name, size, file, packed, kind, a, b] = *row;
+        Symbol::of_fields(id, &[state, name, packed / 8, file, packed % 8, kind, a, b, size])
+    }
+
+    /// State, name, type, file, visibility, kind of value, two words, size.
+    pub(crate) fn of_fields(id: SymbolId, fields: &[u64; 9]) -> Self {
+        let [_, name, kind, file, visibility, value @ .., size] = *fields;
         let global = |weak, hidden| SymbolVisibility::Global { weak, hidden };
         Symbol {
             id,
@@ -153,6 +178,7 @@ impl Symbol {
                 _ => SymbolVisibility::Local,
             },
             value: SymbolValue::of_words(value),
+            size,
         }
     }
 }
@@ -171,14 +197,16 @@ pub struct ElfSymbol {
     pub visibility: u64,
     /// 0 undefined, 0xfff1 absolute, 0xfff2 common, else the section's number, below 0xff00.
     pub section: usize,
-    /// Its value.
+    /// Its value; a common symbol's is its alignment.
     pub value: u64,
+    /// Its size.
+    pub size: u64,
 }
 
 impl ElfSymbol {
     pub(crate) fn cells(&self) -> [u64; 8] {
         let [name, section] = [self.name, self.section].map(|number| number as u64);
-        [name, self.binding, self.kind, self.visibility, section, self.value, 0, 0]
+        [name, self.binding, self.kind, self.visibility, section, self.value, self.size, 0]
     }
 }
 
@@ -321,18 +349,18 @@ pub enum UpcomingSymbol<'a> {
 }
 
 impl UpcomingSymbol<'_> {
-    /// Eight cells: the variant, then its fields.
-    pub(crate) fn cells(&self) -> [u64; 8] {
+    /// Nine cells: the variant, then its fields.
+    pub(crate) fn cells(&self) -> [u64; 9] {
         match *self {
-            UpcomingSymbol::Null => [0; 8],
-            UpcomingSymbol::GlobalUnknown { name } => [1, name.cell(), 0, 0, 0, 0, 0, 0],
+            UpcomingSymbol::Null => [0; 9],
+            UpcomingSymbol::GlobalUnknown { name } => [1, name.cell(), 0, 0, 0, 0, 0, 0, 0],
             UpcomingSymbol::GlobalHidden { name, value } => {
                 let [kind, a, b] = value.words();
-                [2, name.cell(), kind, a, b, 0, 0, 0]
+                [2, name.cell(), kind, a, b, 0, 0, 0, 0]
             }
-            UpcomingSymbol::Section { section } => [3, section.cell(), 0, 0, 0, 0, 0, 0],
+            UpcomingSymbol::Section { section } => [3, section.cell(), 0, 0, 0, 0, 0, 0, 0],
             UpcomingSymbol::ExternallyDefined { name, visibility, binding } => {
-                [4, name.cell(), visibility, binding, 0, 0, 0, 0]
+                [4, name.cell(), visibility, binding, 0, 0, 0, 0, 0]
             }
             UpcomingSymbol::Elf { elf, name, file, .. } => [
                 5,
@@ -343,6 +371,7 @@ impl UpcomingSymbol<'_> {
                 elf.value,
                 name.cell(),
                 Interned::optional_cell(file),
+                elf.size,
             ],
         }
     }

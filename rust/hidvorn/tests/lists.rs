@@ -13,8 +13,7 @@ fn link(profile: Profile, symbols: usize) -> Link {
 /// Undefined, or absolute of this value.
 fn row(name: Interned, value: Option<u64>) -> ListedSymbol {
     let section = value.map_or(0, |_| 0xfff1);
-    let elf =
-        ElfSymbol { binding: 1, section, value: value.unwrap_or(0), ..ElfSymbol::default() };
+    let elf = ElfSymbol { binding: 1, section, value: value.unwrap_or(0), ..ElfSymbol::default() };
     ListedSymbol { elf, name, file: None }
 }
 

@@ -1,14 +1,35 @@
--- Laws of the definitions of RowLaws.antt.
+-- Laws of the definitions of Layout.antt and Row.antt.
 -- Assumes nothing.
-use Rattle.std.specs.Prelude.{ℕ, ◌+◌, ◌*◌, ◌<◌, ◌≤◌, ◌≡◌, List, ◌≢◌, length}
+use Rattle.std.specs.Prelude.{ℕ, ◌+◌, ◌*◌, ◌/◌, ◌%◌, ◌<◌, ◌≤◌, ◌≡◌, List, ◌≢◌, length}
 use Rattle.std.proofs.Math.Path.{refl}
 use Rattle.std.proofs.Common.{arith}
 use Rattle.std.proofs.Math.ListN.{get_or}
 use Rattle.cells.specs.Proof.Rows.{length-put_row, row_same, row_other}
 use Rattle.link.specs.declared.SymbolId.{SymbolId}
 use Rattle.symbol.specs.declared.Row.{Row}
-use Rattle.symbol.specs.Row.{field, symbol_at, cells_of, set_row}
-use Rattle.symbol.specs.RowLaws.{symbol_of}
+use Rattle.symbol.specs.Layout.{scope_and_type, scope_in, type_in}
+use Rattle.symbol.specs.Row.{field, cells_of, set_row}
+
+-- ---- a scope and a type in one cell
+
+module _ (scope type : ℕ) (small : scope < 8) where
+  pub scope-back : scope_in (scope_and_type scope type) ≡ scope
+  unfolding scope_in scope_and_type
+  scope-back = omega (arith, small)
+
+  pub type-back : type < 16 → type_in (scope_and_type scope type) ≡ type
+  unfolding type_in scope_and_type
+  type-back h = omega (arith, small, h)
+
+pub scope-small : (cell : ℕ) → scope_in cell < 8
+unfolding scope_in
+scope-small cell = omega arith
+
+pub type-small : (cell : ℕ) → type_in cell < 16
+unfolding type_in
+type-small cell = omega arith
+
+-- ---- a row's cells
 
 module _ (l : List ℕ) (id : SymbolId) (r : Row) where
   pub length-set_row : length (set_row l id r) ≡ length l
@@ -22,15 +43,3 @@ module _ (l : List ℕ) (id : SymbolId) (r : Row) where
   pub field-other : (j f : ℕ) → f < 8 → j ≢ id.0 → field (set_row l id r) j f ≡ field l j f
   unfolding set_row
   field-other j f h n = row_other l id.0 (cells_of r) j f refl h n
-
-  pub symbol-same : id.0 * 8 + 8 ≤ length l → symbol_at (set_row l id r) id ≡ symbol_of id r
-  unfolding symbol_at symbol_of
-  symbol-same g =
-      let at : (f : ℕ) → f < 8 → field (set_row l id r) id.0 f ≡ get_or (cells_of r) f 0 = λ f h. field-same f h g in
-      simp (at 1 (omega arith), at 2 (omega arith), at 3 (omega arith), at 4 (omega arith), at 5 (omega arith), at 6 (omega arith), at 7 (omega arith))
-
-  pub symbol-other : (j : SymbolId) → j.0 ≢ id.0 → symbol_at (set_row l id r) j ≡ symbol_at l j
-  unfolding symbol_at
-  symbol-other j n =
-      let at : (f : ℕ) → f < 8 → field (set_row l id r) j.0 f ≡ field l j.0 f = λ f h. field-other j.0 f h n in
-      simp (at 1 (omega arith), at 2 (omega arith), at 3 (omega arith), at 4 (omega arith), at 5 (omega arith), at 6 (omega arith), at 7 (omega arith))

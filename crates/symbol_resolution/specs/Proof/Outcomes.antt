@@ -17,7 +17,7 @@ use Rattle.symbol.specs.Layout.{local}
 use Rattle.symbol_resolution.specs.declared.rows.Holder.{Holder}
 use Rattle.symbol_resolution.specs.declared.rows.Holder.TheVariants.{Unissued, Nobody, Removed, Known}
 use Rattle.symbol_resolution.specs.Decision.{Decision, Refuse, Nothing, Keep, Append, Replace, Amend}
-use Rattle.symbol_resolution.specs.Decide.{rank_of, strong_rank, type_refusal, section_cell, section_room, room_of, new_of, replace_of, kept_of, ranked_of, known_of, decide_of, refusal_of}
+use Rattle.symbol_resolution.specs.Decide.{rank_of, strong_rank, joins, type_refusal, section_cell, section_room, room_of, new_of, replace_of, kept_of, stays_of, ranked_of, known_of, decide_of, refusal_of}
 use Rattle.symbol_resolution.specs.Apply.{Table, table_of, append_of, replaced_in, amended_in, apply_of}
 
 -- ---- what a row meets under its name's holder; a local row meets no holder
@@ -93,7 +93,7 @@ module _ (l : Link) (symbols sections : List ℕ) (r : Row) where
     -- ---- a local or a new name
 
     module _ (h : Holder) (fresh : fresh_under (is_local_row r) h ≡ true) where
-      -- 13, 14
+      -- 13, 28, 14
       pub new-unvalued : value_refused r ≡ true → decision h ≡ Refuse (value_refusal r)
       unfolding new_of
       new-unvalued w = rw (is-new h fresh, w)
@@ -115,7 +115,7 @@ module _ (l : Link) (symbols sections : List ℕ) (r : Row) where
     -- ---- a known name
 
     module _ (h : Holder) (id : SymbolId) (meets : Meets r h id) where
-      -- 13, 14
+      -- 13, 28, 14
       pub known-unvalued : value_refused r ≡ true → decision h ≡ Refuse (value_refusal r)
       unfolding known_of
       known-unvalued w = rw (is_known h id meets, w)
@@ -139,17 +139,21 @@ module _ (l : Link) (symbols sections : List ℕ) (r : Row) where
           known_twice k = rw (is_known h id meets, w, y, k)
 
           module _ (k : eqb (row_rank r l.gabi) strong_rank ≡ false) where
-            pub known_kept : hides l.gabi symbols r id ≡ false → decision h ≡ Keep id
-            unfolding known_of ranked_of kept_of
-            known_kept m =
-                rw (is_known h id meets, w, y, k)
+            pub known-joined : joins (held_rank l.gabi symbols id) (row_rank r l.gabi) ≡ true → decision h ≡ Amend id
+            unfolding known_of ranked_of stays_of
+            known-joined j = rw (is_known h id meets, w, y, k, j)
+
+            pub known_kept : joins (held_rank l.gabi symbols id) (row_rank r l.gabi) ≡ false → hides l.gabi symbols r id ≡ false → decision h ≡ Keep id
+            unfolding known_of ranked_of stays_of kept_of
+            known_kept j m =
+                rw (is_known h id meets, w, y, k, j)
                 (by-test (passes l.gabi r.visibility)
                 (λ p. by-test (hidden_code (visibility_code_at symbols id.0)) (λ q. rw (p, q)) (λ q. absurd (false≢true (sym (rw (p, q) at m))))) (λ p. rw p))
 
-            pub known-amended : hides l.gabi symbols r id ≡ true → decision h ≡ Amend id
-            unfolding known_of ranked_of kept_of
-            known-amended m =
-                rw (is_known h id meets, w, y, k)
+            pub known-amended : joins (held_rank l.gabi symbols id) (row_rank r l.gabi) ≡ false → hides l.gabi symbols r id ≡ true → decision h ≡ Amend id
+            unfolding known_of ranked_of stays_of kept_of
+            known-amended j m =
+                rw (is_known h id meets, w, y, k, j)
                 (by-test (passes l.gabi r.visibility)
                 (λ p. by-test (hidden_code (visibility_code_at symbols id.0)) (λ q. absurd (false≢true (rw (p, q) at m))) (λ q. rw (p, q)))
                 (λ p. absurd (false≢true (rw p at m))))
@@ -163,14 +167,16 @@ module _ (l : Link) (symbols sections : List ℕ) (r : Row) where
       unvalued : scope_refused r ≡ false → value_refused r ≡ true → d ≡ Refuse (value_refusal r) → Outcome
       untyped : Passing r → eqb (type_refusal r.kind) 0 ≡ false → d ≡ Refuse (type_refusal r.kind) → Outcome
       full : Passing r → fresh_under (is_local_row r) h ≡ true → room_of l symbols sections r ≡ false → d ≡ Refuse 2 → Outcome
-      appended : Passing r → fresh_under (is_local_row r) h ≡ true → room_of l symbols sections r ≡ true → d ≡ Append → Outcome
+      appended : Passing r → eqb (type_refusal r.kind) 0 ≡ true → fresh_under (is_local_row r) h ≡ true → room_of l symbols sections r ≡ true → d ≡ Append → Outcome
       twice : Passing r → (id : SymbolId) → Meets r h id → ltb (held_rank l.gabi symbols id) (row_rank r l.gabi) ≡ false
           → eqb (row_rank r l.gabi) strong_rank ≡ true → d ≡ Refuse 17 → Outcome
-      replaced : Passing r → (id : SymbolId) → Meets r h id → ltb (held_rank l.gabi symbols id) (row_rank r l.gabi) ≡ true → d ≡ Replace id → Outcome
+      replaced : Passing r → eqb (type_refusal r.kind) 0 ≡ true → (id : SymbolId) → Meets r h id → ltb (held_rank l.gabi symbols id) (row_rank r l.gabi) ≡ true → d ≡ Replace id → Outcome
       kept : Passing r → (id : SymbolId) → Meets r h id → ltb (held_rank l.gabi symbols id) (row_rank r l.gabi) ≡ false
-          → eqb (row_rank r l.gabi) strong_rank ≡ false → hides l.gabi symbols r id ≡ false → d ≡ Keep id → Outcome
+          → eqb (row_rank r l.gabi) strong_rank ≡ false → joins (held_rank l.gabi symbols id) (row_rank r l.gabi) ≡ false
+          → hides l.gabi symbols r id ≡ false → d ≡ Keep id → Outcome
+      -- hidden passes to the row, or two commons are joined
       amended : Passing r → (id : SymbolId) → Meets r h id → ltb (held_rank l.gabi symbols id) (row_rank r l.gabi) ≡ false
-          → eqb (row_rank r l.gabi) strong_rank ≡ false → hides l.gabi symbols r id ≡ true → d ≡ Amend id → Outcome
+          → eqb (row_rank r l.gabi) strong_rank ≡ false → d ≡ Amend id → Outcome
 
   module _ (v : scope_refused r ≡ false) where
     new-outcome : (h : Holder) → fresh_under (is_local_row r) h ≡ true → Outcome h (decision h)
@@ -179,7 +185,7 @@ module _ (l : Link) (symbols sections : List ℕ) (r : Row) where
         (λ w.
         let p : Passing r = record { scope = v; value = w } in
         by-test (eqb (type_refusal r.kind) 0)
-        (λ k. by-test (room_of l symbols sections r) (λ m. appended p f m (new-appended v h f w k m)) (λ m. full p f m (new-full v h f w k m)))
+        (λ k. by-test (room_of l symbols sections r) (λ m. appended p k f m (new-appended v h f w k m)) (λ m. full p f m (new-full v h f w k m)))
         (λ k. untyped p k (new-untyped v h f w k)))
 
     known-outcome : (h : Holder) (id : SymbolId) → Meets r h id → Outcome h (decision h)
@@ -189,12 +195,14 @@ module _ (l : Link) (symbols sections : List ℕ) (r : Row) where
         let p : Passing r = record { scope = v; value = w } in
         by-test (ltb (held_rank l.gabi symbols id) (row_rank r l.gabi))
         (λ y.
-        by-test (eqb (type_refusal r.kind) 0) (λ k. replaced p id i y (known-replaced v h id i w y k)) (λ k. untyped p k (known-untyped v h id i w y k)))
+        by-test (eqb (type_refusal r.kind) 0) (λ k. replaced p k id i y (known-replaced v h id i w y k)) (λ k. untyped p k (known-untyped v h id i w y k)))
         (λ y.
         by-test (eqb (row_rank r l.gabi) strong_rank) (λ k. twice p id i y k (known_twice v h id i w y k))
         (λ k.
-        by-test (hides l.gabi symbols r id) (λ m. amended p id i y k m (known-amended v h id i w y k m))
-        (λ m. kept p id i y k m (known_kept v h id i w y k m)))))
+        by-test (joins (held_rank l.gabi symbols id) (row_rank r l.gabi)) (λ j. amended p id i y k (known-joined v h id i w y k j))
+        (λ j.
+        by-test (hides l.gabi symbols r id) (λ m. amended p id i y k (known-amended v h id i w y k j m))
+        (λ m. kept p id i y k j m (known_kept v h id i w y k j m))))))
 
     passing-outcome : (h : Holder) → Outcome h (decision h)
     passing-outcome Unissued = absent v refl (name-absent v Unissued refl)
@@ -229,11 +237,11 @@ module _ (l : Link) (symbols sections : List ℕ) (r : Row) where
       by d (unvalued v w q) = number d _ q (valued w)
       by d (untyped p k q) = number d _ q typed
       by d (full p f m q) = number d _ q in2
-      by d (appended p f m q) = number d _ q in0
+      by d (appended p k f m q) = number d _ q in0
       by d (twice p id i y k q) = number d _ q (in17 id p i)
-      by d (replaced p id i y q) = number d _ q in0
-      by d (kept p id i y k m q) = number d _ q in0
-      by d (amended p id i y k m q) = number d _ q in0
+      by d (replaced p k id i y q) = number d _ q in0
+      by d (kept p id i y k j m q) = number d _ q in0
+      by d (amended p id i y k q) = number d _ q in0
 
   -- ---- refused with a number, or accepted
 
@@ -257,11 +265,11 @@ module _ (l : Link) (symbols sections : List ℕ) (r : Row) where
       by d (unvalued v w q) = refused (value_refusal r) (value-number w) q
       by d (untyped p k q) = refused (type_refusal r.kind) (eqb-false _ _ k) q
       by d (full p f m q) = refused 2 (λ z. omega arith) q
-      by d (appended p f m q) = appended p (room-cell m) q
+      by d (appended p k f m q) = appended p (room-cell m) q
       by d (twice p id i y k q) = refused 17 (λ z. omega arith) q
-      by d (replaced p id i y q) = replaced id p q
-      by d (kept p id i y k m q) = kept id p q
-      by d (amended p id i y k m q) = amended id p q
+      by d (replaced p k id i y q) = replaced id p q
+      by d (kept p id i y k j m q) = kept id p q
+      by d (amended p id i y k q) = amended id p q
 
   pub accepted-passing : (h : Holder) → refusal_of (decision h) ≡ 0 → Passing r
   accepted-passing h z = by (ended h)
@@ -325,11 +333,11 @@ module _ (l : Link) (symbols sections : List ℕ) (r : Row) where
       by (unvalued a b q) = absurd (false≢true (sym w ∙ b))
       by (untyped p k q) = other (type_refusal r.kind) type-small _ refl q
       by (full p f m q) = other 2 (λ e. omega arith) _ refl q
-      by (appended p f m q) = other 0 (λ e. omega arith) _ refl q
+      by (appended p k f m q) = other 0 (λ e. omega arith) _ refl q
       by (twice p id i y k q) = record { id = id; meets = i; stays = y; strong = k }
-      by (replaced p id i y q) = other 0 (λ e. omega arith) _ refl q
-      by (kept p id i y k m q) = other 0 (λ e. omega arith) _ refl q
-      by (amended p id i y k m q) = other 0 (λ e. omega arith) _ refl q
+      by (replaced p k id i y q) = other 0 (λ e. omega arith) _ refl q
+      by (kept p id i y k j m q) = other 0 (λ e. omega arith) _ refl q
+      by (amended p id i y k q) = other 0 (λ e. omega arith) _ refl q
 
 -- ---- of a link a decision reads the count of symbols, the sections' slots and the profile; of the sections the length
 

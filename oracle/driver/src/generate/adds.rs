@@ -1,4 +1,5 @@
 //! Direct adds, removes and lookups.
+use super::commons;
 use super::references;
 use super::script::Script;
 use crate::form;
@@ -35,8 +36,8 @@ const LETTERS: [&str; 36] = [
     "add elf a 2 15 0 1 0 0 -",
     "add elf a 1 4 0 0 0 0 -",
     "add elf a 2 5 0 0 0 0 -",
-    "add elf a 1 0 0 65522 0 0 -",
-    "add elf a 2 0 0 65522 0 0 -",
+    "add elf a 0 0 0 65522 0 0 -",
+    "add elf a 0 1 0 65522 8 0 -",
     "add elf a 1 4 0 4 0 0 -",
     "add elf a 2 0 0 6 0 0 -",
     "add elf a 1 0 1 1 0 0 -",
@@ -114,6 +115,9 @@ pub(crate) fn short(script: &mut Script, _: u64) {
     }
     if script.random.gabi {
         short_references(script);
+    }
+    if script.random.commons {
+        commons::short(script, &words(commons::LETTERS.len(), 3), &WANTED);
     }
 }
 
@@ -206,7 +210,11 @@ fn some_id(script: &mut Script) -> u64 {
 /// A direct add of any variant.
 pub(crate) fn add(script: &mut Script) -> String {
     let random = &mut script.random;
-    let name = form::name(random.pick(&NAMES));
+    let name = random.pick(&NAMES);
+    if random.commons && random.chance(20) {
+        return commons::direct(random, name);
+    }
+    let name = form::name(name);
     match random.below(20) {
         0 => "add null".into(),
         1 | 2 => format!("add section {}", random.below(7)),
@@ -237,7 +245,7 @@ pub(crate) fn add(script: &mut Script) -> String {
                 1 => script.random.between(5, 15),
                 _ => script.random.below(4),
             };
-            let (binding, visibility) = (binding(script), visibility(script));
+            let (mut binding, mut visibility) = (binding(script), visibility(script));
             let random = &mut script.random;
             let section = match random.below(20) {
                 0 => 0xfff2,
@@ -249,7 +257,14 @@ pub(crate) fn add(script: &mut Script) -> String {
             let value = random.value();
             let file = random.pick(&[None, None, Some("file.c"), Some("")]);
             let file = form::optional_name(file);
-            format!("add elf {name} {binding} {kind} {visibility} {section} {value} {file}")
+            let mut size = String::new();
+            if random.commons {
+                size = form::size(commons::size(random));
+            } else if section == 0xfff2 && (binding == 1 || binding == 2) {
+                // Where the Rust is asked a common is local, and gets 13.
+                (binding, visibility) = (0, if visibility == 2 { 0 } else { visibility });
+            }
+            format!("add elf {name} {binding} {kind} {visibility} {section} {value} {file}{size}")
         }
     }
 }

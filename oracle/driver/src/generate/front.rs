@@ -21,7 +21,7 @@ pub(crate) fn rows(random: &mut Random, rows: &mut ObjectRows) {
             random.pick(&[(0, ABSOLUTE), (1, 0), (1, ABSOLUTE), (2, 0), (2, ABSOLUTE)]);
         let (kind, value) = (random.below(3), random.value());
         let visibility = if binding == 0 { 0 } else { random.hidden() };
-        let row = SymbolRow { name, binding, kind, visibility, section, value };
+        let row = SymbolRow { name, binding, kind, visibility, section, value, size: 0 };
         rows.symbols.insert(0, row);
     }
     for table in rows.sections.iter_mut().filter(|row| is_table(row)) {

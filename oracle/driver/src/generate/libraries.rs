@@ -93,7 +93,8 @@ pub(crate) fn library(random: &mut Random) -> LibraryRows {
             _ => random.visibility(&[0, 0, 0, 2]),
         };
         let kind = random.below(16);
-        symbols.push(SymbolRow { name, binding, kind, visibility, section, value: random.value() });
+        let value = random.value();
+        symbols.push(SymbolRow { name, binding, kind, visibility, section, value, size: 0 });
     }
     let name = random.pick(&LIBRARIES).to_string();
     let needs = (0..random.below(3)).map(|_| random.pick(&LIBRARIES).to_string()).collect();

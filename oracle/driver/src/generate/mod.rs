@@ -2,6 +2,7 @@
 mod adds;
 mod archives;
 mod collections;
+mod commons;
 mod damage;
 mod front;
 mod libraries;
@@ -33,12 +34,14 @@ pub fn list(kind: &str, seed: u64, count: u64) -> Option<String> {
     Some(said.iter().map(|said| format!("{}\n", said.line)).collect())
 }
 
-/// Operations with the Rust's answers. A kind behind `gabi-`: links of the gABI profile with the plain
-/// reading's answers, and what they tried.
+/// Operations with the Rust's answers. A kind behind `gabi-`: links of the gABI profile, behind
+/// `commons-` links of the old one with commons, both with the plain reading's answers, and what they
+/// tried.
 pub fn histories(kind: &str, seed: u64, count: u64) -> Option<(Vec<Said>, Seen)> {
-    let (gabi, kind) = match kind.strip_prefix("gabi-") {
-        Some(kind) => (true, kind),
-        None => (false, kind),
+    let (mut script, kind) = match kind.split_once('-') {
+        Some(("gabi", kind)) => (Script::gabi(seed), kind),
+        Some(("commons", kind)) => (Script::commons(seed), kind),
+        _ => (Script::new(seed), kind),
     };
     let make = match kind {
         "short-adds" => adds::short,
@@ -52,7 +55,6 @@ pub fn histories(kind: &str, seed: u64, count: u64) -> Option<(Vec<Said>, Seen)>
         "mixed" => mixed::links,
         _ => return None,
     };
-    let mut script = if gabi { Script::gabi(seed) } else { Script::new(seed) };
     make(&mut script, count);
     Some(script.said())
 }

@@ -196,7 +196,8 @@ impl Maker<'_> {
                 _ => (any, 2, kind, 0, 0, 0),
             };
             let name = self.name(self.symbol_strings, &name);
-            self.rows.symbols.push(SymbolRow { name, binding, kind, visibility, section, value });
+            let row = SymbolRow { name, binding, kind, visibility, section, value, size: 0 };
+            self.rows.symbols.push(row);
         }
     }
 

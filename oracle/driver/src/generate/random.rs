@@ -5,15 +5,21 @@ pub struct Random {
     /// For links of the gABI profile: hidden symbols are to be frequent, and strong references after
     /// weak ones.
     pub(crate) gabi: bool,
+    /// For links that the Rust isn't asked: some symbols are to be common, some have a size.
+    pub(crate) commons: bool,
 }
 
 impl Random {
     pub fn new(seed: u64) -> Self {
-        Random { state: seed, gabi: false }
+        Random { state: seed, gabi: false, commons: false }
     }
 
     pub(crate) fn gabi(seed: u64) -> Self {
-        Random { state: seed, gabi: true }
+        Random { state: seed, gabi: true, commons: true }
+    }
+
+    pub(crate) fn commons(seed: u64) -> Self {
+        Random { state: seed, gabi: false, commons: true }
     }
 
     /// The visibility of a symbol that is to be accepted: default, or often hidden.

@@ -1,4 +1,5 @@
 //! A list being written. Each line is also run, so that a generator sees the answers.
+use super::commons;
 use super::random::Random;
 use crate::model::Seen;
 use crate::reference::Reference;
@@ -7,7 +8,6 @@ use crate::rows::{LibraryRows, ObjectRows};
 pub(crate) struct Script {
     pub(crate) random: Random,
     pub(crate) reference: Reference,
-    gabi: bool,
     said: Vec<Said>,
 }
 
@@ -19,17 +19,17 @@ pub struct Said {
 
 impl Script {
     pub(crate) fn new(seed: u64) -> Self {
-        Script {
-            random: Random::new(seed),
-            reference: Reference::new(),
-            gabi: false,
-            said: Vec::new(),
-        }
+        Script { random: Random::new(seed), reference: Reference::new(), said: Vec::new() }
     }
 
     /// Its links are of the gABI profile, with many hidden symbols.
     pub(crate) fn gabi(seed: u64) -> Self {
-        Script { random: Random::gabi(seed), gabi: true, ..Script::new(seed) }
+        Script { random: Random::gabi(seed), ..Script::new(seed) }
+    }
+
+    /// Its links are of the old profile and have commons.
+    pub(crate) fn commons(seed: u64) -> Self {
+        Script { random: Random::commons(seed), ..Script::new(seed) }
     }
 
     pub(crate) fn said(self) -> (Vec<Said>, Seen) {
@@ -39,7 +39,11 @@ impl Script {
 
     /// A new link.
     pub(crate) fn link(&mut self) {
-        self.say(if self.gabi { "link gabi" } else { "link" });
+        self.say(match (self.random.gabi, self.random.commons) {
+            (true, _) => "link gabi",
+            (false, true) => "link commons",
+            (false, false) => "link",
+        });
     }
 
     /// The answer's first line, or nothing.
@@ -55,6 +59,12 @@ impl Script {
     }
 
     pub(crate) fn object(&mut self, rows: &ObjectRows) {
+        let mut rows = rows.clone();
+        if self.random.commons {
+            commons::rows(&mut self.random, &mut rows.symbols);
+        } else {
+            commons::only_local(&mut rows.symbols);
+        }
         for line in rows.lines() {
             self.say(line);
         }
@@ -66,6 +76,10 @@ impl Script {
     }
 
     pub(crate) fn load(&mut self, rows: &LibraryRows) -> String {
+        let mut rows = rows.clone();
+        if self.random.commons {
+            commons::sizes(&mut self.random, &mut rows.symbols);
+        }
         for line in rows.lines() {
             self.say(line);
         }

@@ -23,6 +23,8 @@ pub(crate) fn sheet(random: &mut Random) -> String {
             18 => random.pick(&[0xff00, 0xfff0, 0xfff3, 0xffff, 0x10000, u64::MAX]),
             _ => random.between(1, 9),
         };
+        // A common of binding 1 or 2 is no row of the Rust.
+        let binding = if section == 0xfff2 { 0 } else { binding };
         let value = random.value();
         writeln!(out, "{name} {binding} {visibility} {kind} {section} {value}").unwrap();
     }

@@ -2,8 +2,8 @@
 //! beside the Rust on every list, so that a difference between the two is seen before anything is
 //! proved from the reading. Capacities, and so refusal 2, aren't in it.
 //!
-//! It also has the gABI profile of document 02's requests 2026-02 and 2026-07, which the Rust
-//! doesn't: there it is what this port is compared with.
+//! It also has the gABI profile of document 02's requests 2026-02 and 2026-07 and the commons of
+//! 2026-06, which the Rust doesn't: there it is what this port is compared with.
 mod archive;
 mod collection;
 mod merge;
@@ -78,6 +78,18 @@ pub struct Seen {
     /// Members offered for nothing but such names, and libraries needed for nothing else.
     pub strengthened_offers: u64,
     pub strengthened_needs: u64,
+    /// 2026-06: a common took a row, of a weak definition; it was joined with one; it grew the row's
+    /// size, its alignment; it was accepted under a strong definition; one was replaced by such a
+    /// definition; a weak definition was accepted under one; one was refused with 28.
+    pub commons_took: u64,
+    pub commons_took_weak: u64,
+    pub commons_joined: u64,
+    pub commons_grew_size: u64,
+    pub commons_grew_alignment: u64,
+    pub commons_under: u64,
+    pub commons_replaced: u64,
+    pub commons_over_weak: u64,
+    pub commons_28: u64,
 }
 
 impl Seen {
@@ -105,11 +117,25 @@ impl Seen {
             (self.strengthened_offers, "members offered for names that became strong so, alone"),
             (self.strengthened_needs, "libraries needed for names that became strong so, alone"),
         ];
-        if counts.iter().all(|(times, _)| *times == 0) {
-            return String::new();
-        }
-        let line = |(times, what): &(u64, &str)| format!("{times:>9} {what}\n");
-        "beside the old profile:\n".to_string() + &counts.iter().map(line).collect::<String>()
+        let commons = [
+            (self.commons_took, "rows taken by a common, of them"),
+            (self.commons_took_weak, "  from a weak definition"),
+            (self.commons_joined, "commons joined, of them"),
+            (self.commons_grew_size, "  with a larger size"),
+            (self.commons_grew_alignment, "  with a larger alignment"),
+            (self.commons_under, "commons accepted under a strong definition"),
+            (self.commons_replaced, "commons replaced by a strong definition"),
+            (self.commons_over_weak, "weak definitions accepted under a common"),
+            (self.commons_28, "commons refused with 28"),
+        ];
+        let table = |title: &str, counts: &[(u64, &str)]| {
+            if counts.iter().all(|(times, _)| *times == 0) {
+                return String::new();
+            }
+            let line = |(times, what): &(u64, &str)| format!("{times:>9} {what}\n");
+            title.to_string() + &counts.iter().map(line).collect::<String>()
+        };
+        table("beside the old profile:\n", &counts) + &table("of commons:\n", &commons)
     }
 
     /// An add since then was of an object's symbol, which the group filter made undefined or not.
@@ -142,6 +168,15 @@ impl Seen {
             strengthened_16_merged: self.strengthened_16_merged + other.strengthened_16_merged,
             strengthened_offers: self.strengthened_offers + other.strengthened_offers,
             strengthened_needs: self.strengthened_needs + other.strengthened_needs,
+            commons_took: self.commons_took + other.commons_took,
+            commons_took_weak: self.commons_took_weak + other.commons_took_weak,
+            commons_joined: self.commons_joined + other.commons_joined,
+            commons_grew_size: self.commons_grew_size + other.commons_grew_size,
+            commons_grew_alignment: self.commons_grew_alignment + other.commons_grew_alignment,
+            commons_under: self.commons_under + other.commons_under,
+            commons_replaced: self.commons_replaced + other.commons_replaced,
+            commons_over_weak: self.commons_over_weak + other.commons_over_weak,
+            commons_28: self.commons_28 + other.commons_28,
         }
     }
 }
@@ -216,7 +251,7 @@ impl Model {
         let answers = match keyword {
             "link" => {
                 let gabi = match words.rest()[..] {
-                    [] => false,
+                    [] | ["commons"] => false,
                     ["gabi"] => true,
                     _ => return Err("no such profile".into()),
                 };

@@ -25,6 +25,7 @@ impl Model {
                     kind: 0,
                     file: None,
                     value: Ok(Value::External),
+                    size: 0,
                 };
                 self.table.add(item).map_err(|refused| match refused {
                     21 => Refused(21, None),

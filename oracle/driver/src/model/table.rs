@@ -28,6 +28,8 @@ pub(super) struct Row {
     kind: u64,
     file: Option<String>,
     pub(super) value: Value,
+    /// 2026-06: "Every symbol row gains a size, and an alignment": a common's value, else 0.
+    size: u64,
     /// A strong reference took it from a weak one (2026-07). For `Seen` alone.
     pub(super) strengthened: bool,
 }
@@ -42,6 +44,8 @@ pub(super) enum Value {
     NotLoaded,
     External,
     Undefined(bool),
+    /// Its alignment.
+    Common(u64),
 }
 
 impl Value {
@@ -76,6 +80,17 @@ pub(super) struct Item {
     pub(super) kind: u64,
     pub(super) file: Option<String>,
     pub(super) value: Result<Value, u64>,
+    pub(super) size: u64,
+}
+
+/// 2026-06: "28, alignment zero or no power of two".
+fn common(alignment: u64) -> Result<Value, u64> {
+    let powers = (0..64).map(|power| 1u64 << power);
+    if powers.into_iter().any(|power| power == alignment) {
+        Ok(Value::Common(alignment))
+    } else {
+        Err(28)
+    }
 }
 
 /// Binding and visibility: local, or weak and hidden; else the refusal.
@@ -99,7 +114,9 @@ impl Item {
         let value = match row.section {
             0 => Ok(Value::Undefined(row.binding == 2)),
             ABSOLUTE => Ok(Value::Absolute(row.value)),
-            COMMON => Err(13),
+            // "in place of 13 for a global or weak common"
+            COMMON if row.binding == 0 => Err(13),
+            COMMON => common(row.value),
             section => match conversion(section) {
                 Conversion::Nothing => Err(14),
                 Conversion::NotLoaded => Ok(Value::NotLoaded),
@@ -112,7 +129,7 @@ impl Item {
             },
         };
         let class = class(row.binding, row.visibility);
-        Item { class, library: false, name, kind: row.kind, file, value }
+        Item { class, library: false, name, kind: row.kind, file, value, size: row.size }
     }
 
     pub(super) fn of_direct(direct: &Direct, conversion: &[Conversion]) -> Item {
@@ -123,6 +140,7 @@ impl Item {
             kind,
             file: None,
             value: Ok(value),
+            size: 0,
         };
         match direct {
             Direct::Null => plain(None, "", 0, Value::Null),
@@ -145,6 +163,10 @@ impl Item {
                 };
                 plain(Some((false, true)), name, 0, value)
             }
+            Direct::HiddenCommon(name, alignment) => Item {
+                value: common(*alignment),
+                ..plain(Some((false, true)), name, 0, Value::Null)
+            },
             Direct::External { name, binding, visibility } => Item {
                 class: class(*binding, *visibility),
                 library: true,
@@ -169,6 +191,7 @@ impl Table {
             kind: 0,
             file: None,
             value: Value::Null,
+            size: 0,
             strengthened: false,
         });
         table
@@ -185,6 +208,7 @@ impl Table {
         if known.is_some_and(|id| self.rows[id as usize].removed) {
             return Err(21);
         }
+        self.see(|seen| seen.commons_28 += (item.value == Err(28)) as u64);
         let value = item.value?;
         let judge = |kind: u64| -> Result<u64, u64> {
             match kind {
@@ -200,6 +224,7 @@ impl Table {
             kind,
             file: item.file.clone(),
             value: value.clone(),
+            size: item.size,
             strengthened: false,
         };
 
@@ -217,12 +242,15 @@ impl Table {
 
         // Who yields to whom: undefined 0, weak definition 2, strong definition 4. 2026-07: "In the
         // gABI profile a strong reference now turns a weak undefined row into a strong undefined one".
+        // 2026-06: "A common counts as a third rank: above undefined, below any global definition that
+        // is no common, .. a weak definition doesn't displace it, and it displaces a weak one."
         let gabi = self.gabi;
-        let rank = |value: &Value, weak: bool| match (value.is_undefined(), weak) {
-            (true, false) if gabi => 1,
-            (true, _) => 0,
-            (false, true) => 2,
-            (false, false) => 4,
+        let rank = |value: &Value, weak: bool| match (value, weak) {
+            (Value::Common(_), _) => 3,
+            (Value::Undefined(_), false) if gabi => 1,
+            (Value::Undefined(_), _) => 0,
+            (_, true) => 2,
+            (_, false) => 4,
         };
         let weak = |global: Option<(bool, bool)>| global.is_some_and(|(weak, _)| weak);
         let old = &self.rows[id as usize];
@@ -235,7 +263,8 @@ impl Table {
         };
         let strengthened = new == 1 && old == 0;
         self.see(|seen| {
-            seen.refused_hid_not += (judged.is_err() && is_hidden(global) && !was_hidden) as u64;
+            seen.refused_hid_not +=
+                (gabi && judged.is_err() && is_hidden(global) && !was_hidden) as u64;
             match judged {
                 Ok(_) => seen.strengthened += strengthened as u64,
                 Err(15) => seen.strengthened_15 += strengthened as u64,
@@ -243,8 +272,30 @@ impl Table {
             }
         });
         let kind = judged?;
+        self.see(|seen| {
+            seen.commons_took += (new == 3 && old < 3) as u64;
+            seen.commons_took_weak += (new == 3 && old == 2) as u64;
+            seen.commons_under += (new == 3 && old == 4) as u64;
+            seen.commons_replaced += (new == 4 && old == 3) as u64;
+            seen.commons_over_weak += (new == 2 && old == 3) as u64;
+        });
         if new > old {
             self.rows[id as usize] = Row { strengthened, ..row(kind) };
+        }
+        if let (Value::Common(second), Value::Common(first)) =
+            (&value, self.rows[id as usize].value.clone())
+        {
+            // "Two commons under a name keep the row's id, the first common's other content, the
+            // larger size and the larger alignment". One that took the row is joined with itself.
+            let joined = &mut self.rows[id as usize];
+            let (size, alignment) = (joined.size.max(item.size), first.max(*second));
+            let grew = (size > joined.size, alignment > first);
+            (joined.size, joined.value) = (size, Value::Common(alignment));
+            self.see(|seen| {
+                seen.commons_joined += (old == 3) as u64;
+                seen.commons_grew_size += grew.0 as u64;
+                seen.commons_grew_alignment += grew.1 as u64;
+            });
         }
         if self.gabi {
             // "hidden on any accepted add from an object passes to the name's row, whoever holds it"
@@ -337,6 +388,11 @@ fn line(id: u64, row: &Row) -> String {
         Value::NotLoaded => "notloaded".into(),
         Value::External => "external".into(),
         Value::Undefined(zero) => format!("undef {}", zero as u8),
+        Value::Common(alignment) => format!("com {alignment}"),
+    };
+    let value = match row.size {
+        0 => value,
+        size => format!("{value} size {size}"),
     };
     let file = form::optional_name(row.file.as_deref());
     let name = form::name(&row.name);

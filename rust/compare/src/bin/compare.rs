@@ -2,7 +2,8 @@
 //!
 //! `compare [SEED [LINKS]]`: so many links; stops at the first difference, makes its link short
 //! and prints it. `compare gabi [SEED [LINKS]]`: links of the gABI profile, in which a plain reading
-//! of the documents stands for the Rust. `compare list`: compares on the list that comes by standard
+//! of the documents stands for the Rust; `compare commons [SEED [LINKS]]`: links of the old profile
+//! with commons, in which it does too. `compare list`: compares on the list that comes by standard
 //! input, each link with what its profile is compared with.
 use compare::minimise::{difference, minimise};
 use compare::{Outcome, Sides};
@@ -35,9 +36,10 @@ fn main() {
     if words.first().is_some_and(|word| word == "list") {
         return list();
     }
-    let gabi = words.first().is_some_and(|word| word == "gabi");
-    if gabi {
-        words.remove(0);
+    // Before the name of a kind of links: "gabi-" or "commons-".
+    let mut read = String::new();
+    if words.first().is_some_and(|word| word == "gabi" || word == "commons") {
+        read = words.remove(0) + "-";
     }
     let number = |at: usize, default| match words.get(at) {
         Some(word) => word.parse().unwrap_or_else(|_| usage()),
@@ -48,14 +50,14 @@ fn main() {
     let mut counts = Counts::default();
     let mut sides = Sides::default();
     let mut chunk = 0;
-    if gabi {
+    if !read.is_empty() {
         // Every short word over small alphabets: the seed plays no part.
-        run("gabi-short-adds", 0, 0, &mut sides, &mut counts);
+        run(&format!("{read}short-adds"), 0, 0, &mut sides, &mut counts);
     }
     let links = links + counts.links;
     while counts.links < links {
         let kind = KINDS[(chunk % KINDS.len() as u64) as usize];
-        let kind = if gabi { format!("gabi-{kind}") } else { kind.into() };
+        let kind = format!("{read}{kind}");
         // Every chunk can be made again by itself: oracle gen KIND SEED COUNT.
         let own = seed.wrapping_mul(1_000_003).wrapping_add(chunk);
         let count = CHUNK.min(links - counts.links);
@@ -75,7 +77,7 @@ fn run(kind: &str, seed: u64, count: u64, sides: &mut Sides, counts: &mut Counts
 }
 
 fn usage() -> ! {
-    eprintln!("usage: compare [gabi] [SEED [LINKS]], or compare list");
+    eprintln!("usage: compare [gabi | commons] [SEED [LINKS]], or compare list");
     exit(2);
 }
 
