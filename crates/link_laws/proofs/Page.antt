@@ -17,6 +17,8 @@
 --   NeededIn      what makes a library needed, by lookups and by the libraries that were loaded (NeededIn.antt)
 --   Exit, Meets   what a caller sees of a call, and the call's contract (Contracts.antt)
 --   earlier k s   s; of a list of adds, the link after those of its adds that were accepted (Calls.antt)
+--   Premises      types 0 to 3, no commons, and what else a list of adds has to be (order_laws/specs/Premises.antt)
+--   AnyOrder      every arrangement of the list is accepted, with the same content of each name with a strong definition (order_laws/specs/Order.antt)
 -- Witness.antt has a history that meets the premises.
 -- Assumes nothing.
 use Rattle.shared_objects.specs.declared.Load.TheVariants.{NotNeeded}
@@ -52,6 +54,10 @@ use Rattle.symbol_laws.specs.History.{Entry, opened, rows}
 use Rattle.merge_laws.specs.Calls.{Linked, linked}
 use Rattle.merge_laws.specs.Origin.{from_objects}
 use Rattle.merge_laws.specs.MergeWords.{named_by, is_removed}
+use Rattle.upcoming_symbol.specs.declared.UpcomingSymbol.{UpcomingSymbol}
+use Rattle.order_laws.specs.Premises.{Premises}
+use Rattle.order_laws.specs.Order.{names_issued, AnyOrder}
+use Rattle.order_laws.proofs.Terms as Order
 use Rattle.link_laws.specs.Calls.{Call, remove, get, get_global, section_symbol, merge, load, archive_start, archive_next, collect, library_in, lists_in, call_left, refusal_by, call_refusal, call_number, call_next, run_calls, RemovesNothing, earlier}
 use Rattle.link_laws.specs.Leaves.{by_elements}
 use Rattle.link_laws.proofs.Elements as Elements
@@ -330,3 +336,12 @@ module _ (key : ℕ) (gabi : Bool) (bytes names symbols sections inputs lists : 
         → is_hidden (row_at grown_end.table.symbols x.id)
         ≡ some_hidden (rows (from_objects (Terms.grown_adds key gabi bytes names symbols sections inputs lists new ts calm lent (id_of b grown_end).0)))
     grown-hidden b = Terms.grown-hidden key gabi bytes names symbols sections inputs lists new ts calm lent (id_of b grown_end).0
+
+-- ---- link order: "every arrangement of the list is accepted from a new table with the same names issued, and each name with a strong definition ends with the
+-- same content in all of them", in the profile of the table. us are the adds of a list (items_of), ids the cells for their ids
+
+pub any-order : (key : ℕ) (gabi : Bool) (bytes names symbols sections : List ℕ) → number_in (new_of key gabi bytes names symbols sections).said ≡ 0
+    → (issued : List (List ℕ)) (conversion ids : List ℕ) (us : List UpcomingSymbol)
+    → let start = names_issued issued (opened (new_of key gabi bytes names symbols sections)) in
+    Premises start conversion us → length us ≤ length ids → AnyOrder start conversion ids gabi us
+any-order key gabi bytes names symbols sections new issued conversion ids us = Order.any-order key gabi bytes names symbols sections new issued conversion us ids

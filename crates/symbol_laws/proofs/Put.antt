@@ -316,7 +316,7 @@ module _ (s : State) (past : List Entry) (inv : Inv s past) (r : Row) (from : So
   logged t id v i = subst (λ (l : List Entry). Inv (with_table s t) (past ++ l)) (sym (noted-global r from id v)) i
 
   -- a row past the count isn't the name's
-  unheld : r.name.0 < s.link.names → (global_at s.names r.name.0 ≢ 0 → s.link.symbols ≤ global_at s.names r.name.0)
+  pub unheld : r.name.0 < s.link.names → (global_at s.names r.name.0 ≢ 0 → s.link.symbols ≤ global_at s.names r.name.0)
       → global_at s.names r.name.0 ≡ 0
   unheld i past =
       by-test (eqb (global_at s.names r.name.0) 0) (λ z. eqb-true _ _ z)

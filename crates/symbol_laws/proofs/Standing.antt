@@ -89,7 +89,7 @@ or-again true b c = refl
 or-again false true c = refl
 or-again false false c = or-none c
 
-any_append : (a b : List Row) → some_hidden (a ++ b) ≡ (some_hidden a || some_hidden b)
+pub any_append : (a b : List Row) → some_hidden (a ++ b) ≡ (some_hidden a || some_hidden b)
 any_append [] b = refl
 any_append (x ∷ a) b = rw (any_append a b, or_assoc (is_hidden x) (some_hidden a) (some_hidden b))
 

@@ -180,7 +180,7 @@ pub record Fits (s : State) : Type 0 where
   pub few : s.link.symbols ≤ 65535
   pub room : s.link.symbols * 8 ≤ length s.symbols
 
-inv-fits : (s : State) (past : List Entry) → Inv s past → Fits s
+pub inv-fits : (s : State) (past : List Entry) → Inv s past → Fits s
 inv-fits s past inv = record { few = inv.few; room = inv.room }
 
 module _ (s : State) (f : Fits s) (w : Within s.link s.names) where
@@ -196,7 +196,7 @@ module _ (s : State) (f : Fits s) (w : Within s.link s.names) where
   lists-judged =
       Link.lists-fine s.link not_lent not_lent none _ refl (lesser-most 4095 (not_lent / 8) s.link.inputs w.inputs_in (omega (arith, w.inputs_in))) w.lists-in refl
 
-  judged : none ≡ judge_of s.link (lent_of (name_rows (length s.names)) (length s.symbols) s.link.slots)
+  pub judged : none ≡ judge_of s.link (lent_of (name_rows (length s.names)) (length s.symbols) s.link.slots)
   judged =
       Link.over-rest s.link (lent_of (name_rows (length s.names)) (length s.symbols) s.link.slots) none none _ none sections-judged refl
       refl (lesser-most 65535 (length s.symbols / 8) s.link.symbols f.few (omega (arith, f.room))) names-judged refl lists-judged

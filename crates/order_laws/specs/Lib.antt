@@ -1,0 +1,3 @@
+pub mod Premises
+pub mod Order
+pub mod Examples

@@ -1,0 +1,2 @@
+// Theorems about lists of adds in any order.
+#![tactic(auto)]
