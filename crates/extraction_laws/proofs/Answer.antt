@@ -89,7 +89,7 @@ module _ (keys : ℕ → ℕ) (c : ℕ) where
   rounds-snoc named [] v a = refl
   rounds-snoc named (t ∷ ts) v a = rounds-snoc named ts v (round keys c (view_by named c t) a)
 
-history-snoc : (s : List ℕ) (ts : List Table) (v : Table) (r : Run) → history s (ts ++ (v ∷ [])) r ≡ step_run s v (history s ts r)
+pub history-snoc : (s : List ℕ) (ts : List Table) (v : Table) (r : Run) → history s (ts ++ (v ∷ [])) r ≡ step_run s v (history s ts r)
 unfolding history
 history-snoc s [] v r = refl
 history-snoc s (t ∷ ts) v r = history-snoc s ts v (step_run s t r)

@@ -266,6 +266,22 @@ pub extern "C" fn hidvorn_archive_next(
 }
 
 #[unsafe(no_mangle)]
+pub extern "C" fn hidvorn_shadowed(
+    header: &mut [u64],
+    walk: &[u64],
+    index: &[u8],
+    rows: &[u64],
+    bytes: &[u8],
+    names: &[u64],
+    symbols: &[u64],
+    told: &mut [u64],
+) -> u64
+    ensures { Archive.ShadowedMeets header.old walk.now index.now rows.now bytes.now names.now symbols.now told.old (Archive.shadowed_exit result header told) }
+{
+    ffi_archive::shadowed(header, walk, index, rows, bytes, names, symbols, told)
+}
+
+#[unsafe(no_mangle)]
 pub extern "C" fn hidvorn_matches(
     header: &mut [u64],
     walk: &[u64],

@@ -6,6 +6,8 @@ use Rattle.link.specs.declared.cause.Refusal.{Refusal}
 use Rattle.std.specs.Prelude.{ℕ, Bool, cond, List, ltb, length, Result, Ok, Err, true, false}
 use Rattle.archive_walk.specs.Look.{table_of}
 use Rattle.archive_walk.specs.Walk.{Start, start_of, Step, next_of}
+use Rattle.shadowed_members.specs.Shadowed as Shadowed
+use Rattle.shadowed_members.specs.Shadowed.{shadowed_of}
 use Rattle.object_requirement.specs.Matches.{matches_of}
 use Rattle.ffi_cells.specs.declared.header.Reply.{Reply}
 use Rattle.ffi_cells.specs.Header.{is_short, link_in, result_of, refusal_of, refused_of, Told, told, answer_of}
@@ -63,6 +65,25 @@ unfoldable pub next_call : List ℕ → List ℕ → List ℕ → List ℕ → L
 next_call h c index rows b n s =
     cond (is_short h) (walk_left (told 1 h) c rows)
     (cond (no_walk c) (walk_left (answer_of h (refusal_of 1 0)) c rows) (next_fit h c index rows b n s))
+
+pub record ShadowedLeft : Type 0 where
+  pub told : Told
+  pub cells : List ℕ
+
+abbrev pub shadowed_left : Told → List ℕ → ShadowedLeft
+shadowed_left t cells = record { told = t; cells = cells }
+
+-- how many entries are told, as a start says how many there are
+abbrev pub shadowed_told : List ℕ → Shadowed.Left → ShadowedLeft
+shadowed_told h x = shadowed_left (answer_of h (begun_reply x.answer)) x.cells
+
+unfoldable pub shadowed_fit : List ℕ → List ℕ → List ℕ → List ℕ → List ℕ → List ℕ → List ℕ → List ℕ → ShadowedLeft
+shadowed_fit h c index rows b n s cells = shadowed_told h (shadowed_of index rows (walk_in c) (table_of (link_in h) b n s) cells)
+
+unfoldable pub shadowed_call : List ℕ → List ℕ → List ℕ → List ℕ → List ℕ → List ℕ → List ℕ → List ℕ → ShadowedLeft
+shadowed_call h c index rows b n s cells =
+    cond (is_short h) (shadowed_left (told 1 h) cells)
+    (cond (no_walk c) (shadowed_left (answer_of h (refusal_of 1 0)) cells) (shadowed_fit h c index rows b n s cells))
 
 unfoldable pub matches_call : List ℕ → List ℕ → List ℕ → List ℕ → ℕ → List ℕ → List ℕ → List ℕ → List ℕ → Told
 matches_call h c index rows entry headers entries contents image =

@@ -5,7 +5,7 @@ use Rattle.std.specs.Prelude.{ℕ, ◌≡◌, List}
 use Rattle.cells.specs.Slice.{SliceMut}
 use Rattle.ffi_cells.specs.Header.{told}
 use Rattle.ffi_cells.specs.Contract.{ToldExit}
-use Rattle.ffi_archive.specs.Calls.{walk_left, start_call, next_call, matches_call}
+use Rattle.ffi_archive.specs.Calls.{walk_left, start_call, next_call, shadowed_left, shadowed_call, matches_call}
 
 -- ---- a walk's start, and a call for the next member
 
@@ -24,6 +24,20 @@ StartMeets h walk key index rows e = walk_left (told e.number e.header) e.walk e
 abbrev pub NextMeets : List ℕ → List ℕ → List ℕ → List ℕ → List ℕ → List ℕ → List ℕ → WalkExit → Type 0
 NextMeets h walk index rows bytes names symbols e =
     walk_left (told e.number e.header) e.walk e.rows ≡ next_call h walk index rows bytes names symbols
+
+-- ---- which entries a walk passed by
+
+pub record ShadowedExit : Type 0 where
+  pub number : ℕ
+  pub header : List ℕ
+  pub cells : List ℕ
+
+abbrev pub shadowed_exit : ℕ → SliceMut → SliceMut → ShadowedExit
+shadowed_exit n header cells = record { number = n; header = header.exit.now; cells = cells.exit.now }
+
+abbrev pub ShadowedMeets : List ℕ → List ℕ → List ℕ → List ℕ → List ℕ → List ℕ → List ℕ → List ℕ → ShadowedExit → Type 0
+ShadowedMeets h walk index rows bytes names symbols cells e =
+    shadowed_left (told e.number e.header) e.cells ≡ shadowed_call h walk index rows bytes names symbols cells
 
 -- ---- admission
 

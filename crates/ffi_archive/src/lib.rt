@@ -8,9 +8,10 @@ ghost use Rattle.archive_walk.specs.Walk.{started_of};
 ghost use Rattle.ffi_cells.specs.Contract.{told_exit};
 ghost use Rattle.ffi_archive.specs.Cells.{walk_in, walk_out};
 ghost use Rattle.ffi_archive.specs.Calls.{begun_reply, offered_reply, admitted_reply};
-ghost use Rattle.ffi_archive.specs.Contract.{walk_exit, StartMeets, NextMeets, MatchesMeets};
+ghost use Rattle.ffi_archive.specs.Contract.{walk_exit, StartMeets, NextMeets, shadowed_exit, ShadowedMeets, MatchesMeets};
 
-use archive_walk::{Offer, Walk};
+use archive_index::Entries;
+use archive_walk::{Offer, Table, Walk};
 use ffi_cells::Reply;
 use link::{Cause, Refusal};
 
@@ -49,7 +50,7 @@ pub fn put_walk(walk: &mut [u64], w: Walk)
 
 // ---- answers
 
-// Kept: begun, offered and admitted are three functions, as each answer's values are its own.
+// Kept: begun, offered, counted and admitted are four functions, as each answer's values are its own.
 fn begun(a: Result<Walk, Refusal>) -> Reply
     ensures { result ≡ begun_reply (started_of a).begun }
 {
@@ -71,6 +72,15 @@ fn offered(a: Result<Offer, Refusal>) -> Reply
             },
         ) => ffi_cells::result(1, offset, entry as u64, passes as u64),
         Ok(Offer::Done { passes }) => ffi_cells::result(0, 0, 0, passes as u64),
+        Err(refusal) => ffi_cells::refused(refusal),
+    }
+}
+
+fn counted(a: Result<usize, Refusal>) -> Reply
+    ensures { result ≡ begun_reply a }
+{
+    match a {
+        Ok(n) => ffi_cells::result(n as u64, 0, 0, 0),
         Err(refusal) => ffi_cells::refused(refusal),
     }
 }
@@ -139,6 +149,40 @@ pub fn archive_next(
     let offer = pending_archive::next(&mut moved, index, rows, link, bytes, names, symbols);
     put_walk(walk, moved);
     ffi_cells::answer(header, offered(offer))
+}
+
+// The value is how many entries are told; their positions are in the first cells lent for them.
+#[tactic(auto, unfolding(crate::specs::Calls::shadowed_call, crate::specs::Calls::shadowed_fit, ffi_cells::specs::Header::is_short, crate::specs::Calls::no_walk))]
+pub fn shadowed(
+    header: &mut [u64],
+    walk: &[u64],
+    index: &[u8],
+    rows: &[u64],
+    bytes: &[u8],
+    names: &[u64],
+    symbols: &[u64],
+    told: &mut [u64],
+) -> u64
+    ensures { ShadowedMeets header.old walk.now index.now rows.now bytes.now names.now symbols.now told.old (shadowed_exit result header told) }
+{
+    if header.len() < ffi_cells::HEADER_CELLS {
+        return ffi_cells::SHORT;
+    }
+    if walk.len() < WALK_CELLS {
+        return ffi_cells::answer(
+            header,
+            ffi_cells::refused(Refusal::new(Cause::OutOfRange, 0)),
+        );
+    }
+    let table = Table {
+        link: ffi_cells::link_in(header),
+        bytes,
+        names,
+        symbols,
+    };
+    let entries = Entries { index, cells: rows };
+    let answer = shadowed_members::shadowed(walk_in(walk), entries, table, told);
+    ffi_cells::answer(header, counted(answer))
 }
 
 // The value is 1 where the object is admitted, else 0; of the link its profile alone is looked at.

@@ -138,6 +138,11 @@ module _ (h walk : List ℕ) (x y : Archive.WalkExit) where
   pub next-one-outcome : (index rows bytes names symbols : List ℕ) → Archive.NextMeets h walk index rows bytes names symbols x → Archive.NextMeets h walk index rows bytes names symbols y → x ≡ y
   next-one-outcome index rows bytes names symbols e f = walk-one (ArchiveCalls.next_call h walk index rows bytes names symbols) x y e f
 
+pub shadowed-one-outcome : (h walk index rows bytes names symbols cells : List ℕ) (x y : Archive.ShadowedExit) → Archive.ShadowedMeets h walk index rows bytes names symbols cells x
+    → Archive.ShadowedMeets h walk index rows bytes names symbols cells y → x ≡ y
+shadowed-one-outcome h walk index rows bytes names symbols cells x y e f =
+    ap {B = Archive.ShadowedExit} (λ (o : ArchiveCalls.ShadowedLeft). record { number = o.told.number; header = o.told.header; cells = o.cells }) (e ∙ sym f)
+
 -- a collection
 pub run-one-outcome : (h : List ℕ) (c : Lists) (symbols sections : List ℕ) (entry : Option SymbolId) (work : List ℕ) (x y : Collect.RunExit) → Collect.RunMeets h c symbols sections entry work x
     → Collect.RunMeets h c symbols sections entry work y → x ≡ y

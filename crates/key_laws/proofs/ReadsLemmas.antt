@@ -18,12 +18,14 @@ use Rattle.merge_laws.proofs.Whole.{change-passed}
 use Rattle.interner.specs.Names.{Store}
 use Rattle.symbols.specs.Remove.{Rows, rows_of}
 use Rattle.sections.specs.Rows.{state_at, name_id_at, is_built}
-use Rattle.archive_index.specs.Rows.{stored_name}
+use Rattle.archive_index.specs.Rows.{member_at, stored_name}
 use Rattle.archive_walk.specs.declared.Walk.{Walk}
 use Rattle.archive_walk.specs.Look as Look
 use Rattle.object_requirement.specs.Matches.{matches_of}
 use Rattle.archive_walk.specs.Look.{judge_table, name_holder, was_removed, ties, removed_name, tied_name}
 use Rattle.archive_walk.specs.Walk.{Queue, queue_of, tie_of, tie_all, removed_of, make_of, search_of, pass_of, go_of, next_of}
+use Rattle.shadowed_members.specs.Shadowed.{offered_among, told_holder, told_name, told_at, shadowed_of}
+use Rattle.shadowed_members.specs.Proof.Ways.{those_same}
 use Rattle.gc_sections.specs.Each.{each}
 use Rattle.gc_sections.specs.Roots.{name_is, rooted, is_root, symbol_id, lead_of}
 use Rattle.gc_sections.specs.Reach as Reach
@@ -74,6 +76,12 @@ module _ (k : ℕ) (t : Look.Table) (n : List ℕ) (e : Rekeyed k (record { byte
   pub next-same : (s l : List ℕ) (w : Walk) → next_of s l w u ≡ next_of s l w t
   unfolding next_of go_of pass_of search_of make_of
   next-same s l w = rw (judge-same, gone_same s l w.entries 0, tie-same w.key w.entries s (w.passes + 1) w.entries 0 (queue_of l w.queued))
+
+  pub shadowed-same : (s l : List ℕ) (w : Walk) (c : List ℕ) → shadowed_of s l w u c ≡ shadowed_of s l w t c
+  unfolding shadowed_of told_at told_name
+  shadowed-same s l w c =
+      let o = offered_among l w.offered in
+      rw (judge-same, those_same (told_at s l u o) (told_at s l t o) w.entries 0 (λ j. ap (told_holder t.symbols (o (member_at l j))) (holds_same (stored_name s l j))))
 
 -- admission looks at the link's profile alone
 pub matches-same : (k : ℕ) (l : Link) (headers entries contents file s rows : List ℕ) (w : Walk) (e : ℕ)

@@ -23,13 +23,15 @@ use Rattle.archive_index.specs.Open.{offsets_in, open_rows_of, open_names_of, op
 use Rattle.archive_walk.specs.declared.Walk.{Walk}
 use Rattle.archive_walk.specs.Look.{judge_table, name_holder, removed_name}
 use Rattle.archive_walk.specs.Walk.{Step, begun_number, begun_place, begun_of, start_of, number_of, place_of, step_moved, refused_move, offer_of, removed_of, make_of, search_of, pass_of, walk_fits, go_of, next_of}
+use Rattle.shadowed_members.specs.Shadowed as Shadowed
+use Rattle.shadowed_members.specs.Shadowed.{fits_index, shadowed_of}
 use Rattle.elf_object.specs.Judge as Elf
 use Rattle.object_requirement.specs.Matches as Matches
 use Rattle.object_requirement.specs.Matches.{admission, offered_in, matches_of}
 use Rattle.interner_laws.specs.Good.{Chained}
 use Rattle.symbol_laws.specs.History.{State, store}
 use Rattle.merge_laws.specs.Calls.{Linked}
-use Rattle.link_laws.specs.Calls.{archive_start, archive_next, matches, view_in, call_refusal}
+use Rattle.link_laws.specs.Calls.{archive_start, archive_next, archive_shadowed, matches, view_in, call_refusal}
 use Rattle.link_laws.specs.Rules.{Rule, ◌gives◌at◌, each, first_refusal, numbered, lent_rows, count_rules}
 use Rattle.link_laws.proofs.Rules.{over-either, numbered-both, each-numbered, first-none, first-is, follows, headed, taken, left_out, count-rules}
 use Rattle.link_laws.proofs.AddExactly.{least-below}
@@ -38,7 +40,7 @@ use Rattle.link_laws.proofs.Exactly.{holder-is}
 use Rattle.link_laws.specs.ObjectRules.{object_rules}
 use Rattle.link_laws.proofs.ObjectExactly.{object-exactly, object-numbered}
 use Rattle.link_laws.proofs.MergeSymbols.{find-is}
-use Rattle.link_laws.specs.ArchiveRules.{entries_in, name_start, is_offset_cut, is_name_cut, empty_rules, offset_rules, name_rules, cell_rules, start_rules, is_other_walk, entry_name, is_gone, pass_rules, next_rules, is_no_entry, matches_rules}
+use Rattle.link_laws.specs.ArchiveRules.{entries_in, name_start, is_offset_cut, is_name_cut, empty_rules, offset_rules, name_rules, cell_rules, start_rules, is_other_walk, entry_name, is_gone, pass_rules, next_rules, is_no_entry, is_strange_walk, shadowed_rules, matches_rules}
 
 true≢false : true ≡ false → ⊥
 true≢false e = false≢true (sym e)
@@ -266,6 +268,33 @@ pub next-numbered : (index cells : List ℕ) (w : Walk) (t : State) → numbered
 next-numbered index cells w t =
     by-test w.done (λ a. rw a)
     (λ a. rw a (by-test (ltb w.offered w.queued) (λ b. rw b) (λ b. rw b (each-numbered (λ k. is_gone t (entry_name index cells k)) 21 refl w.entries 0))))
+
+-- ---- which entries a walk passed by
+
+abbrev shadowed_said : Shadowed.Left → Refusal
+shadowed_said x = refused (begun_number x.answer) (begun_place x.answer)
+
+fits-strange : (s l : List ℕ) (w : Walk) → fits_index s l w ≡ not (is_strange_walk s l w)
+unfolding fits_index
+fits-strange s l w = four (ltb (length s) w.length) (ltb (length l / 8) w.entries) (ltb w.entries w.queued) (ltb w.queued w.offered)
+  where
+    four : (a b c d : Bool) → cond a false (cond b false (cond c false (cond d false true))) ≡ not (a || b || c || d)
+    four true b c d = refl
+    four false true c d = refl
+    four false false true d = refl
+    four false false false true = refl
+    four false false false false = refl
+
+pub shadowed-exactly : (index rows : List ℕ) (w : Walk) (cells : List ℕ) (s : Linked)
+    → call_refusal (archive_shadowed index rows w cells) s ≡ first_refusal (shadowed_rules index rows w s.table cells)
+unfolding shadowed_of judge_table
+shadowed-exactly index rows w cells s =
+    let t : State = s.table in
+    headed ((is_strange_walk index rows w gives 1 at 0) ∷ (ltb (length cells) w.entries gives 2 at 0) ∷ []) shadowed_said
+    (count_rules t.link (lent_rows (length t.names / 9) (length t.bytes) (length t.symbols) t.link.slots not_lent not_lent)) _ _ _ refl (count-rules t.link _) refl
+    (λ a.
+    rw (fits-strange index rows w)
+    (by-test (is_strange_walk index rows w) (λ b. rw b) (λ b. rw b (by-test (ltb (length cells) w.entries) (λ d. rw d) (λ d. rw d)))))
 
 -- ---- admission
 

@@ -26,7 +26,7 @@ module _ (key : ℕ) (index cells : List ℕ) (begun : begun_number (start_of ke
   abbrev c : ℕ
   c = count_of index
 
-  opened : (open_of index cells).opened.refusal.number ≡ 0
+  pub opened : (open_of index cells).opened.refusal.number ≡ 0
   unfolding start_of begun_of
   opened =
       by-test (eqb (open_of index cells).opened.refusal.number 0) (λ e. eqb-true _ _ e) (λ e. absurd (eqb-false _ _ e (rw e at begun)))

@@ -14,6 +14,8 @@ use Rattle.archive_walk.specs.declared.Walk.{Walk}
 use Rattle.archive_walk.specs.Walk.{Started}
 use Rattle.archive_walk.specs.Look.{Table, judge_table}
 use Rattle.archive_walk.specs.Walk.{Step, begun_number, begun_of, start_of, number_of, removed_of, make_of, search_of, pass_of, walk_fits, go_of, next_of}
+use Rattle.shadowed_members.specs.Shadowed as Shadowed
+use Rattle.shadowed_members.specs.Shadowed.{fits_index, shadowed_of}
 use Rattle.link_laws.proofs.NeverRemoved.{offered-number}
 
 -- ---- a refused call for the next member leaves the walk
@@ -36,6 +38,19 @@ walk-leaves index cells w t =
   where
     P : Step → Type 0
     P x = number_of x.moved.offer ≢ 0 → (x.cells ≡ cells) × (x.moved.walk ≡ w)
+
+-- ---- a refused look at what it passed by leaves the cells
+
+pub shadowed-leaves : (index rows : List ℕ) (w : Walk) (t : Table) (cells : List ℕ) → begun_number (shadowed_of index rows w t cells).answer ≢ 0
+    → (shadowed_of index rows w t cells).cells ≡ cells
+unfolding shadowed_of
+shadowed-leaves index rows w t cells =
+    pick P (eqb (judge_table t).number 0) _ _
+    (λ a. pick P (fits_index index rows w) _ _ (λ b. pick P (ltb (length cells) w.entries) _ _ (λ d u. refl) (λ d u. absurd (u refl))) (λ b u. refl))
+    (λ a u. refl)
+  where
+    P : Shadowed.Left → Type 0
+    P x = begun_number x.answer ≢ 0 → x.cells ≡ cells
 
 -- ---- a refused start leaves the cells lent to it
 

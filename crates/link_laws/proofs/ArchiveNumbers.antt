@@ -15,13 +15,15 @@ use Rattle.archive_walk.specs.Walk.{Started}
 use Rattle.archive_walk.specs.Look.{judge_table}
 use Rattle.archive_walk.specs.Look as Look
 use Rattle.archive_walk.specs.Walk.{Step, begun_number, number_of, begun_of, start_of, offer_of, removed_of, make_of, search_of, pass_of, walk_fits, go_of, next_of}
+use Rattle.shadowed_members.specs.Shadowed as Shadowed
+use Rattle.shadowed_members.specs.Shadowed.{fits_index, shadowed_of}
 use Rattle.object_requirement.specs.Matches as Matches
 use Rattle.object_requirement.specs.Matches.{admission, offered_in, has_global_symbol, matches_of}
 use Rattle.archive_walk.specs.Names.{required_of}
 use Rattle.merge_laws.proofs.ByNumber.{elf-gives}
 use Rattle.link_laws.proofs.Among.{Among}
 use Rattle.link_laws.specs.Table.{call_numbers}
-use Rattle.link_laws.specs.Calls.{archive_start, archive_next, matches}
+use Rattle.link_laws.specs.Calls.{archive_start, archive_next, archive_shadowed, matches}
 
 open-numbers : (key : ℕ) (s l : List ℕ) → Among (call_numbers (archive_start key s l)) (open_of s l).opened.refusal.number
 unfolding open_of open_entries_of open_names_of open_rows_of
@@ -78,6 +80,15 @@ next-numbers s l w t =
 
     judges : Among (call_numbers (archive_next s l w)) (judge_table t).number
     judges = judged-table s l w t
+
+pub shadowed-numbers : (s l : List ℕ) (w : Walk) (t : Look.Table) (c : List ℕ) → Among (call_numbers (archive_shadowed s l w c)) (begun_number (shadowed_of s l w t c).answer)
+unfolding shadowed_of judge_table
+shadowed-numbers s l w t c =
+    pick P (eqb (judge_table t).number 0) _ _ (λ a. pick P (fits_index s l w) _ _ (λ b. pick P (ltb (length c) w.entries) _ _ (λ d. refl) (λ d. refl)) (λ b. refl))
+    (λ a. judge-gives (λ (r : Refusal). Among (call_numbers (archive_shadowed s l w c)) r.number) (λ k. refl) refl t.link _)
+  where
+    P : Shadowed.Left → Type 0
+    P x = Among (call_numbers (archive_shadowed s l w c)) (begun_number x.answer)
 
 pub matches-numbers : (link : Link) (headers entries contents file s l : List ℕ) (w : Walk) (e : ℕ) → Among (call_numbers (matches headers entries contents file s l w e)) (Matches.number_of (matches_of link headers entries contents file s l w e))
 unfolding matches_of

@@ -33,7 +33,7 @@ use Rattle.link_laws.proofs.FileExactly.{file-exactly, file-numbered}
 use Rattle.link_laws.proofs.LoadWhole.{load-exactly, load-numbered}
 use Rattle.link_laws.specs.ArchiveRules.{indexed_rules}
 use Rattle.link_laws.proofs.ArchiveIndexed.{next-indexed}
-use Rattle.link_laws.proofs.ArchiveExactly.{start-exactly, start-numbered, next-exactly, next-numbered, matches-exactly, matches-numbered}
+use Rattle.link_laws.proofs.ArchiveExactly.{start-exactly, start-numbered, next-exactly, next-numbered, shadowed-exactly, matches-exactly, matches-numbered}
 use Rattle.link_laws.proofs.CollectExactly.{collect-exactly}
 use Rattle.link_laws.proofs.PlainExactly.{plain-exactly}
 use Rattle.link_laws.proofs.ListExactly.{list-exactly, list-numbered}
@@ -55,6 +55,7 @@ call-exactly (merge_file file cells work ids) s met m = file-exactly file cells 
 call-exactly (load o marks) s met m = load-exactly o (library_in s marks) m.good
 call-exactly (reads (Read.archive_start key index cells)) s met m = start-exactly key index cells s
 call-exactly (reads (Read.archive_next index cells w)) s met m = next-exactly index cells w s m.good.chained
+call-exactly (reads (Read.archive_shadowed index rows w cells)) s met m = shadowed-exactly index rows w cells s
 call-exactly (reads (Read.matches headers entries contents file index cells w e)) s met m = matches-exactly headers entries contents file index cells w e s
 call-exactly (collect marks entry work) s met m = collect-exactly marks entry work s
 call-exactly (plain_collect marks entry work) s met m = plain-exactly marks entry work s
@@ -78,6 +79,7 @@ rules-numbered (merge_file file cells work ids) s =
 rules-numbered (load o marks) s = load-numbered o (library_in s marks)
 rules-numbered (reads (Read.archive_start key index cells)) s = start-numbered index cells
 rules-numbered (reads (Read.archive_next index cells w)) s = next-numbered index cells w s.table
+rules-numbered (reads (Read.archive_shadowed index rows w cells)) s = refl
 rules-numbered (reads (Read.matches headers entries contents file index cells w e)) s = matches-numbered headers entries contents file index cells w e
 rules-numbered (collect marks entry work) s = refl
 rules-numbered (plain_collect marks entry work) s = refl

@@ -26,7 +26,7 @@ use Rattle.load_laws.proofs.Whole as Loads
 use Rattle.key_laws.specs.Rekeyed.{keyed, Rekeyed}
 use Rattle.key_laws.proofs.Tables.{intern-moved, resolve_same, add-moved, remove-keyed, remove-link, get-keyed, global-same, section-symbol-keyed}
 use Rattle.key_laws.proofs.SectionNames.{Named}
-use Rattle.key_laws.proofs.ReadsLemmas.{next-same, matches-same, collect-same, collect-link}
+use Rattle.key_laws.proofs.ReadsLemmas.{next-same, shadowed-same, matches-same, collect-same, collect-link}
 use Rattle.key_laws.proofs.Groups.{add-group-moved}
 use Rattle.key_laws.proofs.Merge.{merge-moved}
 use Rattle.key_laws.proofs.Load.{load_moved}
@@ -34,7 +34,7 @@ use Rattle.key_laws.proofs.SectionCalls.{intern-named, add-named, remove-named, 
 use Rattle.key_laws.proofs.NewTables.{new-said, new-moved, new-named}
 use Rattle.link_laws.specs.Read.{ReadLeft}
 use Rattle.link_laws.specs.Read as Read
-use Rattle.link_laws.specs.Calls.{Call, intern, add, remove, add_group, merge, merge_file, load, archive_next, matches, collect, plain_collect, LeftBy, call_left, refusal_in, refusal_by, call_refusal, call_next, run_calls, group_in, library_in, lists_in, view_in, is_read, reads, add_list}
+use Rattle.link_laws.specs.Calls.{Call, intern, add, remove, add_group, merge, merge_file, load, archive_next, archive_shadowed, matches, collect, plain_collect, LeftBy, call_left, refusal_in, refusal_by, call_refusal, call_next, run_calls, group_in, library_in, lists_in, view_in, is_read, reads, add_list}
 use Rattle.link_laws.proofs.PlainCalls.{plain-link}
 use Rattle.key_laws.proofs.PlainReads.{plain-same, plain-named}
 use Rattle.elf_laws.specs.Object as ElfFile
@@ -325,6 +325,9 @@ module _ (key : ℕ) (s : Linked) (n : List ℕ) (e : Rekeyed key (store s.table
   under_same (reads (Read.archive_next index cells w)) =
       let q = next-same key (view_in s.table) n e index cells w in
       record { answer = q; refusal = ap (refusal_in (archive_next index cells w)) q; next = stays }
+  under_same (reads (Read.archive_shadowed index rows w cells)) =
+      let q = shadowed-same key (view_in s.table) n e index rows w cells in
+      record { answer = q; refusal = ap (refusal_in (archive_shadowed index rows w cells)) q; next = stays }
   under_same (reads (Read.matches headers entries contents file index cells w i)) =
       let q = matches-same key s.table.link headers entries contents file index cells w i in
       record { answer = q; refusal = ap (refusal_in (matches headers entries contents file index cells w i)) q; next = stays }

@@ -31,6 +31,7 @@ pub mod NewExactly
 pub mod Undefined
 pub mod LookedUp
 pub mod WalkIn
+pub mod Shadowed
 pub mod Leaves
 pub mod PlainExactly
 pub mod Growth

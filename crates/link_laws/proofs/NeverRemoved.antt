@@ -27,7 +27,7 @@ use Rattle.archive_laws.specs.ByKey.{Walked}
 use Rattle.symbol_laws.specs.History.{State, Entry, only}
 use Rattle.symbol_laws.proofs.Held.{Inv}
 use Rattle.symbol_laws.proofs.Demand.{holder_known, holder-none}
-use Rattle.symbol_laws.proofs.Within.{Within}
+use Rattle.symbol_laws.proofs.Within.{Within, Fits}
 use Rattle.merge_laws.specs.Marked.{Marked}
 use Rattle.link_laws.specs.Calls.{view_in}
 
@@ -42,7 +42,7 @@ pub record Whole (t : Table) : Type 0 where
   pub judged : (judge_table t).number ≡ 0
   pub kept : (x : List ℕ) → removed_name t x ≡ false
 
-module _ (s : State) (past : List Entry) (inv : Inv s past) (met : List (List ℕ)) (marked : Marked s met) (w : Within s.link s.names) where
+module _ (s : State) (f : Fits s) (met : List (List ℕ)) (marked : Marked s met) (w : Within s.link s.names) where
   sections-judged : none ≡ judge_sections s.link s.link.slots
   sections-judged = Link.sections-fine s.link s.link.slots none _ (omega arith) refl w.sections-in refl
 
@@ -58,12 +58,13 @@ module _ (s : State) (past : List Entry) (inv : Inv s past) (met : List (List �
   judged : none ≡ judge_of s.link (lent_of s.link (length s.bytes) (length s.names) (length s.symbols))
   judged =
       Link.over-rest s.link (lent_of s.link (length s.bytes) (length s.names) (length s.symbols)) none none _ none sections-judged refl
-      refl (lesser-most 65535 (length s.symbols / 8) s.link.symbols inv.few (omega (arith, inv.room))) names-judged refl lists-judged
+      refl (lesser-most 65535 (length s.symbols / 8) s.link.symbols f.few (omega (arith, f.room))) names-judged refl lists-judged
 
-  table-judged : (judge_table (view_in s)).number ≡ 0
+  pub table-judged : (judge_table (view_in s)).number ≡ 0
   unfolding judge_table
   table-judged = simp (← judged)
 
+module _ (s : State) (past : List Entry) (inv : Inv s past) (met : List (List ℕ)) (marked : Marked s met) (w : Within s.link s.names) where
   -- no holder was removed
   holds : (n : ℕ) → was_removed (holder_of s.link s.names s.symbols (record { 0 = n })) ≡ false
   holds n = go (only n past) refl
@@ -77,7 +78,7 @@ module _ (s : State) (past : List Entry) (inv : Inv s past) (met : List (List �
   none-removed x = holds (find_of s.bytes s.names s.link x)
 
   pub table-whole : Whole (view_in s)
-  table-whole = record { judged = table-judged; kept = none-removed }
+  table-whole = record { judged = table-judged s (record { few = inv.few; room = inv.room }) met marked w; kept = none-removed }
 
 -- ---- a call for the next member
 
@@ -152,7 +153,7 @@ module _ (keys : ℕ → ℕ) (c : ℕ) where
       by-test (round keys c v a).done (λ d. absurd (apart (sym e ∙ rounds-still vs (round keys c v a) d)))
       (λ d. omega (arith, round-moves v a u.0 d, rounds-move vs (round keys c v a) u.1 e))
 
-  rounds-kept : (vs : List View) (a : Rounds) → Kept keys c a → Kept keys c (rounds keys c vs a)
+  pub rounds-kept : (vs : List View) (a : Rounds) → Kept keys c a → Kept keys c (rounds keys c vs a)
   unfolding rounds
   rounds-kept [] a k = k
   rounds-kept (v ∷ vs) a k = rounds-kept vs (round keys c v a) (kept-did keys c v a (round keys c v a) k (did keys c v a))

@@ -56,7 +56,7 @@ use Rattle.link_laws.proofs.Among.{one-within, Among}
 use Rattle.link_laws.proofs.GroupNumbers.{group-numbers}
 use Rattle.link_laws.proofs.MergeNumbers.{merge-numbers}
 use Rattle.link_laws.proofs.LoadNumbers.{load-numbers}
-use Rattle.link_laws.proofs.ArchiveNumbers.{start-numbers, next-numbers, matches-numbers}
+use Rattle.link_laws.proofs.ArchiveNumbers.{start-numbers, next-numbers, shadowed-numbers, matches-numbers}
 use Rattle.merge_laws.specs.Table.{one_of, within, file_head_numbers, refusals}
 use Rattle.link_laws.proofs.ListCall.{list-gives}
 
@@ -230,6 +230,7 @@ numbers (merge_file file cells work ids) s = file-numbers file cells work ids s
 numbers (load o marks) s = load-numbers o (library_in s marks)
 numbers (reads (Read.archive_start key index cells)) s = start-numbers key index cells
 numbers (reads (Read.archive_next index cells w)) s = next-numbers index cells w (view_in s.table)
+numbers (reads (Read.archive_shadowed index rows w cells)) s = shadowed-numbers index rows w (view_in s.table) cells
 numbers (reads (Read.matches headers entries contents file index cells w e)) s = matches-numbers s.table.link headers entries contents file index cells w e
 numbers (collect marks entry work) s = collect-numbers s.table.link (lists_in s marks) s.table.symbols s.table.sections entry work
 numbers (plain_collect marks entry work) s = plain-numbers marks entry work s
@@ -250,6 +251,7 @@ in_table (merge_file file cells work ids) = refl
 in_table (load o marks) = refl
 in_table (reads (Read.archive_start key index cells)) = refl
 in_table (reads (Read.archive_next index cells w)) = refl
+in_table (reads (Read.archive_shadowed index rows w cells)) = refl
 in_table (reads (Read.matches headers entries contents file index cells w e)) = refl
 in_table (collect marks entry work) = refl
 in_table (plain_collect marks entry work) = refl

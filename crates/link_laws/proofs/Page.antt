@@ -19,6 +19,7 @@
 --   earlier k s   s; of a list of adds, the link after those of its adds that were accepted (Calls.antt)
 --   Premises      types 0 to 3, no commons, and what else a list of adds has to be (order_laws/specs/Premises.antt)
 --   AnyOrder      every arrangement of the list is accepted, with the same content of each name with a strong definition (order_laws/specs/Order.antt)
+--   told i q s k  entry k of index i, by its name's lookup in s and by whether the members offered by the entries q have its own (specs/Shadowed.antt)
 -- Witness.antt has a history that meets the premises.
 -- Assumes nothing.
 use Rattle.shared_objects.specs.declared.Load.TheVariants.{NotNeeded}
@@ -39,7 +40,8 @@ use Rattle.symbols.specs.Lookup.{not_found}
 use Rattle.shared_objects.specs.Load as Shared
 use Rattle.archive_index.specs.Index.{count_of, offset_of, name_of}
 use Rattle.archive_laws.specs.Rounds as Rounds
-use Rattle.archive_laws.specs.Runs.{Run, start_run}
+use Rattle.archive_walk.specs.Look.{Table}
+use Rattle.archive_laws.specs.Runs.{Run, history, start_run}
 use Rattle.archive_laws.proofs.PassList.{is_in, without, first_seen, offered, Over, among_in}
 use Rattle.gc_laws.proofs.Terms as CollectionLaws
 use Rattle.gc_laws.specs.Reached as Roots
@@ -58,7 +60,7 @@ use Rattle.upcoming_symbol.specs.declared.UpcomingSymbol.{UpcomingSymbol}
 use Rattle.order_laws.specs.Premises.{Premises}
 use Rattle.order_laws.specs.Order.{names_issued, AnyOrder}
 use Rattle.order_laws.proofs.Terms as Order
-use Rattle.link_laws.specs.Calls.{Call, remove, get, get_global, section_symbol, merge, load, archive_start, archive_next, collect, library_in, lists_in, call_left, refusal_by, call_refusal, call_number, call_next, run_calls, RemovesNothing, earlier}
+use Rattle.link_laws.specs.Calls.{Call, remove, get, get_global, section_symbol, merge, load, archive_start, archive_next, archive_shadowed, collect, library_in, lists_in, call_left, refusal_by, call_refusal, call_number, call_next, run_calls, RemovesNothing, earlier}
 use Rattle.link_laws.specs.Leaves.{by_elements}
 use Rattle.link_laws.proofs.Elements as Elements
 use Rattle.link_laws.specs.CallContracts.{Exit, Meets}
@@ -72,6 +74,7 @@ use Rattle.link_laws.proofs.Growth.{Turn, Quiet, run_turns}
 use Rattle.link_laws.proofs.NeededIn.{NeededIn}
 use Rattle.link_laws.specs.Words.{id_of, lookup, undefined, strong, ties, adds, tied}
 use Rattle.link_laws.proofs.Words.{ties-seen, tied-seen}
+use Rattle.link_laws.specs.Shadowed.{knows, strongly_defined, told, those_below, Tells}
 use Rattle.link_laws.specs.Rules as Rules
 use Rattle.link_laws.specs.CallRules.{rules}
 use Rattle.link_laws.proofs.ExactTerms as ExactTerms
@@ -316,6 +319,32 @@ module _ (key : ℕ) (gabi : Bool) (bytes names symbols sections inputs lists : 
       pub demand-3c : (a c : ℕ) → (call_left (collect marks entry work) end).answer ≡ Ok (dropped a c) → (y : ℕ) → After y ↔ Reached y
       demand-3c a c e y =
           let k = Terms.demand-3c key gabi bytes names symbols sections inputs lists new ks quiet marks entry work a c e in (k.reached y, k.kept y)
+
+  -- ---- beside the terms: what a walk over an archive passed by, told by a call of our own. After any calls, those that remove too; the walk's own were lent whatever
+  -- tables, those of the link as it stood among them (tables_at, Walks.antt)
+
+  module _ (ks : List Call) (walk_key : ℕ) (index cells : List ℕ) (begun : call_number (archive_start walk_key index cells) (run_calls ks s0) ≡ 0)
+      (ts : List Table) (out : List ℕ) where
+    abbrev pub now : Linked
+    now = run_calls ks s0
+
+    abbrev pub walk : Run
+    walk = history index ts (start_run walk_key index cells)
+
+    -- an entry is told just where its name's lookup answers a weak definition and no call of the walk has offered its member, or an undefined row and one has
+    pub told-exactly : call_number (archive_shadowed index walk.cells walk.walk out) now ≡ 0
+        → Tells (those_below (told index walk.offers now) (count_of index)) out (call_left (archive_shadowed index walk.cells walk.walk out) now)
+    told-exactly = Terms.shadowed-exactly key gabi bytes names symbols sections inputs lists new ks lent walk_key index cells begun ts out
+
+    -- one more call, over this link, ends the walk, and nothing is told: in the old profile a name of an entry whose member was not offered is held strongly, or
+    -- the link doesn't know it
+    abbrev pub walk_end : Run
+    walk_end = next_in index walk now
+
+    pub passed-by-held : gabi ≡ false → walk.walk.done ≡ false → walk_end.walk.done ≡ true → (call_left (archive_shadowed index walk_end.cells walk_end.walk out) now).answer ≡ Ok 0
+        → (k : ℕ) → k < count_of index → Rounds.among index k walk_end.offers ≡ false → knows (name_of index (count_of index) k) now ≡ true
+        → strongly_defined (name_of index (count_of index) k) now ≡ true
+    passed-by-held = Terms.passed-by-held key gabi bytes names symbols sections inputs lists new ks lent walk_key index cells begun ts out
 
   -- ---- where lists grow between the calls, as the Rust crate lends them: the profile, demand 3a
 

@@ -45,7 +45,8 @@ use Rattle.shared_objects.specs.Load as Shared
 use Rattle.shared_objects.specs.Need.{input_kind_at}
 use Rattle.load_laws.specs.Needed.{library_kind, Needed}
 use Rattle.load_laws.proofs.NeedTerms as Unneeded
-use Rattle.archive_index.specs.Index.{count_of}
+use Rattle.archive_index.specs.Index.{count_of, offset_of}
+use Rattle.archive_index.specs.Index as Index
 use Rattle.archive_walk.specs.declared.Walk.{Walk}
 use Rattle.archive_walk.specs.Look.{Table, undefined_name, tied_name}
 use Rattle.archive_walk.specs.Names.{required_of}
@@ -71,6 +72,7 @@ use Rattle.symbol_laws.proofs.Profile.{new-profile}
 use Rattle.symbol_laws.specs.Demand as Demand
 use Rattle.symbol_laws.proofs.Demand as DemandLaws
 use Rattle.symbol_laws.proofs.Within as Within
+use Rattle.symbol_laws.proofs.Within.{Fits}
 use Rattle.symbol_laws.specs.Writes as Writes
 use Rattle.symbol_laws.proofs.WritesLemmas as WritesLaws
 use Rattle.symbol_laws.specs.Gabi.{Means, AllMean, sym_of, sym_of_row, syms_of}
@@ -114,7 +116,7 @@ use Rattle.load_laws.proofs.SymbolDuplicates as InLoad
 use Rattle.plain_laws.proofs.Agrees.{Agrees}
 use Rattle.plain_laws.proofs.Terms as Plain
 use Rattle.plain_laws.specs.BuiltRows.{built_rows}
-use Rattle.link_laws.specs.Calls.{Call, intern, resolve, add, remove, get, get_global, section_symbol, add_group, merge, merge_file, load, archive_start, archive_next, matches, collect, plain_collect, view_in, group_in, library_in, lists_in, call_left, refusal_by, call_refusal, call_number, call_next, call_notes, run_calls, log_calls, Removes, RemovesNothing, file_head, add_list, earlier}
+use Rattle.link_laws.specs.Calls.{Call, intern, resolve, add, remove, get, get_global, section_symbol, add_group, merge, merge_file, load, archive_start, archive_next, archive_shadowed, matches, collect, plain_collect, view_in, group_in, library_in, lists_in, call_left, refusal_by, call_refusal, call_number, call_next, call_notes, run_calls, log_calls, Removes, RemovesNothing, file_head, add_list, earlier}
 use Rattle.link_laws.proofs.FileCall as FileCall
 use Rattle.elf_laws.specs.Object as ElfFile
 use Rattle.elf_laws.specs.Object.{laid}
@@ -163,7 +165,7 @@ use Rattle.link_laws.proofs.CallPast as CallPast
 use Rattle.link_laws.specs.Lists as Lists
 use Rattle.link_laws.proofs.Lists as ListsLaws
 use Rattle.link_laws.proofs.Kept as Kept
-use Rattle.link_laws.proofs.Kept.{signatures, meets_groups, calls-keep, calls-marked, calls-below, Lasting, lasting-on, Reached, reached-within, reached-on}
+use Rattle.link_laws.proofs.Kept.{signatures, meets_groups, calls-keep, calls-marked, calls-below, Lasting, lasting-within, lasting-on, Reached, reached-within, reached-on}
 use Rattle.link_laws.proofs.NamesStay as NamesStay
 use Rattle.link_laws.proofs.Libraries as Libraries
 use Rattle.link_laws.proofs.LibraryLoads as LibraryLoadsLaws
@@ -182,6 +184,8 @@ use Rattle.link_laws.proofs.NeededIn.{NeededIn}
 use Rattle.link_laws.proofs.Walks as WalksLaws
 use Rattle.link_laws.specs.Walks.{next_in, with_walk, walk_after, tables_at, joined}
 use Rattle.link_laws.proofs.WalkIn as WalkIn
+use Rattle.link_laws.specs.Shadowed.{knows, strongly_defined, told, Settled, those_below, Tells}
+use Rattle.link_laws.proofs.Shadowed as ShadowedLaws
 use Rattle.merge_laws.specs.Origin.{from_objects}
 use Rattle.merge_laws.proofs.Origin.{hidden-objects, only-shown}
 use Rattle.link_laws.proofs.Profile.{call-profile, calls-profile, calls-shown, turns-profile, turns-shown}
@@ -336,7 +340,8 @@ pub new-leaves : (key : ℕ) (gabi : Bool) (bytes names symbols sections : List 
     → new_of key gabi bytes names symbols sections ≡ unopened key gabi bytes names symbols sections
 new-leaves = NewTable.new-leaves
 
--- and the marks of an object, where it is a group; the cells of an archive, where it is a start; the walk, where it is a call for the next member
+-- and the marks of an object, where it is a group; the cells of an archive, where it is a start; the walk, where it is a call for the next member; the cells for
+-- the entries that are told
 pub group-leaves : (o : Group.Object) (work : List ℕ) (n : ℕ) (s : Linked) → call_number (add_group o work n) s ≢ 0 → (call_left (add_group o work n) s).work ≡ work
 group-leaves o work n s u = (LeavesLaws.group-refused o s.table work n u).1
 
@@ -346,6 +351,10 @@ start-leaves key index cells s = ArchiveLeaves.start-leaves key index cells
 pub walk-leaves : (index cells : List ℕ) (w : Walk) (s : Linked) → call_number (archive_next index cells w) s ≢ 0
     → ((call_left (archive_next index cells w) s).cells ≡ cells) × ((call_left (archive_next index cells w) s).moved.walk ≡ w)
 walk-leaves index cells w s = ArchiveLeaves.walk-leaves index cells w _
+
+pub shadowed-leaves : (index rows : List ℕ) (w : Walk) (cells : List ℕ) (s : Linked) → call_number (archive_shadowed index rows w cells) s ≢ 0
+    → (call_left (archive_shadowed index rows w cells) s).cells ≡ cells
+shadowed-leaves index rows w cells s = ArchiveLeaves.shadowed-leaves index rows w _ cells
 
 -- 1, 15, 20, 22, 23, 25, 26, 27 and 30 leave "all", whichever call gives them, but what the earlier adds of a list made
 pub leaves_all : (k : Call) (s : Linked) → one_of (call_number k s) unstarred ≡ true → call_next k s ≡ earlier k s
@@ -778,6 +787,46 @@ module _ (key : ℕ) (gabi : Bool) (bytes names symbols sections inputs lists : 
             pub lead-named : (j : ℕ) → j < length x.given → LeadsTo (get_or x.given j 0) → ObjectSections.NamesIn o work ids after then n kind named lists-in x marks z
             lead-named = ObjectSections.lead-named o work ids after then n kind named lists-in x marks z
 
+      -- ---- what a walk over an archive passed by: over this link, whatever was removed from it, of a walk that an accepted start began and whose calls were
+      -- lent whatever tables (those of a history are tables_at, Walks.antt)
+
+      fits : Fits after.table
+      fits = record { few = ready.below.few; room = ready.room }
+
+      module _ (walk_key : ℕ) (index rows : List ℕ) (begun : call_number (archive_start walk_key index rows) after ≡ 0) (passed : List Table) (cells : List ℕ) where
+        abbrev pub walk_so_far : Run
+        walk_so_far = history index passed (start_run walk_key index rows)
+
+        abbrev pub shadowed_by : Run → Call
+        shadowed_by r = archive_shadowed index r.cells r.walk cells
+
+        -- an entry is told just where its name's lookup answers a weak definition and no call of the walk has offered its member, or an undefined row and one has
+        pub shadowed-exactly : call_number (shadowed_by walk_so_far) after ≡ 0
+            → Tells (those_below (told index walk_so_far.offers after) (count_of index)) cells (call_left (shadowed_by walk_so_far) after)
+        shadowed-exactly = ShadowedLaws.told-exactly walk_key index rows begun passed after fits (lasting-within after _ lasting) cells
+
+        -- the call is accepted where cells are lent for all entries
+        pub shadowed-goes : count_of index ≤ length cells → call_number (shadowed_by walk_so_far) after ≡ 0
+        shadowed-goes = ShadowedLaws.goes walk_key index rows begun passed after fits (lasting-within after _ lasting) cells (signatures ks start) marked
+
+        -- the walk after one more call, over this link
+        abbrev pub walk_next : Run
+        walk_next = next_in index walk_so_far after
+
+        -- where that call ends the walk and nothing is told then, each name of the index that the link knows is held strongly (a global common counts), or weakly
+        -- where the members of all its entries were offered; in the gABI profile a weak reference, which "ties no member", may hold it
+        pub all-settled : walk_so_far.walk.done ≡ false → walk_next.walk.done ≡ true → (call_left (shadowed_by walk_next) after).answer ≡ Ok 0
+            → (k : ℕ) → k < count_of index → knows (Index.name_of index (count_of index) k) after ≡ true
+            → Settled (offset_of index) (Index.name_of index (count_of index)) walk_next.offers after k
+        all-settled = ShadowedLaws.all-settled walk_key index rows begun passed after fits (lasting-within after _ lasting) cells
+
+        -- so in the old profile, where a member was not offered, the link holds its name strongly or as a global common, or doesn't know it. Of a member that was
+        -- offered and not merged it says nothing
+        pub passed-by-held : gabi ≡ false → walk_so_far.walk.done ≡ false → walk_next.walk.done ≡ true → (call_left (shadowed_by walk_next) after).answer ≡ Ok 0
+            → (k : ℕ) → k < count_of index → among index k walk_next.offers ≡ false → knows (Index.name_of index (count_of index) k) after ≡ true
+            → strongly_defined (Index.name_of index (count_of index) k) after ≡ true
+        passed-by-held old d e told k h free known = ShadowedLaws.held-strongly index walk_next.offers after k (profile ∙ old) free (all-settled d e told k h known)
+
   -- ---- the same where lists grow between calls
 
   -- "any sequence of calls that removes nothing", before each of which cells may be lent more, behind those that the link has (Growth.antt). What is
@@ -841,6 +890,14 @@ module _ (key : ℕ) (gabi : Bool) (bytes names symbols sections inputs lists : 
         → let r = history index us (start_run walk_key index cells) in
         Walked index (count_of index) us r × (call_number (archive_next index r.cells r.walk) grown_end ≡ 0)
     grown-walk walk_key index cells begun us = (walked walk_key index cells begun us, WalkIn.next-goes index walk_key cells begun grown_end _ _ some.reached us)
+
+    -- and what a walk passed by is told of such a link too
+    pub grown-shadowed : (walk_key : ℕ) (index rows : List ℕ) → call_number (archive_start walk_key index rows) grown_end ≡ 0 → (us : List Table) (cells : List ℕ)
+        → let r = history index us (start_run walk_key index rows) in
+        call_number (archive_shadowed index r.cells r.walk cells) grown_end ≡ 0
+        → Tells (those_below (told index r.offers grown_end) (count_of index)) cells (call_left (archive_shadowed index r.cells r.walk cells) grown_end)
+    grown-shadowed walk_key index rows begun us cells =
+        ShadowedLaws.told-exactly walk_key index rows begun us grown_end (Within.inv-fits grown_end.table _ some.reached.held) (reached-within grown_end _ _ some.reached) cells
 
   -- ---- 3. the demands
 

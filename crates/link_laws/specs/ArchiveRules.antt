@@ -77,6 +77,18 @@ module _ (index cells : List ℕ) (w : Walk) (t : State) where
       cond w.done []
       ((is_other_walk index cells w gives 1 at 0) ∷ cond (ltb w.offered w.queued) [] pass_rules)
 
+-- ---- which entries a walk passed by, a call of our own: the link's counts and the walk (1), then cells for as many as there are (2)
+
+-- the same, whatever the passes: a walk that is done may have made one more than it queued members
+abbrev pub is_strange_walk : List ℕ → List ℕ → Walk → Bool
+is_strange_walk index rows w =
+    ltb (length index) w.length || ltb (length rows / 8) w.entries || ltb w.entries w.queued || ltb w.queued w.offered
+
+abbrev pub shadowed_rules : List ℕ → List ℕ → Walk → State → List ℕ → List Rule
+shadowed_rules index rows w t cells =
+    count_rules t.link (lent_rows (length t.names / 9) (length t.bytes) (length t.symbols) t.link.slots not_lent not_lent)
+    ++ ((is_strange_walk index rows w gives 1 at 0) ∷ (ltb (length cells) w.entries gives 2 at 0) ∷ [])
+
 -- of a walk that a start began, the rows say what the index says: the same rules with the index' own names
 abbrev pub index_name : List ℕ → ℕ → List ℕ
 index_name index k = name_at index (name_start index (entries_in index) k)

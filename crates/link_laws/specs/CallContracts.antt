@@ -30,6 +30,8 @@ use Rattle.shared_objects.specs.Load as Loading
 use Rattle.shared_objects.specs.Contract.{LoadMeets}
 use Rattle.archive_walk.specs.Walk as Archive
 use Rattle.archive_walk.specs.Contract.{StartExit, StartMeets, NextExit, NextMeets}
+use Rattle.shadowed_members.specs.Shadowed as Shadowed
+use Rattle.shadowed_members.specs.Contract.{ShadowedExit, ShadowedMeets}
 use Rattle.object_requirement.specs.Contract.{MatchesMeets}
 use Rattle.gc_sections.specs.declared.Outcome as Collection
 use Rattle.gc_sections.specs.Run as Collecting
@@ -73,6 +75,7 @@ Exit (merge_file file cells work ids) = FileExit
 Exit (load o marks) = LoadExit
 Exit (reads (Read.archive_start key index cells)) = StartExit
 Exit (reads (Read.archive_next index cells w)) = NextExit
+Exit (reads (Read.archive_shadowed index rows w cells)) = ShadowedExit
 Exit (reads (Read.matches headers entries contents file index cells w e)) = (Result Bool Refusal)
 Exit (collect marks entry work) = Collects.Exit
 Exit (plain_collect marks entry work) = Collects.Exit
@@ -109,6 +112,7 @@ Meets (merge_file file cells work ids) s e = MergeFileMeets file cells e.rows (m
 Meets (load o marks) s e = LoadMeets o (load_cells s marks e.cells) s.table.link e.result
 Meets (reads (Read.archive_start key index cells)) s e = StartMeets key index cells e
 Meets (reads (Read.archive_next index cells w)) s e = NextMeets index cells w (view_in s.table) e
+Meets (reads (Read.archive_shadowed index rows w cells)) s e = ShadowedMeets index rows w (view_in s.table) cells e
 Meets (reads (Read.matches headers entries contents file index cells w i)) s e = MatchesMeets s.table.link headers entries contents file index cells w i e
 Meets (collect marks entry work) s e = RunMeets s.table.link (lists_in s marks) s.table.symbols s.table.sections entry work e
 Meets (plain_collect marks entry work) s e = PlainMeets s.table.link (lists_in s marks) s.table.symbols s.table.sections entry work e
@@ -136,6 +140,7 @@ seen (load o marks) e =
     e.result
 seen (reads (Read.archive_start key index cells)) e = Archive.start_left e.cells e.result
 seen (reads (Read.archive_next index cells w)) e = Archive.step_moved e.cells e.result
+seen (reads (Read.archive_shadowed index rows w cells)) e = Shadowed.left e.cells e.result
 seen (reads (Read.matches headers entries contents file index cells w i)) e = e
 seen (collect marks entry work) e = Collecting.outcome e.symbols e.sections e.work e.result
 seen (plain_collect marks entry work) e = Collecting.outcome e.symbols e.sections e.work e.result

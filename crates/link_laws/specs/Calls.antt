@@ -84,6 +84,9 @@ archive_start key index cells = reads (Read.archive_start key index cells)
 abbrev pub archive_next : List ℕ → List ℕ → Walk → Call
 archive_next index cells w = reads (Read.archive_next index cells w)
 
+abbrev pub archive_shadowed : List ℕ → List ℕ → Walk → List ℕ → Call
+archive_shadowed index rows w cells = reads (Read.archive_shadowed index rows w cells)
+
 abbrev pub matches : List ℕ → List ℕ → List ℕ → List ℕ → List ℕ → List ℕ → Walk → ℕ → Call
 matches headers entries contents file index cells w e = reads (Read.matches headers entries contents file index cells w e)
 

@@ -20,5 +20,6 @@ pub mod SectionCount
 pub mod LocalRows
 pub mod SectionSymbols
 pub mod Words
+pub mod Shadowed
 pub mod ListRules
 pub mod AddHead

@@ -16,6 +16,8 @@ use Rattle.archive_walk.specs.declared.Walk.{Walk}
 use Rattle.archive_walk.specs.Look as Look
 use Rattle.archive_walk.specs.Walk as Archive
 use Rattle.archive_walk.specs.Walk.{start_of, next_of}
+use Rattle.shadowed_members.specs.Shadowed as Shadowed
+use Rattle.shadowed_members.specs.Shadowed.{shadowed_of}
 use Rattle.object_requirement.specs.Matches as Matches
 use Rattle.object_requirement.specs.Matches.{matches_of}
 use Rattle.symbol_laws.specs.History.{State, store}
@@ -28,6 +30,8 @@ pub data ReadCall : Type 0 where
   -- the index, and cells for its entries
   archive_start : ℕ → List ℕ → List ℕ → ReadCall
   archive_next : List ℕ → List ℕ → Walk → ReadCall
+  -- the index, its rows, the walk, and cells for the entries that are told
+  archive_shadowed : List ℕ → List ℕ → Walk → List ℕ → ReadCall
   -- headers, entries, contents and bytes of the object; index, cells, walk; the entry that was offered
   matches : List ℕ → List ℕ → List ℕ → List ℕ → List ℕ → List ℕ → Walk → ℕ → ReadCall
 
@@ -46,6 +50,7 @@ ReadLeft (get_global name) = (Result Symbol Refusal)
 ReadLeft (section_symbol section) = (Option SymbolId)
 ReadLeft (archive_start key index cells) = Archive.Start
 ReadLeft (archive_next index cells w) = Archive.Step
+ReadLeft (archive_shadowed index rows w cells) = Shadowed.Left
 ReadLeft (matches headers entries contents file index cells w e) = (Result Bool Refusal)
 
 -- its contract: the outcome is this
@@ -56,6 +61,7 @@ read_left (get_global name) t = get_global_of t.link t.names t.symbols name
 read_left (section_symbol section) t = section_symbol_of t.link t.sections section
 read_left (archive_start key index cells) t = start_of key index cells
 read_left (archive_next index cells w) t = next_of index cells w (view_in t)
+read_left (archive_shadowed index rows w cells) t = shadowed_of index rows w (view_in t) cells
 read_left (matches headers entries contents file index cells w e) t = matches_of t.link headers entries contents file index cells w e
 
 -- number and place, 0 and 0 for a result
@@ -66,4 +72,5 @@ read_refusal (get_global name) o = refusal_with (Lookup.said o)
 read_refusal (section_symbol section) o = refusal_with (Lookup.section_symbol_said o)
 read_refusal (archive_start key index cells) o = refusal_with (Archive.begun_said o.started.begun)
 read_refusal (archive_next index cells w) o = refusal_with (Archive.offer_said o.moved.offer)
+read_refusal (archive_shadowed index rows w cells) o = refusal_with (Archive.begun_said o.answer)
 read_refusal (matches headers entries contents file index cells w e) o = refusal_with (Matches.said o)

@@ -1,5 +1,5 @@
 /* A title's link, in C: the emulator core carries a weak `mute` that does nothing, and its mixer calls it by
- * name; the sound archive has the strong one, which clears the mix buffer. Prints who holds `mute` at the end.
+ * name; the sound archive has the strong one, which clears the mix buffer. Prints what the walk passed by, and who holds `mute` at the end.
  *
  *   cc -std=c99 -I rust/hidvorn/include rust/hidvorn/examples/mute.c crates/ffi/out/libffi.a -o mute && ./mute
  */
@@ -68,7 +68,7 @@ static const struct symbol sound[] = {{"mute", STRONG, ABSOLUTE, 0x5000}, {"mix_
 static void link_title(const struct symbol *core, size_t count)
 {
     static struct link l;
-    uint64_t walk[HIDVORN_WALK], rows[3 * 8], found[HIDVORN_FOUND];
+    uint64_t walk[HIDVORN_WALK], rows[3 * 8], told[3], found[HIDVORN_FOUND];
     hidvorn_new(CELLS(l.header), 1, 0, CELLS(l.bytes), CELLS(l.names), CELLS(l.symbols), CELLS(l.sections));
     must(&l, "new");
     add(&l, core, count);
@@ -85,6 +85,13 @@ static void link_title(const struct symbol *core, size_t count)
         printf("  the member at %d is taken\n", (int)l.header[HIDVORN_VALUE + 1]);
         add(&l, sound, 2);
     }
+
+    hidvorn_shadowed(
+        CELLS(l.header), CELLS(walk), CELLS(archive), CELLS(rows), CELLS(l.bytes), CELLS(l.names), CELLS(l.symbols),
+        CELLS(told));
+    must(&l, "shadowed");
+    for (uint64_t i = 0; i < l.header[HIDVORN_VALUE]; i++)
+        printf("  warning: the archive's entry %d was passed by\n", (int)told[i]);
 
     hidvorn_get_global(
         CELLS(l.header), CELLS(l.names), CELLS(l.symbols), intern(&l, "mute"), CELLS(found));

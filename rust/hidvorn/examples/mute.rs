@@ -1,9 +1,9 @@
 //! A title's link: the emulator core carries a weak `mute` that does nothing, and its mixer calls
 //! it by name; the sound archive has the strong one, which clears the mix buffer. Prints who holds
-//! `mute` at the end, and which member gave it.
+//! `mute` at the end and which member gave it, and warns where the archive's was not taken.
 use hidvorn::{
     Converted, ElfSymbol, Link, Object, PendingArchive, Refusal, Relocations, SectionContent,
-    SectionHeader, Step, Symbol, SymbolVisibility,
+    SectionHeader, Shadowed, Step, Symbol, SymbolValue, SymbolVisibility,
 };
 
 /// An ELF object by hand: a program section for each name of `sections`, whose relocations name
@@ -109,6 +109,10 @@ fn link_title(core: &Object<'_>) -> Result<(), Refusal> {
         }
     };
     println!("done after {passes} passes");
+    for told in walk.shadowed(&link)? {
+        let (_, member, _) = members.iter().find(|(at, ..)| *at == told.offset).unwrap();
+        warn(&told, member);
+    }
     report(&link, &link.get_global(mute)?, giver)?;
 
     // The mixer is the entry: what it doesn't reach is dropped.
@@ -118,6 +122,19 @@ fn link_title(core: &Object<'_>) -> Result<(), Refusal> {
     let collected = link.gc_sections(&marks, Some(entry))?;
     println!("dropped sections: {:?}", collected.sections);
     Ok(())
+}
+
+/// What the walk passed by, in words that somebody can act on.
+fn warn(told: &Shadowed<'_>, member: &str) {
+    let name = String::from_utf8_lossy(told.name);
+    match told.holder.value {
+        SymbolValue::Undefined { .. } => {
+            println!("warning: {name}: undefined still, though the archive's {member} was offered");
+        }
+        _ => println!(
+            "warning: {name}: weak in the core; the archive's {member} defines it and was not taken"
+        ),
+    }
 }
 
 fn report(link: &Link, symbol: &Symbol, giver: &str) -> Result<(), Refusal> {

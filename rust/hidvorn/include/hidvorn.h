@@ -179,6 +179,15 @@ uint64_t hidvorn_archive_next(
     size_t index_len, uint64_t *rows, size_t rows_len, const uint8_t *bytes, size_t bytes_len,
     const uint64_t *names, size_t names_len, const uint64_t *symbols, size_t symbols_len);
 
+/* What the walk passed by so far, meant for its end: the entries whose name a weak definition holds though
+   their member was not offered, and those whose name is undefined although it was. Told: a cell for each
+   entry; their positions go into the first of them. Value: how many. */
+uint64_t hidvorn_shadowed(
+    uint64_t *header, size_t header_len, const uint64_t *walk, size_t walk_len, const uint8_t *index,
+    size_t index_len, const uint64_t *rows, size_t rows_len, const uint8_t *bytes, size_t bytes_len,
+    const uint64_t *names, size_t names_len, const uint64_t *symbols, size_t symbols_len, uint64_t *told,
+    size_t told_len);
+
 /* Admission: whether an object, the member at this entry, defines a name that was required of it.
    Value: 1 or 0. */
 uint64_t hidvorn_matches(

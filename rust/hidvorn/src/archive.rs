@@ -1,6 +1,6 @@
 //! The walk over an archive's members.
 use crate::ffi::{self, Header, VALUE, Walk};
-use crate::{Link, Object, Refusal};
+use crate::{Link, Object, Refusal, Symbol};
 use std::borrow::Cow;
 use std::hash::{BuildHasher, RandomState};
 
@@ -35,6 +35,20 @@ pub struct IndexEntry<'a> {
     pub offset: u64,
     /// Its name.
     pub name: &'a [u8],
+}
+
+/// An entry of the index that a walk passed by: a weak definition holds its name while its member
+/// was not offered, whatever it defines; or its name is undefined although its member was.
+#[derive(Clone, Copy, Debug)]
+pub struct Shadowed<'a> {
+    /// Its position in the index.
+    pub entry: usize,
+    /// The offset of its member in the archive.
+    pub offset: u64,
+    /// Its name.
+    pub name: &'a [u8],
+    /// What holds the name.
+    pub holder: Symbol,
 }
 
 /// A step of a walk.
@@ -103,6 +117,39 @@ impl<'a> PendingArchive<'a> {
             0 => Step::Done { passes },
             _ => Step::Member(Member { offset, passes, entry: entry as usize }),
         })
+    }
+
+    /// The entries that the walk has passed by so far, in the index' order, over the link as it
+    /// stands: meant for the end of a walk. A weak definition is a definition and pulls no member,
+    /// so a strong one in the archive is left where it is; this tells of each. A name whose symbol
+    /// was removed is not told. Works on a broken link too.
+    ///
+    /// Where the walk is done over this link and nothing is told, each name of the index that the
+    /// link knows is held by a strong definition or a global common, or by a weak one though its
+    /// member was offered; in a link of the gABI's profile perhaps by a weak reference, which asks
+    /// for no member. A member that was offered and that `admits` left out isn't told here.
+    pub fn shadowed(&self, link: &Link) -> Result<Vec<Shadowed<'_>>, Refusal> {
+        let mut header = link.header;
+        let mut told = vec![0; self.entry_count()];
+        let PendingArchive { index, rows, walk } = self;
+        ffi::shadowed(
+            &mut header,
+            walk,
+            index,
+            rows,
+            &link.bytes,
+            &link.names,
+            &link.symbols,
+            &mut told,
+        )?;
+        told.truncate(header[VALUE] as usize);
+        let told = told.into_iter().map(|entry| {
+            let entry = entry as usize;
+            let IndexEntry { offset, name } = self.entry(entry).expect("an entry of the index");
+            let id = link.find(name).expect("a name that the link has");
+            Ok(Shadowed { entry, offset, name, holder: link.get_global(id)? })
+        });
+        told.collect()
     }
 
     /// Whether an offered member is to be merged: some symbol of binding 1 in its object bears a

@@ -303,6 +303,25 @@ unsafe extern "C" {
         symbols_len: usize,
     ) -> u64;
 
+    fn hidvorn_shadowed(
+        header: *mut u64,
+        header_len: usize,
+        walk: *const u64,
+        walk_len: usize,
+        index: *const u8,
+        index_len: usize,
+        rows: *const u64,
+        rows_len: usize,
+        bytes: *const u8,
+        bytes_len: usize,
+        names: *const u64,
+        names_len: usize,
+        symbols: *const u64,
+        symbols_len: usize,
+        told: *mut u64,
+        told_len: usize,
+    ) -> u64;
+
     fn hidvorn_matches(
         header: *mut u64,
         header_len: usize,
@@ -867,6 +886,41 @@ pub(crate) fn archive_next(
             names.len(),
             symbols.as_ptr(),
             symbols.len(),
+        );
+    }
+    answer(header)
+}
+
+#[allow(clippy::too_many_arguments)]
+pub(crate) fn shadowed(
+    header: &mut Header,
+    walk: &Walk,
+    index: &[u8],
+    rows: &[u64],
+    bytes: &[u8],
+    names: &[u64],
+    symbols: &[u64],
+    told: &mut [u64],
+) -> Result<(), Refusal> {
+    // SAFETY: see the module.
+    unsafe {
+        hidvorn_shadowed(
+            header.as_mut_ptr(),
+            header.len(),
+            walk.as_ptr(),
+            walk.len(),
+            index.as_ptr(),
+            index.len(),
+            rows.as_ptr(),
+            rows.len(),
+            bytes.as_ptr(),
+            bytes.len(),
+            names.as_ptr(),
+            names.len(),
+            symbols.as_ptr(),
+            symbols.len(),
+            told.as_mut_ptr(),
+            told.len(),
         );
     }
     answer(header)

@@ -5,6 +5,7 @@ use crate::{Link, Object, PendingArchive, Profile, Refusal, Step};
 use std::collections::BTreeMap;
 use std::path::{Path, PathBuf};
 use std::process::Command;
+use std::sync::atomic::{AtomicUsize, Ordering};
 use std::{env, fs, process};
 
 // ---- the reader of the tests
@@ -226,7 +227,10 @@ struct Folder(PathBuf);
 
 impl Folder {
     fn new(name: &str) -> Self {
-        let path = env::temp_dir().join(format!("hidvorn-{name}-{}", process::id()));
+        // Tests run side by side: each folder is its own.
+        static MADE: AtomicUsize = AtomicUsize::new(0);
+        let number = MADE.fetch_add(1, Ordering::Relaxed);
+        let path = env::temp_dir().join(format!("hidvorn-{name}-{}-{number}", process::id()));
         fs::create_dir_all(&path).unwrap();
         Folder(path)
     }

@@ -13,6 +13,7 @@
 //! | `SectionGroupsForObject::add_group` | [`Link::add_group`] with the object's [`GroupMarks`] |
 //! | `load_shared_object` | [`Link::load_shared_object`] of a [`SharedObject`] |
 //! | `PendingArchive::{new, next}`, `ObjectRequirement::matches` | [`PendingArchive::new`], [`PendingArchive::next`], [`PendingArchive::admits`] |
+//! | nothing | [`PendingArchive::shadowed`]: what a walk passed by, as the archive's strong definition behind a weak one |
 //! | `gc_sections::run` | [`Link::gc_sections`] |
 //! | `plain_collector::run` | [`Link::gc_sections_plain`] |
 //! | panics and errors | [`Refusal`], a cause and a place |
@@ -63,7 +64,7 @@ mod file_tests;
 #[cfg(test)]
 mod list_tests;
 
-pub use archive::{IndexEntry, Member, PendingArchive, Step};
+pub use archive::{IndexEntry, Member, PendingArchive, Shadowed, Step};
 pub use group::GroupMarks;
 pub use ids::{Interned, SectionId, SymbolId};
 pub use library::{LibraryName, Load, SharedObject};

@@ -4,6 +4,7 @@ use std::process::Command;
 
 const SAID: &str = "\
 the mixer calls mute alone
+  warning: the archive's entry 0 was passed by
   mute is the core's weak one, at 0x1000
 the mixer calls mute and mix_clear, which the core doesn't have
   the member at 60 is taken

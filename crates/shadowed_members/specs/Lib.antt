@@ -1,0 +1,4 @@
+pub mod Shadowed
+pub mod Marks
+pub mod Contract
+pub mod Proof
