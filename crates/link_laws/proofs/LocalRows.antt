@@ -15,6 +15,7 @@ use Rattle.link.specs.declared.SymbolId.{SymbolId}
 use Rattle.link.specs.Judge.{change_of}
 use Rattle.link.specs.Bounds.{section_slots}
 use Rattle.interner.specs.Names.{room_of, added, keep_of}
+use Rattle.symbol.specs.Proof.Ways.{scope-low}
 use Rattle.symbol.specs.declared.Row.{Row}
 use Rattle.symbol.specs.Codes.{successor}
 use Rattle.symbol.specs.Row.{field, state_at, visibility_code_at, set_row}
@@ -124,7 +125,7 @@ module _ (s : State) (r : Row) where
   coded_by : (d : Decision) → decided (table s) r ≡ d → refusal_of d ≡ 0 → r.visibility < 5
   unfolding decided_of
   coded_by d e z =
-      leb-false _ _
+      scope-low _
       (decided-passes s.link s.symbols s.sections r (direct_holder_of s.link s.names s.symbols r.name None)
       (ap (λ (d : Decision). refusal_of d) e ∙ z)).0
 

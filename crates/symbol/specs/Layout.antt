@@ -1,6 +1,6 @@
 -- The layout of a symbol's row, the cells of a name's row that the symbol table uses, and the codes that stand in them.
 -- Assumes nothing.
-use Rattle.std.specs.Prelude.{ℕ, ◌+◌, ◌*◌, ◌/◌, ◌%◌, Bool, leb}
+use Rattle.std.specs.Prelude.{ℕ, ◌+◌, ◌*◌, ◌/◌, ◌%◌, Bool, not, ◌||◌, eqb}
 
 -- ---- a symbol's row: 8 cells
 
@@ -95,13 +95,20 @@ undefined_kind = 7
 abbrev pub common_kind : ℕ
 common_kind = 8
 
--- ---- from 5 on a scope, from 13 on a kind of a value, is the number of a refusal (Row.antt)
+-- ---- what stands in the place of a scope or of a kind and is none of these is the number of a refusal (Row.antt)
+
+abbrev pub is_scope : ℕ → Bool
+is_scope k = eqb k local || (eqb k global || (eqb k global_hidden || (eqb k weak || eqb k weak_hidden)))
+
+abbrev pub is_kind : ℕ → Bool
+is_kind k =
+    eqb k null_kind || (eqb k absolute_kind || (eqb k section_kind || (eqb k relative_kind || (eqb k address_kind || (eqb k not_loaded_kind || (eqb k external_kind || (eqb k undefined_kind || eqb k common_kind)))))))
 
 abbrev pub refuses_scope : ℕ → Bool
-refuses_scope scope = leb 5 scope
+refuses_scope scope = not (is_scope scope)
 
 abbrev pub refuses_value : ℕ → Bool
-refuses_value kind = leb 13 kind
+refuses_value kind = not (is_kind kind)
 
 -- ---- a name's row: its length, and the id of its global symbol
 

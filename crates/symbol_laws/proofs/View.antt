@@ -11,6 +11,7 @@ use Rattle.link.specs.Bounds.{lesser, symbol_rows}
 use Rattle.symbol.specs.declared.Row.{Row}
 use Rattle.symbol.specs.Row.{state_at, is_common, scope_refusal, value_refusal}
 use Rattle.symbol.specs.Hidden.{hidden_code, passes, pass_hidden}
+use Rattle.symbol.specs.Proof.Ways.{scope-low}
 use Rattle.link.specs.declared.SymbolId.{SymbolId}
 use Rattle.symbol_resolution.specs.declared.rows.Holder.{Holder}
 use Rattle.symbol_resolution.specs.declared.rows.Holder.TheVariants.{Unissued, Nobody, Removed, Known}
@@ -83,7 +84,7 @@ module _ (t : Table) (r : Row) where
   unfolding type_refusal
   packs p k =
       record {
-        scope = let h : r.visibility < 5 = leb-false 5 r.visibility p.scope in omega arith;
+        scope = let h : r.visibility < 5 = scope-low r.visibility p.scope in omega arith;
         type =
             by-test (ltb r.kind 4) (λ a. let h : r.kind < 4 = ltb-true _ _ a in omega arith)
             (λ a. absurd (by-test (eqb r.kind 4) (λ b. false≢true (rw (a, b) at k)) (λ b. false≢true (rw (a, b) at k))));

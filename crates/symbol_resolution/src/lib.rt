@@ -79,7 +79,7 @@ fn decide_new(l: Link, symbols: &[u64], sections: &[u64], row: Row) -> Result<Re
     ensures decision { decision_of result ≡ new_of l symbols.now sections.now row }
     ensures number { IfErr result (λ n. n ≢ 0) }
 {
-    if symbol::NO_KIND <= row.value.kind {
+    if !symbol::is_kind(row.value.kind) {
         return Err(row.value.kind);
     }
     check_type(row.kind)?;
@@ -121,7 +121,7 @@ fn decide_known(gabi: bool, symbols: &[u64], row: Row, id: SymbolId) -> Result<R
     ensures decision { decision_of result ≡ known_of gabi symbols.now row id }
     ensures number { IfErr result (λ n. n ≢ 0) }
 {
-    if symbol::NO_KIND <= row.value.kind {
+    if !symbol::is_kind(row.value.kind) {
         return Err(row.value.kind);
     }
     let new = Rank::of(gabi, row.visibility, row.value.kind);
@@ -195,7 +195,7 @@ pub fn resolve(
     ensures decision { decision_of result ≡ decide_of l symbols.now sections.now row holder }
     ensures number { IfErr result (λ n. n ≢ 0) }
 {
-    if symbol::NO_SCOPE <= row.visibility {
+    if !symbol::is_scope(row.visibility) {
         Err(row.visibility)
     } else if row.visibility == symbol::LOCAL {
         decide_local(l, symbols, sections, row, holder)

@@ -2,7 +2,7 @@
 -- decision is written down.
 -- Assumes nothing.
 use Rattle.std.specs.Prelude.{ℕ, ◌≡◌, Bool, true, false, not, ◌&&◌, List, ◌≢◌, eqb, ltb, leb, length}
-use Rattle.std.proofs.Common.{arith, sym, ap, ◌∙◌, subst, leb-true}
+use Rattle.std.proofs.Common.{arith, sym, ap, ◌∙◌, subst}
 use Rattle.std.proofs.Math.Path.{refl}
 use Rattle.std.proofs.lemmas.Bool.{false≢true, eqb-false}
 use Rattle.cells.specs.Proof.Split.{by-test}
@@ -14,6 +14,7 @@ use Rattle.symbol.specs.declared.Row.{Row}
 use Rattle.symbol.specs.Row.{visibility_code_at, kind_at, set_row, scope_refused, scope_refusal, value_refused, value_refusal}
 use Rattle.symbol.specs.Hidden.{hidden_code, passes}
 use Rattle.symbol.specs.Layout.{local}
+use Rattle.symbol.specs.Proof.Ways.{refused-scope, refused-value}
 use Rattle.symbol_resolution.specs.declared.rows.Holder.{Holder}
 use Rattle.symbol_resolution.specs.declared.rows.Holder.TheVariants.{Unissued, Nobody, Removed, Known}
 use Rattle.symbol_resolution.specs.Decision.{Decision, Refuse, Nothing, Keep, Append, Replace, Amend}
@@ -217,10 +218,10 @@ module _ (l : Link) (symbols sections : List ℕ) (r : Row) where
   -- ---- what the outcomes have in common
 
   pub scope-number : scope_refused r ≡ true → scope_refusal r ≢ 0
-  scope-number v z = omega (arith, leb-true 5 (scope_refusal r) v)
+  scope-number v z = refused-scope (scope_refusal r) v z
 
   pub value-number : value_refused r ≡ true → value_refusal r ≢ 0
-  value-number w z = omega (arith, leb-true 13 (value_refusal r) w)
+  value-number w z = refused-value (value_refusal r) w z
 
   -- the number of a decision is one of its causes'
   pub decision-number : (In : ℕ → Type 0) (h : Holder) → In 0 → In 2 → (absent_under (is_local_row r) h ≡ true → In 21) → ((id : SymbolId) → Passing r → Meets r h id → In 17)
