@@ -1,5 +1,5 @@
 #!/bin/sh
-# Runs an addsheet program on random sheets and compares what it prints with the Rust's answers.
+# Runs an addsheet program on random sheets and compares what it prints with the Rust's answers. Each sheet is read to its end, so its status must be 0.
 # usage: compare-sheets.sh ADDSHEET [SEED [COUNT]]
 set -eu
 addsheet=$1
@@ -16,11 +16,12 @@ trap 'rm -rf "$folder"' EXIT
 different=0
 at=0
 while [ "$at" -lt "$count" ]; do
-    "$addsheet" < "$folder/$at.sheet" > "$folder/printed" || true
-    if ! cmp -s "$folder/printed" "$folder/$at.expected"; then
+    status=0
+    "$addsheet" < "$folder/$at.sheet" > "$folder/printed" || status=$?
+    if [ "$status" != 0 ] || ! cmp -s "$folder/printed" "$folder/$at.expected"; then
         different=$((different + 1))
         if [ "$different" = 1 ]; then
-            echo "first difference: sheet $at of seed $seed"
+            echo "first difference: sheet $at of seed $seed, status $status"
             cat "$folder/$at.sheet"
             diff "$folder/$at.expected" "$folder/printed" || true
         fi

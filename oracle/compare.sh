@@ -1,6 +1,6 @@
 #!/bin/sh
 # Random links of every kind on the Rust and on this port, in one process: every row, answer and
-# refusal. Stops at the first difference with its link made short. Needs crates/ffi/out/libffi.a.
+# refusal. Stops at the first difference with its link made short. Needs crates/hidvorn/out/libhidvorn.a.
 # The kept links come first. With `gabi` the links are of the gABI profile, with `commons` of the old
 # one with commons, and what stands for the Rust is the plain reading (driver/src/model).
 # usage: compare.sh [gabi | commons] [SEED [LINKS]], or compare.sh list < LIST

@@ -7,13 +7,13 @@ fn main() {
     let package = PathBuf::from(env::var("CARGO_MANIFEST_DIR").unwrap());
     let archive = match env::var_os("HIDVORN_LIB") {
         Some(path) => PathBuf::from(path),
-        None => package.join("../../crates/ffi/out/libffi.a"),
+        None => package.join("../../crates/hidvorn/out/libhidvorn.a"),
     };
     println!("cargo:rerun-if-changed={}", archive.display());
     let Ok(archive) = archive.canonicalize() else {
         stop(&format!(
-            "{} is missing: run `rt lib` in crates/ffi, or set HIDVORN_LIB to the path of a \
-             libffi.a",
+            "{} is missing: run `rt lib` in crates/hidvorn, or set HIDVORN_LIB to the path of a \
+             libhidvorn.a",
             archive.display()
         ));
     };

@@ -1,7 +1,7 @@
 // The entries of an archive's index, then the members that a walk over it offers where one name is undefined and nothing is defined since.
 //
 // It reads the bytes of the index member from standard input, and takes the name as its argument. It lends rows for 8,192 entries; of an index over
-// 65,536 bytes the rest isn't read.
+// 65,536 bytes the rest isn't read. Its status is 1 where the index is refused.
 #![tactic(auto)]
 
 use archive_walk::{Offer, Walk};
@@ -9,6 +9,7 @@ use link::Refusal;
 use owned_table::{OwnedTable, Room};
 use std::alloc::Global;
 use std::io::{self, Read, Write};
+use std::process::ExitCode;
 use std::rt::Env;
 use symbol::STT_NOTYPE;
 use upcoming_symbol::{ElfSymbol, SHN_UNDEF, STB_GLOBAL, STV_DEFAULT};
@@ -107,19 +108,28 @@ impl Archive {
     }
 }
 
-fn list(alloc: Global, out: &mut impl Write, index: Vec<u8>, table: &OwnedTable) -> io::Result<()> {
+fn list(
+    alloc: Global,
+    out: &mut impl Write,
+    index: Vec<u8>,
+    table: &OwnedTable,
+) -> io::Result<ExitCode> {
     let mut cells = vec![in alloc; 0; CELLS]?;
     match Walk::start(0, &index, &mut cells) {
         Ok(walk) => {
             let mut archive = Archive { index, cells, walk };
             archive.print_entries(out)?;
-            archive.print_walk(out, table)
+            archive.print_walk(out, table)?;
+            Ok(ExitCode::SUCCESS)
         }
-        Err(refusal) => print_refusal(out, refusal),
+        Err(refusal) => {
+            print_refusal(out, refusal)?;
+            Ok(ExitCode::FAILURE)
+        }
     }
 }
 
-fn main(rt: HostRuntime) -> io::Result<()> {
+fn main(rt: HostRuntime) -> io::Result<ExitCode> {
     let mut index = Vec::new(rt.alloc());
     // What comes before a failed read is listed.
     let _ = rt.stdin().take(MOST_BYTES).read_to_end(&mut index);

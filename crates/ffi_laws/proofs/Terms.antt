@@ -1,5 +1,5 @@
 -- "that its contract admits no second outcome" (document 01, acceptance a), of the exported calls: what a caller in another language sees of one is the
--- number that it returns, its header and every cell lent to be written. The contracts are the predicates that stand in the `ensures` of `ffi`; two
+-- number that it returns, its header and every cell lent to be written. The contracts are the predicates that stand in the `ensures` of `hidvorn`; two
 -- exits that meet one are equal.
 -- Assumes nothing.
 use Rattle.link.specs.declared.SymbolId.{SymbolId}

@@ -23,7 +23,7 @@ fn loaded(answer: Result<Load, Refusal>) -> Reply
 }
 
 // The value is 1 where the library is loaded, 0 where it isn't needed.
-// Kept: slices one by one, as the exported call (ffi) has them, and flags with their values.
+// Kept: slices one by one, as the exported call (hidvorn) has them, and flags with their values.
 #[tactic(auto, unfolding(crate::specs::Calls::load_call, ffi_cells::specs::Header::is_short))]
 pub fn load_shared_object<'a>(
     header: &mut [u64],

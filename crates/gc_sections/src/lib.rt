@@ -138,7 +138,7 @@ impl Tables<'_> {
 }
 
 // As `Tables::collect`.
-// Kept: slices one by one, as the exported call (ffi) has them; beside plain_collector's, since each collector's own promise stands at its
+// Kept: slices one by one, as the exported call (hidvorn) has them; beside plain_collector's, since each collector's own promise stands at its
 // own call.
 pub fn run(
     l: Link,

@@ -152,7 +152,7 @@ impl ObjectRequirement<'_, '_> {
     }
 }
 
-// Kept: slices one by one, as the exported call (ffi) has them.
+// Kept: slices one by one, as the exported call (hidvorn) has them.
 pub fn matches(
     l: Link,
     headers: &[u64],

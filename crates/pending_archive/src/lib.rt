@@ -14,7 +14,7 @@ use archive_walk::{Offer, Table, Walk};
 use link::{Link, Refusal};
 
 // By a refusal the walk stays as it was.
-// Kept: slices one by one, as the exported call (ffi) has them.
+// Kept: slices one by one, as the exported call (hidvorn) has them.
 pub fn next(
     walk: &mut Walk,
     index: &[u8],

@@ -67,7 +67,7 @@ pub fn collect(
 }
 
 // As `collect`.
-// Kept: slices one by one, as the exported call (ffi) has them; beside gc_sections', since each collector's own promise stands at its own
+// Kept: slices one by one, as the exported call (hidvorn) has them; beside gc_sections', since each collector's own promise stands at its own
 // call.
 pub fn run(
     l: Link,

@@ -1,5 +1,5 @@
 // Replays lists of the oracle: every answer is compared with the Rust's, and every row where a list has a dump. Cases of our own, with answers
-// that were worked out by hand, may also lend less of each store and ask for a link's counts.
+// that were worked out by hand, may also lend less of each store and ask for a link's counts. Its status is 1 where an answer differed.
 #![tactic(auto)]
 
 mod changes;
@@ -15,6 +15,7 @@ use replay_tally::Tally;
 use state::State;
 use std::alloc::{AllocError, Global};
 use std::io;
+use std::process::ExitCode;
 use text::{Lines, Taken, Writer};
 
 // Operations that were passed over. Link: the rest of the link is. Last: the last operation was, and its answers are.
@@ -108,7 +109,7 @@ impl Replay {
     }
 }
 
-fn main(rt: HostRuntime) -> io::Result<()> {
+fn main(rt: HostRuntime) -> io::Result<ExitCode> {
     let alloc = rt.alloc();
     let mut replay = Replay::new(alloc)?;
     let mut buf = vec![in alloc; 0; 65536]?;
@@ -131,5 +132,10 @@ fn main(rt: HostRuntime) -> io::Result<()> {
         }
     }
     replay.tally.settle(&replay.out);
-    replay.print(&rt)
+    replay.print(&rt)?;
+    Ok(if replay.tally.differences == 0 {
+        ExitCode::SUCCESS
+    } else {
+        ExitCode::FAILURE
+    })
 }

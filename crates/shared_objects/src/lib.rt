@@ -202,7 +202,7 @@ impl Loading<'_> {
 }
 
 // The same of loose slices.
-// Kept: slices one by one, and flags with their values, as the exported call (ffi) has them.
+// Kept: slices one by one, and flags with their values, as the exported call (hidvorn) has them.
 #[tactic(auto, unfolding(crate::specs::Load::load_of, crate::specs::Head::check_of, crate::specs::Head::after_rows, crate::specs::Head::rows_of, crate::specs::Head::soname_missing, crate::specs::Need::library_name))]
 pub fn load_shared_object<'a>(
     l: Link,

@@ -44,6 +44,23 @@ pub use model::Seen;
 pub use reference::{Reference, begins};
 pub use refusal::silence_panics;
 
+const USAGE: &str = "usage: oracle COMMAND
+  run < LIST                    the operations of a list with the Rust's answers; answers in it are made again
+  model < LIST                  the same with the answers of the plain reading, which takes links of the gABI profile
+  reading < LIST                runs a list on both, and stops at the first difference
+  count < LIST                  how often each answer occurs in a list
+  gen KIND SEED COUNT           the operations of COUNT random links
+  tried KIND SEED COUNT         how often the gABI profile answered otherwise in them (KIND behind gabi-)
+  gen sheets SEED COUNT FOLDER  COUNT add sheets, N.sheet, each with what addsheet must print, N.expected
+  sheet < SHEET                 what addsheet must print for an add sheet
+  differences                   each place where the Rust does otherwise than document 01
+  selftest                      the worked examples on the Rust, a line each, and how many differ
+  help                          this text
+KIND: adds, merges, refusals, shared, archives, walks, collections or mixed; gabi- before it: links of the gABI
+profile, commons- before it: links of the old one with commons; short-adds 0 0: every short sequence of adds; limits 0 0, examples 0 0: those written by hand.
+oracle/README.md has the form of a list.
+";
+
 /// The program `oracle`.
 pub fn run_command() {
     silence_panics();
@@ -67,16 +84,15 @@ pub fn run_command() {
         ["differences"] => print(&differences::show()),
         ["count"] => read_all().and_then(|text| print(&count::count(&text))),
         ["selftest"] => selftest::run().and_then(|lines| print(&lines)),
-        _ => Err("usage: see oracle/README.md".to_string()),
+        ["help" | "--help" | "-h"] => print(USAGE),
+        [] => Err(format!("a command is missing\n{USAGE}")),
+        _ => Err(format!("no such command: {}\n{USAGE}", words.join(" "))),
     };
     if let Err(fault) = result {
         eprintln!("oracle: {fault}");
         std::process::exit(2);
     }
 }
-
-/// The longest line of a list, so that a program with a fixed buffer can read it.
-const LONGEST: usize = 4096;
 
 /// Writes a list with the answers that are made to its lines.
 fn run(mut answer: impl FnMut(&str) -> Result<Vec<String>, form::Fault>) -> Result<(), String> {
@@ -97,10 +113,7 @@ fn run(mut answer: impl FnMut(&str) -> Result<Vec<String>, form::Fault>) -> Resu
             out += &format!("> {answer}\n");
         }
     }
-    match out.lines().find(|line| line.len() > LONGEST) {
-        Some(line) => Err(format!("a line over {LONGEST} bytes: {}..", &line[..60])),
-        None => print(&out),
-    }
+    print(&out)
 }
 
 /// Runs a list on the Rust and on our reading of document 01, and stops at the first difference.

@@ -20,15 +20,18 @@ const SHEET_ANSWER: &str = "id name weak kind value
 refused 5 17
 ";
 
-/// A line for each example; an error if one differs.
+/// A line for each example, and how many differ; an error if one does.
 pub(crate) fn run() -> Result<String, String> {
     let mut out = String::new();
-    let mut failed = 0;
-    let mut tell = |title: &str, fault: Option<String>| match fault {
-        None => out += &format!("ok      {title}\n"),
-        Some(fault) => {
-            failed += 1;
-            out += &format!("DIFFERS {title}: {fault}\n");
+    let (mut examples, mut failed) = (0, 0);
+    let mut tell = |title: &str, fault: Option<String>| {
+        examples += 1;
+        match fault {
+            None => out += &format!("ok      {title}\n"),
+            Some(fault) => {
+                failed += 1;
+                out += &format!("DIFFERS {title}: {fault}\n");
+            }
         }
     };
 
@@ -39,7 +42,8 @@ pub(crate) fn run() -> Result<String, String> {
         let (title, lines) = example.split_once('\n').expect("a title and lines");
         tell(title.trim_start_matches("# "), compare(&mut machine, lines));
     }
-    if failed > 0 { Err(format!("{failed} examples differ\n{out}")) } else { Ok(out) }
+    out += &format!("{examples} examples, {failed} differ\n");
+    if failed > 0 { Err(format!("the selftest failed\n{out}")) } else { Ok(out) }
 }
 
 fn compare(machine: &mut Machine, lines: &str) -> Option<String> {

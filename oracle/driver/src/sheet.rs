@@ -15,17 +15,21 @@ pub(crate) fn answer(sheet: &str) -> Result<String, Fault> {
     for (line, text) in sheet.lines().skip(1).enumerate() {
         let words: Vec<_> = text.split_whitespace().collect();
         let [name, fields @ ..] = words.as_slice() else { continue };
-        let fields: Result<Vec<u64>, _> = fields.iter().map(|word| word.parse()).collect();
-        let Ok(&[binding, visibility, kind, section, value]) = fields.as_deref() else {
+        let numbers = fields.iter().all(|word| word.bytes().all(|byte| byte.is_ascii_digit()));
+        if fields.len() != 5 || !numbers {
             return Err(format!("line {}: a name and five numbers expected", line + 1));
-        };
-        let row = SymbolRow { name: 0, binding, kind, visibility, section, value, size: 0 };
+        }
         let name = if *name == "-" { "" } else { name }.to_string();
-        let number = if in_range(&row) {
-            machine.try_add(&Direct::Elf { name, row, file: None }).err()
-        } else {
+        // None: a number that 64 bits don't hold.
+        let fields: Option<Vec<u64>> = fields.iter().map(|word| word.parse().ok()).collect();
+        let row = fields.map(|fields| {
+            let [binding, visibility, kind, section, value] = fields[..] else { unreachable!() };
+            SymbolRow { name: 0, binding, kind, visibility, section, value, size: 0 }
+        });
+        let number = match row.filter(in_range) {
+            Some(row) => machine.try_add(&Direct::Elf { name, row, file: None }).err(),
             // The port's own refusal; the Rust's types cannot even hold the field.
-            Some(1)
+            None => Some(1),
         };
         if let Some(number) = number {
             refused += &format!("refused {} {number}\n", line + 1);

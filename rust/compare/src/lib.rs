@@ -2,6 +2,7 @@
 //! for links of the old profile, and a plain reading of the documents for those of the gABI profile.
 pub mod minimise;
 pub mod ours;
+pub mod plain;
 pub mod rows;
 
 use ours::Ours;

@@ -191,7 +191,9 @@ impl Ours {
     fn intern(&mut self, name: &str) -> Interned {
         let name = self.link.intern(name.as_bytes());
         match name {
-            Err(Refusal { cause: Cause::BrokenLink, place: 0 }) if self.is_broken() => self.empty,
+            Err(Refusal { cause: Cause::BrokenLink, place: 0, .. }) if self.is_broken() => {
+                self.empty
+            }
             _ => name.expect("room for a name"),
         }
     }
@@ -237,7 +239,7 @@ impl Ours {
         // On a broken link no name is issued any more; one that wasn't is held by nobody.
         let issued = self.link.intern(name.as_bytes()).ok();
         let Some(name) = issued.or_else(|| self.link.find(name.as_bytes())) else {
-            return Err(Refusal { cause: Cause::UnknownGlobalName, place: 0 });
+            return Err(Refusal::new(Cause::UnknownGlobalName, 0));
         };
         self.link.get_global(name).map(|symbol| self.symbol(&symbol))
     }
@@ -619,7 +621,7 @@ fn merge(link: &mut Link, alone: &mut Link, rows: &ObjectRows) -> String {
     let table = numbers(&[3]).next().unwrap_or(usize::MAX);
     let mut marks = GroupMarks::new(&object, table);
     let added = numbers(&[7]).try_for_each(|section| alone.add_group(&mut marks, section));
-    let same = match merged.map_err(|refusal| refusal.number()) {
+    let same = match merged.as_ref().map_err(Refusal::number) {
         // It is refused before its groups are judged.
         Err(1 | 3 | 24) => true,
         Err(4..=7) => added == merged,

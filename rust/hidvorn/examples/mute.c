@@ -1,7 +1,7 @@
 /* A title's link, in C: the emulator core carries a weak `mute` that does nothing, and its mixer calls it by
  * name; the sound archive has the strong one, which clears the mix buffer. Prints what the walk passed by, and who holds `mute` at the end.
  *
- *   cc -std=c99 -I rust/hidvorn/include rust/hidvorn/examples/mute.c crates/ffi/out/libffi.a -o mute && ./mute
+ *   cc -std=c99 -I rust/hidvorn/include rust/hidvorn/examples/mute.c crates/hidvorn/out/libhidvorn.a -o mute && ./mute
  */
 #include "hidvorn.h"
 
@@ -69,7 +69,7 @@ static void link_title(const struct symbol *core, size_t count)
 {
     static struct link l;
     uint64_t walk[HIDVORN_WALK], rows[3 * 8], told[3], found[HIDVORN_FOUND];
-    hidvorn_new(CELLS(l.header), 1, 0, CELLS(l.bytes), CELLS(l.names), CELLS(l.symbols), CELLS(l.sections));
+    hidvorn_new(CELLS(l.header), 1, HIDVORN_OLD, CELLS(l.bytes), CELLS(l.names), CELLS(l.symbols), CELLS(l.sections));
     must(&l, "new");
     add(&l, core, count);
 

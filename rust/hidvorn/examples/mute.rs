@@ -106,6 +106,8 @@ fn link_title(core: &Object<'_>) -> Result<(), Refusal> {
             if merged.sections().any(|section| holder == Some(section)) {
                 giver = name;
             }
+        } else {
+            println!("warning: {name}: offered, but not admitted: what it defines is left out");
         }
     };
     println!("done after {passes} passes");

@@ -1,6 +1,6 @@
 //! The walk over an archive's members.
 use crate::ffi::{self, Header, VALUE, Walk};
-use crate::{Link, Object, Refusal, Symbol};
+use crate::{About, Link, Object, Refusal, Symbol};
 use std::borrow::Cow;
 use std::hash::{BuildHasher, RandomState};
 
@@ -111,7 +111,11 @@ impl<'a> PendingArchive<'a> {
     pub fn next(&mut self, link: &Link) -> Result<Step, Refusal> {
         let mut header = link.header;
         let PendingArchive { index, rows, walk } = self;
-        ffi::archive_next(&mut header, walk, index, rows, &link.bytes, &link.names, &link.symbols)?;
+        ffi::archive_next(&mut header, walk, index, rows, &link.bytes, &link.names, &link.symbols)
+            .map_err(|refusal| {
+                let about = self.member(refusal.place);
+                refusal.about(about)
+            })?;
         let [there, offset, entry, passes, ..] = header[VALUE..] else { unreachable!() };
         Ok(match there {
             0 => Step::Done { passes },
@@ -175,8 +179,15 @@ impl<'a> PendingArchive<'a> {
             &object.entries,
             &object.contents,
             &object.file,
-        )?;
+        )
+        .map_err(|refusal| refusal.about(self.member(member.entry)))?;
         Ok(header[VALUE] == 1)
+    }
+
+    /// The member of an entry, for a refusal.
+    fn member(&self, entry: usize) -> Option<About> {
+        let IndexEntry { offset, name } = self.entry(entry)?;
+        Some(About::Member { offset, name: name.to_vec() })
     }
 
     /// The names that tied the member in the pass that queued it, by the index' entries. A

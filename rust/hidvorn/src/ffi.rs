@@ -1,6 +1,6 @@
-//! The calls of libffi.a, each behind a safe function. The only module with unsafe code.
+//! The calls of libhidvorn.a, each behind a safe function. The only module with unsafe code.
 //!
-//! Why the calls are sound. What the archive promises of each function (crate `ffi`, proved): it is
+//! Why the calls are sound. What the archive promises of each function (crates/hidvorn, proved): it is
 //! total, whatever its arguments hold; it reads and writes nothing but the slices that it is lent,
 //! and of those writes only the `*mut` ones; it keeps no pointer and never unwinds. What these
 //! wrappers see to: every pointer and length are those of one Rust slice or array, so that the
@@ -8,7 +8,8 @@
 //! `*mut` comes from a `&mut`, so that it overlaps no other slice of the call; cells of `u64` and
 //! `u8` have no invalid values, so that whatever is written is good. That the declarations below
 //! are those of the archive can't be checked by either compiler: they are written from the
-//! functions' signatures, where a slice is a pointer and a length.
+//! functions' signatures, where a slice is a pointer and a length, and tests/declarations.rs
+//! compares them with these, and with the header for C.
 use crate::{Cause, Refusal};
 
 /// The link's counts (0 to 7), whether it is broken (8), the last answer: number, place, values (9
@@ -34,7 +35,7 @@ fn cause(number: u64) -> Cause {
 fn answer(header: &Header) -> Result<(), Refusal> {
     match header[9] {
         0 => Ok(()),
-        number => Err(Refusal { cause: cause(number), place: header[10] as usize }),
+        number => Err(Refusal::new(cause(number), header[10] as usize)),
     }
 }
 
@@ -733,7 +734,7 @@ pub(crate) fn read_file(rows: &mut [u64], file: &[u8]) -> Result<Reading, Refusa
     };
     match number {
         0 => Ok(answer),
-        number => Err(Refusal { cause: cause(number), place: answer[0] as usize }),
+        number => Err(Refusal::new(cause(number), answer[0] as usize)),
     }
 }
 

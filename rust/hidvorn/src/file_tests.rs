@@ -1,6 +1,7 @@
 //! Object files against a reader of the tests' own: its sums are of 128 bits, it goes by elf.h's
 //! structures, and it shares nothing with the proved one. Files compiled on the spot, every member
 //! of the system's archives, damaged copies; each is read, then merged as a file and as rows.
+use crate::names::file_work_rows;
 use crate::{Link, Object, PendingArchive, Profile, Refusal, Step};
 use std::collections::BTreeMap;
 use std::path::{Path, PathBuf};
@@ -193,17 +194,23 @@ fn try_file(file: &[u8], link: &mut Link, by_hand: &mut Link, whole: bool) -> u6
             assert_eq!(rows.contents, object.contents);
             assert_eq!((rows.names, file), (object.names, &*object.file));
         }
-        (Err(wanted), Err(refused)) => assert_eq!(*wanted, refusal(*refused)),
+        (Err(wanted), Err(refused)) => assert_eq!(*wanted, refusal(refused.clone())),
         _ => panic!("{:?} and {:?}", wanted.err(), object.err()),
     }
-    let answer = link.merge_file(file).map(|merged| format!("{merged:?}")).map_err(refusal);
+    let answer = link.merge_file(file).map(|merged| format!("{merged:?}"));
     let expected = match object {
+        // what they are about is the same too
         Ok(object) => {
-            by_hand.merge_elf(&object).map(|merged| format!("{merged:?}")).map_err(refusal)
+            assert!(object.work_rows() <= file_work_rows(file));
+            by_hand.merge_elf(&object).map(|merged| format!("{merged:?}"))
         }
-        Err(refused) => Err(refusal(refused)),
+        Err(refused) => {
+            let about = answer.as_ref().err().and_then(|refusal| refusal.about.clone());
+            Err(Refusal { about, ..refused })
+        }
     };
     assert_eq!(answer, expected);
+    let answer = answer.map_err(refusal);
     if whole {
         assert!(held(link) == held(by_hand));
     }
@@ -226,8 +233,8 @@ fn links(profile: Profile) -> (Link, Link) {
 struct Folder(PathBuf);
 
 impl Folder {
+    /// Of its own for each test, since they run side by side.
     fn new(name: &str) -> Self {
-        // Tests run side by side: each folder is its own.
         static MADE: AtomicUsize = AtomicUsize::new(0);
         let number = MADE.fetch_add(1, Ordering::Relaxed);
         let path = env::temp_dir().join(format!("hidvorn-{name}-{}-{number}", process::id()));
@@ -521,6 +528,44 @@ fn numbers_in_the_first_header() {
         files.push(other);
     }
     cases("numbers in the first header", files.into_iter());
+}
+
+/// What is refused of a file is told by its names, though its rows stay nowhere.
+#[test]
+fn names_of_files() {
+    let folder = Folder::new("names");
+    let told = |source: &str, damage: &dyn Fn(&mut Vec<u8>)| {
+        let mut file = folder.compiled("as", "n.s", source, &[]).expect("as is needed");
+        damage(&mut file);
+        let (mut link, _) = links(Profile::Old);
+        (0..2).find_map(|_| link.merge_file(&file).err()).expect("a refusal").to_string()
+    };
+    let twice = told("\t.text\n\t.globl f\nf:\tret\n", &|_| ());
+    assert_eq!(
+        twice,
+        "duplicate strong definition, place 1, symbol `f`, held by symbol 1 in section `.text` \
+         (refusal 17)"
+    );
+    // the alignment of a common
+    let common = told("\t.comm shared,16,8\n", &|file| {
+        let table = field(file, 40, 8) as usize;
+        let mut headers = (0..field(file, 60, 2) as usize).map(|number| table + 64 * number);
+        let symbols = headers.find(|at| field(file, *at as u128 + 4, 4) == 2).expect("symbols");
+        let first = field(file, symbols as u128 + 24, 8) as usize;
+        file[first + 32..first + 40].copy_from_slice(&3u64.to_le_bytes());
+    });
+    assert!(common.ends_with("place 1, symbol `shared` (refusal 28)"), "{common}");
+    let kind = told("\t.section .eh_frame_hdr,\"a\",@progbits\n\t.byte 1\n", &|_| ());
+    assert!(kind.ends_with("section `.eh_frame_hdr` (refusal 3)"), "{kind}");
+    // a section whose table lies past the end
+    let cut = told("\tcall g\n", &|file| {
+        let table = field(file, 40, 8) as usize;
+        let count = field(file, 60, 2) as usize;
+        let mut headers = (0..count).map(|number| table + 64 * number);
+        let at = headers.find(|at| field(file, *at as u128 + 4, 4) == 4).expect("relocations");
+        file[at + 32..at + 40].copy_from_slice(&24_000u64.to_le_bytes());
+    });
+    assert!(cut.ends_with("section `.rela.text` (refusal 27)"), "{cut}");
 }
 
 /// Two relocation tables over the same bytes have more entries than the file has room for.

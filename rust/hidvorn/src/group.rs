@@ -1,6 +1,5 @@
 //! Section groups that are added outside of a merge.
 use crate::Object;
-use crate::link::OBJECT_SECTIONS;
 use std::fmt;
 
 /// An object whose groups are added one by one, and what they say of its sections.
@@ -12,7 +11,7 @@ pub struct GroupMarks<'o> {
     pub(crate) headers: Vec<u64>,
     /// The table's rows.
     pub(crate) entries: &'o [u64],
-    /// A row for each section number, there or not: a group may list any.
+    /// A row for each section, and for each number that a group lists.
     pub(crate) work: Vec<u64>,
 }
 
@@ -20,7 +19,7 @@ impl<'o> GroupMarks<'o> {
     /// Before the object's first group. `table` is the section that is its symbol table.
     pub fn new(object: &'o Object<'o>, table: usize) -> Self {
         let (headers, entries) = object.for_group(table);
-        GroupMarks { object, table, headers, entries, work: vec![0; OBJECT_SECTIONS * 8] }
+        GroupMarks { object, table, headers, entries, work: vec![0; object.work_rows() * 8] }
     }
 
     /// Whether a group of a signature met before lists the section.
@@ -41,7 +40,8 @@ impl<'o> GroupMarks<'o> {
 
 impl fmt::Debug for GroupMarks<'_> {
     fn fmt(&self, f: &mut fmt::Formatter<'_>) -> fmt::Result {
-        let marked = |mark| (0..OBJECT_SECTIONS).filter(move |at| self.mark(*at) == mark);
+        let rows = self.work.len() / 8;
+        let marked = |mark| (0..rows).filter(move |at| self.mark(*at) == mark);
         f.debug_struct("GroupMarks")
             .field("removed", &marked(2).collect::<Vec<_>>())
             .field("groups", &marked(1).collect::<Vec<_>>())

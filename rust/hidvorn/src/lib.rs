@@ -16,7 +16,7 @@
 //! | nothing | [`PendingArchive::shadowed`]: what a walk passed by, as the archive's strong definition behind a weak one |
 //! | `gc_sections::run` | [`Link::gc_sections`] |
 //! | `plain_collector::run` | [`Link::gc_sections_plain`] |
-//! | panics and errors | [`Refusal`], a cause and a place |
+//! | panics and errors | [`Refusal`], a cause and a place, and what that is by name |
 //!
 //! Left out, and what to do instead:
 //!
@@ -54,6 +54,7 @@ mod ids;
 mod library;
 mod link;
 mod merged;
+mod names;
 mod object;
 mod refusal;
 mod rows;
@@ -71,7 +72,7 @@ pub use library::{LibraryName, Load, SharedObject};
 pub use link::{Capacity, Collected, Link, ListRefused, Profile};
 pub use merged::Merged;
 pub use object::{Object, Relocations, SectionContent, SectionHeader};
-pub use refusal::{Cause, Refusal};
+pub use refusal::{About, Cause, Holder, Refusal};
 pub use rows::{Ids, Input, Names, Relocations as SectionRelocations, Section};
 pub use symbol::{
     Converted, ElfSymbol, ListedSymbol, SectionConversion, Symbol, SymbolType, SymbolValue,

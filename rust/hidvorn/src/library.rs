@@ -1,5 +1,6 @@
 //! Shared objects as rows, for a load.
 use crate::ElfSymbol;
+use crate::names::name_at;
 use std::borrow::Cow;
 
 /// Under which name a library without a soname is known.
@@ -53,6 +54,16 @@ impl<'a> SharedObject<'a> {
     /// Adds a dependency (`DT_NEEDED`), by where its name starts in the string table.
     pub fn push_dependency(&mut self, offset: usize) {
         self.needs.push(offset as u64);
+    }
+
+    /// The name of a symbol by its number.
+    pub(crate) fn symbol_name(&self, symbol: usize) -> Option<&[u8]> {
+        name_at(&self.strings, self.entries.as_chunks::<8>().0.get(symbol)?[0])
+    }
+
+    /// The name of a dependency by its number.
+    pub(crate) fn dependency(&self, number: usize) -> Option<&[u8]> {
+        name_at(&self.strings, *self.needs.get(number)?)
     }
 }
 

@@ -1,9 +1,10 @@
 //! The link: its storage and its calls.
 use crate::ffi::{self, Header, KEY, PROFILE, VALUE};
+use crate::names::{file_section_name, file_sections, file_work_rows};
 use crate::object::{cells_for, loaded_symbols};
 use crate::{
-    GroupMarks, Interned, LibraryName, ListedSymbol, Load, Merged, Object, Refusal,
-    SectionConversion, SectionId, SharedObject, Symbol, SymbolId, UpcomingSymbol,
+    About, Cause, GroupMarks, Holder, Interned, LibraryName, ListedSymbol, Load, Merged, Object,
+    Refusal, Section, SectionConversion, SectionId, SharedObject, Symbol, SymbolId, UpcomingSymbol,
 };
 use std::fmt;
 use std::hash::{BuildHasher, RandomState};
@@ -66,7 +67,7 @@ pub enum Profile {
 }
 
 impl Profile {
-    /// Its number in the calls of libffi.a.
+    /// Its number in the calls of libhidvorn.a.
     fn number(self) -> u64 {
         match self {
             Profile::Old => 0,
@@ -74,9 +75,6 @@ impl Profile {
         }
     }
 }
-
-/// The most sections that an object can have.
-pub(crate) const OBJECT_SECTIONS: usize = 65_280;
 
 /// The symbol half of a link: names, symbols, sections, groups and inputs.
 ///
@@ -90,8 +88,8 @@ pub struct Link {
     pub(crate) sections: Vec<u64>,
     pub(crate) inputs: Vec<u64>,
     pub(crate) lists: Vec<u64>,
-    /// For a merge: a row for each section that an object can have. For a collection: two cells for
-    /// each section of the link, which are fewer.
+    /// For a merge: a row for each section of the object and each number that its groups list. For
+    /// a collection: two cells for each section of the link. Grows with the largest.
     pub(crate) work: Vec<u64>,
     /// For a merge: what each symbol of the object became.
     pub(crate) ids: Vec<u64>,
@@ -161,7 +159,7 @@ impl Link {
             sections: vec![0; capacity.sections.min(Capacity::BOUNDS.sections) * 9],
             inputs: vec![0; capacity.inputs.min(Capacity::BOUNDS.inputs) * 8],
             lists: Vec::new(),
-            work: vec![0; OBJECT_SECTIONS * 8],
+            work: Vec::new(),
             ids: Vec::new(),
             rows: Vec::new(),
             marks: vec![0; names],
@@ -226,7 +224,8 @@ impl Link {
     /// The id of a name: the same for equal bytes.
     pub fn intern(&mut self, name: &[u8]) -> Result<Interned, Refusal> {
         let Link { header, bytes, names, .. } = self;
-        ffi::intern(header, bytes, names, name)?;
+        ffi::intern(header, bytes, names, name)
+            .map_err(|refusal| refusal.about(Some(About::Name(name.to_vec()))))?;
         Ok(Interned::of_cell(header[VALUE]))
     }
 
@@ -252,8 +251,9 @@ impl Link {
     /// it is known.
     pub fn add(&mut self, symbol: UpcomingSymbol<'_>) -> Result<SymbolId, Refusal> {
         let Link { header, names, symbols, sections, .. } = self;
-        ffi::add(header, names, symbols, sections, symbol.conversion(), &symbol.cells())?;
-        Ok(SymbolId::of_cell(header[VALUE]))
+        ffi::add(header, names, symbols, sections, symbol.conversion(), &symbol.cells())
+            .map_err(|refusal| self.tell_add(refusal, symbol.name()))?;
+        Ok(SymbolId::of_cell(self.header[VALUE]))
     }
 
     /// Adds the symbols one by one, in a single call, up to the first that is refused, and answers
@@ -267,13 +267,15 @@ impl Link {
         let mut cells = vec![0; list.len()];
         let Link { header, names, symbols, sections, .. } = self;
         let conversion = conversion.cells();
-        let answer =
-            ffi::add_list(header, names, symbols, sections, conversion, &adds, &mut cells);
+        let answer = ffi::add_list(header, names, symbols, sections, conversion, &adds, &mut cells);
         let position = header[VALUE] as usize;
         let ids = cells[..position].iter().map(|cell| SymbolId::of_cell(*cell)).collect();
         match answer {
             Ok(()) => Ok(ids),
-            Err(refusal) => Err(ListRefused { refusal, position, ids }),
+            Err(refusal) => {
+                let name = list.get(position).map(|symbol| symbol.name);
+                Err(ListRefused { refusal: self.tell_add(refusal, name), position, ids })
+            }
         }
     }
 
@@ -287,7 +289,8 @@ impl Link {
     /// The symbol that holds a name; 23 if there is none, 21 if it was removed.
     pub fn get_global(&self, name: Interned) -> Result<Symbol, Refusal> {
         let (mut header, mut out) = (self.header, [0; 10]);
-        ffi::get_global(&mut header, &self.names, &self.symbols, name.0, &mut out)?;
+        ffi::get_global(&mut header, &self.names, &self.symbols, name.0, &mut out)
+            .map_err(|refusal| refusal.about(self.name(name)))?;
         Ok(found(&out))
     }
 
@@ -313,6 +316,7 @@ impl Link {
     /// link; what was merged before it stays. (1 and 22 change nothing.)
     pub fn merge_elf(&mut self, object: &Object<'_>) -> Result<Merged<'_>, Refusal> {
         self.make_room(object.contents.len());
+        self.make_work(8 * object.work_rows());
         if self.ids.len() < object.symbol_count() {
             self.ids.resize(object.symbol_count(), 0);
         }
@@ -331,7 +335,8 @@ impl Link {
             &object.contents,
             &object.file,
             object.names,
-        )?;
+        )
+        .map_err(|refusal| self.tell_object(refusal, object, object.loaded_table()))?;
         Ok(Merged::new(self, object.section_count(), object.loaded_symbols()))
     }
 
@@ -349,6 +354,7 @@ impl Link {
         }
         // Its relocations and groups' members are among the rows; a symbol has 24 bytes.
         self.make_room(cells);
+        self.make_work(8 * file_work_rows(file));
         if self.ids.len() < file.len() / 24 {
             self.ids.resize(file.len() / 24, 0);
         }
@@ -364,7 +370,8 @@ impl Link {
             &mut self.ids,
             &mut self.rows,
             file,
-        )?;
+        )
+        .map_err(|refusal| self.tell_file(refusal, file))?;
         let sections = file_sections(file);
         Ok(Merged::new(self, sections, loaded_symbols(&self.rows[..sections * 8])))
     }
@@ -387,6 +394,7 @@ impl Link {
             marks.table,
             section,
         )
+        .map_err(|refusal| self.tell_object(refusal, marks.object, marks.table))
     }
 
     /// Loads a shared object, if it is needed or as-needed wasn't asked for. A refusal breaks the
@@ -414,7 +422,8 @@ impl Link {
             library.soname.is_some(),
             library.soname.unwrap_or(0),
             library.as_needed,
-        )?;
+        )
+        .map_err(|refusal| self.tell_library(refusal, library))?;
         Ok(if self.header[VALUE] == 1 { Load::Loaded } else { Load::NotNeeded })
     }
 
@@ -451,6 +460,7 @@ impl Link {
         marks: &[u8],
         entry: Option<SymbolId>,
     ) -> Result<Collected, Refusal> {
+        self.make_work(2 * self.section_count());
         ffi::collect(
             plain,
             &mut self.header,
@@ -482,18 +492,100 @@ impl Link {
             self.lists.resize(needed.max(2 * self.lists.len()), 0);
         }
     }
-}
 
-/// How many sections an accepted file has: `e_shnum`, or `sh_size` of the first header where that
-/// is 0; none where `e_shoff` is 0.
-fn file_sections(file: &[u8]) -> usize {
-    let number = |at: usize, len: usize| {
-        file[at..at + len].iter().rev().fold(0, |n, byte| n << 8 | *byte as usize)
-    };
-    match (number(40, 8), number(60, 2)) {
-        (0, _) => 0,
-        (headers, 0) => number(headers + 32, 8),
-        (_, count) => count,
+    /// So many work cells at least.
+    fn make_work(&mut self, cells: usize) {
+        if self.work.len() < cells {
+            self.work.resize(cells, 0);
+        }
+    }
+
+    // ---- what a refusal is about
+
+    /// The name of that id.
+    fn name(&self, name: Interned) -> Option<About> {
+        self.resolve(name).ok().map(|name| About::Name(name.to_vec()))
+    }
+
+    /// A refusal of a direct add: by the symbol's name, which 21 is about too.
+    fn tell_add(&self, refusal: Refusal, name: Option<Interned>) -> Refusal {
+        let name = name.and_then(|name| self.resolve(name).ok());
+        let about = name.map(|name| self.symbol_about(refusal.cause, name));
+        refusal.about(about)
+    }
+
+    /// A refusal inside a merge or a load that is about a symbol, of this name, or a name's id.
+    fn tell_symbol(&self, refusal: Refusal, name: Option<&[u8]>) -> Refusal {
+        let about = match refusal.cause {
+            Cause::AbsentId => self.name(Interned(refusal.place)),
+            cause if cause.is_of_symbol() => name.map(|name| self.symbol_about(cause, name)),
+            _ => None,
+        };
+        refusal.about(about)
+    }
+
+    /// A refusal of the merge of an object, or of its group: by its section or its symbol in the
+    /// table; of 1 and 2 either, of 1 a symbol by its number among all.
+    fn tell_object(&self, refusal: Refusal, object: &Object<'_>, table: usize) -> Refusal {
+        let (cause, place) = (refusal.cause, refusal.place);
+        let section = || object.section_name(place).map(|name| About::Section(name.to_vec()));
+        match cause {
+            Cause::OutOfRange | Cause::NoRoom => {
+                let symbol = match cause {
+                    Cause::OutOfRange => object.entry_name(place),
+                    _ => object.symbol_name(table, place),
+                };
+                refusal.about(About::one_of([section(), symbol.map(About::symbol)]))
+            }
+            cause if cause.is_of_section() => refusal.about(section()),
+            _ => self.tell_symbol(refusal, object.symbol_name(table, place)),
+        }
+    }
+
+    /// A refusal of a load: by the symbol; of 1 and 2 by it or the dependency.
+    fn tell_library(&self, refusal: Refusal, library: &SharedObject<'_>) -> Refusal {
+        let (cause, place) = (refusal.cause, refusal.place);
+        let symbol = library.symbol_name(place);
+        match cause {
+            Cause::OutOfRange | Cause::NoRoom => {
+                let dependency = library.dependency(place);
+                let dependency = dependency.map(|name| About::Dependency(name.to_vec()));
+                refusal.about(About::one_of([symbol.map(About::symbol), dependency]))
+            }
+            _ => self.tell_symbol(refusal, symbol),
+        }
+    }
+
+    /// The same of a file. Its rows are read again.
+    fn tell_file(&self, refusal: Refusal, file: &[u8]) -> Refusal {
+        match Object::read(file) {
+            Ok(object) => self.tell_object(refusal, &object, object.loaded_table()),
+            Err(Refusal { cause: Cause::BadTable, .. }) => {
+                let name = file_section_name(file, refusal.place);
+                let about = name.map(|name| About::Section(name.to_vec()));
+                refusal.about(about)
+            }
+            Err(_) => refusal,
+        }
+    }
+
+    /// A symbol of this name, with the row that holds the name if it is defined twice.
+    fn symbol_about(&self, cause: Cause, name: &[u8]) -> About {
+        let holder = match cause {
+            Cause::DuplicateStrong => self.find(name).and_then(|name| self.get_global(name).ok()),
+            _ => None,
+        };
+        About::Symbol { name: name.to_vec(), holder: holder.map(|symbol| self.holder(symbol)) }
+    }
+
+    fn holder(&self, symbol: Symbol) -> Holder {
+        let bytes = |name| self.resolve(name).ok().map(<[u8]>::to_vec);
+        let section = match symbol.value.section().and_then(|id| self.section(id)) {
+            Some(Section::Built { name, .. } | Section::Dropped { name }) => bytes(name),
+            _ => None,
+        };
+        let file = symbol.file.and_then(bytes);
+        Holder { id: symbol.id, value: symbol.value, section, file }
     }
 }
 

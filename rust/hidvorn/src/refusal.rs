@@ -1,4 +1,5 @@
 //! Refusals by the documents' table.
+use crate::{SectionId, SymbolId, SymbolValue};
 use std::fmt;
 
 macro_rules! causes {
@@ -97,6 +98,40 @@ impl Cause {
         Cause::ALL.into_iter().find(|cause| cause.number() == number)
     }
 
+    /// Whether its place in a merge is the number of a section of the object.
+    pub(crate) fn is_of_section(self) -> bool {
+        use Cause::*;
+        matches!(
+            self,
+            UnsupportedKind
+                | NotComdat
+                | SectionCountNotOne
+                | SignatureSymbolMissing
+                | SignatureStringMissing
+                | SectionNameMissing
+                | RelocationSymbolWithoutId
+                | SecondSymbolTable
+        )
+    }
+
+    /// Whether its place in a merge or a load is the number of a symbol.
+    pub(crate) fn is_of_symbol(self) -> bool {
+        use Cause::*;
+        matches!(
+            self,
+            LocalInRemovedSection
+                | SymbolNameMissing
+                | UnsupportedVisibility
+                | LocalHidden
+                | UnsupportedBinding
+                | Common
+                | CommonAlignment
+                | SectionWithoutId
+                | UnsupportedType
+                | DuplicateStrong
+        )
+    }
+
     /// Whether the table has a place for it. `FileSymbol` is met by direct adds alone.
     fn has_place(self) -> bool {
         use Cause::*;
@@ -128,7 +163,7 @@ impl fmt::Display for Cause {
 /// or too few cells for a file's rows: they change nothing. A repeated COMDAT group that lists a section
 /// number of 65,280 or above gives 2 and breaks the link: it is the one 2 that more capacity
 /// doesn't mend.
-#[derive(Clone, Copy, Debug, PartialEq, Eq, Hash)]
+#[derive(Clone, Debug, PartialEq, Eq, Hash)]
 pub struct Refusal {
     /// The table's cause.
     pub cause: Cause,
@@ -146,9 +181,27 @@ pub struct Refusal {
     /// 0 for the others, and for a direct add, also one of a list, but 21. For a group by itself symbols have their
     /// number in the table that was named.
     pub place: usize,
+    /// What it is about by name, where there is one: the same place, looked up when the call was
+    /// refused. Of 1 and 2 inside a merge or a load the place doesn't tell whether it is a section, a
+    /// symbol or a dependency, so that it may be one of two.
+    pub about: Option<Box<About>>,
 }
 
 impl Refusal {
+    /// A refusal that names nothing.
+    pub const fn new(cause: Cause, place: usize) -> Self {
+        Refusal { cause, place, about: None }
+    }
+
+    /// The same about this. A broken link is refused as a whole, and an empty name tells nothing.
+    pub(crate) fn about(self, about: Option<About>) -> Self {
+        let about = match self.cause {
+            Cause::BrokenLink => None,
+            _ => about.filter(About::tells).map(Box::new),
+        };
+        Refusal { about, ..self }
+    }
+
     /// The cause's number in the table: 1 to 28, and 30.
     pub const fn number(&self) -> u64 {
         self.cause.number()
@@ -161,8 +214,125 @@ impl fmt::Display for Refusal {
         if self.cause.has_place() {
             write!(f, ", place {}", self.place)?;
         }
+        if let Some(about) = &self.about {
+            write!(f, ", {about}")?;
+        }
         write!(f, " (refusal {})", self.number())
     }
 }
 
 impl std::error::Error for Refusal {}
+
+/// What a refusal is about, by name. Names are bytes; `Display` escapes what isn't printable.
+#[derive(Clone, Debug, PartialEq, Eq, Hash)]
+pub enum About {
+    /// A name that was to be issued, or whose holder was asked for.
+    Name(Vec<u8>),
+    /// A symbol that was to be added.
+    Symbol {
+        /// Its name.
+        name: Vec<u8>,
+        /// The symbol that holds the name, of a duplicate strong definition.
+        holder: Option<Holder>,
+    },
+    /// A section of an object.
+    Section(Vec<u8>),
+    /// A dependency of a library.
+    Dependency(Vec<u8>),
+    /// A member of an archive.
+    Member {
+        /// Its offset in the archive.
+        offset: u64,
+        /// A name that the archive's index ties to it: that of the entry.
+        name: Vec<u8>,
+    },
+    /// One of these: the place doesn't tell which.
+    OneOf(Vec<About>),
+}
+
+impl About {
+    /// A symbol of this name.
+    pub(crate) fn symbol(name: &[u8]) -> Self {
+        About::Symbol { name: name.to_vec(), holder: None }
+    }
+
+    /// An empty name tells nothing.
+    fn tells(&self) -> bool {
+        match self {
+            About::Section(name) | About::Dependency(name) => !name.is_empty(),
+            About::Symbol { name, holder } => !name.is_empty() || holder.is_some(),
+            _ => true,
+        }
+    }
+
+    /// One of those that are there, if any is.
+    pub(crate) fn one_of(all: [Option<About>; 2]) -> Option<Self> {
+        let mut all: Vec<_> = all.into_iter().flatten().filter(About::tells).collect();
+        match all.len() {
+            0 | 1 => all.pop(),
+            _ => Some(About::OneOf(all)),
+        }
+    }
+}
+
+/// The row that holds a name which was defined a second time.
+#[derive(Clone, Debug, PartialEq, Eq, Hash)]
+pub struct Holder {
+    /// Its id.
+    pub id: SymbolId,
+    /// Where it lies.
+    pub value: SymbolValue,
+    /// The name of its section, once that is built.
+    pub section: Option<Vec<u8>>,
+    /// The name of its source file.
+    pub file: Option<Vec<u8>>,
+}
+
+/// A name as it is printed.
+struct Quoted<'a>(&'a [u8]);
+
+impl fmt::Display for Quoted<'_> {
+    fn fmt(&self, f: &mut fmt::Formatter<'_>) -> fmt::Result {
+        write!(f, "`{}`", self.0.escape_ascii())
+    }
+}
+
+impl fmt::Display for About {
+    fn fmt(&self, f: &mut fmt::Formatter<'_>) -> fmt::Result {
+        match self {
+            About::Name(name) => write!(f, "name {}", Quoted(name)),
+            About::Symbol { name, holder: None } => write!(f, "symbol {}", Quoted(name)),
+            About::Symbol { name, holder: Some(holder) } => {
+                write!(f, "symbol {}, held by {holder}", Quoted(name))
+            }
+            About::Section(name) => write!(f, "section {}", Quoted(name)),
+            About::Dependency(name) => write!(f, "dependency {}", Quoted(name)),
+            About::Member { offset, name } => {
+                write!(f, "member at {offset} of the archive, for {}", Quoted(name))
+            }
+            About::OneOf(all) => all.iter().enumerate().try_for_each(|(at, about)| {
+                let or = if at == 0 { "" } else { " or " };
+                write!(f, "{or}{about}")
+            }),
+        }
+    }
+}
+
+impl fmt::Display for Holder {
+    fn fmt(&self, f: &mut fmt::Formatter<'_>) -> fmt::Result {
+        write!(f, "symbol {}", self.id.number())?;
+        match (&self.section, self.value) {
+            (Some(section), _) => write!(f, " in section {}", Quoted(section))?,
+            (None, SymbolValue::Absolute { value }) => write!(f, " at the absolute {value}")?,
+            (None, value) => {
+                if let Some(section) = value.section().map(SectionId::number) {
+                    write!(f, " in section {section}")?;
+                }
+            }
+        }
+        match &self.file {
+            Some(file) => write!(f, " of {}", Quoted(file)),
+            None => Ok(()),
+        }
+    }
+}

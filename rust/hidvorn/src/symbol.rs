@@ -29,7 +29,7 @@ pub enum SymbolVisibility {
 }
 
 /// Where a symbol lies. Every value but `Undefined` is a definition.
-#[derive(Clone, Copy, Debug, PartialEq, Eq)]
+#[derive(Clone, Copy, Debug, PartialEq, Eq, Hash)]
 pub enum SymbolValue {
     /// The null symbol's.
     Null,
@@ -373,6 +373,17 @@ impl UpcomingSymbol<'_> {
                 Interned::optional_cell(file),
                 elf.size,
             ],
+        }
+    }
+
+    /// Its name, if it has one.
+    pub(crate) fn name(&self) -> Option<Interned> {
+        match *self {
+            UpcomingSymbol::Null | UpcomingSymbol::Section { .. } => None,
+            UpcomingSymbol::GlobalUnknown { name }
+            | UpcomingSymbol::GlobalHidden { name, .. }
+            | UpcomingSymbol::ExternallyDefined { name, .. }
+            | UpcomingSymbol::Elf { name, .. } => Some(name),
         }
     }
 

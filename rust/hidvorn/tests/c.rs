@@ -1,4 +1,4 @@
-//! The header for C: a program over it and libffi.a alone, built by `cc` (or `CC`) and run.
+//! The header for C: a program over it and libhidvorn.a alone, built by `cc` (or `CC`) and run.
 use std::path::Path;
 use std::process::Command;
 

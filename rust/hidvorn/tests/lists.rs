@@ -27,7 +27,7 @@ fn numbers(ids: &[SymbolId]) -> Vec<usize> {
 
 fn refused(answer: Result<Vec<SymbolId>, ListRefused>) -> (u64, usize, usize, Vec<usize>) {
     let refused = answer.expect_err("a refusal");
-    let Refusal { cause, place } = refused.refusal;
+    let Refusal { cause, place, .. } = refused.refusal;
     (cause as u64, place, refused.position, numbers(&refused.ids))
 }
 
@@ -175,7 +175,7 @@ fn rows_of_every_kind() {
 }
 
 /// Stands for no refusal.
-const NONE: Refusal = Refusal { cause: Cause::BrokenLink, place: 0 };
+const NONE: Refusal = Refusal::new(Cause::BrokenLink, 0);
 
 /// No bound on the length of a list but its cells: more adds than there are symbol rows.
 #[test]

@@ -446,7 +446,7 @@ fn more_inputs_than_the_bound() {
 
 #[test]
 fn refusals_are_told_in_words() {
-    let told = |cause, place| Refusal { cause, place }.to_string();
+    let told = |cause, place| Refusal::new(cause, place).to_string();
     let duplicate = Cause::DuplicateStrong;
     assert_eq!(told(duplicate, 3), "duplicate strong definition, place 3 (refusal 17)");
     assert_eq!(told(duplicate, 0), "duplicate strong definition, place 0 (refusal 17)");
@@ -469,7 +469,8 @@ fn a_walk_that_meets_a_removed_name() {
     link.remove(removed).unwrap();
     let mut walk = PendingArchive::new(&b"\0\0\0\x02\0\0\0\x08\0\0\0\x10a\0b\0"[..]).unwrap();
     let refusal = walk.next(&link).unwrap_err();
-    assert_eq!(refusal, Refusal { cause: Cause::AbsentId, place: 1 });
+    assert_eq!((refusal.cause, refusal.place), (Cause::AbsentId, 1));
+    assert_eq!(refusal.about.as_deref(), Some(&About::Member { offset: 16, name: b"b".to_vec() }));
     assert_eq!(walk.entry(refusal.place), Some(IndexEntry { offset: 16, name: b"b" }));
     assert_eq!(walk.passes(), 0);
 }
@@ -515,7 +516,8 @@ fn a_walk_asked_for_another_walks_member() {
     let name = |entry| walk.entry(entry).map(|entry| (entry.offset, entry.name));
     assert_eq!([0, 1, 2].map(name), [Some((8, &b"a"[..])), Some((16, b"b")), None]);
     assert_eq!((walk.entry_count(), walk.entry(usize::MAX)), (2, None));
-    assert_eq!([first, second].map(|member| walk.admits(&link, &member, &object)), [Ok(true); 2]);
+    let admitted = [first, second].map(|member| walk.admits(&link, &member, &object));
+    assert_eq!(admitted, [Ok(true), Ok(true)]);
     assert_eq!(other.admits(&link, &first, &object), Ok(false));
     assert_eq!(refused(other.admits(&link, &second, &object)), (1, 0));
     assert_eq!(other.required(&second).count(), 0);

@@ -25,7 +25,11 @@ pub(crate) fn sheet(random: &mut Random) -> String {
         };
         // A common of binding 1 or 2 is no row of the Rust.
         let binding = if section == 0xfff2 { 0 } else { binding };
-        let value = random.value();
+        let value = match random.below(60) {
+            // rarely one that 64 bits don't hold
+            0 => u128::from(u64::MAX) + 1 + u128::from(random.below(3)),
+            _ => random.value().into(),
+        };
         writeln!(out, "{name} {binding} {visibility} {kind} {section} {value}").unwrap();
     }
     out

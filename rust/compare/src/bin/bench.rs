@@ -1,15 +1,17 @@
-//! The time per element of each call, ours and the Rust's in turns in one run, and the memory of
-//! both. Prints the tables of docs/PERFORMANCE.md. Times are the thread's own, the least of as many
-//! rounds as there is time for.
+//! The time per element of each call, ours and the Rust's and that of two tables which judge nothing
+//! (compare/src/plain.rs), in turns in one run; and the memory of ours and the Rust's. Prints the
+//! tables of docs/PERFORMANCE.md. Times are the thread's own, the median of as many rounds as there
+//! is time for.
 //!
-//! `bench`: all. `bench NAME ...`: only these; `fresh` and `memory` are the two smaller tables.
+//! `bench`: all. `bench NAME ...`: only these; `fresh`, `made` and `memory` are the smaller tables.
 //! `bench ours NAME SIZE SECONDS`: only ours, again and again, for a profile. `BENCH_SECONDS` (8):
 //! how long each size is measured.
 use compare::ours::object;
+use compare::plain::{self, Map, Open, Table};
 use compare::rows::{ArchiveRows, ObjectRows, SectionRow, SymbolRow};
 use hidvorn::{
-    Converted, ElfSymbol, LibraryName, Link, Load, PendingArchive, SectionConversion, SectionId,
-    SharedObject, Step, UpcomingSymbol,
+    Capacity, Converted, ElfSymbol, LibraryName, Link, Load, PendingArchive, SectionConversion,
+    SectionId, SharedObject, Step, UpcomingSymbol,
 };
 use oracle::bench::Clock;
 use oracle::{Machine, Random, bench};
@@ -56,10 +58,15 @@ unsafe impl GlobalAlloc for Counting {
 #[global_allocator]
 static ALLOCATOR: Counting = Counting;
 
-/// One benchmark at one size: what is timed on each side, from a fresh state at each call.
+/// What is timed, from a fresh state at each call.
+type Round = Box<dyn FnMut() -> Duration>;
+
+/// One benchmark at one size: what is timed on each side, and on the open-addressing table and the
+/// standard library's map where they have such a call.
 struct Pair {
-    ours: Box<dyn FnMut() -> Duration>,
-    rust: Box<dyn FnMut() -> Duration>,
+    ours: Round,
+    rust: Round,
+    plain: Option<[Round; 2]>,
 }
 
 type Make = fn(usize) -> Pair;
@@ -93,6 +100,9 @@ fn main() {
     if wanted("fresh") {
         fresh();
     }
+    if wanted("made") {
+        made();
+    }
     memory.into_iter().for_each(|tables| println!("{tables}"));
 }
 
@@ -102,21 +112,27 @@ fn each(time: Duration, size: usize) -> f64 {
 
 fn times(wanted: impl Fn(&str) -> bool) {
     println!(
-        "| call | an element | size | ours, ns | the Rust, ns | ratio | growth, ours | growth, the Rust |"
+        "| call | an element | size | ours, ns | the Rust, ns | plain table, ns | HashMap, ns \
+         | the Rust / ours | ours / plain | ours / HashMap | growth, ours | growth, the Rust |"
     );
-    println!("|---|---|---|---|---|---|---|---|");
+    println!("|---|---|---|---|---|---|---|---|---|---|---|---|");
     for (name, element, largest, make) in ALL.into_iter().filter(|(name, ..)| wanted(name)) {
         let mut before: Option<(f64, f64)> = None;
         for size in [100, 10_000, largest] {
-            let (ours, rust) = run(make(size));
-            let (ours, rust) = (each(ours, size), each(rust, size));
+            let [ours, rust, plain, map] = run(make(size)).map(|time| time.map(|t| each(t, size)));
+            let (ours, rust) = (ours.expect("ours"), rust.expect("the Rust's"));
+            let shown = |time: Option<f64>| time.map_or("".into(), |time| format!("{time:.1}"));
             let growth = |now: f64, before: Option<f64>| match before {
                 Some(before) => format!("{:.2}", now / before),
                 None => "".into(),
             };
             println!(
-                "| {name} | {element} | {size} | {ours:.1} | {rust:.1} | {:.1} | {} | {} |",
+                "| {name} | {element} | {size} | {ours:.1} | {rust:.1} | {} | {} | {:.1} | {} | {} | {} | {} |",
+                shown(plain),
+                shown(map),
                 rust / ours,
+                shown(plain.map(|plain| ours / plain)),
+                shown(map.map(|map| ours / map)),
                 growth(ours, before.map(|(ours, _)| ours)),
                 growth(rust, before.map(|(_, rust)| rust)),
             );
@@ -130,43 +146,68 @@ fn times(wanted: impl Fn(&str) -> bool) {
 fn fresh() {
     println!("| our time has | size | ours, ns | the Rust, ns | ratio |");
     println!("|---|---|---|---|---|");
-    let both: [(&str, Make); 2] =
-        [("`Link::new` and freeing it", intern_made), ("`clear`", intern_cleared)];
-    for (has, make) in both {
+    let all: [(&str, Make); 3] = [
+        ("`Link::new` and freeing it", intern_made),
+        ("`Link::with_capacity` for the names, and freeing it", intern_fitted),
+        ("`clear`", intern_cleared),
+    ];
+    for (has, make) in all {
         for size in [100, 10_000] {
-            let (ours, rust) = run(make(size));
-            let (ours, rust) = (each(ours, size), each(rust, size));
+            let [ours, rust, ..] = run(make(size)).map(|time| time.map_or(0.0, |t| each(t, size)));
             println!("| {has} | {size} | {ours:.1} | {rust:.1} | {:.2} |", rust / ours);
         }
     }
     println!();
 }
 
-/// In turns for some seconds, at least once each: the least of each, without the clock's own.
-fn run(mut pair: Pair) -> (Duration, Duration) {
-    let (mut ours, mut rust, mut clock) = (Duration::MAX, Duration::MAX, Duration::MAX);
+/// A link that is made and freed, with nothing in it.
+fn made() {
+    println!("| a link made and freed, for | µs |");
+    println!("|---|---|");
+    let links = [("100 names", fitted(100)), ("10,000 names", fitted(10_000))];
+    for (what, capacity) in links.into_iter().chain([("all bounds", Capacity::BOUNDS)]) {
+        let make = || timed(|| drop(black_box(Link::with_capacity(capacity).unwrap())));
+        let time = median((0..1000).map(|_| make()).collect());
+        println!("| {what} | {:.1} |", each(time, 1000));
+    }
+    println!();
+}
+
+/// In turns for some seconds, at least once each: the median of each, without the clock's own.
+fn run(mut pair: Pair) -> [Option<Duration>; 4] {
+    let mut times: [Vec<Duration>; 5] = Default::default();
+    let [ours, rust, plain, map, clock] = &mut times;
     let seconds = std::env::var("BENCH_SECONDS").ok().and_then(|word| word.parse().ok());
     let limit = Duration::from_secs(seconds.unwrap_or(8));
     let start = Instant::now();
-    let mut rounds = 0;
-    while rounds < 1 || (start.elapsed() < limit && rounds < 5000) {
-        ours = ours.min((pair.ours)());
-        rust = rust.min((pair.rust)());
-        clock = clock.min(timed(|| ()));
-        rounds += 1;
+    while ours.is_empty() || (start.elapsed() < limit && ours.len() < 5000) {
+        ours.push((pair.ours)());
+        rust.push((pair.rust)());
+        if let Some([open, standard]) = &mut pair.plain {
+            plain.push(open());
+            map.push(standard());
+        }
+        clock.push(timed(|| ()));
     }
-    (ours.saturating_sub(clock), rust.saturating_sub(clock))
+    let [times @ .., clock] = times;
+    let clock = median(clock);
+    times.map(|times| (!times.is_empty()).then(|| median(times).saturating_sub(clock)))
+}
+
+fn median(mut times: Vec<Duration>) -> Duration {
+    times.sort();
+    times[times.len() / 2]
 }
 
 fn profile(name: &str, size: usize, seconds: u64) {
     let (.., make) = ALL.into_iter().find(|(other, ..)| *other == name).expect("a benchmark");
     let mut pair = make(size);
-    let (start, mut least, mut rounds) = (Instant::now(), Duration::MAX, 0);
+    let (start, mut times) = (Instant::now(), Vec::new());
     while start.elapsed() < Duration::from_secs(seconds) {
-        least = least.min((pair.ours)());
-        rounds += 1;
+        times.push((pair.ours)());
     }
-    println!("{name} {size}: {:.1} ns, {rounds} rounds", least.as_nanos() as f64 / size as f64);
+    let rounds = times.len();
+    println!("{name} {size}: {:.1} ns, {rounds} rounds", each(median(times), size));
 }
 
 // ---- inputs
@@ -232,14 +273,28 @@ fn intern(size: usize) -> Pair {
         link.clear();
         timed(|| intern_all(&mut link, &all))
     };
-    Pair { ours: Box::new(ours), rust: rust_interns(rust) }
+    let plain = [plain_interns::<Open>(&rust), plain_interns::<Map>(&rust)];
+    Pair { ours: Box::new(ours), rust: rust_interns(rust), plain: Some(plain) }
+}
+
+/// Room for so many names of 12 bytes, with a symbol each.
+fn fitted(names: usize) -> Capacity {
+    let (names, symbols) = (names + 1, names + 1);
+    Capacity { names, name_bytes: 12 * names, symbols, sections: names, inputs: 16 }
+}
+
+fn intern_fitted(size: usize) -> Pair {
+    let all = names(size);
+    let rust = all.clone();
+    let ours = move || timed(|| intern_all(&mut Link::with_capacity(fitted(size)).unwrap(), &all));
+    Pair { ours: Box::new(ours), rust: rust_interns(rust), plain: None }
 }
 
 fn intern_made(size: usize) -> Pair {
     let all = names(size);
     let rust = all.clone();
     let ours = move || timed(|| intern_all(&mut Link::new(), &all));
-    Pair { ours: Box::new(ours), rust: rust_interns(rust) }
+    Pair { ours: Box::new(ours), rust: rust_interns(rust), plain: None }
 }
 
 fn intern_cleared(size: usize) -> Pair {
@@ -252,7 +307,7 @@ fn intern_cleared(size: usize) -> Pair {
             intern_all(&mut link, &all);
         })
     };
-    Pair { ours: Box::new(ours), rust: rust_interns(rust) }
+    Pair { ours: Box::new(ours), rust: rust_interns(rust), plain: None }
 }
 
 fn rust_interns(names: Vec<String>) -> Box<dyn FnMut() -> Duration> {
@@ -262,13 +317,76 @@ fn rust_interns(names: Vec<String>) -> Box<dyn FnMut() -> Duration> {
     })
 }
 
+fn plain_interns<T: Table + 'static>(all: &[String]) -> Round {
+    let (all, mut table) = (all.to_vec(), T::with_room(all.len()));
+    Box::new(move || {
+        table.clear();
+        timed(|| plain_intern_all(&mut table, &all))
+    })
+}
+
+fn plain_intern_all(table: &mut impl Table, names: &[String]) {
+    for name in names {
+        black_box(table.intern(name.as_bytes()));
+    }
+}
+
+fn plain_finds<T: Table + 'static>(all: &[String], again: &[String]) -> Round {
+    let (all, again, mut table) = (all.to_vec(), again.to_vec(), T::with_room(all.len()));
+    Box::new(move || {
+        table.clear();
+        plain_intern_all(&mut table, &all);
+        timed(|| plain_intern_all(&mut table, &again))
+    })
+}
+
+fn plain_adds<T: Table + 'static>(all: &[String]) -> Round {
+    let (all, mut table) = (all.to_vec(), T::with_room(all.len()));
+    Box::new(move || {
+        table.clear();
+        plain_intern_all(&mut table, &all);
+        timed(|| {
+            for name in 0..all.len() as u32 {
+                black_box(table.add(plain::Row { name, weak: false, section: 1, value: 16 }));
+            }
+        })
+    })
+}
+
+fn plain_merges<T: Table + 'static>(rows: &ObjectRows) -> Round {
+    let (rows, mut table) = (rows.clone(), T::with_room(rows.symbols.len() + rows.sections.len()));
+    Box::new(move || {
+        table.clear();
+        timed(|| plain::merge(&mut table, &rows))
+    })
+}
+
+fn plain_loads<T: Table + 'static>(
+    wanted: &[String],
+    strings: &[u8],
+    symbols: &[SymbolRow],
+) -> Round {
+    let (wanted, strings, symbols) = (wanted.to_vec(), strings.to_vec(), symbols.to_vec());
+    let mut table = T::with_room(wanted.len() + symbols.len());
+    Box::new(move || {
+        table.clear();
+        for name in &wanted {
+            let name = table.intern(name.as_bytes());
+            table.add(plain::Row { name, weak: false, section: 0, value: 0 });
+        }
+        timed(|| plain::load(&mut table, &strings, &symbols))
+    })
+}
+
 fn find(size: usize) -> Pair {
     let all = names(size);
     let mut again = all.clone();
     Random::new(8).shuffle(&mut again);
     let (rust, rust_again) = (all.clone(), again.clone());
+    let plain = [plain_finds::<Open>(&all, &again), plain_finds::<Map>(&all, &again)];
     let mut link = Link::new();
     Pair {
+        plain: Some(plain),
         ours: Box::new(move || {
             link.clear();
             intern_all(&mut link, &all);
@@ -289,6 +407,7 @@ fn add(size: usize) -> Pair {
     let conversion: SectionConversion =
         [Converted::Nothing, Converted::Section(SectionId::new(1))].into_iter().collect();
     Pair {
+        plain: Some([plain_adds::<Open>(&rust), plain_adds::<Map>(&rust)]),
         ours: Box::new(move || {
             link.clear();
             let ids: Vec<_> =
@@ -347,6 +466,7 @@ fn merge(size: usize) -> Pair {
     let (object, lines) = (object(&rows), object_lines(&rows));
     let mut link = Link::new();
     Pair {
+        plain: Some([plain_merges::<Open>(&rows), plain_merges::<Map>(&rows)]),
         ours: Box::new(move || {
             link.clear();
             timed(|| link.merge_elf(&object).unwrap())
@@ -375,9 +495,14 @@ fn load(size: usize) -> Pair {
 
     let mut lines: Vec<_> = wanted.iter().map(|name| format!("add unknown {name}")).collect();
     lines.extend(library_lines(true, &strings, &symbols));
+    let plain = [
+        plain_loads::<Open>(&wanted, &strings, &symbols),
+        plain_loads::<Map>(&wanted, &strings, &symbols),
+    ];
     let library = shared_object(true, strings, &symbols);
     let mut link = Link::new();
     Pair {
+        plain: Some(plain),
         ours: Box::new(move || {
             link.clear();
             for name in &wanted {
@@ -410,6 +535,7 @@ fn need(size: usize) -> Pair {
     let (last_lines, last) = made(&unasked, 1, true);
     let mut link = Link::new();
     Pair {
+        plain: None,
         ours: Box::new(move || {
             link.clear();
             for library in &earlier {
@@ -498,6 +624,7 @@ impl Indexed {
 fn start(size: usize) -> Pair {
     let Indexed { index, lines, .. } = Indexed::new(size);
     Pair {
+        plain: None,
         ours: Box::new(move || {
             let start = Clock::start();
             let walk = PendingArchive::new(&index[..]).unwrap();
@@ -520,6 +647,7 @@ fn walk(size: usize) -> Pair {
     lines.push("start".into());
     let mut link = Link::new();
     Pair {
+        plain: None,
         ours: Box::new(move || {
             made.fill(&mut link);
             let mut walk = PendingArchive::new(&made.index[..]).unwrap();
@@ -590,6 +718,7 @@ fn collect(size: usize) -> Pair {
     let rust_entry = entry.clone();
     let mut link = Link::new();
     Pair {
+        plain: None,
         ours: Box::new(move || {
             link.clear();
             for object in &objects {

@@ -1,4 +1,4 @@
-// The calls for another language, as numbers and slices: `rt staticlib ffi` writes target/staticlib/libffi.a. A slice is a pointer and a length. A
+// The calls for another language, as numbers and slices: `rt lib` writes out/libhidvorn.a. A slice is a pointer and a length. A
 // header of at least 24 cells holds the link and the answer (ffi_cells); the result is the number of the refusal, 0 for a result. The library that
 // a call stands for says which values it answers.
 // Kept: slices one by one, as C lends them.
