@@ -1,16 +1,13 @@
 -- An entry's row of lent cells, and the tree of members in the rows.
 -- Assumes nothing.
 use Rattle.std.specs.Prelude.{ℕ, zero, suc, ◌+◌, ◌*◌, ◌-◌, ◌/◌, ◌%◌, cond, List, [], ◌∷◌, eqb, get_or, set, length}
-use Rattle.cells.specs.Rows.{put_row}
+use Rattle.cells.specs.Rows.{put_row, row_width}
 use Rattle.byte_slices.specs.Bytes.{part}
 use Rattle.archive_index.specs.declared.opening.Spot.{Spot}
 use Rattle.archive_index.specs.declared.opening.Spot.TheVariants.{Known, Free}
 use Rattle.archive_index.specs.Index.{offset_of, after_of}
 
 -- ---- the cells of a row
-
-abbrev pub row_width : ℕ
-row_width = 8
 
 -- 1 where the entry's name is required of its member
 abbrev pub required_field : ℕ

@@ -11,7 +11,8 @@ use Rattle.archive_walk.specs.declared.Walk.{Walk}
 use Rattle.archive_walk.specs.Look.{Table, judge_table, tied_name}
 use Rattle.archive_walk.specs.Names.{noted_of}
 use Rattle.archive_walk.specs.Walk.{step_of, step_moved, refused_move, handed_out, ended, offer_of, Queue, queue_of, marked, enqueue, tie_of, tie_all, removed_of, passed, make_of, search_of, pass_of, walk_fits, go_of, next_of}
-use Rattle.archive_laws.proofs.Pass.{Rows, kept-rows, other-field, noted-rows}
+use Rattle.archive_laws.specs.Pass.{Rows}
+use Rattle.archive_laws.proofs.Pass.{kept-rows, other-field, noted-rows}
 
 module _ (key : ℕ) (s : List ℕ) (keys : ℕ → ℕ) (named : ℕ → List ℕ) (c : ℕ) where
   abbrev Good : List ℕ → Type 0

@@ -13,7 +13,7 @@ use Rattle.archive_walk.specs.Names.{bears_of, required_of}
 use Rattle.archive_laws.specs.Members.{Same, any_below}
 use Rattle.archive_laws.proofs.Counts.{any_none, first_one}
 use Rattle.archive_laws.proofs.Chains.{any_same, chained-is}
-use Rattle.archive_laws.proofs.Pass.{Rows}
+use Rattle.archive_laws.specs.Pass.{Rows}
 use Rattle.archive_laws.specs.ByKey.{asks, in_index}
 
 module _ (key : ℕ) (s : List ℕ) (keys : ℕ → ℕ) (named : ℕ → List ℕ) (c : ℕ) (l : List ℕ) (y : Rows key s keys named c l) (w : Walk) (keyed : w.key ≡ key) (entries : w.entries ≡ c) (e : ℕ) (h : e < c) (x : List ℕ) where

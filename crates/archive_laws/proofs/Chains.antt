@@ -18,6 +18,7 @@ use Rattle.archive_walk.specs.Names.{name_chain, along, bears_of, borne_from, ch
 use Rattle.archive_laws.specs.Members.{cnt, any_below}
 use Rattle.archive_laws.proofs.Counts.{clash, any-in, any_none, cnt-le, cnt-mono, cnt-less}
 use Rattle.archive_laws.specs.Chains.{asked, repeats, unasked}
+use Rattle.archive_laws.specs.ChainsWords.{Linked}
 
 -- ---- entries below a number
 
@@ -151,25 +152,17 @@ one-asked : (l : List ℕ) (j : ℕ) → required_at l j ≡ 1 → unasked l j �
 one-asked l j h = rw (eq-eqb (required_at l j) 1 h)
 
 module _ (key : ℕ) (s : List ℕ) (c : ℕ) where
-  pub record Linked (l : List ℕ) : Type 0 where
-    -- whoever is in a chain is marked
-    pub only : (b : ℕ) → b < c → (n : ℕ) → along l (unasked l) (head_at l b) n ≡ false
-    -- and no two of them are of one member and name
-    pub apart : (b : ℕ) → b < c → (n : ℕ) → repeats s l (head_at l b) n ≡ false
-    -- as many steps as entries are marked find who bears a name
-    pub all : 0 < c → (r : ℕ) (x : List ℕ) (n : ℕ) → cnt (asked l) c ≤ n → along l (bears_of s l r x) (head_at l (name_chain key c r x)) n ≡ any_below (bears_of s l r x) c
-
   chain-low : 0 < c → (r : ℕ) (x : List ℕ) → name_chain key c r x < c
   unfolding name_chain
   chain-low h r x = rw (ne_eqb c 0 (λ e. omega arith)) (mod-lt (hash_of key x + r % 0x100000000) h)
 
   -- a name is found in its chain just if a marked entry of the member bears it
-  pub chained-is : (l : List ℕ) → Linked l → c * 8 ≤ length l → 0 < c → (r : ℕ) (x : List ℕ) → chained key c s l r x ≡ any_below (bears_of s l r x) c
+  pub chained-is : (l : List ℕ) → Linked key s c l → c * 8 ≤ length l → 0 < c → (r : ℕ) (x : List ℕ) → chained key c s l r x ≡ any_below (bears_of s l r x) c
   unfolding chained borne_from
   chained-is l y room h r x = y.all h r x (length l / 8) (omega (arith, cnt-le (asked l) c))
 
   -- cells 0 to 5 of every row are as they were: so are the chains
-  pub linked-kept : (l m : List ℕ) → ((j g : ℕ) → g < 6 → get_or m (j * 8 + g) 0 ≡ get_or l (j * 8 + g) 0) → Linked l → Linked m
+  pub linked-kept : (l m : List ℕ) → ((j g : ℕ) → g < 6 → get_or m (j * 8 + g) 0 ≡ get_or l (j * 8 + g) 0) → Linked key s c l → Linked key s c m
   unfolding bears_of
   linked-kept l m e y = record {
     only = λ b g n. rw (e b 3 (omega arith)) (along-seen l m (unasked l) (unasked m) (unasked l) (λ j p. next j) (λ j p. rw (mark j)) n (head_at l b) (y.only b g n) ∙ y.only b g n);
@@ -204,7 +197,7 @@ module _ (key : ℕ) (s : List ℕ) (c : ℕ) where
     name : (j : ℕ) → stored_name s t j ≡ stored_name s l j
     next : (j : ℕ) → unasked l j ≡ false → next_at t j ≡ next_at l j
 
-  module _ (k : ℕ) (l t : List ℕ) (h : k < c) (y : Linked l) (m : Marked k l t) where
+  module _ (k : ℕ) (l t : List ℕ) (h : k < c) (y : Linked key s c l) (m : Marked k l t) where
     mark-stays : (j : ℕ) → unasked l j ≡ false → required_at t j ≡ required_at l j
     mark-stays j p = go (ℕ_discrete j k)
       where
@@ -338,9 +331,9 @@ module _ (key : ℕ) (s : List ℕ) (c : ℕ) where
       unfolding bears_of
       bears-own e = rw (eq-eqb (required_at l k) 1 e, eq-eqb r₀ r₀ refl) (same_refl x₀)
 
-      module _ (y : Linked l) where
+      module _ (y : Linked key s c l) where
         -- the chain has the name of another entry: only the mark is set
-        known : chained key c s l r₀ x₀ ≡ true → Linked a
+        known : chained key c s l r₀ x₀ ≡ true → Linked key s c a
         known e = record {
           only = λ b g n. rw (a-field b 3 (omega arith) (λ z. omega arith)) (only-stays k l a h y marks b g n);
           apart = λ b g n. rw (a-field b 3 (omega arith) (λ z. omega arith)) (apart-stays k l a h y marks b g n);
@@ -367,7 +360,7 @@ module _ (key : ℕ) (s : List ℕ) (c : ℕ) where
                 sym (rw (o.0, o.1) at held)
 
         -- it hasn't: the entry goes to the head
-        fresh : chained key c s l r₀ x₀ ≡ false → Linked t
+        fresh : chained key c s l r₀ x₀ ≡ false → Linked key s c t
         fresh e = record {
           only = λ b g n. only b g n (ℕ_discrete b b₀);
           apart = λ b g n. apart b g n (ℕ_discrete b b₀);
@@ -454,11 +447,11 @@ module _ (key : ℕ) (s : List ℕ) (c : ℕ) where
                 none false z = refl
                 none true z = let o = own k l t h y marks r x z in absurd (d (sym (rw (o.0, o.1))))
 
-        pub noted-linked : Linked (noted_of key c s l k)
+        pub noted-linked : Linked key s c (noted_of key c s l k)
         unfolding noted_of headed_of
         noted-linked = go (chained key c s l r₀ x₀) refl
           where
-            go : (b : Bool) → chained key c s l r₀ x₀ ≡ b → Linked (cond b a (cond (ltb k (length l / 8)) t a))
+            go : (b : Bool) → chained key c s l r₀ x₀ ≡ b → Linked key s c (cond b a (cond (ltb k (length l / 8)) t a))
             go true e = known e
             go false e = rw (lt-ltb k (length l / 8) (omega arith)) (fresh e)
 
@@ -490,7 +483,7 @@ module _ (key : ℕ) (s : List ℕ) (c : ℕ) where
         let zero : required_at (no_heads c l) j ≡ 0 = heads-field c l j 0 (omega arith) (λ z. omega arith) ∙ unmarked j g in
         rw (ne_eqb (required_at (no_heads c l) j) 1 (λ z. omega (arith, z, zero)))
 
-    pub none-linked : Linked (no_heads c l)
+    pub none-linked : Linked key s c (no_heads c l)
     none-linked = record {
       only = λ b g n. rw (heads-none c l room b g) (along-none (no_heads c l) (unasked (no_heads c l)) n);
       apart = λ b g n. rw (heads-none c l room b g) (repeats-none s (no_heads c l) n);

@@ -10,6 +10,7 @@ use mathlib.Core.List.{List, [], ◌∷◌}
 use Rattle.std.proofs.Math.Dec.{eqb}
 use borrow.Author.Tests.{eqb-true, eq-eqb, ne_eqb}
 use Rattle.archive_laws.specs.Members.{Same, among, Once, more, cnt, any_below, is_first, members}
+use Rattle.archive_laws.specs.Counts.{First, Below, one_more}
 
 pub clash : {P : Type 0} (a : Bool) → a ≡ true → a ≡ false → P
 clash a p q = let f : ◌≡◌ {A = ℕ} 0 1 = cc in absurd (omega arith)
@@ -90,18 +91,12 @@ cnt-less f g (suc n) r h l a b =
     go false false ex ey (no q) m i = i (omega arith)
 
 module _ (keys : ℕ → ℕ) where
-  -- the first entry of entry k's member
-  pub record First (k h : ℕ) : Type 0 where
-    pub low : h ≤ k
-    pub same : Same keys h k
-    pub first : is_first keys h ≡ true
-
-  pub first-of : (n k : ℕ) → k < n → (h : ℕ) × First k h
+  pub first-of : (n k : ℕ) → k < n → (h : ℕ) × First keys k h
   unfolding is_first
   first-of zero k q = absurd (not-suc-le-zero q)
   first-of (suc n) k q = go (any_below (λ j. eqb (keys j) (keys k)) k) refl (λ j r. first-of n j r)
     where
-      go : (b : Bool) → any_below (λ j. eqb (keys j) (keys k)) k ≡ b → ((j : ℕ) → j < n → (h : ℕ) × First j h) → (h : ℕ) × First k h
+      go : (b : Bool) → any_below (λ j. eqb (keys j) (keys k)) k ≡ b → ((j : ℕ) → j < n → (h : ℕ) × First keys j h) → (h : ℕ) × First keys k h
       go false e r = (k, record { low = omega arith; same = refl; first = ap not e })
       go true e r =
           let x = any_out (λ j. eqb (keys j) (keys k)) k e in
@@ -154,16 +149,11 @@ module _ (keys : ℕ → ℕ) where
       go true = refl
       go false = e
 
-  -- all below c
-  pub data Below (c : ℕ) : List ℕ → Type 0 where
-    no_one : Below c []
-    one_more : {k : ℕ} {q : List ℕ} → k < c → Below c q → Below c (k ∷ q)
-
   -- entry j is the first of a member of q
   abbrev heads : List ℕ → ℕ → Bool
   heads q j = is_first keys j && among keys j q
 
-  count-once : (c : ℕ) (q : List ℕ) → Once keys q → Below c q → length q ≤ cnt (heads q) c
+  count-once : (c : ℕ) (q : List ℕ) → Once keys q → Below keys c q → length q ≤ cnt (heads q) c
   count-once c [] o b = omega arith
   count-once c (k ∷ q) (more f o) (one_more h b) =
       let x = first-of c k h in
@@ -180,6 +170,6 @@ module _ (keys : ℕ → ℕ) where
       grow : (j : ℕ) → heads q j ≡ true → heads (k ∷ q) j ≡ true
       grow j e = both (is_first keys j) (among keys j (k ∷ q)) (left-of (is_first keys j) (among keys j q) e) (among-more q k j (right_of (is_first keys j) (among keys j q) e))
 
-  pub once-members : (c : ℕ) (q : List ℕ) → Once keys q → Below c q → length q ≤ members keys c
+  pub once-members : (c : ℕ) (q : List ℕ) → Once keys q → Below keys c q → length q ≤ members keys c
   once-members c q o b =
       omega (arith, count-once c q o b, cnt-mono (heads q) (is_first keys) c (λ j l e. left-of (is_first keys j) (among keys j q) e))

@@ -18,7 +18,8 @@ use Rattle.archive_index.specs.declared.opening.Spot.TheVariants.{Known, Free}
 use Rattle.archive_index.specs.Index.{offset_of, after_of, names_at, place_of, name_of, cut_of}
 use Rattle.archive_index.specs.Rows.{required_at, member_at, child_at, pass_at, stored_name, side_of, descend, spot_of, row_of, entered, enter_of, enter_all, rows_of}
 use Rattle.archive_laws.specs.Members.{Same, any_below, is_first}
-use Rattle.archive_laws.proofs.Counts.{clash, any-in, First, first-of}
+use Rattle.archive_laws.specs.Counts.{First}
+use Rattle.archive_laws.proofs.Counts.{clash, any-in, first-of}
 
 -- ---- where a search ends
 

@@ -22,7 +22,8 @@ use Rattle.archive_laws.proofs.RoundLaws.{newly, pull-into, did, Kept, kept_fres
 use Rattle.archive_laws.specs.Runs.{queue_list, view_by, views_by, Run, step_run, history, seen}
 use Rattle.archive_laws.proofs.Pass.{queue-length}
 use Rattle.archive_laws.proofs.Chains.{any_same}
-use Rattle.archive_laws.proofs.Steps.{Fine, going-fits, step-agrees, step-wrote, step_left}
+use Rattle.archive_laws.specs.Steps.{Fine}
+use Rattle.archive_laws.proofs.Steps.{going-fits, step-agrees, step-wrote, step_left}
 use Rattle.archive_laws.proofs.Required.{required-pass}
 use Rattle.archive_laws.proofs.Asked.{asked_is, asked-then}
 use Rattle.archive_laws.proofs.AnswersLemmas.{right}

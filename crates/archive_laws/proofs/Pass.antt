@@ -15,9 +15,11 @@ use Rattle.archive_walk.specs.Look.{Table, removed_name, tied_name}
 use Rattle.archive_walk.specs.Names.{noted_of}
 use Rattle.archive_walk.specs.Walk.{Queue, queue_of, marked, enqueue, tie_of, tie_all, removed_of}
 use Rattle.archive_laws.specs.Members.{among, Once, more, is_first, any_below, pull_at, pull}
-use Rattle.archive_laws.proofs.Counts.{clash, any-in, any_none, cnt-le, First, first_one, among-here, among_there, Below, one_more, once-members}
-use Rattle.archive_laws.proofs.Chains.{Linked, linked-kept, noted-field, noted-length, noted-there, noted-linked}
+use Rattle.archive_laws.specs.Counts.{First, Below, one_more}
+use Rattle.archive_laws.proofs.Counts.{clash, any-in, any_none, cnt-le, first_one, among-here, among_there, once-members}
+use Rattle.archive_laws.proofs.Chains.{linked-kept, noted-field, noted-length, noted-there, noted-linked}
 use Rattle.archive_laws.specs.Runs.{queue_list}
+use Rattle.archive_laws.specs.Pass.{Rows, Marks, Sound, Low}
 
 -- ---- the queue in the cells
 
@@ -32,25 +34,6 @@ queue-same l m zero h = refl
 queue-same l m (suc n) h = rw (h n (omega arith), queue-same l m n (λ i e. h i (omega arith)))
 
 module _ (key : ℕ) (s : List ℕ) (keys : ℕ → ℕ) (named : ℕ → List ℕ) (c : ℕ) where
-  -- the rows say what the index says
-  pub record Rows (l : List ℕ) : Type 0 where
-    pub room : c * 8 ≤ length l
-    pub name : (k : ℕ) → k < c → stored_name s l k ≡ named k
-    pub member : (k : ℕ) → k < c → First keys k (member_at l k)
-    pub linked : Linked key s c l
-
-  -- a representative has a pass just where its member is in the queue
-  pub record Marks (l : List ℕ) (n : ℕ) : Type 0 where
-    pub mark : (k : ℕ) → k < c → eqb (pass_at l (member_at l k)) 0 ≡ not (among keys k (queue_list l n))
-    pub once : Once keys (queue_list l n)
-    pub below : Below keys c (queue_list l n)
-    -- no name is required of a member that isn't queued
-    pub unmarked : (k : ℕ) → k < c → among keys k (queue_list l n) ≡ false → required_at l k ≡ 0
-
-  pub record Sound (l : List ℕ) (n : ℕ) : Type 0 where
-    pub rows : Rows l
-    pub marks : Marks l n
-
   -- ---- one cell is written: what stands in the others
 
   module _ (l : List ℕ) (a v : ℕ) where
@@ -61,7 +44,7 @@ module _ (key : ℕ) (s : List ℕ) (keys : ℕ → ℕ) (named : ℕ → List �
     kept-queue : (n : ℕ) → ((i : ℕ) → i < n → i * 8 + 7 ≡ a → ⊥) → queue_list (set l a v) n ≡ queue_list l n
     kept-queue n h = queue-same l (set l a v) n (λ i e. kept_field i 7 (h i e))
 
-    pub kept-rows : ((j f : ℕ) → f < 6 → j * 8 + f ≡ a → ⊥) → Rows l → Rows (set l a v)
+    pub kept-rows : ((j f : ℕ) → f < 6 → j * 8 + f ≡ a → ⊥) → Rows key s keys named c l → Rows key s keys named c (set l a v)
     kept-rows h y = record {
       room = omega (arith, length-set l a v, y.room);
       name = λ j e. rw (kept_field j 4 (h j 4 (omega arith)), kept_field j 5 (h j 5 (omega arith))) (y.name j e);
@@ -87,7 +70,7 @@ module _ (key : ℕ) (s : List ℕ) (keys : ℕ → ℕ) (named : ℕ → List �
     pub noted-queue : (n : ℕ) → queue_list noted n ≡ queue_list l n
     noted-queue n = queue-same l noted n (λ i e. noted-field key s c k l i 7 (omega arith) (λ z. omega arith) (λ z. omega arith) (λ z. omega arith))
 
-    pub noted-rows : k < c → Rows l → Rows noted
+    pub noted-rows : k < c → Rows key s keys named c l → Rows key s keys named c noted
     noted-rows h y = record {
       room = omega (arith, noted-length key s c k l, y.room);
       name = λ j e. rw (keep j 4 (omega arith) (λ z. omega arith) (λ z. omega arith) (λ z. omega arith), keep j 5 (omega arith) (λ z. omega arith) (λ z. omega arith) (λ z. omega arith)) (y.name j e);
@@ -98,8 +81,8 @@ module _ (key : ℕ) (s : List ℕ) (keys : ℕ → ℕ) (named : ℕ → List �
         keep : (j g : ℕ) → g < 8 → (g ≡ 0 → ⊥) → (g ≡ 2 → ⊥) → (g ≡ 3 → ⊥) → get_or noted (j * 8 + g) 0 ≡ get_or l (j * 8 + g) 0
         keep j g h p q z = noted-field key s c k l j g h p q z
 
-    module _ (n : ℕ) (y : Sound l n) where
-      noted-marks : among keys k (queue_list l n) ≡ true → Marks noted n
+    module _ (n : ℕ) (y : Sound key s keys named c l n) where
+      noted-marks : among keys k (queue_list l n) ≡ true → Marks key s keys named c noted n
       noted-marks queued = record {
         mark = λ j h. rw (noted-queue n, noted-member j, noted-pass (member_at l j)) (y.marks.mark j h);
         once = rw (noted-queue n) y.marks.once;
@@ -110,11 +93,11 @@ module _ (key : ℕ) (s : List ℕ) (keys : ℕ → ℕ) (named : ℕ → List �
           other : (j : ℕ) → j < c → among keys j (queue_list l n) ≡ false → required_at noted j ≡ 0
           other j h f = noted-there key s c k l j (λ d. clash (among keys k (queue_list l n)) queued (rw d at f)) ∙ y.marks.unmarked j h f
 
-      pub noted-sound : k < c → among keys k (queue_list l n) ≡ true → Sound noted n
+      pub noted-sound : k < c → among keys k (queue_list l n) ≡ true → Sound key s keys named c noted n
       noted-sound h queued = record { rows = noted-rows h y.rows; marks = noted-marks queued }
 
   -- entry k goes to the end of the queue
-  module _ (p k : ℕ) (l : List ℕ) (n : ℕ) (y : Sound l n) (h : k < c) (pos : p ≡ 0 → ⊥) (free : among keys k (queue_list l n) ≡ false) where
+  module _ (p k : ℕ) (l : List ℕ) (n : ℕ) (y : Sound key s keys named c l n) (h : k < c) (pos : p ≡ 0 → ⊥) (free : among keys k (queue_list l n) ≡ false) where
     abbrev r : ℕ
     r = member_at l k
 
@@ -124,7 +107,7 @@ module _ (key : ℕ) (s : List ℕ) (keys : ℕ → ℕ) (named : ℕ → List �
     abbrev b : List ℕ
     b = set a (r * 8 + 6) p
 
-    a-rows : Rows a
+    a-rows : Rows key s keys named c a
     a-rows = noted-rows l k h y.rows
 
     -- there is room: as many members are queued as are named at most
@@ -134,13 +117,13 @@ module _ (key : ℕ) (s : List ℕ) (keys : ℕ → ℕ) (named : ℕ → List �
         let w : Below keys c (k ∷ queue_list l n) = one_more h y.marks.below in
         omega (arith, queue-length l n, once-members keys c (k ∷ queue_list l n) o w, cnt-le (is_first keys) c)
 
-    b-rows : Rows b
+    b-rows : Rows key s keys named c b
     b-rows = kept-rows a (r * 8 + 6) p (λ j f d e. other-field j f r 6 d (inl refl) e) a-rows
 
     abbrev m : List ℕ
     m = marked key c s p k r l n
 
-    m-rows : Rows m
+    m-rows : Rows key s keys named c m
     unfolding marked
     m-rows = kept-rows b (n * 8 + 7) k (λ j f d e. other-field j f n 7 d (inr refl) e) b-rows
 
@@ -197,7 +180,7 @@ module _ (key : ℕ) (s : List ℕ) (keys : ℕ → ℕ) (named : ℕ → List �
             ∙ noted-there key s c k l j (λ d. e (ap keys (sym d)))
             ∙ y.marks.unmarked j g (sym (among_there keys (queue_list l n) k j e) ∙ w)
 
-    pub marked-sound : Sound (marked key c s p k r l n) (n + 1)
+    pub marked-sound : Sound key s keys named c (marked key c s p k r l n) (n + 1)
     marked-sound = record {
       rows = m-rows;
       marks = record { mark = m-mark; once = rw m-queue (more free y.marks.once); below = rw m-queue (one_more h y.marks.below); unmarked = m-unmarked };
@@ -214,14 +197,10 @@ module _ (key : ℕ) (s : List ℕ) (keys : ℕ → ℕ) (named : ℕ → List �
 
   -- ---- an entry of the pass
 
-  -- no representative has a later pass than p
-  abbrev pub Low : ℕ → List ℕ → Type 0
-  Low p l = (j : ℕ) → j < c → pass_at l (member_at l j) ≤ p
-
-  noted-low : (p : ℕ) (l : List ℕ) (k : ℕ) → Low p l → Low p (noted_of key c s l k)
+  noted-low : (p : ℕ) (l : List ℕ) (k : ℕ) → Low key s keys named c p l → Low key s keys named c p (noted_of key c s l k)
   noted-low p l k w j g = rw (noted-member l k j, noted-pass l k (member_at l j)) (w j g)
 
-  marked-low : (p k : ℕ) (l : List ℕ) (n : ℕ) (y : Sound l n) (h : k < c) (pos : p ≡ 0 → ⊥) (free : among keys k (queue_list l n) ≡ false) → Low p l → Low p (marked key c s p k (member_at l k) l n)
+  marked-low : (p k : ℕ) (l : List ℕ) (n : ℕ) (y : Sound key s keys named c l n) (h : k < c) (pos : p ≡ 0 → ⊥) (free : among keys k (queue_list l n) ≡ false) → Low key s keys named c p l → Low key s keys named c p (marked key c s p k (member_at l k) l n)
   marked-low p k l n y h pos free w j g = rw (m-member p k l n y h pos free j) (go (ℕ_discrete (member_at l j) (member_at l k)))
     where
       go : Dec (member_at l j ≡ member_at l k) → pass_at (marked key c s p k (member_at l k) l n) (member_at l j) ≤ p
@@ -230,17 +209,17 @@ module _ (key : ℕ) (s : List ℕ) (keys : ℕ → ℕ) (named : ℕ → List �
 
   -- what a step makes of the queue
   pub record Made (p : ℕ) (l : List ℕ) (n : ℕ) (q : List ℕ) (u : Queue) : Type 0 where
-    pub sound : Sound u.cells u.queued
+    pub sound : Sound key s keys named c u.cells u.queued
     pub queue : queue_list u.cells u.queued ≡ q
     pub more : n ≤ u.queued
     pub front : (i : ℕ) → i ≤ n → queue_list u.cells i ≡ queue_list l i
-    pub low : Low p l → Low p u.cells
+    pub low : Low key s keys named c p l → Low key s keys named c p u.cells
 
   module _ (t : Table) (p : ℕ) (pos : p ≡ 0 → ⊥) where
     abbrev tie : ℕ → Bool
     tie k = tied_name t (named k)
 
-    made_at : (k : ℕ) (l : List ℕ) (n : ℕ) → k < c → Sound l n → Made p l n (pull_at keys tie (queue_list l n) k) (tie_of key c s t p k (queue_of l n))
+    made_at : (k : ℕ) (l : List ℕ) (n : ℕ) → k < c → Sound key s keys named c l n → Made p l n (pull_at keys tie (queue_list l n) k) (tie_of key c s t p k (queue_of l n))
     unfolding tie_of enqueue pull_at
     made_at k l n h y =
         rw (y.rows.name k h)
@@ -272,7 +251,7 @@ module _ (key : ℕ) (s : List ℕ) (keys : ℕ → ℕ) (named : ℕ → List �
         go true false false true e d = none
 
     -- the n entries from k on
-    made-run : (n k : ℕ) (u : Queue) → k + n ≡ c → Sound u.cells u.queued
+    made-run : (n k : ℕ) (u : Queue) → k + n ≡ c → Sound key s keys named c u.cells u.queued
         → Made p u.cells u.queued (pull keys tie n k (queue_list u.cells u.queued)) (tie_all key c s t p n k u)
     unfolding tie_all pull
     made-run zero k u e y = record { sound = y; queue = refl; more = omega arith; front = λ i g. refl; low = λ w. w }
@@ -288,12 +267,12 @@ module _ (key : ℕ) (s : List ℕ) (keys : ℕ → ℕ) (named : ℕ → List �
         }
 
     -- a pass over the cells queues what the definition pulls
-    pub made-pass : (l : List ℕ) (n : ℕ) → Sound l n → Made p l n (pull keys tie c 0 (queue_list l n)) (tie_all key c s t p c 0 (queue_of l n))
+    pub made-pass : (l : List ℕ) (n : ℕ) → Sound key s keys named c l n → Made p l n (pull keys tie c 0 (queue_list l n)) (tie_all key c s t p c 0 (queue_of l n))
     made-pass l n y = made-run c 0 (queue_of l n) (omega arith) y
 
   -- ---- the search for a removed name
 
-  module _ (l : List ℕ) (t : Table) (y : Rows l) where
+  module _ (l : List ℕ) (t : Table) (y : Rows key s keys named c l) where
     abbrev gone : ℕ → Bool
     gone k = removed_name t (named k)
 

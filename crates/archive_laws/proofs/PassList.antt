@@ -3,7 +3,7 @@
 -- Assumes nothing.
 use Prim.Native.Nat.{ℕ, zero, suc, ◌+◌, ◌≤◌}
 use native.Mathlib.Omega.{arith}
-use Rattle.std.specs.Prelude.{◌≡◌, Bool, ◌⊎◌, eqb}
+use Rattle.std.specs.Prelude.{◌≡◌, Bool, eqb}
 use Rattle.std.proofs.Math.Path.{refl, sym}
 use Rattle.std.proofs.Common.{ap, subst, ◌∙◌, inl, inr, eqb-true}
 use Rattle.std.proofs.Math.Bool.{true, false, cond}
@@ -20,46 +20,9 @@ use Rattle.archive_laws.specs.Runs.{queue_list, view_by, views_by, Run, step_run
 use Rattle.archive_laws.proofs.Pass.{queue-length}
 use Rattle.archive_laws.specs.ByKey.{tied_in, queue_in, Walked}
 use Rattle.archive_laws.proofs.Terms.{walked}
+use Rattle.archive_laws.specs.PassList.{is_in, without, first_seen, keys_from, keys_of, tied_members, offered, IsOver, Over}
 
 -- ---- words on lists of members, each by its key
-
-abbrev pub is_in : ℕ → List ℕ → Bool
-is_in x [] = false
-is_in x (y ∷ ys) = cond (eqb y x) true (is_in x ys)
-
--- those of xs that aren't in q
-abbrev pub without : List ℕ → List ℕ → List ℕ
-without q [] = []
-without q (x ∷ xs) = cond (is_in x q) (without q xs) (x ∷ without q xs)
-
--- each once, where it is first seen
-abbrev pub first_seen : List ℕ → List ℕ
-first_seen [] = []
-first_seen (x ∷ xs) = x ∷ without (x ∷ []) (first_seen xs)
-
--- of entries with such keys
-module _ (keys : ℕ → ℕ) where
-  -- the members of the n entries from k on that f holds of, entry by entry
-  abbrev pub keys_from : (ℕ → Bool) → ℕ → ℕ → List ℕ
-  keys_from f zero k = []
-  keys_from f (suc n) k = cond (f k) (keys k ∷ keys_from f n (k + 1)) (keys_from f n (k + 1))
-
-  -- of entries that stand last first, the members, first first
-  abbrev pub keys_of : List ℕ → List ℕ
-  keys_of [] = []
-  keys_of (k ∷ q) = keys_of q ++ (keys k ∷ [])
-
--- an archive's members, each by its offset: those of the entries from k on that f holds of
-abbrev pub members_from : List ℕ → (ℕ → Bool) → ℕ → ℕ → List ℕ
-members_from s = keys_from (offset_of s)
-
--- those of the entries whose names tie in t (tied_name), in the index' order
-abbrev pub tied_members : List ℕ → Table → List ℕ
-tied_members s t = members_from s (tied_in (name_of s (count_of s)) t) (count_of s) 0
-
--- those offered so far, in order
-abbrev pub offered : List ℕ → Run → List ℕ
-offered s r = keys_of (offset_of s) r.offers
 
 -- ---- laws of these words
 
@@ -181,10 +144,6 @@ history-one s ts t r = history-append s ts (t ∷ []) r
 
 -- ---- a walk
 
--- its members of one pass are all offered: it is done, or the next call over some table makes another pass
-abbrev pub IsOver : List ℕ → Run → Type 0
-IsOver s r = (r.walk.done ≡ true) ⊎ ((t : Table) × ((step_run s t r).walk.passes ≡ r.walk.passes + 1))
-
 -- calls from any run on, of which the promises hold
 module _ (s : List ℕ) (keys : ℕ → ℕ) (named : ℕ → List ℕ) (c : ℕ) (start : Run) (promised : (ts : List Table) → Walked s keys named c ts (history s ts start)) where
   abbrev run_at : List Table → Run
@@ -244,9 +203,6 @@ pub among_in : (s : List ℕ) (k : ℕ) (q : List ℕ) → among s k q ≡ is_in
 among_in s = among-keys (offset_of s)
 
 module _ (key : ℕ) (s cells : List ℕ) (begun : begun_number (start_of key s cells).started.begun ≡ 0) where
-  abbrev pub Over : Run → Type 0
-  Over = IsOver s
-
   module _ (ts : List Table) (t : Table) (us : List Table) where
     -- before the call over t, and after the calls over us that follow it
     abbrev pub run_before : Run
@@ -255,6 +211,6 @@ module _ (key : ℕ) (s cells : List ℕ) (begun : begun_number (start_of key s 
     abbrev pub run_after : Run
     run_after = history s us (step_run s t run_before)
 
-    pub pass-offers : (step_run s t run_before).walk.passes ≡ run_before.walk.passes + 1 → run_after.walk.passes ≡ (step_run s t run_before).walk.passes → Over run_after
+    pub pass-offers : (step_run s t run_before).walk.passes ≡ run_before.walk.passes + 1 → run_after.walk.passes ≡ (step_run s t run_before).walk.passes → Over key s cells begun run_after
         → offered s run_after ≡ offered s run_before ++ without (offered s run_before) (first_seen (tied_members s t))
     pass-offers = pass-keys s (offset_of s) (name_of s (count_of s)) (count_of s) (start_run key s cells) (walked key s cells begun) ts t us

@@ -3,23 +3,13 @@
 use Rattle.std.specs.Prelude.{ℕ, ◌≡◌, Bool, ◌&&◌, ◌||◌, List, eqb}
 use Rattle.std.proofs.Math.Path.{refl}
 use Rattle.std.proofs.Math.Bool.{true, false, cond}
-use Rattle.symbol.specs.Row.{visibility_code_at}
+use Rattle.symbol.specs.Row.{scope_at}
 use Rattle.symbol.specs.Layout.{global, global_hidden}
 use Rattle.symbol_resolution.specs.declared.rows.Holder.{Holder}
 use Rattle.symbol_resolution.specs.declared.rows.Holder.TheVariants.{Unissued, Nobody, Removed, Known}
 use Rattle.symbol_resolution.specs.RowsUndefined.{undefined_row, strong_undefined}
 use Rattle.archive_walk.specs.Look.{Table, name_holder, is_undefined, undefined_name, ties_row, ties, tied_name}
-
--- the row is global and not weak, hidden or not
-abbrev pub is_strong : List ℕ → Holder → Bool
-is_strong symbols Unissued = false
-is_strong symbols Nobody = false
-is_strong symbols Removed = false
-is_strong symbols (Known id) = eqb (visibility_code_at symbols id.0) global || eqb (visibility_code_at symbols id.0) global_hidden
-
--- the row of x is present and strong
-unfoldable pub strong_name : Table → List ℕ → Bool
-strong_name t x = is_strong t.symbols (name_holder t x)
+use Rattle.archive_laws.specs.Profiles.{is_strong, strong_name}
 
 module _ (t : Table) (x : List ℕ) where
   -- the old profile: weak or not
@@ -50,4 +40,4 @@ module _ (t : Table) (x : List ℕ) where
       go Removed = refl
       go (Known id) =
           rw e
-          (tree (undefined_row t.symbols id) (eqb (visibility_code_at t.symbols id.0) global) (eqb (visibility_code_at t.symbols id.0) global_hidden))
+          (tree (undefined_row t.symbols id) (eqb (scope_at t.symbols id.0) global) (eqb (scope_at t.symbols id.0) global_hidden))

@@ -16,7 +16,8 @@ use Rattle.archive_laws.specs.Members.{among}
 use Rattle.archive_laws.proofs.Counts.{clash, first_one, among_same, among-here, among_there, among-more}
 use Rattle.archive_laws.specs.Runs.{queue_list}
 use Rattle.archive_laws.proofs.Chains.{noted-there, noted_here}
-use Rattle.archive_laws.proofs.Pass.{Sound, m-member, m-pass-here, m-pass-other, marked-sound, marked-queue, noted-sound, noted-member, noted-pass, noted-queue}
+use Rattle.archive_laws.specs.Pass.{Sound}
+use Rattle.archive_laws.proofs.Pass.{m-member, m-pass-here, m-pass-other, marked-sound, marked-queue, noted-sound, noted-member, noted-pass, noted-queue}
 
 -- a field 0 after an entry was queued
 module _ (key : ℕ) (s : List ℕ) (c p k r : ℕ) (l : List ℕ) (n : ℕ) where

@@ -11,7 +11,8 @@ use mathlib.Core.List.{List, ◌∷◌}
 use Rattle.std.proofs.Math.Dec.{ltb}
 use Rattle.std.proofs.Math.ListN.{length}
 use Rattle.archive_laws.specs.Members.{among, Once, none, more, members, View, pull_at, pull, Rounds, rounds_of, front_of, pass_round, round, fresh}
-use Rattle.archive_laws.proofs.Counts.{clash, among_same, among-here, among-more, Below, no_one, one_more, once-members}
+use Rattle.archive_laws.specs.Counts.{Below, no_one, one_more}
+use Rattle.archive_laws.proofs.Counts.{clash, among_same, among-here, among-more, once-members}
 use Rattle.archive_laws.specs.RoundLaws.{base, on}
 use Rattle.archive_laws.specs.RoundLaws as Base
 

@@ -13,7 +13,7 @@ use Rattle.archive_index.specs.Index.{count_of, name_of, offset_of}
 use Rattle.archive_index.specs.Open.{open_rows_of}
 use Rattle.archive_walk.specs.declared.Walk.{Walk}
 use Rattle.archive_walk.specs.Walk.{Start, begun_number, begun_said, fresh_walk, begun_of, start_of}
-use Rattle.archive_laws.proofs.Counts.{First}
+use Rattle.archive_laws.specs.Counts.{First}
 use Rattle.archive_laws.proofs.Format.{bytes_of, count-read, offset_read, name-read, start-read}
 use Rattle.archive_laws.specs.Runs.{queue_list, start_run, history}
 use Rattle.archive_laws.specs.Members as Members

@@ -17,7 +17,9 @@ use Rattle.archive_laws.specs.Members.{is_first, members, View, pull, Rounds, ro
 use Rattle.archive_laws.proofs.Counts.{clash, cnt-le, once-members}
 use Rattle.archive_laws.proofs.RoundLaws.{Kept}
 use Rattle.archive_laws.specs.Runs.{queue_list, view_by, Run, run_of, ran_of, step_run, seen}
-use Rattle.archive_laws.proofs.Pass.{queue-length, Sound, Low, Made, made-pass, search_is}
+use Rattle.archive_laws.specs.Pass.{Sound, Low}
+use Rattle.archive_laws.proofs.Pass.{queue-length, Made, made-pass, search_is}
+use Rattle.archive_laws.specs.Steps.{Fine}
 
 module _ (key : ℕ) (s : List ℕ) (keys : ℕ → ℕ) (named : ℕ → List ℕ) (c : ℕ) where
   -- ---- the ways of a call of the definition
@@ -47,17 +49,8 @@ module _ (key : ℕ) (s : List ℕ) (keys : ℕ → ℕ) (named : ℕ → List �
   abbrev pub walk_at : ℕ → ℕ → ℕ → ℕ → Bool → Walk
   walk_at n p q o d = record { key = key; entries = c; length = n; passes = p; queued = q; offered = o; done = d }
 
-  -- a run's cells, counts and answers fit
-  pub record Fine (r : Run) : Type 0 where
-    pub keyed : r.walk.key ≡ key
-    pub entries : r.walk.entries ≡ c
-    pub whole : r.walk.length ≤ length s
-    pub sound : Sound key s keys named c r.cells r.walk.queued
-    pub low : Low key s keys named c r.walk.passes r.cells
-    pub sent : r.offers ≡ queue_list r.cells r.walk.offered
-
   record Agree (t : Table) (l : List ℕ) (q : ℕ) (a : Rounds) (r : Run) : Type 0 where
-    fine : Fine r
+    fine : Fine key s keys named c r
     same : seen r ≡ round keys c (view_by named c t) a
     wrote : r.walk.passes ≡ a.passes + 1 → r.cells ≡ (tie_all key c s t (a.passes + 1) c 0 (queue_of l q)).cells
     left : (r.walk.passes ≡ a.passes + 1 → ⊥) → r.cells ≡ l
@@ -94,7 +87,7 @@ module _ (key : ℕ) (s : List ℕ) (keys : ℕ → ℕ) (named : ℕ → List �
     at-made b f = rw (queue-length u.cells u.queued) f
 
     -- a refusal leaves the run
-    left_alone : Fine (run_of l (walk_at n p q o false) os)
+    left_alone : Fine key s keys named c (run_of l (walk_at n p q o false) os)
     left_alone = record { keyed = refl; entries = refl; whole = h; sound = y; low = b; sent = e }
 
     -- the definition's test for a refusal, at each way
@@ -175,20 +168,20 @@ module _ (key : ℕ) (s : List ℕ) (keys : ℕ → ℕ) (named : ℕ → List �
           ≡ run_of r.cells (walk_at r.walk.length r.walk.passes r.walk.queued r.walk.offered r.walk.done) r.offers
       go k n d e = rw (d, e)
 
-  agrees : (t : Table) (r : Run) → Fine r → Kept keys c (seen r) → Agree t r.cells r.walk.queued (seen r) (step_run s t r)
+  agrees : (t : Table) (r : Run) → Fine key s keys named c r → Kept keys c (seen r) → Agree t r.cells r.walk.queued (seen r) (step_run s t r)
   agrees t r f k =
       let w = r.walk in
       subst (λ (z : Run). Agree t r.cells w.queued (seen r) (step_run s t z)) (sym (parts r f.keyed f.entries))
       (step-at t r.cells w.length w.passes w.queued w.offered w.done r.offers f.whole f.sound f.low f.sent k)
 
-  pub step-agrees : (t : Table) (r : Run) → Fine r → Kept keys c (seen r) → Fine (step_run s t r) × (seen (step_run s t r) ≡ round keys c (view_by named c t) (seen r))
+  pub step-agrees : (t : Table) (r : Run) → Fine key s keys named c r → Kept keys c (seen r) → Fine key s keys named c (step_run s t r) × (seen (step_run s t r) ≡ round keys c (view_by named c t) (seen r))
   step-agrees t r f k = let x = agrees t r f k in (x.fine, x.same)
 
   -- the cells after a pass
-  pub step-wrote : (t : Table) (r : Run) → Fine r → Kept keys c (seen r) → (step_run s t r).walk.passes ≡ r.walk.passes + 1
+  pub step-wrote : (t : Table) (r : Run) → Fine key s keys named c r → Kept keys c (seen r) → (step_run s t r).walk.passes ≡ r.walk.passes + 1
       → (step_run s t r).cells ≡ (tie_all key c s t (r.walk.passes + 1) c 0 (queue_of r.cells r.walk.queued)).cells
   step-wrote t r f k = (agrees t r f k).wrote
 
   -- a call that makes no pass writes nothing
-  pub step_left : (t : Table) (r : Run) → Fine r → Kept keys c (seen r) → ((step_run s t r).walk.passes ≡ r.walk.passes + 1 → ⊥) → (step_run s t r).cells ≡ r.cells
+  pub step_left : (t : Table) (r : Run) → Fine key s keys named c r → Kept keys c (seen r) → ((step_run s t r).walk.passes ≡ r.walk.passes + 1 → ⊥) → (step_run s t r).cells ≡ r.cells
   step_left t r f k = (agrees t r f k).left

@@ -13,12 +13,12 @@ use Rattle.archive_walk.specs.Walk.{Started}
 use Rattle.archive_walk.specs.Look.{Table}
 use Rattle.archive_walk.specs.Walk.{begun_number, fresh_walk, no_walk, begun_of, start_of}
 use Rattle.archive_laws.specs.Members.{among, none, fresh}
-use Rattle.archive_laws.proofs.Counts.{no_one}
+use Rattle.archive_laws.specs.Counts.{no_one}
 use Rattle.archive_laws.specs.Runs.{queue_list, Run, begun_run, history, start_run, seen}
-use Rattle.archive_laws.proofs.Pass.{Rows, Sound, Low}
+use Rattle.archive_laws.specs.Pass.{Rows, Sound, Low}
 use Rattle.archive_laws.proofs.Chains.{none-linked, heads-field, heads-length}
 use Rattle.archive_laws.proofs.Entries.{rows-entered}
-use Rattle.archive_laws.proofs.Steps.{Fine}
+use Rattle.archive_laws.specs.Steps.{Fine}
 use Rattle.archive_laws.proofs.KeyedWalk.{fine-after, walked_by}
 use Rattle.archive_laws.specs.Walked.{Walked}
 

@@ -9,3 +9,9 @@ pub mod StartRead
 pub mod Answers
 pub mod Examples
 pub mod OtherKey
+pub mod ChainsWords
+pub mod Counts
+pub mod Pass
+pub mod PassList
+pub mod Profiles
+pub mod Steps

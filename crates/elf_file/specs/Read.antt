@@ -3,8 +3,7 @@
 -- here cell by cell, as the code writes it; that these are the rows one after the other is proved in elf_laws.
 -- Assumes nothing.
 use Rattle.std.specs.Prelude.{ℕ, zero, suc, ◌+◌, ◌*◌, cond, List, [], ◌∷◌, eqb, length, set, Option, Some, None}
-use Rattle.cells.specs.Rows.{put_row}
-use Rattle.elf_object.specs.Rows.{row_width}
+use Rattle.cells.specs.Rows.{put_row, row_width}
 use Rattle.elf_file.specs.declared.Header.{Header}
 use Rattle.gabi.specs.File.{section_count, header_table, name_section, symbol_at, st_name, st_bind, st_type, st_visibility, st_shndx, st_value, st_size, r_sym, rel_at, rela_at, member_at, bytes_at, sht_rel, sht_group}
 use Rattle.elf_file.specs.File.{header_at}

@@ -1,11 +1,12 @@
 -- Request 2026-01: what of a section header stands in its row, how many rows and cells its contents need, and whether all have room.
 -- Assumes nothing.
 use Rattle.std.specs.Prelude.{ℕ, zero, suc, ◌+◌, ◌*◌, ◌-◌, ◌/◌, ◌%◌, cond, List, [], ◌∷◌, eqb, ltb, leb, get_or, Option, Some, None}
+use Rattle.cells.specs.Rows.{row_width}
 use Rattle.gabi.specs.StringTable.{name_at}
 use Rattle.byte_slices.specs.Bytes.{same}
 use Rattle.gabi.specs.File.{bytes_at, is_comdat, sht_progbits, sht_symtab, sht_strtab, sht_rela, sht_rel, sht_group, sht_count, sht_gnu_hash, shf_alloc, shf_gnu_retain, shf_exclude, sym_size, rel_size, rela_size, word_size}
 use Rattle.elf_object.specs.Kinds.{null, program, uninitialized, symbol_table, string_table, rel, rela, group, hash, gnu_hash, dynamic_symbols, frame_header, dynamic, unknown, note}
-use Rattle.elf_object.specs.Rows.{row_width, retain_flag, read_flag, comdat_flag}
+use Rattle.elf_object.specs.Rows.{retain_flag, read_flag, comdat_flag}
 use Rattle.elf_file.specs.declared.Header.{Header}
 use Rattle.elf_file.specs.File.{header_at}
 use Rattle.elf_file.specs.Check.{excluded}

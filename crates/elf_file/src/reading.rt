@@ -1,6 +1,6 @@
 // An object's rows from its file, into one lent slice: headers, entries, contents.
 ghost use Rattle.std.specs.Prelude.{◌≡◌, ◌+◌, ◌*◌, ◌≤◌, length};
-ghost use Rattle.elf_object.specs.Rows.{row_width};
+ghost use Rattle.cells.specs.Rows.{row_width};
 ghost use Rattle.cells.specs.Rows.{put_row};
 ghost use Rattle.elf_file.specs.Rows.{entry_count, content_count, header_row_of};
 ghost use Rattle.elf_file.specs.Read.{headers_into, symbol_row, symbols_into, all_symbols_into, element_at, elements_into, all_elements_into, written_of};
@@ -125,7 +125,16 @@ fn symbol_row(entry: &[u8], rows: &mut [u64], i: usize)
     cells::row_store(
         rows,
         i,
-        [name, info / 16, info % 16, other % 4, section, value, size, 0],
+        [
+            name,
+            info / 16,
+            info % 16,
+            other % 4,
+            section,
+            value,
+            size,
+            0,
+        ],
     );
 }
 

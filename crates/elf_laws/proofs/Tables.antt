@@ -6,8 +6,9 @@ use Rattle.std.proofs.Math.Seq.{drop-append-add}
 use Rattle.gabi.specs.File.{word_at, bytes_at, r_sym, member_at, xword_at}
 use Rattle.elf_file.specs.Read.{symbol_row, element_at}
 use Rattle.elf_laws.specs.Object.{symbols_from, elements_from}
-use Rattle.elf_laws.specs.Back.{le4, le8, Sized, joined, symbol_bytes}
+use Rattle.elf_laws.specs.Back.{le4, Sized, joined}
 use Rattle.elf_laws.proofs.Back.{symbol-back, word_back, xword-back}
+use Rattle.elf_laws.specs.Tables.{Symbol, symbol_entry, symbol_entries, symbol_rows, Relocation, info_of, rel_entry, rela_entry, rel_entries, rela_entries, symbols_of, Member, member_bytes, group_bytes, member_numbers}
 
 -- entry i + 1 behind an entry of that size is entry i of the rest
 entry-behind : (n : ℕ) (x : Sized n) (l : List ℕ) (i : ℕ) → bytes_at (x.bytes ++ l) ((i + 1) * n) n ≡ bytes_at l (i * n) n
@@ -22,33 +23,6 @@ entry_first : (n : ℕ) (x : Sized n) (l : List ℕ) → bytes_at (x.bytes ++ l)
 entry_first n x l = ap (λ (k : ℕ). take n (drop k (x.bytes ++ l))) (zero-mul n) ∙ take_at x.bytes l n x.is
 
 -- ---- symbols
-
-pub record Symbol : Type 0 where
-  pub name : ℕ
-  pub bind : ℕ
-  pub kind : ℕ
-  pub visibility : ℕ
-  pub section : ℕ
-  pub value : ℕ
-  pub size : ℕ
-  pub name-fits : name < 0x100000000
-  pub bind-fits : bind < 16
-  pub kind_fits : kind < 16
-  pub visibility-fits : visibility < 4
-  pub section-fits : section < 0x10000
-  pub value-fits : value < 0x10000000000000000
-  pub size-fits : size < 0x10000000000000000
-
-abbrev pub symbol_entry : Symbol → Sized 24
-symbol_entry x = record { bytes = symbol_bytes x.name x.bind x.kind x.visibility x.section x.value x.size; is = refl }
-
-abbrev pub symbol_entries : List Symbol → List (Sized 24)
-symbol_entries [] = []
-symbol_entries (x ∷ xs) = symbol_entry x ∷ symbol_entries xs
-
-abbrev pub symbol_rows : List Symbol → List ℕ
-symbol_rows [] = []
-symbol_rows (x ∷ xs) = (x.name ∷ x.bind ∷ x.kind ∷ x.visibility ∷ x.section ∷ x.value ∷ x.size ∷ 0 ∷ []) ++ symbol_rows xs
 
 symbols-behind : (x : Sized 24) (l : List ℕ) (k j : ℕ) → symbols_from (x.bytes ++ l) (j + 1) k ≡ symbols_from l j k
 unfolding symbols_from
@@ -65,35 +39,6 @@ symbols-back (x ∷ xs) =
     (symbols-behind (symbol_entry x) (joined (symbol_entries xs)) (length xs) 0 ∙ symbols-back xs)
 
 -- ---- relocations: of each its symbol; the place, the type and the addend are whatever the writer gives
-
-pub record Relocation : Type 0 where
-  pub offset : ℕ
-  pub kind : ℕ
-  pub symbol : ℕ
-  pub addend : ℕ
-  pub kind_fits : kind < 0x100000000
-  pub symbol-fits : symbol < 0x100000000
-
-abbrev pub info_of : Relocation → ℕ
-info_of x = x.kind + x.symbol * 0x100000000
-
-abbrev pub rel_entry : Relocation → Sized 16
-rel_entry x = record { bytes = le8 x.offset (le8 (info_of x) []); is = refl }
-
-abbrev pub rela_entry : Relocation → Sized 24
-rela_entry x = record { bytes = le8 x.offset (le8 (info_of x) (le8 x.addend [])); is = refl }
-
-abbrev pub rel_entries : List Relocation → List (Sized 16)
-rel_entries [] = []
-rel_entries (x ∷ xs) = rel_entry x ∷ rel_entries xs
-
-abbrev pub rela_entries : List Relocation → List (Sized 24)
-rela_entries [] = []
-rela_entries (x ∷ xs) = rela_entry x ∷ rela_entries xs
-
-abbrev pub symbols_of : List Relocation → List ℕ
-symbols_of [] = []
-symbols_of (x ∷ xs) = x.symbol ∷ symbols_of xs
 
 info-symbol : (x : Relocation) → info_of x / 0x100000000 ≡ x.symbol
 info-symbol x = omega (arith, x.kind_fits)
@@ -134,21 +79,6 @@ relas-back (x ∷ xs) =
     (relas-behind (rela_entry x) (joined (rela_entries xs)) (length xs) 0 ∙ relas-back xs)
 
 -- ---- groups: the flags, then the members
-
-pub record Member : Type 0 where
-  pub number : ℕ
-  pub fits : number < 0x100000000
-
-abbrev pub member_bytes : List Member → List ℕ
-member_bytes [] = []
-member_bytes (x ∷ xs) = le4 x.number (member_bytes xs)
-
-abbrev pub group_bytes : ℕ → List Member → List ℕ
-group_bytes flags xs = le4 flags (member_bytes xs)
-
-abbrev pub member_numbers : List Member → List ℕ
-member_numbers [] = []
-member_numbers (x ∷ xs) = x.number ∷ member_numbers xs
 
 number : (v : ℕ) (l : List ℕ) → v < 0x100000000 → word_at (le4 v l) (0 * 4) ≡ v
 unfolding word_at

@@ -1,3 +1,5 @@
 pub mod Object
 pub mod Back
 pub mod Writer
+pub mod Tables
+pub mod Trip

@@ -2,11 +2,10 @@
 -- bears a required name" (document 01). The gABI's: "a weak or global definition, and nothing else, admits one" (document 02, 2026-02), a definition
 -- being what the gABI says that an archive's member offers.
 -- Assumes nothing.
-use Rattle.std.specs.Prelude.{ℕ, ◌/◌, ◌<◌, ◌≤◌, ◌≡◌, Bool, true, false, ◌&&◌, List, length}
+use Rattle.std.specs.Prelude.{ℕ, ◌/◌, ◌<◌, ◌≤◌, ◌≡◌, true, false, ◌&&◌, List, length}
 use Rattle.std.proofs.Common.{sym, ap, ◌∙◌}
 use Rattle.gabi.specs.StringTable as Strings
-use Rattle.gabi.specs.SymbolTable.{is_global}
-use Rattle.gabi.specs.Archive.{Named, offers, extracts}
+use Rattle.gabi.specs.Archive.{offers, extracts}
 use Rattle.link.specs.declared.Link.{Link}
 use Rattle.archive_walk.specs.declared.Walk.{Walk}
 use Rattle.archive_walk.specs.Names.{required_of}
@@ -15,17 +14,12 @@ use Rattle.object_requirement.specs.Matches.{matches_of}
 use Rattle.extraction_laws.specs.Some.{some}
 use Rattle.extraction_laws.proofs.Some.{some_same}
 use Rattle.extraction_laws.proofs.Member.{object-admits}
-use Rattle.extraction_laws.proofs.MemberWords.{symbols_of, member_is}
+use Rattle.extraction_laws.specs.MemberWords.{symbols_of}
+use Rattle.extraction_laws.proofs.MemberWords.{member_is}
 use Rattle.extraction_laws.proofs.Taken.{extracts-some}
-use Rattle.extraction_laws.proofs.Answer.{says, matches-says}
-
--- one of the symbols has binding 1 and a name of which f holds
-abbrev pub bears_one : (List ℕ → Bool) → List Named → Bool
-bears_one f member = some (λ d. is_global d.symbol && f d.name) member
-
--- one of the symbols is a definition, global or weak, of a name of which f holds
-abbrev pub defines_one : (List ℕ → Bool) → List Named → Bool
-defines_one f member = some (λ d. offers d.symbol && f d.name) member
+use Rattle.extraction_laws.specs.Answer.{says}
+use Rattle.extraction_laws.proofs.Answer.{matches-says}
+use Rattle.extraction_laws.specs.Admission.{bears_one, defines_one}
 
 -- the object's fields are in range, the walk's index and rows are lent, and entry e is one of its index
 module _ (link : Link) (headers entries contents file s l : List ℕ) (w : Walk) (e : ℕ)

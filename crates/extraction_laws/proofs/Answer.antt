@@ -1,8 +1,7 @@
 -- What admission answers, over every walk: the answer of `matches` itself, yes or no, against the gABI's extraction; exact, in the old profile with
 -- the two known places as terms of their own, in the gABI's without them.
 -- Assumes nothing.
-use Rattle.link.specs.declared.cause.Refusal.{Refusal}
-use Rattle.std.specs.Prelude.{ℕ, ◌+◌, ◌/◌, ◌<◌, ◌≤◌, ◌≡◌, Bool, true, false, not, ◌&&◌, ◌||◌, ltb, length, Result, Ok}
+use Rattle.std.specs.Prelude.{ℕ, ◌+◌, ◌/◌, ◌<◌, ◌≤◌, ◌≡◌, Bool, true, false, not, ◌&&◌, ◌||◌, ltb, length, Ok}
 use Rattle.std.proofs.Common.{arith, sym, ◌∙◌, subst, eq-eqb, lt-ltb, le-ltb}
 use Rattle.std.proofs.Math.Path.{refl, ap}
 use mathlib.Core.List.{List, [], ◌∷◌, ◌++◌}
@@ -13,40 +12,27 @@ use Rattle.link.specs.declared.Link.{Link}
 use Rattle.archive_walk.specs.declared.Walk.{Walk}
 use Rattle.archive_walk.specs.Look.{Table, undefined_name, tied_name}
 use Rattle.archive_walk.specs.Names.{required_of}
-use Rattle.archive_laws.proofs.Profiles.{strong_name, tied-old, tied-gabi}
+use Rattle.archive_laws.specs.Profiles.{strong_name}
+use Rattle.archive_laws.proofs.Profiles.{tied-old, tied-gabi}
 use Rattle.archive_laws.specs.Members.{among, View, pull, Rounds, front_of, pass_round, round, rounds, fresh}
 use Rattle.archive_laws.proofs.RoundLaws.{pull-keeps}
 use Rattle.archive_laws.specs.Runs.{view_by, views_by, Run, step_run, history, seen}
 use Rattle.archive_laws.specs.ByKey.{in_index, queue_in, Pass, Walked}
-use Rattle.archive_laws.proofs.Steps.{Fine}
+use Rattle.archive_laws.specs.Steps.{Fine}
 use Rattle.archive_laws.proofs.KeyedWalk.{walked_by, fine-after}
 use Rattle.elf_object.specs.Judge.{judge_of}
 use Rattle.object_requirement.specs.Matches.{admission, offered_in, matches_of, has_global_symbol}
 use Rattle.extraction_laws.proofs.Some.{some_same}
 use Rattle.extraction_laws.specs.Member.{admitting, member_of}
 use Rattle.extraction_laws.proofs.Member.{object-admits}
-use Rattle.extraction_laws.proofs.MemberWords.{symbols_of, member_is}
-use Rattle.extraction_laws.proofs.Taken.{lists, taken_in, taken, taken-either, taken-same, extracts-is, gabi-extracts}
+use Rattle.extraction_laws.specs.MemberWords.{symbols_of}
+use Rattle.extraction_laws.proofs.MemberWords.{member_is}
+use Rattle.extraction_laws.specs.Taken.{lists, taken_in, taken}
+use Rattle.extraction_laws.proofs.Taken.{taken-either, taken-same, extracts-is, gabi-extracts}
 use Rattle.extraction_laws.proofs.Chosen as Chosen
-
--- the two answers
-abbrev pub says : Bool → Result Bool Refusal
-says true = Ok true
-says false = Ok false
+use Rattle.extraction_laws.specs.Answer.{says, admitted}
 
 -- ---- the known places, each a term
-
--- "Weak references pull members": a symbol of binding 1 bears a name that the member defines and that has weak references only
-abbrev pub pulled_weakly : (List ℕ → Bool) → List Named → Bool
-pulled_weakly weakly member = taken weakly member
-
--- "a weak definition doesn't admit one": every wanted name that the member defines is borne by weak symbols only
-abbrev pub only_weakly_offered : List (List ℕ) → List Named → Bool
-only_weakly_offered wanted member = not (taken (λ x. Strings.among x wanted) member)
-
--- beside them the answer is the gABI's
-abbrev pub admitted : List (List ℕ) → (List ℕ → Bool) → List Named → Bool
-admitted wanted weakly member = (extracts member wanted && not (only_weakly_offered wanted member)) || pulled_weakly weakly member
 
 -- ---- laws
 

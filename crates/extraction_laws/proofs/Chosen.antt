@@ -20,7 +20,7 @@ use Rattle.extraction_laws.specs.Some.{In}
 use Rattle.extraction_laws.proofs.Some.{and_left, and_right, and-cond, both_ways, and_in, some_out, some_same}
 use Rattle.extraction_laws.specs.Member.{admitting, member_of}
 use Rattle.extraction_laws.proofs.Member.{object-admits}
-use Rattle.extraction_laws.proofs.Taken.{lists, taken_in}
+use Rattle.extraction_laws.specs.Taken.{lists, taken_in}
 
 -- a call that made a pass over t (every such call of a walk is one: archive_laws, `Walked-by`), whatever its entries' keys and names; entry e's member was
 -- not offered before, and is this object, whose global and weak definitions the index lists; admission is asked by a link of that profile

@@ -1,6 +1,6 @@
 -- Which members are taken, over their symbols: by the walk and admission, and by the gABI.
 -- Assumes nothing.
-use Rattle.std.specs.Prelude.{ℕ, ◌≡◌, Bool, true, cond, ◌&&◌, ◌||◌}
+use Rattle.std.specs.Prelude.{ℕ, ◌≡◌, Bool, true, ◌&&◌, ◌||◌}
 use Rattle.std.proofs.Math.Path.{refl, ap}
 use Rattle.std.proofs.Common.{sym, ◌∙◌}
 use Rattle.std.proofs.Math.Bool.{false}
@@ -12,27 +12,8 @@ use Rattle.gabi.specs.SymbolTable.{Sym, is_global, is_weak, is_definition}
 use Rattle.gabi.specs.Archive.{Named, offers, extracts}
 use Rattle.extraction_laws.specs.Some.{In, here, there, some}
 use Rattle.extraction_laws.proofs.Some.{clash, and_in, and_left, and_right, or_left, or_right, or-out, or-none, both_ways, some_in, some_out, some_same}
-use Rattle.extraction_laws.specs.Member.{admitting, admits_in}
-
--- the name x is in the index for this member: an index lists global and weak definitions
-abbrev pub lists : List Named → List ℕ → Bool
-lists member x = some (λ e. offers e.symbol && same_name e.name x) member
-
--- of the names in the index for the member those that tie it are required; a symbol that may admit it has to bear one, in the old profile a
--- global one
-abbrev pub taken_in : Bool → (List ℕ → Bool) → List Named → Bool
-taken_in gabi tied member = admits_in gabi (λ x. tied x && lists member x) member
-
-abbrev pub taken : (List ℕ → Bool) → List Named → Bool
-taken undefined member = taken_in false undefined member
-
--- a weak symbol that is a definition, common or not
-abbrev pub weakly_defines : Sym → Bool
-weakly_defines s = is_weak s && is_definition s
-
--- a weak definition of the member bears a wanted name
-abbrev pub weak_offers : List (List ℕ) → List Named → Bool
-weak_offers wanted member = some (λ e. weakly_defines e.symbol && among e.name wanted) member
+use Rattle.extraction_laws.specs.Member.{admitting}
+use Rattle.extraction_laws.specs.Taken.{lists, taken_in, taken, weakly_defines, weak_offers, wanted_names}
 
 -- ---- the gABI's extraction, as a test on some symbol
 
@@ -209,10 +190,6 @@ module _ (member : List Named) where
         (λ p. or-out (some (takes f) member) (some (takes g) member) p (together f (λ x l a. either x l ∙ or_left (f x) (g x) a)) (together g (λ x l a. either x l ∙ or_right (f x) (g x) a)))
 
 -- ---- the wanted names as a list: those that the member bears
-
-abbrev pub wanted_names : (List ℕ → Bool) → List Named → List (List ℕ)
-wanted_names wanted [] = []
-wanted_names wanted (e ∷ member) = cond (wanted e.name) (e.name ∷ wanted_names wanted member) (wanted_names wanted member)
 
 module _ (wanted : List ℕ → Bool) where
   names-wanted : (member : List Named) (x : List ℕ) → among x (wanted_names wanted member) ≡ true → wanted x ≡ true

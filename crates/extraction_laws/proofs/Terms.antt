@@ -10,14 +10,16 @@ use Rattle.archive_index.specs.Index.{count_of, offset_of, name_of}
 use Rattle.archive_walk.specs.Look.{Table, undefined_name, tied_name}
 use Rattle.archive_walk.specs.Names.{required_of}
 use Rattle.archive_walk.specs.Walk.{begun_number, start_of}
-use Rattle.archive_laws.proofs.Profiles.{strong_name, tied-old, tied-gabi}
+use Rattle.archive_laws.specs.Profiles.{strong_name}
+use Rattle.archive_laws.proofs.Profiles.{tied-old, tied-gabi}
 use Rattle.archive_laws.specs.Rounds.{among}
 use Rattle.archive_laws.specs.Runs.{Run, step_run, history, start_run}
 use Rattle.archive_laws.specs.Walked.{in_index, queue_in, Pass}
 use Rattle.archive_laws.proofs.Terms.{walked}
 use Rattle.object_requirement.specs.Matches.{has_global_symbol}
 use Rattle.extraction_laws.specs.Member.{member_of}
-use Rattle.extraction_laws.proofs.Taken.{lists, taken_in, taken, weak_offers, taken-either, extracts-is, takes-as-gabi, gabi-extracts, taken-same}
+use Rattle.extraction_laws.specs.Taken.{lists, taken_in, taken, weak_offers}
+use Rattle.extraction_laws.proofs.Taken.{taken-either, extracts-is, takes-as-gabi, gabi-extracts, taken-same}
 use Rattle.extraction_laws.proofs.Chosen as Chosen
 
 or_swap : (a b c : Bool) → (a || b) || c ≡ (a || c) || b

@@ -21,17 +21,7 @@ use Rattle.symbol_laws.specs.Gabi.{AllMean}
 use Rattle.symbol_laws.specs.Agreement.{Agrees}
 use Rattle.symbol_laws.proofs.Terms as Terms
 use Rattle.archive_walk.specs.Look.{Table, table_of, name_holder, undefined_name}
-
--- weak references, and nothing else
-abbrev pub is_zero_value : Resolution → Bool
-is_zero_value (defined k) = false
-is_zero_value (common k) = false
-is_zero_value duplicate = false
-is_zero_value unresolved = false
-is_zero_value zero_value = true
-
-unfoldable pub weak_only : List Sym → Bool
-weak_only l = is_zero_value (resolve l)
+use Rattle.extraction_laws.specs.Wanted.{is_zero_value, weak_only}
 
 refers : (b w : Bool) → not (not b) && w ≡ true → b ≡ true
 refers true w q = refl

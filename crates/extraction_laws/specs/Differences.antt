@@ -11,7 +11,7 @@ use Rattle.upcoming_symbol.specs.declared.Conversion.TheVariants as To
 use Rattle.upcoming_symbol.specs.Upcoming.{elf_row_of}
 use Rattle.symbol_laws.specs.Proof.Rows.{row_at}
 use Rattle.symbol_laws.specs.Gabi.{sym_of}
-use Rattle.symbol_laws.proofs.Differences.{elf}
+use Rattle.symbol_laws.specs.Differences.{elf}
 use Rattle.archive_walk.specs.Look.{Table, table_of}
 use Rattle.archive_laws.specs.Runs.{Run, history, start_run}
 use Rattle.object_requirement.specs.Matches as Admits

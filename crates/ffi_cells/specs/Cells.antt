@@ -29,17 +29,17 @@ type_code Ty.Section = 3
 unfoldable pub global_code : Bool → Bool → ℕ
 global_code weak hidden = cond weak (cond hidden 4 3) (cond hidden 2 1)
 
-abbrev pub visibility_code : SymbolVisibility → ℕ
-visibility_code Local = 0
-visibility_code (Global weak hidden) = global_code weak hidden
+abbrev pub scope_code : SymbolVisibility → ℕ
+scope_code Local = 0
+scope_code (Global weak hidden) = global_code weak hidden
 
 unfoldable pub symbol_row : Symbol → Row
-symbol_row s = row_are s.name (type_code s.kind) (file_cell s.file) (visibility_code s.visibility) (words_of s.value) s.size
+symbol_row s = row_are s.name (type_code s.kind) (file_cell s.file) (scope_code s.visibility) (words_of s.value) s.size
 
 -- the id, 1 for a present row, then the row's fields, the size last
 unfoldable pub row_out : List ℕ → SymbolId → Row → List ℕ
 row_out out id r =
-    set (set (put_row out 0 (id.0 ∷ 1 ∷ r.name.0 ∷ r.kind ∷ r.file ∷ r.visibility ∷ r.value.kind ∷ r.value.a ∷ [])) 8 r.value.b) 9 r.size
+    set (set (put_row out 0 (id.0 ∷ 1 ∷ r.name.0 ∷ r.kind ∷ r.file ∷ r.scope ∷ r.value.kind ∷ r.value.a ∷ [])) 8 r.value.b) 9 r.size
 
 unfoldable pub symbol_out : List ℕ → Symbol → List ℕ
 symbol_out out s = row_out out s.id (symbol_row s)

@@ -30,7 +30,7 @@ fn put_row(out: &mut [u64], id: SymbolId, row: Row)
             row.name.0 as u64,
             row.kind,
             row.file,
-            row.visibility,
+            row.scope,
             row.value.kind,
             row.value.a,
         ],
@@ -47,7 +47,7 @@ fn row_of(s: Symbol) -> Row
         name: s.name,
         kind: s.kind.into(),
         file: symbol::file_cell(s.file),
-        visibility: s.visibility.into(),
+        scope: s.visibility.into(),
         value: s.value.into(),
         size: s.size,
     }

@@ -4,25 +4,21 @@ use Rattle.std.specs.Prelude.{ℕ, ◌<◌, ◌≡◌, refl}
 use Rattle.std.proofs.Common.{le_trans, le_refl, ap, sym, ◌∙◌}
 use mathlib.Core.List.{List, [], ◌∷◌}
 use Rattle.interner_laws.specs.Histories as Base
+use Rattle.interner_laws.specs.HistoriesWords.{history}
 
 module _ {S X : Type 0} (next : S → X → S) where
-  -- what the calls leave, one after the other
-  unfoldable pub history : List X → S → S
-  history [] s = s
-  history (x ∷ xs) s = history xs (next s x)
-
   module _ (Good : S → Type 0) (step : (s : S) (x : X) → Good s → Good (next s x)) where
-    pub always : (xs : List X) (s : S) → Good s → Good (history xs s)
+    pub always : (xs : List X) (s : S) → Good s → Good (history next xs s)
     unfolding history
     always [] s g = g
     always (x ∷ xs) s g = always xs (next s x) (step s x g)
 
     module _ (Keeps : S → S → Type 0) (none : (s : S) → Keeps s s) (both : (s t u : S) → Keeps s t → Keeps t u → Keeps s u)
         (one : (s : S) (x : X) → Good s → Keeps s (next s x)) where
-      pub kept : (xs : List X) (s : S) → Good s → Keeps s (history xs s)
+      pub kept : (xs : List X) (s : S) → Good s → Keeps s (history next xs s)
       unfolding history
       kept [] s g = none s
-      kept (x ∷ xs) s g = both s (next s x) (history xs (next s x)) (one s x g) (kept xs (next s x) (step s x g))
+      kept (x ∷ xs) s g = both s (next s x) (history next xs (next s x)) (one s x g) (kept xs (next s x) (step s x g))
 
 -- ids of what a state has issued
 module _ {S X : Type 0} (count : S → ℕ) (name : S → ℕ → X) where

@@ -6,8 +6,10 @@ use Rattle.interner.specs.Names.{Store}
 use Rattle.interner.specs.Calls.{Left, intern_of, resolved, resolve_of}
 use Rattle.interner_laws.proofs.Histories.{issued-stays, one-id, one_name}
 use Rattle.interner_laws.specs.Good.{Good, Issued, count, name}
-use Rattle.interner_laws.proofs.Interns.{Accepted, id, after, intern-good, intern-stays, intern-issued, intern-untouched, after-good, after-stays, after_untouched}
-use Rattle.interner_laws.proofs.Judged.{Within, within-rest, resolves}
+use Rattle.interner_laws.specs.Interns.{Accepted, id, after}
+use Rattle.interner_laws.proofs.Interns.{intern-good, intern-stays, intern-issued, intern-untouched, after-good, after-stays, after_untouched}
+use Rattle.interner_laws.specs.Judged.{Within}
+use Rattle.interner_laws.proofs.Judged.{within-rest, resolves}
 
 module _ (s : Store) (g : Good s) (x : List ℕ) (ok : Accepted (intern_of s x)) (vs : List (List ℕ)) where
   abbrev first : Left

@@ -12,17 +12,18 @@ use Rattle.byte_slices.specs.Proof.Ways.{pick}
 use Rattle.link.specs.declared.Interned.{Interned}
 use Rattle.link.specs.Bounds.{name_rows, name_bytes}
 use Rattle.link.specs.Judge.{refused, change_of}
-use Rattle.link.specs.Said.{accepted, refusing, number_in, value_in}
+use Rattle.link.specs.Said.{accepted, refusing}
 use Rattle.link.specs.declared.Link.{Link}
 use Rattle.link.specs.Counts.{no_names, no_rows}
 use Rattle.interner.specs.Hash.{head_cell}
 use Rattle.interner.specs.Names.{Store, store_of, room_of, fits_of, keep_of, added}
 use Rattle.interner.specs.Calls.{Left, left, lent, issue_of, intern_of, clear_heads, new_of}
-use Rattle.interner_laws.proofs.Histories.{history, always, kept, stays-none, stays-both}
+use Rattle.interner_laws.proofs.Histories.{always, kept, stays-none, stays-both}
 use Rattle.interner_laws.specs.Good.{Chained, Good, Issued, Stays, Untouched, rest, count, name_rows_in, name, head, find}
 use Rattle.interner_laws.proofs.Find.{found, find-low, find-known}
 use Rattle.interner_laws.proofs.Written.{head-behind, head-within}
 use Rattle.interner_laws.proofs.More.{More, added_more, more-untouched, more_stays, more-issued, more-chained}
+use Rattle.interner_laws.specs.Interns.{id_of, Accepted, id, after}
 
 -- ---- nothing done
 
@@ -56,9 +57,6 @@ untouched-both s t u p q =
     }
 
 -- ---- a name kept under its id
-
-abbrev pub id_of : Store → List ℕ → Interned
-id_of s x = record { 0 = find s x }
 
 module _ (P : Store → Type 0) (s : Store) (id : Interned) (x : List ℕ) where
   pub keeps : P s → (count s ≤ id.0 → room_of s (length x) ≡ true → P (added s x)) → P (keep_of s id x)
@@ -99,15 +97,6 @@ module _ (s : Store) (x : List ℕ) (g : Good s) where
 
 -- ---- one intern
 
-abbrev pub number : Left → ℕ
-number o = number_in o.said
-
-abbrev pub Accepted : Left → Type 0
-Accepted o = number o ≡ 0
-
-abbrev pub id : Left → ℕ
-id o = value_in o.said
-
 module _ (P : Left → Type 0) (s : Store) (x : List ℕ) where
   pub outcomes : (((change_of s.link (lent s)).number ≡ 0 → ⊥) → P (left s (refusing (change_of s.link (lent s)))))
       → (fits_of s (id_of s x) (length x) ≡ true → P (left (keep_of s (id_of s x) x) (accepted (find s x))))
@@ -144,9 +133,6 @@ pub empty-issued : (s : Store) → Good s → Issued s 0 []
 empty-issued s g = record { low = g.some; right = g.empty }
 
 -- ---- histories of interns, also refused ones
-
-abbrev pub after : List (List ℕ) → Store → Store
-after xs s = history (λ (s : Store) (x : List ℕ). (intern_of s x).store) xs s
 
 module _ (xs : List (List ℕ)) (s : Store) where
   pub after_untouched : Untouched s (after xs s)

@@ -1,6 +1,6 @@
 -- Calls on a good table whose other counts are within their bounds: no 1.
 -- Assumes nothing.
-use Rattle.std.specs.Prelude.{ℕ, ◌/◌, ◌≤◌, ◌≡◌, refl, false, List, length}
+use Rattle.std.specs.Prelude.{ℕ, ◌/◌, ◌≡◌, refl, false, List, length}
 use Rattle.std.proofs.Common.{arith, ap, sym, ◌∙◌}
 use borrow.Author.Tests.{lt-ltb}
 use Rattle.link.specs.declared.Link.{Link}
@@ -14,14 +14,9 @@ use Rattle.link.specs.Counts.{no_names}
 use Rattle.interner.specs.Calls.{Left, left, resolved, lent, issue_of, intern_of, resolve_of, new_of}
 use Rattle.interner_laws.specs.Good.{Good, Issued, rest, count, find}
 use Rattle.interner_laws.proofs.Find.{find-known}
-use Rattle.interner_laws.proofs.Interns.{Accepted, outcomes, after, after-good, after_untouched, new-good, new-rest, new-long}
-
--- the counts that a call on names isn't lent anything for, and the rows that the names were lent
-pub record Within (s : Store) : Type 0 where
-  pub sections-in : s.link.sections ≤ section_rows s.link.slots
-  pub symbols-in : s.link.symbols ≤ 65535
-  pub inputs_in : s.link.inputs ≤ 4095
-  pub lists-in : s.link.lists ≤ not_lent
+use Rattle.interner_laws.specs.Interns.{Accepted, after}
+use Rattle.interner_laws.proofs.Interns.{outcomes, after-good, after_untouched, new-good, new-rest, new-long}
+use Rattle.interner_laws.specs.Judged.{Within}
 
 pub within-rest : (s t : Store) → rest s.link ≡ rest t.link → Within t → Within s
 within-rest s t e w =

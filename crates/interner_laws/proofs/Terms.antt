@@ -10,8 +10,8 @@ use Rattle.link.specs.Counts.{no_rows}
 use Rattle.interner.specs.Names.{Store, store_of, fits_of, keep_of}
 use Rattle.interner.specs.Calls.{Left, left, intern_of, new_of, resolved, resolve_of}
 use Rattle.interner_laws.specs.Good.{Good, Issued, Stays, Untouched, Alike, count, name, find}
-use Rattle.interner_laws.proofs.Interns.{Accepted, id, id_of, after}
-use Rattle.interner_laws.proofs.Judged.{Within}
+use Rattle.interner_laws.specs.Interns.{Accepted, id, id_of, after}
+use Rattle.interner_laws.specs.Judged.{Within}
 use Rattle.interner_laws.proofs.Interns
 use Rattle.interner_laws.proofs.Ids
 use Rattle.interner_laws.proofs.Find

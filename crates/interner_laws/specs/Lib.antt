@@ -1,2 +1,5 @@
 pub mod Histories
 pub mod Good
+pub mod HistoriesWords
+pub mod Interns
+pub mod Judged

@@ -11,7 +11,7 @@ use Rattle.link.specs.Bounds.{input_rows}
 use Rattle.link.specs.Counts.{more_lists}
 use Rattle.strings.specs.Lookup.{Looked}
 use Rattle.interner.specs.Names.{Store, store_of, fits_of, keep_of}
-use Rattle.interner_laws.proofs.Interns.{id_of}
+use Rattle.interner_laws.specs.Interns.{id_of}
 use Rattle.elf_object.specs.Rows.{name_offset_at, name_in}
 use Rattle.merge_build.specs.Build.{Plan}
 use Rattle.merge_build.specs.Relocations.{table_for, limit_of, relocations_of, symbols_ok}

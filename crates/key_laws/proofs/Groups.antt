@@ -13,12 +13,13 @@ use Rattle.strings.specs.Lookup.{Looked}
 use Rattle.interner.specs.Names.{Store, store_of, fits_of, room_of, keep_of}
 use Rattle.interner_laws.specs.Good.{count, find}
 use Rattle.interner_laws.proofs.Find.{find-low}
-use Rattle.interner_laws.proofs.Interns.{id_of, keeps}
+use Rattle.interner_laws.specs.Interns.{id_of}
+use Rattle.interner_laws.proofs.Interns.{keeps}
 use Rattle.symbol_laws.proofs.Issue.{room-free}
 use Rattle.elf_object.specs.Rows.{is_loaded, first_at}
 use Rattle.section_groups.specs.Group.{Plan}
 use Rattle.section_groups.specs.Group as Group
-use Rattle.section_groups.specs.Group.{Object, State, state_of, Step, step_of, repeated_of, plan_with, plan_of, admitted, admit_of, decided_of, group_named, signature_of, signed_of, shape_of, shaped_of, group_of, group_section_of, groups_from, groups_of}
+use Rattle.section_groups.specs.Group.{Object, State, state_of, Step, step_of, repeated_of, plan_with, plan_of, group_committed, commit_group_of, decided_of, group_named, signature_of, signed_of, shape_of, shaped_of, group_of, group_section_of, groups_from, groups_of}
 use Rattle.section_groups.specs.AddGroup as AddGroup
 use Rattle.section_groups.specs.AddGroup.{check_of, answer_of, answered, add_group_of}
 use Rattle.key_laws.specs.Rekeyed.{keyed, Rekeyed, Moved}
@@ -88,16 +89,16 @@ module _ (k : ℕ) (s : State) (n : List ℕ) (e : Rekeyed k (state_store s) n) 
         by-test (fits_of st (id_of st x) (length x)) (λ a. fits-row k st n e x (length x) a)
         (λ a. let w : ◌≡◌ {A = ℕ} 2 0 = rw a at z in absurd (omega arith))
 
-    admit-moved : p.number ≡ 0 → Alike k (Group.go (admit_of s x p i listed)) (Group.go (admit_of (state_under k n s) x p i listed))
-    unfolding admit_of
-    admit-moved z =
+    commit-moved : p.number ≡ 0 → Alike k (Group.go (commit_group_of s x p i listed)) (Group.go (commit_group_of (state_under k n s) x p i listed))
+    unfolding commit_group_of
+    commit-moved z =
         let t = keep-moved k st n e x p.signature plan-id in
         let kept : Store = keep_of st p.signature x in
         let h : p.signature.0 < kept.link.chains =
         rw (keep-chains st p.signature x, ap (λ (i : Interned). i.0) plan-id) (plan-row z) in
         record {
           names = set t.names (p.signature.0 * 8 + 4) 1;
-          is = ap (λ (q : Store). Group.go (admitted q s.work p i listed)) t.is;
+          is = ap (λ (q : Store). Group.go (group_committed q s.work p i listed)) t.is;
           alike = with_cell k kept t.names t.alike p.signature.0 4 1 h (omega arith) (omega arith);
         }
 
@@ -105,7 +106,7 @@ module _ (k : ℕ) (s : State) (n : List ℕ) (e : Rekeyed k (state_store s) n) 
     unfolding group_named decided_of
     named-moved =
         rw (plan-same (length s.work / 8) x listed)
-        (moved_cond step_store (step_under k) k (eqb p.number 0) _ _ _ _ (λ a. admit-moved (eqb-true _ _ a)) (λ a. stop-moved p.number i))
+        (moved_cond step_store (step_under k) k (eqb p.number 0) _ _ _ _ (λ a. commit-moved (eqb-true _ _ a)) (λ a. stop-moved p.number i))
 
   pub group-moved : (o : Object) (i : ℕ) → Alike k (group_of o s i) (group_of o (state_under k n s) i)
   unfolding group_of shaped_of signed_of

@@ -16,7 +16,7 @@ use Rattle.link.specs.Counts.{lent_of}
 use Rattle.strings.specs.Lookup.{Looked, look_up}
 use Rattle.interner.specs.Names.{Store, store_of, fits_of, keep_of}
 use Rattle.interner_laws.specs.Good.{find}
-use Rattle.interner_laws.proofs.Interns.{id_of}
+use Rattle.interner_laws.specs.Interns.{id_of}
 use Rattle.upcoming_symbol.specs.Upcoming.{external_row_of}
 use Rattle.symbol_resolution.specs.Decide.{refusal_of}
 use Rattle.symbol_resolution.specs.Apply.{Table, table_of}

@@ -25,7 +25,8 @@ use Rattle.key_laws.specs.Rekeyed.{rekeyed, Moved}
 use Rattle.key_laws.proofs.Rekeyed.{added-long, added-cells}
 use Rattle.key_laws.proofs.RekeyedLemmas.{with-counts}
 use Rattle.key_laws.proofs.Tables.{table_under}
-use Rattle.key_laws.proofs.SectionNames.{Named, keep_shape}
+use Rattle.key_laws.specs.SectionNames.{Named}
+use Rattle.key_laws.proofs.SectionNames.{keep_shape}
 
 module _ (key other : ℕ) (bytes names : List ℕ) where
   abbrev blank : Store

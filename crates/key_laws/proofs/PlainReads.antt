@@ -18,7 +18,7 @@ use Rattle.gc_sections.specs.Run.{lists_of}
 use Rattle.plain_collector.specs.Visit.{Visited, visited_of, unvisited, target_of, enter_lead, visit_of, visited, marked_lead, root_lead, entry_lead, root_symbol, root_section, reached_of}
 use Rattle.plain_collector.specs.Run.{count_built, judge_plain, judged_plain, finished, plain_of}
 use Rattle.plain_collector.specs.Proof.Head.{judge-passed}
-use Rattle.key_laws.proofs.SectionNames.{Named}
+use Rattle.key_laws.specs.SectionNames.{Named}
 use Rattle.key_laws.specs.Rekeyed.{keyed, Rekeyed}
 use Rattle.key_laws.proofs.ReadsLemmas.{collect_under, judged-built, each_same, finish-keyed, is-root-same, judged-same}
 use Rattle.key_laws.proofs.SectionCalls.{finish-named}

@@ -33,7 +33,7 @@ use Rattle.gc_sections.specs.Reach.{add_of, root_symbol, root_section, entry_of,
 use Rattle.gc_sections.specs.Sweep.{Swept, Purged, purge_lead, purge_symbol, purge_symbols, sweep_sections}
 use Rattle.gc_sections.specs.Run as Run
 use Rattle.gc_sections.specs.Run.{lists_of, judge_cells, judge_of, purge_of, sweep_of, finish_of, finished, collect_of, run_of}
-use Rattle.key_laws.proofs.SectionNames.{Named}
+use Rattle.key_laws.specs.SectionNames.{Named}
 use Rattle.key_laws.specs.Rekeyed.{keyed, Rekeyed}
 use Rattle.key_laws.proofs.RekeyedLemmas.{row-name-same, find-same}
 use Rattle.key_laws.proofs.Tables.{judge-keyed, change-keyed, holder-same, remove-row-keyed}

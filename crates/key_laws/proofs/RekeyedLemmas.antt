@@ -14,7 +14,8 @@ use Rattle.interner_laws.specs.Good.{Good, count, used, name_rows_in, cell, name
 use Rattle.interner_laws.proofs.Find.{found, find-known, find-new, new_none, find-low}
 use Rattle.interner_laws.proofs.Same as Same
 use Rattle.interner_laws.proofs.Same.{good-same}
-use Rattle.interner_laws.proofs.Interns.{id_of, keep-good}
+use Rattle.interner_laws.specs.Interns.{id_of}
+use Rattle.interner_laws.proofs.Interns.{keep-good}
 use Rattle.symbol_laws.proofs.Issue.{room-free}
 use Rattle.key_laws.specs.Rekeyed.{keyed, rekeyed, Rekeyed, Moved}
 use Rattle.key_laws.proofs.Rekeyed.{added-long, added-cells}

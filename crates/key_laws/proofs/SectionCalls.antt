@@ -13,7 +13,7 @@ use Rattle.strings.specs.Lookup.{Looked}
 use Rattle.interner.specs.Names.{Store, store_of, fits_of, keep_of}
 use Rattle.interner.specs.Calls as Names
 use Rattle.interner.specs.Calls.{issue_of, intern_of}
-use Rattle.interner_laws.proofs.Interns.{id_of}
+use Rattle.interner_laws.specs.Interns.{id_of}
 use Rattle.symbol.specs.declared.Row.{Row}
 use Rattle.upcoming_symbol.specs.declared.UpcomingSymbol.{UpcomingSymbol}
 use Rattle.upcoming_symbol.specs.Upcoming.{row_of}
@@ -28,7 +28,7 @@ use Rattle.symbols.specs.Remove.{Rows, rows_of, remove_of}
 use Rattle.section_groups.specs.Filter.{filter_of}
 use Rattle.section_groups.specs.Group.{Plan}
 use Rattle.section_groups.specs.Group as Group
-use Rattle.section_groups.specs.Group.{plan_of, admit_of, signature_of, signed_of, shape_of, shaped_of, group_of}
+use Rattle.section_groups.specs.Group.{plan_of, commit_group_of, signature_of, signed_of, shape_of, shaped_of, group_of}
 use Rattle.section_groups.specs.AddGroup as AddGroup
 use Rattle.section_groups.specs.AddGroup.{answer_of, add_group_of}
 use Rattle.merge_sections.specs.Reserve as Reserve
@@ -45,7 +45,7 @@ use Rattle.shared_objects.specs.Load as Load
 use Rattle.shared_objects.specs.Load.{links_in, wanted_of, name_of, load_of}
 use Rattle.shared_objects.specs.Stages.{library_of}
 use Rattle.load_laws.proofs.Sections.{load-sections}
-use Rattle.load_laws.proofs.Stops.{want}
+use Rattle.load_laws.specs.Stops.{want}
 use Rattle.load_laws.proofs.Unbroken.{library-count}
 use Rattle.gc_sections.specs.Each.{each}
 use Rattle.gc_sections.specs.Roots.{symbol_id, lead_of}
@@ -55,7 +55,8 @@ use Rattle.gc_sections.specs.Sweep.{Swept, swept_of, Purged, purged_of, drop_unr
 use Rattle.gc_sections.specs.Run as Run
 use Rattle.gc_sections.specs.Run.{purge_of, sweep_of, finish_of, finished, collect_of, run_of}
 use Rattle.key_laws.specs.Rekeyed.{Rekeyed}
-use Rattle.key_laws.proofs.SectionNames.{Named, BuiltNamed, shape, named-shape, keep_shape, dropped-named, remove-row-named, applied-named, reserved-named, symbols-named, build-named}
+use Rattle.key_laws.specs.SectionNames.{Named}
+use Rattle.key_laws.proofs.SectionNames.{BuiltNamed, shape, named-shape, keep_shape, dropped-named, remove-row-named, applied-named, reserved-named, symbols-named, build-named}
 use Rattle.key_laws.proofs.Groups.{groups-moved}
 use Rattle.key_laws.proofs.Merge.{all_store, all-beside}
 
@@ -87,7 +88,7 @@ remove-named l x id h =
     (λ a. by-test (leb l.symbols id.0) (λ c. rw (a, c) h) (λ c. rw (a, c) (remove-row-named l x id h))) (λ a. rw a h)
 
 group-shape : (o : Group.Object) (s : Group.State) (i : ℕ) → shape (group_of o s i).stage.link ≡ shape s.link
-unfolding group_of shaped_of signed_of Group.group_named Group.decided_of admit_of
+unfolding group_of shaped_of signed_of Group.group_named Group.decided_of commit_group_of
 group-shape o s i =
     let x : Looked = signature_of o.headers o.entries o.image o.table i in
     let p : Plan = plan_of s.link s.bytes s.names (length s.work / 8) x.name (get_or o.contents (first_at o.headers i) 0) in

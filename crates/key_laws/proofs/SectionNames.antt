@@ -16,7 +16,8 @@ use Rattle.strings.specs.Lookup.{Looked}
 use Rattle.interner.specs.Names.{Store, store_of, room_of, fits_of, keep_of}
 use Rattle.interner_laws.specs.Good.{find}
 use Rattle.interner_laws.proofs.Find.{find-low}
-use Rattle.interner_laws.proofs.Interns.{id_of, keeps}
+use Rattle.interner_laws.specs.Interns.{id_of}
+use Rattle.interner_laws.proofs.Interns.{keeps}
 use Rattle.symbol.specs.declared.Row.{Row}
 use Rattle.symbol_resolution.specs.Decision.{Decision}
 use Rattle.symbol_resolution.specs.Decide.{section_cell, refusal_of}
@@ -42,10 +43,7 @@ use Rattle.merge_laws.proofs.Loop.{loop-holds}
 use Rattle.merge_laws.proofs.Placed.{reserve-loop}
 use Rattle.merge_laws.proofs.SymbolStageLemmas.{symbols-loop, noted-long}
 use Rattle.merge_laws.proofs.BuildStage.{build-loop}
-
--- of the rows that are counted and lent, a built one has a name within the names' rows
-abbrev pub Named : Link → List ℕ → Type 0
-Named l rows = (i : ℕ) → i < l.sections → i < l.slots → i * 8 + 8 ≤ length rows → state_at rows i ≡ 2 → name_id_at rows i < l.chains
+use Rattle.key_laws.specs.SectionNames.{Named}
 
 -- of a link it depends on these counts alone
 abbrev pub shape : Link → Link

@@ -10,7 +10,7 @@ use Rattle.link.specs.declared.Interned.{Interned}
 use Rattle.strings.specs.Lookup.{Looked}
 use Rattle.interner.specs.Names.{Store, store_of, fits_of, keep_of}
 use Rattle.interner_laws.specs.Good.{find}
-use Rattle.interner_laws.proofs.Interns.{id_of}
+use Rattle.interner_laws.specs.Interns.{id_of}
 use Rattle.symbol.specs.declared.Row.{Row}
 use Rattle.upcoming_symbol.specs.declared.ElfSymbol.{ElfSymbol}
 use Rattle.upcoming_symbol.specs.Upcoming.{elf_row_of}

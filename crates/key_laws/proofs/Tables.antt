@@ -18,7 +18,7 @@ use Rattle.interner.specs.Names.{Store, store_of, fits_of}
 use Rattle.interner.specs.Calls as Names
 use Rattle.interner.specs.Calls.{issue_of, intern_of, resolve_of}
 use Rattle.interner_laws.specs.Good.{count}
-use Rattle.interner_laws.proofs.Interns.{id_of}
+use Rattle.interner_laws.specs.Interns.{id_of}
 use Rattle.symbol.specs.declared.Row.{Row}
 use Rattle.symbol.specs.Layout.{refuses_scope}
 use Rattle.symbol.specs.Row.{scope_refused}
@@ -112,7 +112,7 @@ module _ (k : ℕ) (b : List ℕ) (t : Table) (n : List ℕ) (e : Rekeyed k (tab
   unfolding append_of note_name
   append-moved r h =
       let l : Link = (append_of t r).link in
-      by-test (eqb r.visibility 0)
+      by-test (eqb r.scope 0)
       (λ a.
       rw (a, section-keyed k t.link t.sections r t.link.symbols)
       (record { names = n; is = refl; alike = with-counts k (table_store b t) n e l refl refl refl refl }))
@@ -171,7 +171,7 @@ module _ (k : ℕ) (b : List ℕ) (t : Table) (n : List ℕ) (e : Rekeyed k (tab
       (Symbols.left u (refusing (refused 21 place)))
 
   unissued-is : (u : Table) (r : Row) (file : Option Interned) → leb u.link.names r.name.0 ≡ true
-      → add_row_of u r file ≡ refused_row u r.visibility (place_of u.link r.name file)
+      → add_row_of u r file ≡ refused_row u r.scope (place_of u.link r.name file)
   unfolding add_row_of decided_of direct_holder_of issued_of committed_of
   unissued-is u r file h =
       by-test (scope_refused r)
@@ -180,7 +180,7 @@ module _ (k : ℕ) (b : List ℕ) (t : Table) (n : List ℕ) (e : Rekeyed k (tab
         h,
         scope-refused u.link u.symbols u.sections r Unissued a,
         a,
-        ne_eqb r.visibility 0 (scope-number u.link u.symbols u.sections r a),
+        ne_eqb r.scope 0 (scope-number u.link u.symbols u.sections r a),
       ))
       (λ a. rw (h, name-absent u.link u.symbols u.sections r a Unissued refl, a))
 
@@ -193,17 +193,17 @@ module _ (k : ℕ) (b : List ℕ) (t : Table) (n : List ℕ) (e : Rekeyed k (tab
       (λ a. moved (add_store b) (add_under k) k (Symbols.left t _) n e)
 
   -- rows that differ at most in their value, which is not read under such a name
-  rows-moved : (r r' : Row) (file : Option Interned) → r'.name ≡ r.name → r'.visibility ≡ r.visibility → (r.name.0 < t.link.names → r' ≡ r)
+  rows-moved : (r r' : Row) (file : Option Interned) → r'.name ≡ r.name → r'.scope ≡ r.scope → (r.name.0 < t.link.names → r' ≡ r)
       → Fine (add_row_of t r file) (add_row_of (table_under k n t) r' file)
   rows-moved r r' file a v same =
       by-test (leb t.link.names r.name.0)
       (λ h.
       let h' : leb t.link.names r'.name.0 ≡ true = ap (λ (i : Interned). leb t.link.names i.0) a ∙ h in
-      let q : add_row_of (table_under k n t) r' file ≡ refused_row (table_under k n t) r.visibility (place_of t.link r.name file) =
+      let q : add_row_of (table_under k n t) r' file ≡ refused_row (table_under k n t) r.scope (place_of t.link r.name file) =
       unissued-is (table_under k n t) r' file h'
       ∙ ap (λ (v : ℕ). refused_row (table_under k n t) v (place_of (keyed k t.link) r'.name file)) v
-      ∙ ap (refused_row (table_under k n t) r.visibility) (place-keyed r'.name file ∙ ap (λ (i : Interned). place_of t.link i file) a) in
-      rw (unissued-is t r file h, q) (refused-moved r.visibility (place_of t.link r.name file)))
+      ∙ ap (refused_row (table_under k n t) r.scope) (place-keyed r'.name file ∙ ap (λ (i : Interned). place_of t.link i file) a) in
+      rw (unissued-is t r file h, q) (refused-moved r.scope (place_of t.link r.name file)))
       (λ h. let i : r.name.0 < t.link.names = leb-false _ _ h in rw (same i) (row_moved r file i))
 
   row-name : (conversion : List ℕ) (u : UpcomingSymbol) (empty : Bool) → (row_of t.link.gabi conversion u empty).name ≡ name_of u
@@ -215,14 +215,14 @@ module _ (k : ℕ) (b : List ℕ) (t : Table) (n : List ℕ) (e : Rekeyed k (tab
   row-name conversion (ExternallyDefined name visibility binding) empty = refl
   row-name conversion (Elf elf name file) empty = refl
 
-  row-visibility : (conversion : List ℕ) (u : UpcomingSymbol) (empty empty' : Bool) → (row_of t.link.gabi conversion u empty').visibility ≡ (row_of t.link.gabi conversion u empty).visibility
+  row-scope : (conversion : List ℕ) (u : UpcomingSymbol) (empty empty' : Bool) → (row_of t.link.gabi conversion u empty').scope ≡ (row_of t.link.gabi conversion u empty).scope
   unfolding elf_row_of external_row_of
-  row-visibility conversion Null empty empty' = refl
-  row-visibility conversion (GlobalUnknown name) empty empty' = refl
-  row-visibility conversion (GlobalHidden name value) empty empty' = refl
-  row-visibility conversion (Section section) empty empty' = refl
-  row-visibility conversion (ExternallyDefined name visibility binding) empty empty' = refl
-  row-visibility conversion (Elf elf name file) empty empty' = refl
+  row-scope conversion Null empty empty' = refl
+  row-scope conversion (GlobalUnknown name) empty empty' = refl
+  row-scope conversion (GlobalHidden name value) empty empty' = refl
+  row-scope conversion (Section section) empty empty' = refl
+  row-scope conversion (ExternallyDefined name visibility binding) empty empty' = refl
+  row-scope conversion (Elf elf name file) empty empty' = refl
 
   judge-add-keyed : (l : Lent) (u : UpcomingSymbol) → judge_add_of (keyed k t.link) l u ≡ judge_add_of t.link l u
   unfolding judge_add_of
@@ -239,7 +239,7 @@ module _ (k : ℕ) (b : List ℕ) (t : Table) (n : List ℕ) (e : Rekeyed k (tab
       ap (λ (c : ℕ). row_of t.link.gabi conversion u (eqb c 0)) (cell_same k (table_store b t) n e (name_of u).0 1 i (omega arith) (λ z. omega arith)) in
       rw (e.long, judge-add-keyed (lent t) u)
       (moved_cond (add_store b) (add_under k) k (eqb (judge_add_of t.link (lent t) u).number 0) _ _ _ _
-      (λ a. rows-moved r (row_of t.link.gabi conversion u empty') (file_of u) (row-name conversion u empty' ∙ sym (row-name conversion u empty)) (row-visibility conversion u empty empty') same)
+      (λ a. rows-moved r (row_of t.link.gabi conversion u empty') (file_of u) (row-name conversion u empty' ∙ sym (row-name conversion u empty)) (row-scope conversion u empty empty') same)
       (λ a. moved (add_store b) (add_under k) k (Symbols.left t _) n e))
 
 -- ---- a removal, and lookups: they read no names but who holds one

@@ -1,1 +1,2 @@
 pub mod Rekeyed
+pub mod SectionNames

@@ -24,8 +24,8 @@ use Rattle.upcoming_symbol.specs.Judge.{in_range}
 use Rattle.symbols.specs.Add.{lent, judge_add_of, file_of, file_issued, issued_of, direct_holder_of, decided_of, add_of}
 use Rattle.symbols.specs.Proof.AddOutcomes.{added-number}
 use Rattle.symbol_laws.specs.History.{State, Entry, table, upcoming, put_of}
-use Rattle.symbol_laws.proofs.Held.{Inv}
-use Rattle.symbol_laws.proofs.Within.{Within}
+use Rattle.symbol_laws.specs.Held.{Inv}
+use Rattle.symbol_laws.specs.Within.{Within}
 use Rattle.symbol_laws.proofs.Duplicate.{put-number}
 use Rattle.merge_laws.proofs.ByNumber.{changed}
 use Rattle.link_laws.specs.AddHead.{IsWhole, IsInRange}

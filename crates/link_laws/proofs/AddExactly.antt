@@ -255,7 +255,7 @@ shown-library gabi k =
 
 pub record Stands (r : Row) (a : Asked) : Type 0 where
   pub kinds : r.kind ≡ a.kind
-  pub shows : Shown r.visibility (Upcoming.judge_of a.binding a.visibility)
+  pub shows : Shown r.scope (Upcoming.judge_of a.binding a.visibility)
   pub values : Reads a.binding a.value r.value
 
 -- number and place: 21 has its own
@@ -396,10 +396,10 @@ module _ (t : State) (r : Row) (a : Asked) (st : Stands r a) where
   decided h = decide_of t.link t.symbols t.sections r h
 
   module _ (h : Holder) (id place : ℕ) where
-    refused-shown : (n : ℕ) → r.visibility ≡ n → refuses_scope n ≡ true → refusal_of (decided h) ≡ n
+    refused-shown : (n : ℕ) → r.scope ≡ n → refuses_scope n ≡ true → refusal_of (decided h) ≡ n
     refused-shown n e q = number_is _ _ (scope-refused t.link t.symbols t.sections r h (ap (refuses_scope) e ∙ q)) ∙ e
 
-    numbered : (n : ℕ) → Upcoming.judge_of a.binding a.visibility ≡ n → refuses_scope n ≡ true → r.visibility ≡ n
+    numbered : (n : ℕ) → Upcoming.judge_of a.binding a.visibility ≡ n → refuses_scope n ≡ true → r.scope ≡ n
     numbered n e l = st.shows.number (ap (refuses_scope) e ∙ l) ∙ e
 
     pub shown-first : (rest : List Rule) → (Passes a.binding a.visibility → answered (refusal_of (decided h)) id place ≡ first_refusal rest)
@@ -424,10 +424,10 @@ module _ (t : State) (r : Row) (a : Asked) (st : Stands r a) where
     low : scope_refused r ≡ false
     low = st.shows.refuses ∙ p.low
 
-    local : eqb r.visibility 0 ≡ is_local t a
+    local : eqb r.scope 0 ≡ is_local t a
     local = st.shows.local ∙ p.local
 
-    weak : weak_of r.visibility ≡ eqb a.binding 2
+    weak : weak_of r.scope ≡ eqb a.binding 2
     weak = st.shows.weak ∙ p.weak
 
     -- a global or weak name whose row was removed

@@ -1,7 +1,6 @@
 -- What `matches` answers in a link, against the gABI's extraction.
 -- Assumes nothing.
-use Rattle.link.specs.declared.cause.Refusal.{Refusal}
-use Rattle.std.specs.Prelude.{ℕ, ◌+◌, ◌<◌, ◌≡◌, Bool, true, false, ◌||◌, List, ◌∷◌, length, Result, Ok}
+use Rattle.std.specs.Prelude.{ℕ, ◌+◌, ◌<◌, ◌≡◌, Bool, true, false, ◌||◌, List, ◌∷◌, length, Ok}
 use Rattle.std.proofs.Common.{sym, ap, ◌∙◌, subst}
 use Rattle.gabi.specs.StringTable as Strings
 use Rattle.gabi.specs.Archive.{Named, extracts}
@@ -15,22 +14,20 @@ use Rattle.archive_laws.proofs.Terms.{start_fine, start-begins}
 use Rattle.elf_object.specs.Judge.{judge_of}
 use Rattle.symbol_laws.specs.Rank.{first_by_rank}
 use Rattle.symbol_laws.specs.History.{Entry, only, rows}
-use Rattle.symbol_laws.proofs.Held.{Inv}
+use Rattle.symbol_laws.specs.Held.{Inv}
 use Rattle.merge_laws.specs.Calls.{Linked}
-use Rattle.extraction_laws.proofs.Taken.{lists, wanted_names, wanted-names}
-use Rattle.extraction_laws.proofs.MemberWords.{symbols_of}
+use Rattle.extraction_laws.specs.Taken.{lists, wanted_names}
+use Rattle.extraction_laws.proofs.Taken.{wanted-names}
+use Rattle.extraction_laws.specs.MemberWords.{symbols_of}
 use Rattle.extraction_laws.proofs.Answer as Answer
-use Rattle.extraction_laws.proofs.Answer.{says, admitted}
-use Rattle.link_laws.specs.Calls.{matches, view_in, call_left}
+use Rattle.extraction_laws.specs.Answer.{says, admitted}
+use Rattle.link_laws.specs.Calls.{matches, view_in}
 use Rattle.link_laws.specs.Walks.{next_in}
 use Rattle.link_laws.proofs.Walks.{next-is}
 use Rattle.link_laws.proofs.Undefined.{undefined-is}
 use Rattle.link_laws.proofs.Ties.{OfName}
 use Rattle.link_laws.proofs.Extraction.{wanted_in, weakly_in, strongly-wanted}
-
--- what `matches` answers about entry e of a run, for an object; of the link its profile counts
-abbrev pub answer_in : List ℕ → List ℕ → List ℕ → List ℕ → List ℕ → Run → ℕ → Linked → Result Bool Refusal
-answer_in headers entries contents file index r e s = call_left (matches headers entries contents file index r.cells r.walk e) s
+use Rattle.link_laws.specs.Admitted.{answer_in}
 
 module _ (s : Linked) (past : List Entry) (inv : Inv s.table past) (key : ℕ) (index cells : List ℕ) (begun : begun_number (start_of key index cells).started.begun ≡ 0)
     (ts : List Table) where

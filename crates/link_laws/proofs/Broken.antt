@@ -1,6 +1,6 @@
 -- "changing call on a broken link": 22 at place 0, first of all.
 -- Assumes nothing.
-use Rattle.std.specs.Prelude.{ℕ, ◌≡◌, Bool, true, false, cond, List, length, Option}
+use Rattle.std.specs.Prelude.{ℕ, ◌≡◌, Bool, true, cond, List, length, Option}
 use Rattle.std.proofs.Common.{ap, ◌∙◌}
 use Rattle.byte_slices.specs.Proof.Ways.{apart}
 use Rattle.link.specs.declared.Link.{Link}
@@ -34,20 +34,7 @@ use Rattle.link_laws.specs.Calls.{Call, intern, add, remove, add_group, merge, m
 use Rattle.link_laws.proofs.PlainCalls.{Compared, alike, many, compared}
 use Rattle.merge_file.specs.MergeFile.{file_head_of, merge_file_of}
 use Rattle.add_list.specs.AddList.{add_list_of}
-
--- the calls that may change a link
-abbrev pub changes : Call → Bool
-changes (intern x) = true
-changes (reads k) = false
-changes (add conversion u) = true
-changes (add_list conversion adds ids) = true
-changes (remove id) = true
-changes (add_group o work n) = true
-changes (merge o work ids) = true
-changes (merge_file file cells work ids) = true
-changes (load o marks) = true
-changes (collect marks entry work) = true
-changes (plain_collect marks entry work) = true
+use Rattle.link_laws.specs.Broken.{changes}
 
 change-broken : (l : Link) (n : Lent) → l.broken ≡ true → change_of l n ≡ refused 22 0
 unfolding change_of

@@ -10,7 +10,6 @@ use Rattle.link.specs.Bounds.{section_rows}
 use Rattle.interner_laws.specs.Good as Good
 use Rattle.interner_laws.proofs.Histories.{issued-stays}
 use Rattle.sections.specs.Rows.{field, first_at, count_at}
-use Rattle.gc_laws.specs.Reached as Relocations
 use Rattle.gc_laws.proofs.Terms as CollectionLaws
 use Rattle.symbol_laws.specs.History as History
 use Rattle.symbol_laws.specs.History.{State, store}
@@ -19,51 +18,27 @@ use Rattle.symbol_laws.proofs.WritesLemmas as WritesLaws
 use Rattle.merge_laws.specs.Steps.{Step}
 use Rattle.merge_laws.proofs.More.{makes-more}
 use Rattle.merge_laws.proofs.Placed.{slots}
-use Rattle.merge_laws.proofs.BuiltRow.{BuiltAs, part_same}
+use Rattle.merge_laws.proofs.BuiltRow.{part_same}
 use Rattle.merge_laws.proofs.RowsBelow.{merge-same}
 use Rattle.merge_laws.specs.Calls.{Linked, all_in}
 use Rattle.load_laws.proofs.Sections.{load-sections}
 use Rattle.link_laws.specs.Calls.{Call, intern, add, remove, add_group, merge, merge_file, load, collect, plain_collect, library_in, lists_in, call_left, call_next, run_calls, Drops, reads, add_list}
 use Rattle.link_laws.proofs.PlainCalls.{Compared, alike, many, compared}
-use Rattle.gc_sections.specs.Run.{Left, dropped}
+use Rattle.gc_sections.specs.Run.{Left}
 use Rattle.elf_laws.specs.Object as ElfFile
 use Rattle.link_laws.proofs.FileCall.{by-file}
-use Rattle.link_laws.proofs.CallSteps.{call_steps, Leads, made, cleared}
+use Rattle.link_laws.specs.CallSteps.{call_steps}
+use Rattle.link_laws.proofs.CallSteps.{Leads, made, cleared}
 use Rattle.link_laws.proofs.CallStepsLemmas.{call-leads, direct-below}
 use Rattle.link_laws.proofs.Lists.{call-listed, direct-count}
 use Rattle.link_laws.proofs.Idle.{drops-nothing}
 use Rattle.link_laws.proofs.NamesStay.{calls-stay}
-use Rattle.link_laws.proofs.Kept.{signatures, Lasting, lasting-on}
+use Rattle.link_laws.specs.Kept.{signatures}
+use Rattle.link_laws.proofs.Kept.{Lasting, lasting-on}
 use Rattle.merge_laws.proofs.Issue.{keep-slots}
 use Rattle.link_laws.proofs.ListCall.{next-is, list-keeps}
 use Rattle.link.specs.declared.Link.{Link}
-
--- row r of a link is a built section of that name, kind, flags, and names these symbols
-abbrev pub SectionIn : Linked → ℕ → List ℕ → ℕ → ℕ → ℕ → List ℕ → Type 0
-SectionIn t r x kind retain read ids =
-    BuiltAs t.table.bytes t.table.names t.table.sections t.lists t.table.link r x kind retain read ids
-
--- what a collection over the link reaches
-abbrev pub ReachedIn : Linked → List ℕ → Option SymbolId → ℕ → Type 0
-ReachedIn s marks entry r = Relocations.Reached s.table.link (lists_in s marks) s.table.symbols s.table.sections entry r
-
--- a collection that isn't refused reaches section r; other calls drop none
-abbrev pub Spares : Call → Linked → ℕ → Type 0
-Spares (intern x) s r = Unit {0}
-Spares (reads k) s r = Unit {0}
-Spares (add conversion u) s r = Unit {0}
-Spares (add_list conversion adds ids) s r = Unit {0}
-Spares (remove id) s r = Unit {0}
-Spares (add_group o work n) s r = Unit {0}
-Spares (merge o work ids) s r = Unit {0}
-Spares (merge_file file cells work ids) s r = Unit {0}
-Spares (load o marks) s r = Unit {0}
-Spares (collect marks entry work) s r = (a b : ℕ) → (call_left (collect marks entry work) s).answer ≡ Ok (dropped a b) → ReachedIn s marks entry r
-Spares (plain_collect marks entry work) s r = (a b : ℕ) → (call_left (plain_collect marks entry work) s).answer ≡ Ok (dropped a b) → ReachedIn s marks entry r
-
-abbrev pub SparesAll : List Call → Linked → ℕ → Type 0
-SparesAll [] s r = Unit {0}
-SparesAll (k ∷ ks) s r = Spares k s r × SparesAll ks (call_next k s) r
+use Rattle.link_laws.specs.BuiltSections.{SectionIn, Spares, SparesAll}
 
 -- ---- a row that is counted
 

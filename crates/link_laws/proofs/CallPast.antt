@@ -7,7 +7,7 @@ use Rattle.merge_laws.specs.Calls.{Linked}
 use Rattle.link_laws.specs.Calls.{Call, intern, add, remove, add_group, merge, merge_file, load, collect, plain_collect, lists_in, call_next, Removes, reads, add_list}
 use Rattle.link_laws.proofs.PlainCalls.{Compared, alike, many, compared, many-drops}
 use Rattle.std.proofs.Common.{sym, subst}
-use Rattle.link_laws.proofs.CallSteps.{call_steps}
+use Rattle.link_laws.specs.CallSteps.{call_steps}
 use Rattle.link_laws.proofs.CallStepsLemmas.{call-makes}
 use Rattle.link_laws.proofs.CollectPast.{collect-past, remove-past}
 

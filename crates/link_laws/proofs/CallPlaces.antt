@@ -71,10 +71,12 @@ use Rattle.merge_laws.proofs.Refusals.{group-left}
 use Rattle.merge_laws.proofs.ByNumber.{changed, elf-gives}
 use Rattle.merge_laws.specs.Calls.{Linked}
 use Rattle.link_laws.specs.Calls.{intern, resolve, add, remove, get, get_global, add_group, archive_start, archive_next, collect, view_in, lists_in, group_in, call_refusal, call_number}
-use Rattle.link_laws.proofs.FirstRow.{First, first-bad}
+use Rattle.link_laws.specs.FirstRow.{First}
+use Rattle.link_laws.proofs.FirstRow.{first-bad}
 use Rattle.link_laws.proofs.NeverRemoved.{offered-number}
 use Rattle.link_laws.proofs.CallSteps.{head-loaded, section-is}
 use Rattle.merge_laws.specs.Table.{one_of, group_causes, group_numbers}
+use Rattle.link_laws.specs.CallPlaces.{not_removed, collect_lent}
 
 -- two numbers
 pub differ : {P : Type 0} (m n : ℕ) → eqb m n ≡ false → m ≡ n → P
@@ -257,16 +259,13 @@ start-place key index cells s = begun-at key (length index) (open_of index cells
 
 -- "the entry's position for a pass": of the walk's entries the first whose name's row was removed
 module _ (index cells : List ℕ) (t : Look.Table) where
-  abbrev pub not_removed : ℕ → Bool
-  not_removed e = not (removed_name t (stored_name index cells e))
-
-  removed-first : (n k : ℕ) → removed_of index cells t n k ≡ first_bad not_removed k n
+  removed-first : (n k : ℕ) → removed_of index cells t n k ≡ first_bad (not_removed index cells t) k n
   unfolding removed_of first_bad
   removed-first zero k = refl
   removed-first (suc n) k =
       by-test (removed_name t (stored_name index cells k)) (λ a. rw a) (λ a. rw (a, removed-first n (k + 1)))
 
-  pass-at : (w : Walk) → number_of (next_of index cells w t).moved.offer ≡ 21 → First not_removed w.entries (place_of (next_of index cells w t).moved.offer)
+  pass-at : (w : Walk) → number_of (next_of index cells w t).moved.offer ≡ 21 → First (not_removed index cells t) w.entries (place_of (next_of index cells w t).moved.offer)
   unfolding next_of go_of pass_of search_of make_of judge_table
   pass-at w =
       pick P w.done _ _ (λ a e. differ 0 21 refl e)
@@ -279,16 +278,16 @@ module _ (index cells : List ℕ) (t : Look.Table) where
       (λ a.
       pick P (ltb (removed_of index cells t w.entries 0) w.entries) _ _ (λ b e. found (ltb-true _ _ b))
       (λ b e. differ 0 21 refl (sym (offered-number index _ _) ∙ e)))
-      (λ a. judge-gives (λ (r : Refusal). r.number ≡ 21 → First not_removed w.entries r.place) (λ k e. differ 1 21 refl e) (λ e. differ 0 21 refl e) t.link _)))
+      (λ a. judge-gives (λ (r : Refusal). r.number ≡ 21 → First (not_removed index cells t) w.entries r.place) (λ k e. differ 1 21 refl e) (λ e. differ 0 21 refl e) t.link _)))
       (λ a e. differ 1 21 refl e))
     where
       P : Step → Type 0
-      P x = number_of x.moved.offer ≡ 21 → First not_removed w.entries (place_of x.moved.offer)
+      P x = number_of x.moved.offer ≡ 21 → First (not_removed index cells t) w.entries (place_of x.moved.offer)
 
-      found : removed_of index cells t w.entries 0 < w.entries → First not_removed w.entries (removed_of index cells t w.entries 0)
+      found : removed_of index cells t w.entries 0 < w.entries → First (not_removed index cells t) w.entries (removed_of index cells t w.entries 0)
       found h =
           let q = removed-first w.entries 0 in
-          subst (First not_removed w.entries) (sym q) (first-bad not_removed w.entries (subst (λ (p : ℕ). p < w.entries) q h))
+          subst (First (not_removed index cells t) w.entries) (sym q) (first-bad (not_removed index cells t) w.entries (subst (λ (p : ℕ). p < w.entries) q h))
 
 pub pass-place : (index cells : List ℕ) (w : Walk) (s : Linked) → call_number (archive_next index cells w) s ≡ 21
     → First (not_removed index cells (view_in s.table)) w.entries (call_refusal (archive_next index cells w) s).place
@@ -349,10 +348,6 @@ module _ (l : Link) (x : Collection.Lists) (symbols sections : List ℕ) (entry 
   collect-lowest (Err r) e q =
       DemandLaws.refuses l x symbols sections entry work r.place (e ∙ ap (λ (n : ℕ). Err (refused n r.place)) q)
 
-abbrev pub collect_lent : Linked → Lent
-collect_lent s =
-    Collection.lent_of (length s.table.bytes) (length s.table.names) (length s.table.symbols) (length s.table.sections) (length s.lists)
-
 module _ (marks : List ℕ) (entry : Option SymbolId) (work : List ℕ) (s : Linked) where
   -- "the section's for collection": the lowest that is reached but not built
   pub collect-section-place : call_number (collect marks entry work) s ≡ 21
@@ -386,11 +381,11 @@ module _ (o : Group.Object) (t : State) (work : List ℕ) (n : ℕ) where
   abbrev at : Group.State
   at = group_in t work
 
-  answered-said : (x : Stage) → x.number ≢ 0 → AddGroup.refusal_of (answer_of x).answer ≡ refused x.number x.place
+  answered-said : (x : Stage) → x.number ≢ 0 → Link.refusal_in (answer_of x).answer ≡ refused x.number x.place
   unfolding answer_of
   answered-said x u = rw (ne_eqb _ _ u)
 
-  answered-zero : (x : Stage) → x.number ≡ 0 → (AddGroup.refusal_of (answer_of x).answer).number ≡ 0
+  answered-zero : (x : Stage) → x.number ≡ 0 → (Link.refusal_in (answer_of x).answer).number ≡ 0
   unfolding answer_of
   answered-zero x z = rw (eq-eqb _ _ z)
 
@@ -398,7 +393,7 @@ module _ (o : Group.Object) (t : State) (work : List ℕ) (n : ℕ) where
   unfolding add_group_of
   group-head u = rw (ne_eqb _ _ u)
 
-  group-past : (AddGroup.head_in o at n).number ≡ 0 → (add_group_of o at n).said ≡ AddGroup.refusal_of (answer_of (group_of (loaded_in o) at n).stage).answer
+  group-past : (AddGroup.head_in o at n).number ≡ 0 → (add_group_of o at n).said ≡ Link.refusal_in (answer_of (group_of (loaded_in o) at n).stage).answer
   unfolding add_group_of
   group-past z = rw (eq-eqb _ _ z)
 

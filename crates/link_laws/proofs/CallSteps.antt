@@ -3,7 +3,7 @@
 use Prim.Native.Nat.{ℕ, ◌/◌}
 use Rattle.std.proofs.Common.{arith, ◌∙◌, subst, eqb-true}
 use Rattle.std.proofs.Math.Path.{◌≡◌, sym, ap}
-use Rattle.std.specs.Prelude.{true, cond, List, [], ◌∷◌, eqb, length}
+use Rattle.std.specs.Prelude.{true, List, [], eqb, length}
 use Rattle.std.proofs.Math.ListN.{get_or}
 use Rattle.std.proofs.lemmas.Bool.{eqb-false}
 use Rattle.cells.specs.Proof.Split.{by-test}
@@ -19,49 +19,29 @@ use Rattle.elf_object.specs.Rows.{first_at, is_loaded}
 use Rattle.elf_object.specs.Judge as Elf
 use Rattle.section_groups.specs.Group as Group
 use Rattle.section_groups.specs.Group.{Plan}
-use Rattle.section_groups.specs.Group.{shape_of, signature_of, plan_of, admit_of, decided_of, group_named, signed_of, shaped_of, group_of, group_section_of, go}
+use Rattle.section_groups.specs.Group.{shape_of, signature_of, plan_of, commit_group_of, decided_of, group_named, signed_of, shaped_of, group_of, group_section_of, go}
 use Rattle.section_groups.specs.AddGroup as AddGroup
 use Rattle.section_groups.specs.AddGroup.{check_of, head_in, lent, rows_refusal, marks_refusal, answer_of, table_in, loaded_in, add_group_of}
-use Rattle.symbol_laws.specs.History as History
-use Rattle.symbol_laws.specs.History.{State, table, with_rows, Part}
-use Rattle.symbol_laws.specs.Calls.{history_parts}
-use Rattle.merge_laws.specs.Steps.{Step, part, log_steps, Makes}
+use Rattle.symbol_laws.specs.History.{State, table, with_rows}
+use Rattle.merge_laws.specs.Steps.{Step, log_steps, Makes}
 use Rattle.merge_laws.proofs.Steps.{makes_none}
-use Rattle.merge_laws.specs.MergeSteps.{merge_steps, signed_steps, group_section_steps}
+use Rattle.merge_laws.specs.MergeSteps.{signed_steps, group_section_steps}
 use Rattle.merge_laws.proofs.GroupStage.{section-makes}
-use Rattle.merge_laws.specs.Calls.{Linked, all_in}
-use Rattle.load_laws.specs.LoadSteps.{load_steps}
-use Rattle.link_laws.specs.Calls.{Call, intern, add, remove, add_group, merge, merge_file, load, collect, plain_collect, group_in, library_in, file_steps, reads, add_list, list_adds}
-
-abbrev pub part_steps : List Part → List Step
-part_steps [] = []
-part_steps (p ∷ ps) = part p ∷ part_steps ps
-
-abbrev pub direct_steps : History.Call → State → List Step
-direct_steps k s = part_steps (history_parts (k ∷ []) s)
+use Rattle.link_laws.specs.Calls.{add, add_group, load}
+use Rattle.link_laws.specs.CallSteps.{at, group_steps}
 
 -- ---- a list of adds
-
-abbrev pub list_steps : List History.Call → State → List Step
-list_steps ks t = part_steps (history_parts ks t)
 
 -- ---- a group added by itself
 
 module _ (o : Group.Object) (t : State) (work : List ℕ) (n : ℕ) where
-  abbrev pub at : Group.State
-  at = group_in t work
-
   abbrev pub head_number : ℕ
-  head_number = (head_in o at n).number
+  head_number = (head_in o (at o t work n) n).number
 
-  -- a group that passes the head: its signature's name is issued and marked
-  abbrev pub group_steps : List Step
-  group_steps = cond (eqb (head_in o at n).number 0) (group_section_steps (loaded_in o) (go at) n) []
-
-  pub head-loaded : (head_in o at n).number ≡ 0 → is_loaded o.headers n 7 ≡ true
+  pub head-loaded : (head_in o (at o t work n) n).number ≡ 0 → is_loaded o.headers n 7 ≡ true
   unfolding check_of rows_refusal marks_refusal
   head-loaded e =
-      let change : Refusal = change_of at.link (lent at) in
+      let change : Refusal = change_of (at o t work n).link (lent (at o t work n)) in
       let rows : Refusal = Elf.judge_of o.headers o.entries (length o.contents) (length o.image) in
       by-test (eqb change.number 0)
       (λ a.
@@ -71,7 +51,7 @@ module _ (o : Group.Object) (t : State) (work : List ℕ) (n : ℕ) where
       (λ b. absurd (eqb-false _ _ b (rw (a, b) at e))))
       (λ a. absurd (eqb-false _ _ a (rw a at e)))
 
-  pub section-is : is_loaded o.headers n 7 ≡ true → group_section_of (loaded_in o) (go at) n ≡ group_of (loaded_in o) at n
+  pub section-is : is_loaded o.headers n 7 ≡ true → group_section_of (loaded_in o) (go (at o t work n)) n ≡ group_of (loaded_in o) (at o t work n) n
   unfolding group_section_of
   section-is e = rw e
 
@@ -89,14 +69,14 @@ module _ (o : Group.Object) (t : State) (work : List ℕ) (n : ℕ) where
   answered-is g =
       ap (λ (l : Link). record { bytes = g.bytes; names = g.names; symbols = t.symbols; sections = t.sections; link = l }) (answer-link g.stage)
 
-  pub group-makes : Makes t group_steps (grouped (add_group_of o at n))
+  pub group-makes : Makes t (group_steps o t work n) (grouped (add_group_of o (at o t work n) n))
   unfolding add_group_of
   group-makes =
-      by-test (eqb (head_in o at n).number 0)
+      by-test (eqb (head_in o (at o t work n) n).number 0)
       (λ a.
-      let e : stepped (group_section_of (loaded_in o) (go at) n) ≡ grouped (AddGroup.answered (group_of (loaded_in o) at n)) =
-      ap stepped (section-is (head-loaded (eqb-true _ _ a))) ∙ sym (answered-is (group_of (loaded_in o) at n)) in
-      rw a (subst (Makes t (group_section_steps (loaded_in o) (go at) n)) e (section-makes t.symbols t.sections (loaded_in o) (go at) n)))
+      let e : stepped (group_section_of (loaded_in o) (go (at o t work n)) n) ≡ grouped (AddGroup.answered (group_of (loaded_in o) (at o t work n) n)) =
+      ap stepped (section-is (head-loaded (eqb-true _ _ a))) ∙ sym (answered-is (group_of (loaded_in o) (at o t work n) n)) in
+      rw a (subst (Makes t (group_section_steps (loaded_in o) (go (at o t work n)) n)) e (section-makes t.symbols t.sections (loaded_in o) (go (at o t work n)) n)))
       (λ a. rw a (makes_none t))
 
   -- no row is added
@@ -106,13 +86,13 @@ module _ (o : Group.Object) (t : State) (work : List ℕ) (n : ℕ) where
       by-test (is_loaded o.headers n 7)
       (λ a. by-test (eqb (group_section_of (loaded_in o) g n).stage.number 0) (λ b. rw (a, b)) (λ b. rw (a, b))) (λ a. rw a)
 
-  pub group-log : [] ≡ log_steps group_steps t
-  group-log = by-test (eqb (head_in o at n).number 0) (λ a. rw a (sym (section-log (go at)))) (λ a. rw a)
+  pub group-log : [] ≡ log_steps (group_steps o t work n) t
+  group-log = by-test (eqb (head_in o (at o t work n) n).number 0) (λ a. rw a (sym (section-log (go (at o t work n))))) (λ a. rw a)
 
   -- what names don't touch of the link stays
   module _ {A : Type 0} (count : Link → A) (same : (s : Store) (id : Interned) (x : List ℕ) → count (keep_of s id x).link ≡ count s.link) where
-    group-same : count (group_of (loaded_in o) at n).stage.link ≡ count t.link
-    unfolding group_of shaped_of signed_of group_named decided_of admit_of
+    group-same : count (group_of (loaded_in o) (at o t work n) n).stage.link ≡ count t.link
+    unfolding group_of shaped_of signed_of group_named decided_of commit_group_of
     group-same =
         let x : Looked = signature_of o.headers (table_in o.headers o.entries o.table) o.image o.table n in
         let listed : ℕ = get_or o.contents (first_at o.headers n) 0 in
@@ -125,25 +105,12 @@ module _ (o : Group.Object) (t : State) (work : List ℕ) (n : ℕ) where
         (λ b. rw (a, b)))
         (λ a. rw a)
 
-    pub group-count : count (add_group_of o at n).outcome.link ≡ count t.link
+    pub group-count : count (add_group_of o (at o t work n) n).outcome.link ≡ count t.link
     unfolding add_group_of
     group-count =
-        by-test (eqb (head_in o at n).number 0) (λ a. rw a (ap count (answer-link (group_of (loaded_in o) at n).stage) ∙ group-same)) (λ a. rw a)
+        by-test (eqb (head_in o (at o t work n) n).number 0) (λ a. rw a (ap count (answer-link (group_of (loaded_in o) (at o t work n) n).stage) ∙ group-same)) (λ a. rw a)
 
 -- ---- every call
-
-abbrev pub call_steps : Call → Linked → List Step
-call_steps (intern x) s = direct_steps (History.intern x) s.table
-call_steps (reads k) s = []
-call_steps (add conversion u) s = direct_steps (History.add conversion u) s.table
-call_steps (add_list conversion adds ids) s = list_steps (list_adds conversion adds ids s) s.table
-call_steps (remove id) s = []
-call_steps (add_group o work n) s = group_steps o s.table work n
-call_steps (merge o work ids) s = merge_steps o (all_in s work ids)
-call_steps (merge_file file cells work ids) s = file_steps file cells work ids s
-call_steps (load o marks) s = load_steps o (library_in s marks)
-call_steps (collect marks entry work) s = []
-call_steps (plain_collect marks entry work) s = []
 
 -- ---- every call, removing ones too
 

@@ -36,7 +36,8 @@ use Rattle.link_laws.proofs.Idle.{drops-nothing, plain-drops-nothing}
 use Rattle.link_laws.proofs.CollectPast.{run_past}
 use Rattle.add_list.specs.AddList.{items_of}
 use Rattle.link_laws.proofs.ListCall.{listed-adds, up-to-quiet, next-is}
-use Rattle.link_laws.proofs.CallSteps.{part_steps, direct_steps, list_steps, group-makes, group-log, call_steps, Leads, made, cleared}
+use Rattle.link_laws.specs.CallSteps.{part_steps, direct_steps, list_steps, call_steps}
+use Rattle.link_laws.proofs.CallSteps.{group-makes, group-log, Leads, made, cleared}
 
 -- none is a library's
 pub direct-shown : (k : History.Call) (s : State) → AllShown (direct_steps k s)

@@ -14,7 +14,7 @@ use Rattle.symbol_laws.specs.Rank as Rank
 use Rattle.symbol_laws.specs.Rank.{first_by_rank}
 use Rattle.symbol_laws.specs.History.{Entry, table, only, rows, noted, upcoming, State}
 use Rattle.symbol_laws.specs.History as History
-use Rattle.symbol_laws.proofs.Held.{Inv}
+use Rattle.symbol_laws.specs.Held.{Inv}
 use Rattle.symbol_laws.proofs.Demand.{resolved}
 use Rattle.symbol_laws.proofs.Refused.{add-accepted}
 use Rattle.symbol_laws.specs.DirectContents.{FromAdd}
@@ -23,55 +23,24 @@ use Rattle.merge_laws.specs.MergeSteps.{merge_steps}
 use Rattle.merge_laws.proofs.Whole.{merge-makes}
 use Rattle.merge_laws.proofs.Kept.{log-rows}
 use Rattle.merge_laws.specs.Marked.{Marked}
-use Rattle.merge_laws.proofs.LogContents.{FromSymbol, merge-logged, all_append}
+use Rattle.merge_laws.specs.LogContents.{FromSymbol}
+use Rattle.merge_laws.proofs.LogContents.{merge-logged, all_append}
 use Rattle.merge_laws.specs.Calls.{Linked, all_in, linked}
 use Rattle.load_laws.specs.LoadSteps.{load_steps}
 use Rattle.load_laws.proofs.Whole.{load-makes}
-use Rattle.load_laws.proofs.LibraryContents.{FromLibrary, load-logged}
+use Rattle.load_laws.specs.LibraryContents.{FromLibrary}
+use Rattle.load_laws.proofs.LibraryContents.{load-logged}
 use Rattle.link_laws.specs.Calls.{Call, intern, add, remove, add_group, merge, merge_file, load, collect, plain_collect, library_in, call_left, call_next, call_notes, run_calls, log_calls, is_read, reads, add_list, adds_up_to}
 use Rattle.merge_stages.specs.Stages as Stages
 use Rattle.elf_laws.specs.Object as ElfFile
 use Rattle.link_laws.proofs.FileCall.{notes-read, notes-unread}
-use Rattle.link_laws.proofs.Kept.{signatures, calls-marked}
+use Rattle.link_laws.specs.Kept.{signatures}
+use Rattle.link_laws.proofs.Kept.{calls-marked}
 use Rattle.link_laws.proofs.ListCall.{listed-adds}
 use Rattle.add_list.specs.AddList.{items_of}
+use Rattle.link_laws.specs.Contents.{FromList, FromCall, FromCalls, here, later}
 
 -- ---- the words
-
--- adds of these, one by one
-abbrev pub adds_of_each : List ℕ → List UpcomingSymbol → List History.Call
-adds_of_each conversion [] = []
-adds_of_each conversion (u ∷ us) = History.add conversion u ∷ adds_of_each conversion us
-
--- the row is from an add of the list, to the table that the adds before it left
-pub record FromList (conversion : List ℕ) (us : List UpcomingSymbol) (t : State) (r : Row) : Type 0 where
-  pub before : List UpcomingSymbol
-  pub symbol : UpcomingSymbol
-  pub after : List UpcomingSymbol
-  pub split : us ≡ before ++ symbol ∷ after
-  pub state : State
-  pub reached : state ≡ History.run_calls (adds_of_each conversion before) t
-  pub from : FromAdd state.link.gabi conversion (empty_at state.names (name_of symbol)) r symbol
-
--- the row is that of an entry of this call, made on s, where these signatures are met
-abbrev pub FromCall : Call → Linked → List (List ℕ) → Row → Type 0
-FromCall (intern x) s met r = ⊥
-FromCall (reads k) s met r = ⊥
-FromCall (add conversion u) s met r = FromAdd s.table.link.gabi conversion (empty_at s.table.names (name_of u)) r u
-FromCall (add_list conversion adds ids) s met r = FromList conversion (items_of adds) s.table r
-FromCall (remove id) s met r = ⊥
-FromCall (add_group o work n) s met r = ⊥
-FromCall (merge o work ids) s met r = FromSymbol o (all_in s work ids) met r
--- the file is read, and the row is that of one of its symbols
-FromCall (merge_file file cells work ids) s met r = (is_read file cells s ≡ true) × FromSymbol (ElfFile.rows_of file) (all_in s work ids) met r
-FromCall (load o marks) s met r = FromLibrary o (library_in s marks) r
-FromCall (collect marks entry work) s met r = ⊥
-FromCall (plain_collect marks entry work) s met r = ⊥
-
--- of one of these calls, made one after the other
-pub data FromCalls (r : Row) : List Call → Linked → List (List ℕ) → Type 0 where
-  here : {k : Call} {ks : List Call} {s : Linked} {met : List (List ℕ)} → FromCall k s met r → FromCalls r (k ∷ ks) s met
-  later : {k : Call} {ks : List Call} {s : Linked} {met : List (List ℕ)} → FromCalls r ks (call_next k s) (met ++ signatures (k ∷ []) s) → FromCalls r (k ∷ ks) s met
 
 -- ---- lists
 
@@ -98,7 +67,7 @@ add-logged : (conversion : List ℕ) (u : UpcomingSymbol) (s : Linked) (x : Symb
 unfolding noted
 add-logged conversion u s x e =
     let r : Row = upcoming s.table conversion u in
-    by-test (eqb r.visibility 0) (λ a. rw a tt)
+    by-test (eqb r.scope 0) (λ a. rw a tt)
     (λ a.
     by-test (eqb (number_in x.said) 0)
     (λ b.

@@ -3,54 +3,32 @@
 use Rattle.std.specs.Prelude.{ℕ, ◌≡◌, refl, true, List, [], ◌∷◌, ◌++◌, eqb, ltb}
 use Rattle.std.proofs.Common.{sym, ap, ◌∙◌, subst, arith, eqb-true, ltb-true, ltb-false}
 use Rattle.cells.specs.Proof.Split.{by-test}
-use Rattle.gabi.specs.StringTable.{has_name, name_at}
 use Rattle.link.specs.Said.{Said, number_in}
 use Rattle.interner_laws.specs.Good.{Chained, Issued, count, name, find}
 use Rattle.interner_laws.proofs.Find.{found}
-use Rattle.symbol_laws.proofs.Held.{Inv}
+use Rattle.symbol_laws.specs.Held.{Inv}
 use Rattle.interner_laws.proofs.Histories.{issued-stays}
 use Rattle.symbol.specs.declared.Row.{Row}
 use Rattle.upcoming_symbol.specs.Upcoming.{name_of}
-use Rattle.symbol_laws.specs.ObjectWords.{entry_name}
 use Rattle.symbol_laws.specs.History as History
 use Rattle.symbol_laws.specs.History.{State, Source, Entry, store, only, rows, noted, issue, put}
 use Rattle.symbol_laws.specs.DirectContents as Direct
 use Rattle.symbol_laws.specs.DirectContents.{FromAdd}
-use Rattle.merge_laws.specs.MergeWords as Words
 use Rattle.merge_laws.specs.Steps.{Step, part, mark, others, step_next, log_steps}
 use Rattle.merge_laws.specs.MergeSteps.{merge_steps}
 use Rattle.merge_laws.specs.Marked.{Marked}
 use Rattle.merge_laws.specs.Calls.{Linked, all_in}
 use Rattle.load_laws.specs.LoadSteps.{load_steps}
 use Rattle.link_laws.specs.Calls.{Call, intern, add, remove, add_group, merge, merge_file, load, collect, plain_collect, library_in, call_next, call_notes, run_calls, log_calls, file_steps, reads, add_list, list_adds}
-use Rattle.elf_laws.specs.Object as ElfFile
 use Rattle.link_laws.proofs.FileCall.{next-read}
-use Rattle.link_laws.proofs.Kept.{signatures, calls-marked}
+use Rattle.link_laws.specs.Kept.{signatures}
+use Rattle.link_laws.proofs.Kept.{calls-marked}
 use Rattle.link_laws.proofs.NamesStay.{calls-stay}
-use Rattle.link_laws.proofs.Contents.{FromCall, FromCalls, here, later}
-use Rattle.link_laws.proofs.OwnEntries.{AllFrom}
+use Rattle.link_laws.specs.Contents.{FromCall, FromCalls, here, later}
+use Rattle.link_laws.specs.OwnEntries.{AllFrom}
+use Rattle.link_laws.specs.EntryNames.{CallBears, Bears, AllBear}
 
 -- ---- the words
-
--- the entry that the row is from bears the name b: an object's or a library's symbol by its string, which isn't missing; a direct add is by the id that the caller gave it, n
-abbrev pub CallBears : List ℕ → ℕ → (k : Call) (s : Linked) (met : List (List ℕ)) (r : Row) → FromCall k s met r → Type 0
-CallBears b n (intern x) s met r p = ⊥
-CallBears b n (reads k) s met r p = ⊥
-CallBears b n (add conversion u) s met r p = (name_of u).0 ≡ n
-CallBears b n (add_list conversion adds ids) s met r p = (name_of p.symbol).0 ≡ n
-CallBears b n (remove id) s met r p = ⊥
-CallBears b n (add_group o work i) s met r p = ⊥
-CallBears b n (merge o work ids) s met r p = Words.Bears o.headers o.entries o.contents o.image p.number b
-CallBears b n (merge_file file cells work ids) s met r p =
-    Words.Bears (ElfFile.rows_of file).headers (ElfFile.rows_of file).entries (ElfFile.rows_of file).contents (ElfFile.rows_of file).image p.1.number b
-CallBears b n (load o marks) s met r p = (has_name o.image (entry_name o.entries p.number) ≡ true) × (name_at o.image (entry_name o.entries p.number) ≡ b)
-CallBears b n (collect marks entry work) s met r p = ⊥
-CallBears b n (plain_collect marks entry work) s met r p = ⊥
-
-abbrev pub Bears : List ℕ → ℕ → (r : Row) (ks : List Call) (s : Linked) (met : List (List ℕ)) → FromCalls r ks s met → Type 0
-Bears b n r [] s met p = elim p [ ]
-Bears b n r (k ∷ ks) s met (here p) = CallBears b n k s met r p
-Bears b n r (k ∷ ks) s met (later p) = Bears b n r ks (call_next k s) (met ++ signatures (k ∷ []) s) p
 
 -- ---- an entry's name
 
@@ -104,7 +82,7 @@ own-append (x ∷ xs) ys p q = (p.0, own-append xs ys p.1 q)
 
 noted-own : (r : Row) (from : Source) (a : Said) → Own (noted r from a)
 unfolding noted
-noted-own r from a = by-test (eqb r.visibility 0) (λ v. rw v tt) (λ v. by-test (eqb (number_in a) 0) (λ z. rw (v, z) (refl, tt)) (λ z. rw (v, z) tt))
+noted-own r from a = by-test (eqb r.scope 0) (λ v. rw v tt) (λ v. by-test (eqb (number_in a) 0) (λ z. rw (v, z) (refl, tt)) (λ z. rw (v, z) tt))
 
 steps-own : (ks : List Step) (s : State) → Own (log_steps ks s)
 steps-own [] s = tt
@@ -148,15 +126,11 @@ only_under n (x ∷ l) p = by-test (eqb x.name n) (λ t. rw t (p.0 ∙ eqb-true 
 -- ---- each of a name's accepted adds is by an entry that bears the name
 
 module _ (b : List ℕ) (n : ℕ) (ks : List Call) (s : Linked) (met : List (List ℕ)) where
-  abbrev pub AllBear : (xs : List Entry) → AllFrom ks s met (rows xs) → Type 0
-  AllBear [] p = Unit {0}
-  AllBear (x ∷ xs) p = Bears b n x.row ks s met p.0 × AllBear xs p.1
-
-  all-bear : (xs : List Entry) → Under n xs → Marked s.table met → Issued (store (run_calls ks s).table) n b → (p : AllFrom ks s met (rows xs)) → AllBear xs p
+  all-bear : (xs : List Entry) → Under n xs → Marked s.table met → Issued (store (run_calls ks s).table) n b → (p : AllFrom ks s met (rows xs)) → AllBear b n ks s met xs p
   all-bear [] u m i p = tt
   all-bear (x ∷ xs) u m i p = (bears b n x.row u.0 ks s met m i p.0, all-bear xs u.1 m i p.1)
 
-  pub adds-bear : Marked s.table met → Issued (store (run_calls ks s).table) n b → (xs : List Entry) → only n (log_calls ks s) ≡ xs → (p : AllFrom ks s met (rows xs)) → AllBear xs p
+  pub adds-bear : Marked s.table met → Issued (store (run_calls ks s).table) n b → (xs : List Entry) → only n (log_calls ks s) ≡ xs → (p : AllFrom ks s met (rows xs)) → AllBear b n ks s met xs p
   adds-bear m i xs e p = all-bear xs (subst (Under n) e (only_under n (log_calls ks s) (calls-own ks s))) m i p
 
 -- a name that has accepted adds is issued

@@ -11,17 +11,15 @@ use Rattle.merge_laws.specs.Marked.{Marked}
 use Rattle.merge_laws.proofs.MarkedLemmas.{new-marked}
 use Rattle.merge_laws.specs.Calls.{Linked, linked}
 use Rattle.link_laws.specs.Calls.{Call, call_refusal, call_number}
-use Rattle.link_laws.proofs.Kept.{signatures, calls-marked}
-use Rattle.link_laws.proofs.Growth.{Turn, grow, turn_next, run_turns, marked-grown}
+use Rattle.link_laws.specs.Kept.{signatures}
+use Rattle.link_laws.proofs.Kept.{calls-marked}
+use Rattle.link_laws.specs.Growth.{Turn, grow, turn_next, run_turns}
+use Rattle.link_laws.proofs.Growth.{marked-grown}
 use Rattle.link_laws.specs.Rules.{first_refusal, some_holds}
 use Rattle.link_laws.proofs.Rules.{none-holds}
 use Rattle.link_laws.specs.CallRules.{rules}
 use Rattle.link_laws.proofs.ExactTerms.{call-exactly, rules-numbered}
-
--- the link, with these cells lent for its symbols, sections, inputs and lists
-abbrev pub lent_as : Linked → List ℕ → List ℕ → List ℕ → List ℕ → Linked
-lent_as s symbols sections inputs lists =
-    linked (record { bytes = s.table.bytes; names = s.table.names; symbols = symbols; sections = sections; link = s.table.link }) inputs lists
+use Rattle.link_laws.specs.ExactLinks.{on}
 
 -- some signatures were met
 record Met (s : Linked) : Type 0 where
@@ -39,15 +37,11 @@ turns-met (t ∷ ts) s m =
 
 module _ (key : ℕ) (gabi : Bool) (bytes names symbols sections inputs lists : List ℕ) (new : number_in (new_of key gabi bytes names symbols sections).said ≡ 0) (ts : List Turn)
     (symbols' sections' inputs' lists' : List ℕ) where
-  -- after any calls, those that remove too, each with what is lent more from it on; then lent these cells
-  abbrev pub on : Linked
-  on = lent_as (run_turns ts (linked (opened (new_of key gabi bytes names symbols sections)) inputs lists)) symbols' sections' inputs' lists'
-
   last : Met (run_turns ts (linked (opened (new_of key gabi bytes names symbols sections)) inputs lists))
   last = turns-met ts (linked (opened (new_of key gabi bytes names symbols sections)) inputs lists) (record { met = []; marked = new-marked key gabi bytes names symbols sections new })
 
-  pub exactly-any : (k : Call) → call_refusal k on ≡ first_refusal (rules k on)
-  exactly-any k = call-exactly k on last.met (record { good = last.marked.good; marks = last.marked.marks; known = last.marked.known })
+  pub exactly-any : (k : Call) → call_refusal k (on key gabi bytes names symbols sections inputs lists new ts symbols' sections' inputs' lists') ≡ first_refusal (rules k (on key gabi bytes names symbols sections inputs lists new ts symbols' sections' inputs' lists'))
+  exactly-any k = call-exactly k (on key gabi bytes names symbols sections inputs lists new ts symbols' sections' inputs' lists') last.met (record { good = last.marked.good; marks = last.marked.marks; known = last.marked.known })
 
-  pub accepted-any : (k : Call) → eqb (call_number k on) 0 ≡ not (some_holds (rules k on))
-  accepted-any k = ap (λ (r : Refusal). eqb r.number 0) (exactly-any k) ∙ none-holds (rules k on) (rules-numbered k on)
+  pub accepted-any : (k : Call) → eqb (call_number k (on key gabi bytes names symbols sections inputs lists new ts symbols' sections' inputs' lists')) 0 ≡ not (some_holds (rules k (on key gabi bytes names symbols sections inputs lists new ts symbols' sections' inputs' lists')))
+  accepted-any k = ap (λ (r : Refusal). eqb r.number 0) (exactly-any k) ∙ none-holds (rules k (on key gabi bytes names symbols sections inputs lists new ts symbols' sections' inputs' lists')) (rules-numbered k (on key gabi bytes names symbols sections inputs lists new ts symbols' sections' inputs' lists'))

@@ -16,7 +16,8 @@ use Rattle.merge_laws.specs.Calls.{Linked, linked, all_in}
 use Rattle.link_laws.specs.Read as Read
 use Rattle.link_laws.specs.Calls.{Call, intern, add, remove, add_group, merge, merge_file, load, archive_next, collect, plain_collect, library_in, call_refusal, call_number, run_calls, reads, add_list}
 use Rattle.elf_laws.specs.Object as ElfFile
-use Rattle.link_laws.proofs.Kept.{signatures, calls-marked}
+use Rattle.link_laws.specs.Kept.{signatures}
+use Rattle.link_laws.proofs.Kept.{calls-marked}
 use Rattle.link_laws.specs.Rules.{first_refusal, numbered, some_holds}
 use Rattle.link_laws.proofs.Rules.{numbered-both, none-holds}
 use Rattle.link_laws.specs.GroupRules.{alone, group_head, own_group_rules}

@@ -6,31 +6,28 @@ use Rattle.gabi.specs.StringTable as Strings
 use Rattle.gabi.specs.Archive.{Named, wants, extracts}
 use Rattle.archive_index.specs.Index.{count_of}
 use Rattle.archive_walk.specs.Look.{Table, undefined_name}
-use Rattle.archive_walk.specs.Names.{required_of}
 use Rattle.archive_walk.specs.Walk.{begun_number, start_of}
-use Rattle.archive_laws.proofs.Profiles.{strong_name, tied-gabi}
+use Rattle.archive_laws.specs.Profiles.{strong_name}
+use Rattle.archive_laws.proofs.Profiles.{tied-gabi}
 use Rattle.archive_laws.specs.Rounds.{among}
 use Rattle.archive_laws.specs.Runs.{Run, step_run, history, start_run}
-use Rattle.archive_laws.specs.Walked.{in_index, queue_in}
-use Rattle.object_requirement.specs.Matches.{has_global_symbol}
+use Rattle.archive_laws.specs.Walked.{in_index}
 use Rattle.symbol_laws.specs.Rank.{first_by_rank}
 use Rattle.symbol_laws.specs.History.{Entry, only, rows}
-use Rattle.symbol_laws.proofs.Held.{Inv}
+use Rattle.symbol_laws.specs.Held.{Inv}
 use Rattle.merge_laws.specs.Calls.{Linked}
 use Rattle.extraction_laws.proofs.Some.{or-none}
 use Rattle.extraction_laws.specs.Member.{member_of}
-use Rattle.extraction_laws.proofs.Taken.{lists, taken, weak_offers, wanted_names, wanted-names}
+use Rattle.extraction_laws.specs.Taken.{lists, taken, weak_offers, wanted_names}
+use Rattle.extraction_laws.proofs.Taken.{wanted-names}
 use Rattle.extraction_laws.proofs.Terms as Extraction
 use Rattle.link_laws.specs.Calls.{view_in}
 use Rattle.link_laws.specs.Walks.{next_in}
 use Rattle.link_laws.proofs.Walks.{next-is}
-use Rattle.link_laws.proofs.Undefined.{symbols_under, weak_references, undefined-is}
+use Rattle.link_laws.specs.Undefined.{symbols_under, weak_references}
+use Rattle.link_laws.proofs.Undefined.{undefined-is}
 use Rattle.link_laws.proofs.Ties.{OfName, ties-is}
-
--- the pass queues the member of entry e, and admission over its required names says yes to the object, in that profile
-abbrev pub chosen_in : Bool → List ℕ → Run → ℕ → List ℕ → List ℕ → List ℕ → Bool
-chosen_in gabi index r e headers entries file =
-    among index e (queue_in r) && has_global_symbol gabi headers entries file (required_of index r.cells r.walk e)
+use Rattle.link_laws.specs.Extraction.{chosen_in}
 
 module _ (s : Linked) (past : List Entry) (inv : Inv s.table past) where
   -- what the gABI wants from an archive, by the symbols that were accepted under a name

@@ -9,14 +9,9 @@ use Rattle.cells.specs.Proof.Split.{by-test}
 use Rattle.byte_slices.specs.Proof.Ways.{pick}
 use Rattle.link.specs.declared.cause.Refusal.{Refusal}
 use Rattle.elf_object.specs.Rows.{rows_in}
-use Rattle.elf_object.specs.Judge.{first_bad, header_ok, entry_ok, bad_header, bad_entry}
+use Rattle.elf_object.specs.Judge.{first_bad, bad_header, bad_entry}
 use Rattle.elf_object.specs.Judge as Elf
-
--- of n rows, p is the first that isn't right
-pub record First (ok : ℕ → Bool) (n p : ℕ) : Type 0 where
-  pub below : p < n
-  pub bad : ok p ≡ false
-  pub before : (j : ℕ) → j < p → ok j ≡ true
+use Rattle.link_laws.specs.FirstRow.{First, BadRow, section, symbol}
 
 module _ (ok : ℕ → Bool) where
   before-bad : (n i j : ℕ) → i ≤ j → j < first_bad ok i n → ok j ≡ true
@@ -44,11 +39,7 @@ module _ (ok : ℕ → Bool) where
 -- ---- an object's sections, then its symbols
 
 module _ (headers entries : List ℕ) (contents file : ℕ) where
-  pub data BadRow (p : ℕ) : Type 0 where
-    section : First (header_ok headers (rows_in entries) contents file) (rows_in headers) p → BadRow p
-    symbol : ((n : ℕ) → n < rows_in headers → header_ok headers (rows_in entries) contents file n ≡ true) → First (entry_ok entries) (rows_in entries) p → BadRow p
-
-  pub elf-row : (Elf.judge_of headers entries contents file).number ≢ 0 → BadRow (Elf.judge_of headers entries contents file).place
+  pub elf-row : (Elf.judge_of headers entries contents file).number ≢ 0 → BadRow headers entries contents file (Elf.judge_of headers entries contents file).place
   unfolding Elf.judge_of bad_header bad_entry
   elf-row =
       pick P (ltb (bad_header headers (rows_in entries) contents file) (rows_in headers)) _ _ (λ t u. section (first-bad _ _ (ltb-true _ _ t)))
@@ -57,4 +48,4 @@ module _ (headers entries : List ℕ) (contents file : ℕ) where
       (λ w u. absurd (u refl)))
     where
       P : Refusal → Type 0
-      P r = r.number ≢ 0 → BadRow r.place
+      P r = r.number ≢ 0 → BadRow headers entries contents file r.place

@@ -1,15 +1,13 @@
 -- The ids that a merge gave the symbols of an object stand for those symbols through all calls that follow: a local's for a row with what its entry says, another's
 -- for the row of its name. So what relocations name is told by the object's own symbols.
 -- Assumes nothing.
-use Rattle.std.specs.Prelude.{ℕ, suc, ◌+◌, ◌*◌, ◌≤◌, ◌<◌, ◌≡◌, refl, Bool, true, ◌≢◌, eqb, length, None, Ok}
+use Rattle.std.specs.Prelude.{ℕ, suc, ◌+◌, ◌*◌, ◌≤◌, ◌<◌, ◌≡◌, refl, true, ◌≢◌, eqb, length, None}
 use Rattle.std.proofs.Common.{arith, sym, ◌∙◌, get_or-set_same}
 use Rattle.std.proofs.Math.Path.{ap, subst}
 use mathlib.Core.List.{List, [], ◌∷◌, ◌++◌}
 use Rattle.std.proofs.Math.ListN.{get_or}
 use borrow.Author.Tests.{eqb-true, eqb-false, eq-eqb, ne_eqb, lt-leb, lt-ltb, ltb-false}
 use Rattle.cells.specs.Proof.Split.{by-test}
-use Rattle.gabi.specs.SymbolTable.{stb_local}
-use Rattle.link.specs.declared.SymbolId.{SymbolId}
 use Rattle.link.specs.Said.{number_in, value_in}
 use Rattle.interner.specs.Names.{fits_of}
 use Rattle.interner.specs.Calls.{resolved}
@@ -20,7 +18,7 @@ use Rattle.interner_laws.proofs.Interns.{keep-issued}
 use Rattle.interner_laws.proofs.Judged as Judged
 use Rattle.symbol.specs.declared.Row.{Row}
 use Rattle.symbol.specs.Codes.{successor}
-use Rattle.symbol.specs.Row.{state_at, visibility_code_at, symbol_at}
+use Rattle.symbol.specs.Row.{state_at, scope_at}
 use Rattle.symbol_resolution.specs.declared.rows.Holder.TheVariants.{Removed, Known}
 use Rattle.symbol_resolution.specs.Decision.{Decision}
 use Rattle.symbol_resolution.specs.Holder.{global_at, held_by, holder_of}
@@ -28,7 +26,6 @@ use Rattle.symbol_resolution.specs.Decide.{refusal_of}
 use Rattle.symbol_resolution.specs.Apply.{note_name, append_of, apply_of}
 use Rattle.symbols.specs.Calls.{Left}
 use Rattle.symbols.specs.Add.{committed_of, add_row_of}
-use Rattle.symbols.specs.Lookup.{not_found}
 use Rattle.elf_object.specs.Rows.{rows_in}
 use Rattle.merge_symbols.specs.Plan.{input_of}
 use Rattle.merge_symbols.specs.Stage as Symbols
@@ -50,78 +47,42 @@ use Rattle.merge_laws.proofs.MarkedLemmas.{steps-marked}
 use Rattle.merge_laws.proofs.WorkGroups.{symbols-are, bears-own}
 use Rattle.merge_laws.specs.FileNames.{IsFile}
 use Rattle.merge_laws.proofs.FileNames.{file-stays, row-file}
-use Rattle.merge_laws.proofs.ObjectContents as Contents
-use Rattle.merge_laws.proofs.SymbolIds.{name_of}
-use Rattle.merge_laws.proofs.SymbolDuplicates.{Comes, steps_to, table_to, row_to, steps-make, Begins}
-use Rattle.merge_laws.proofs.Stops as Stops
-use Rattle.merge_laws.proofs.Stops.{marked, symbol_reader, symbols_to}
+use Rattle.merge_laws.specs.ObjectContents as Contents
+use Rattle.merge_laws.proofs.ObjectContents as ContentsLaws
+use Rattle.merge_laws.specs.SymbolIds.{name_of}
+use Rattle.merge_laws.specs.SymbolDuplicates.{Comes, steps_to, row_to}
+use Rattle.merge_laws.proofs.SymbolDuplicates.{table_to, steps-make, Begins}
+use Rattle.merge_laws.specs.Stops as Stops
+use Rattle.merge_laws.proofs.Stops as StopsLaws
+use Rattle.merge_laws.specs.Stops.{marked, symbol_reader, symbols_to}
 use Rattle.merge_laws.proofs.Discarded.{merge-passes, groups-pass}
 use Rattle.merge_laws.proofs.ByNumber.{accepted-stays}
 use Rattle.merge_laws.proofs.Accepted.{sections-going, filter_passes, symbols-going, symbol-going}
-use Rattle.merge_laws.proofs.GivenIds as GivenIds
+use Rattle.merge_laws.specs.GivenIds as GivenIds
 use Rattle.merge_laws.proofs.BuiltNames as Names
-use Rattle.merge_laws.proofs.BuiltNames.{AllGive, Gives, null, answered}
+use Rattle.merge_laws.specs.BuiltNames.{AllGive, Gives, null, answered}
 use Rattle.merge_laws.specs.Calls.{Linked, all_in}
 use Rattle.link_laws.specs.Calls.{Call, resolve, get, get_global, merge, call_left, call_number, call_next, run_calls}
-use Rattle.link_laws.proofs.Kept.{signatures, Lasting, lasting-within, lasting-on}
+use Rattle.link_laws.specs.Kept.{signatures}
+use Rattle.link_laws.proofs.Kept.{Lasting, lasting-within, lasting-on}
 use Rattle.merge_laws.proofs.NamesOn.{steps-stay}
 use Rattle.merge_laws.proofs.SymbolNames as SymbolNames
 use Rattle.link_laws.proofs.NamesStay as NamesStay
 use Rattle.link_laws.proofs.Removal.{Ready, Onward, steps-onward}
 use Rattle.link_laws.proofs.LookedUp as LookedUp
 use Rattle.link_laws.proofs.LookedUp.{Later, calls-later}
-use Rattle.link_laws.specs.Words.{lookup}
 use Rattle.link_laws.specs.LocalRows.{Shown, Onto, Stay}
 use Rattle.link_laws.proofs.LocalRows.{onto-both, steps-onto, onto-stay, stay-both, stands-local, calls-stay}
+use Rattle.link_laws.specs.GivenRows.{NameHas, gone, row, symbols, name_bytes, Stands, first, own, shared, AllStand}
 
 -- ---- the words
 
--- what the name of these bytes has in a link: the row of that id, or 21 for the name and for the id, since it was removed
-pub data NameHas (b : List ℕ) (t : Linked) (id : SymbolId) : Type 0 where
-  row : lookup b t ≡ Ok (symbol_at t.table.symbols id) → NameHas b t id
-  gone : (n : ℕ) → lookup b t ≡ not_found 21 n → call_left (get id) t ≡ not_found 21 id.0 → NameHas b t id
-
--- an object that is merged into s, where these signatures are met; t is a later link
-module _ (o : Stages.Object) (s : Linked) (met : List (List ℕ)) (t : Linked) where
-  abbrev pub symbols : List ℕ
-  symbols = Words.symbols_of o.headers o.entries o.contents o.image
-
-  abbrev pub name_bytes : ℕ → List ℕ
-  name_bytes = Words.symbol_name o.headers o.entries o.contents o.image
-
-  -- its name isn't missing
-  abbrev pub is_named : ℕ → Bool
-  is_named = Words.is_named o.headers o.entries o.contents o.image
-
-  -- the row of an id has what the entry of the local symbol k says: type, value through the object's sections, its name's bytes, its file (IsFile, merge_laws)
-  pub record LocalRow (k id : ℕ) : Type 0 where
-    pub counted : id < t.table.link.symbols
-    pub content : Contents.LocalContent o.headers o.entries o.contents o.image s.table.link.sections met symbols k (row_at t.table.symbols id)
-    pub named : call_left (resolve (row_at t.table.symbols id).name) t ≡ resolved (name_bytes k) 0 0
-    pub filed : IsFile (store t.table) symbols (Words.Bears o.headers o.entries o.contents o.image) k (row_at t.table.symbols id).file
-
-  pub data Stands (k id : ℕ) : Type 0 where
-    -- "maps to id 0"
-    first : Contents.IsNull o.headers o.entries o.contents o.image s.table.link.sections met symbols k → id ≡ 0 → Stands k id
-    -- local: the row has what the symbol's entry says
-    own : (entry symbols k).binding ≡ stb_local → is_named k ≡ true → LocalRow k id → Stands k id
-    -- else: the name has that id
-    shared : (entry symbols k).binding ≢ stb_local → is_named k ≡ true → NameHas (name_bytes k) t (record { 0 = id }) → Stands k id
-
-  abbrev pub AllStand : List ℕ → List ℕ → Type 0
-  AllStand [] [] = Unit {0}
-  AllStand [] (i ∷ is) = ⊥
-  AllStand (k ∷ ks) [] = ⊥
-  AllStand (k ∷ ks) (i ∷ is) = Stands k i × AllStand ks is
-
--- ---- an accepted add: the row that its answer names
-
 module _ (s : State) (few : 1 ≤ s.link.symbols) (r : Row) where
   abbrev Rowed : Left → Type 0
-  Rowed x = r.visibility ≡ 0 → (value_in x.said < x.table.link.symbols) × (row_at x.table.symbols (value_in x.said) ≡ r)
+  Rowed x = r.scope ≡ 0 → (value_in x.said < x.table.link.symbols) × (row_at x.table.symbols (value_in x.said) ≡ r)
 
   abbrev Named : Left → Type 0
-  Named x = r.visibility ≢ 0 → r.name.0 * 8 + 3 < length s.names → (global_at x.table.names r.name.0 ≡ value_in x.said) × (value_in x.said ≢ 0)
+  Named x = r.scope ≢ 0 → r.name.0 * 8 + 3 < length s.names → (global_at x.table.names r.name.0 ≡ value_in x.said) × (value_in x.said ≢ 0)
 
   abbrev Both : Left → Type 0
   Both x = Rowed x × Named x
@@ -282,8 +243,8 @@ module _ (s : Linked) (met : List (List ℕ)) (g : Lasting s met) (ready : Ready
     abbrev id : ℕ
     id = GivenIds.answer reader (symbols_to o a k) k
 
-    answered-row : (r.visibility ≡ 0 → (id < then.link.symbols) × (row_at then.symbols id ≡ r))
-        × (r.visibility ≢ 0 → r.name.0 * 8 + 3 < length named.names → (global_at then.names r.name.0 ≡ id) × (id ≢ 0))
+    answered-row : (r.scope ≡ 0 → (id < then.link.symbols) × (row_at then.symbols id ≡ r))
+        × (r.scope ≢ 0 → r.name.0 * 8 + 3 < length named.names → (global_at then.names r.name.0 ≡ id) × (id ≢ 0))
     answered-row = put-given named (omega (arith, some, named-onto.more)) r decided-zero
       where
         named-onto : Onto s.table named
@@ -320,23 +281,23 @@ module _ (s : Linked) (met : List (List ℕ)) (g : Lasting s met) (ready : Ready
           Judged.resolves (store last.table) lasting.marked.good
           (record { sections-in = w.sections-in; symbols-in = lasting.below.few; inputs_in = w.inputs_in; lists-in = w.lists-in }) r.name.0 x last-issued
 
-      local-stays : r.visibility ≡ 0 → (id < last.table.link.symbols) × (row_at last.table.symbols id ≡ r)
+      local-stays : r.scope ≡ 0 → (id < last.table.link.symbols) × (row_at last.table.symbols id ≡ r)
       local-stays v =
           let (h, e) = answered-row.0 v in
-          let c : visibility_code_at then.symbols id ≡ 0 = ap (λ (r : Row). r.visibility) e ∙ v in
+          let c : scope_at then.symbols id ≡ 0 = ap (λ (q : Row). q.scope) e ∙ v in
           (omega (arith, h, stays.more), stands-local then last.table id (stays.stands id h) c ∙ e)
 
       -- the name has the id
-      name-id : r.visibility ≢ 0 → global_at last.table.names r.name.0 ≡ id
+      name-id : r.scope ≢ 0 → global_at last.table.names r.name.0 ≡ id
       name-id v =
           let (e, u) = answered-row.1 v name-row in
           let n : ℕ = r.name.0 in
           let h : n < then.link.names = then-issued.low in
-          let a : global_at merged.table.names n ≡ global_at then.names n = on-onward.kept.named n h (λ z. u (sym e ∙ z)) in
+          let same : global_at merged.table.names n ≡ global_at then.names n = on-onward.kept.named n h (λ z. u (sym e ∙ z)) in
           let l : n < merged.table.link.names = omega (arith, h, on-onward.kept.names_more) in
-          later.named n l (λ z. u (sym (a ∙ e) ∙ z)) ∙ a ∙ e
+          later.named n l (λ z. u (sym (same ∙ e) ∙ z)) ∙ same ∙ e
 
-      name-has : r.visibility ≢ 0 → NameHas x last (record { 0 = id })
+      name-has : r.scope ≢ 0 → NameHas x last (record { 0 = id })
       name-has v =
           let n : ℕ = r.name.0 in
           let t : State = last.table in
@@ -372,9 +333,9 @@ module _ (s : Linked) (met : List (List ℕ)) (g : Lasting s met) (ready : Ready
       abbrev binding : ℕ
       binding = (entry (symbols o s met last) k).binding
 
-      stands-local-row : r.visibility ≡ 0 → Stands o s met last k id
+      stands-local-row : r.scope ≡ 0 → Stands o s met last k id
       stands-local-row v =
-          let c = Contents.local-content o a head-goes (sections-going o a whole) (groups-pass o a whole) met g.marked k low fine found added v in
+          let c = ContentsLaws.local-content o a head-goes (sections-going o a whole) (groups-pass o a whole) met g.marked k low fine found added v in
           let (h, e) = local-stays v in
           own c.bound bears.found
           (record {
@@ -387,10 +348,10 @@ module _ (s : Linked) (met : List (List ℕ)) (g : Lasting s met) (ready : Ready
 
       pub answered-stands : Stands o s met last k id
       answered-stands =
-          by-test (eqb r.visibility 0) (λ v. stands-local-row (eqb-true _ _ v))
+          by-test (eqb r.scope 0) (λ v. stands-local-row (eqb-true _ _ v))
           (λ v.
           let u = eqb-false _ _ v in
-          shared (λ b. u (Contents.binding-local o a head-goes (sections-going o a whole) (groups-pass o a whole) met g.marked k low fine found added b))
+          shared (λ b. u (ContentsLaws.binding-local o a head-goes (sections-going o a whole) (groups-pass o a whole) met g.marked k low fine found added b))
           bears.found
           (subst (λ (b : List ℕ). NameHas b last (record { 0 = id })) name-own (name-has u)))
 
@@ -401,7 +362,7 @@ module _ (s : Linked) (met : List (List ℕ)) (g : Lasting s met) (ready : Ready
     end = run_calls ls merged
 
     gives-stand : (k id : ℕ) → Gives o a k id → Stands o s met end k id
-    gives-stand k id (null low f e) = first (Contents.null_is o a head-goes (sections-going o a whole) (groups-pass o a whole) met g.marked k low f) e
+    gives-stand k id (null low f e) = first (ContentsLaws.null_is o a head-goes (sections-going o a whole) (groups-pass o a whole) met g.marked k low f) e
     gives-stand k id (answered low f d z e) = subst (Stands o s met end k) (sym e) (answered-stands k low f d z ls)
 
     pub all-stand : (ks is : List ℕ) → AllGive o a ks is → AllStand o s met end ks is
@@ -415,8 +376,8 @@ module _ (s : Linked) (met : List (List ℕ)) (g : Lasting s met) (ready : Ready
     merge-ids =
         ap (λ (x : Merge.Left). x.cells.ids) (accepted-stays o a head-goes whole).all
         ∙ ap (λ (x : Stages.All). x.ids)
-        (Stops.sections-pass o a (sections-going o a whole) ∙ Stops.filter-pass o a (groups-pass o a whole) (filter_passes o a ok)
-        ∙ ap (Stages.put_symbols (marked o a)) (Stops.symbols-pass o a (symbols-going o a ok)))
+        (StopsLaws.sections-pass o a (sections-going o a whole) ∙ StopsLaws.filter-pass o a (groups-pass o a whole) (filter_passes o a ok)
+        ∙ ap (Stages.put_symbols (marked o a)) (StopsLaws.symbols-pass o a (symbols-going o a ok)))
 
     pub cell-stands : (k id : ℕ) → k < entries_in (symbols o s met end) → get_or (call_left (merge o work ids) s).cells.ids k 0 ≡ id + 1 → Stands o s met end k id
     unfolding id_in

@@ -1,6 +1,6 @@
 -- A group that is added by itself: of several of one signature the first is kept.
 -- Assumes nothing.
-use Rattle.std.specs.Prelude.{ℕ, ◌≡◌, refl, ◌≢◌, Bool, false, not, List, [], ◌∷◌, ◌++◌, eqb, get_or, length}
+use Rattle.std.specs.Prelude.{ℕ, ◌≡◌, refl, ◌≢◌, Bool, false, not, List, [], ◌∷◌, ◌++◌, eqb, length}
 use Rattle.std.proofs.Common.{arith, sym, ap, ◌∙◌}
 use Rattle.std.proofs.Math.Bool.{true}
 use Rattle.std.proofs.Math.Dec.{leb}
@@ -8,35 +8,31 @@ use borrow.Author.Tests.{eqb-true, eqb-false, eq-eqb, ne_eqb, le-leb}
 use Rattle.cells.specs.Proof.Split.{by-test}
 use Rattle.gabi.specs.StringTable.{among}
 use Rattle.gabi.specs.Groups as Gabi
+use Rattle.link.specs.Judge as Answer
 use Rattle.link.specs.Stage.{Stage}
 use Rattle.link.specs.Judge.{refused}
-use Rattle.elf_object.specs.Rows.{comdat_at, link_at, info_at, first_at, count_at, is_loaded}
+use Rattle.elf_object.specs.Rows.{comdat_at, link_at, info_at, count_at, is_loaded}
 use Rattle.section_groups.specs.Group as Group
-use Rattle.section_groups.specs.Group.{mark_group_of, mark_removed_of, shape_of, shaped_of, group_of, group_section_of, signature_of, go}
+use Rattle.section_groups.specs.Group.{mark_group_of, mark_removed_of, shape_of, shaped_of, group_of, group_section_of, go}
 use Rattle.section_groups.specs.AddGroup as AddGroup
 use Rattle.section_groups.specs.AddGroup.{head_in, answer_of, table_in, loaded_in, add_group_of}
 use Rattle.symbol_laws.specs.History.{State}
 use Rattle.merge_laws.specs.Marked.{marks_of, Marked}
 use Rattle.merge_laws.proofs.GroupMarks.{kept_new, group-marks, group-signature}
 use Rattle.link_laws.specs.Calls.{group_in}
-use Rattle.link_laws.proofs.CallSteps.{group_steps, head-loaded, section-is}
+use Rattle.link_laws.specs.CallSteps.{group_steps}
+use Rattle.link_laws.proofs.CallSteps.{head-loaded, section-is}
+use Rattle.link_laws.specs.GroupAlone.{signature, listed}
 
 not-not : (b : Bool) → not (not b) ≡ b
 not-not true = refl
 not-not false = refl
 
--- its signature, and the one section that it lists
-abbrev pub signature : Group.Object → ℕ → List ℕ
-signature o n = (signature_of o.headers o.entries o.image o.table n).name
-
-abbrev pub listed : Group.Object → ℕ → ℕ
-listed o n = get_or o.contents (first_at o.headers n) 0
-
 module _ (o : Group.Object) (t : State) (work : List ℕ) (n : ℕ) where
   abbrev at : Group.State
   at = group_in t work
 
-  accepted-stage : (s : Stage) → (AddGroup.refusal_of (answer_of s).answer).number ≡ 0 → s.number ≡ 0
+  accepted-stage : (s : Stage) → (Answer.refusal_in (answer_of s).answer).number ≡ 0 → s.number ≡ 0
   unfolding answer_of
   accepted-stage s e = by-test (eqb s.number 0) (λ a. eqb-true _ _ a) (λ a. absurd (eqb-false _ _ a (rw a at e)))
 

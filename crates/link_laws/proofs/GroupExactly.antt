@@ -4,6 +4,7 @@ use Rattle.std.specs.Prelude.{ℕ, ◌/◌, ◌≡◌, Bool, true, not, cond, Li
 use Rattle.std.proofs.Math.Path.{refl, ap}
 use Rattle.std.proofs.Common.{sym, ◌∙◌}
 use Rattle.cells.specs.Proof.Split.{by-test}
+use Rattle.link.specs.Judge as Answer
 use Rattle.link.specs.declared.cause.Refusal.{Refusal}
 use Rattle.link.specs.Stage.{Stage}
 use Rattle.link.specs.Judge.{refused, change_of, going_of}
@@ -34,12 +35,12 @@ loaded-is headers n kind =
     (λ a. rw a))
 
 -- a result has place 0
-answer-said : (s : Stage) (r : Refusal) → refused s.number s.place ≡ r → (eqb r.number 0 ≡ true → r ≡ refused 0 0) → AddGroup.refusal_of (answer_of s).answer ≡ r
+answer-said : (s : Stage) (r : Refusal) → refused s.number s.place ≡ r → (eqb r.number 0 ≡ true → r ≡ refused 0 0) → Answer.refusal_in (answer_of s).answer ≡ r
 unfolding answer_of
 answer-said s r e q =
     by-test (eqb s.number 0)
-    (λ a. ap (λ (x : Outcome). AddGroup.refusal_of x.answer) (taken _ _ a) ∙ sym (q (ap (λ (x : Refusal). eqb x.number 0) (sym e) ∙ a)))
-    (λ a. ap (λ (x : Outcome). AddGroup.refusal_of x.answer) (left_out _ _ a) ∙ e)
+    (λ a. ap (λ (x : Outcome). Answer.refusal_in x.answer) (taken _ _ a) ∙ sym (q (ap (λ (x : Refusal). eqb x.number 0) (sym e) ∙ a)))
+    (λ a. ap (λ (x : Outcome). Answer.refusal_in x.answer) (left_out _ _ a) ∙ e)
 
 module _ (o : Group.Object) (work : List ℕ) (n : ℕ) (s : Linked) where
   abbrev t : State

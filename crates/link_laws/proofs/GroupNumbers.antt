@@ -6,6 +6,7 @@ use Rattle.std.proofs.Common.{subst, eqb-true}
 use Rattle.std.proofs.lemmas.Bool.{eqb-false}
 use Rattle.cells.specs.Proof.Split.{by-test}
 use Rattle.byte_slices.specs.Proof.Ways.{pick}
+use Rattle.link.specs.Judge as Answer
 use Rattle.link.specs.declared.cause.Refusal.{Refusal}
 use Rattle.link.specs.Stage.{Stage}
 use Rattle.link.specs.Judge.{change_of}
@@ -45,7 +46,7 @@ module _ (o : Group.Object) (t : State) (work : List ℕ) (n : ℕ) where
       P : Refusal → Type 0
       P r = InGroup r.number
 
-  answered-number : (s : Stage) → InGroup s.number → InGroup (AddGroup.refusal_of (answer_of s).answer).number
+  answered-number : (s : Stage) → InGroup s.number → InGroup (Answer.refusal_in (answer_of s).answer).number
   unfolding answer_of
   answered-number s e = by-test (eqb s.number 0) (λ a. rw a) (λ a. rw a e)
 

@@ -7,6 +7,7 @@ use Rattle.std.proofs.Common.{arith, ap, subst, ◌∙◌, eqb-true, ltb-true}
 use Rattle.std.proofs.lemmas.Bool.{eqb-false}
 use Rattle.cells.specs.Proof.Split.{by-test}
 use Rattle.cells.specs.Proof.Rows.{row_same}
+use Rattle.link.specs.Judge as Answer
 use Rattle.link.specs.declared.Link.{Link}
 use Rattle.link.specs.declared.Interned.{Interned}
 use Rattle.link.specs.Stage.{Stage}
@@ -176,7 +177,7 @@ stages-took o a =
 
 -- what a merge's end leaves
 ended-took : (k : Link) (j : List ℕ) (s : Stage) → Took object_kind s.number k j s.link
-    → Took object_kind (Merge.refusal_of (Merge.ended_as s).answer).number k j (Merge.ended_as s).link
+    → Took object_kind (Answer.refusal_in (Merge.ended_as s).answer).number k j (Merge.ended_as s).link
 unfolding Merge.ended_as
 ended-took k j s p = by-test (eqb s.number 0) (λ z. rw z (go (eqb-true _ _ z) p)) (λ z. rw z (stops (eqb-false _ _ z) p))
   where

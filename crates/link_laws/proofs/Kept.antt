@@ -1,6 +1,6 @@
 -- What holds after every history that removes nothing: who holds each name; and after every history: the groups' marks, the counts.
 -- Assumes nothing.
-use Rattle.std.specs.Prelude.{ℕ, ◌≤◌, ◌≡◌, refl, Bool, true, false, List, [], ◌∷◌, ◌++◌, eqb, length}
+use Rattle.std.specs.Prelude.{ℕ, ◌≤◌, ◌≡◌, refl, true, false, List, [], ◌∷◌, ◌++◌, eqb, length}
 use Rattle.std.proofs.Common.{arith, sym, ◌∙◌, subst, append-nil, append_assoc}
 use Rattle.std.proofs.lemmas.Bool.{false≢true}
 use Rattle.cells.specs.Proof.Split.{by-test}
@@ -9,8 +9,8 @@ use Rattle.symbols.specs.Remove.{Rows}
 use Rattle.symbol_laws.specs.History as History
 use Rattle.symbol_laws.specs.History.{State, Entry, with_rows, Part, issue, put, part_next}
 use Rattle.symbol_laws.specs.Below.{Below}
-use Rattle.symbol_laws.proofs.Held.{Inv}
-use Rattle.symbol_laws.proofs.Within.{Within}
+use Rattle.symbol_laws.specs.Held.{Inv}
+use Rattle.symbol_laws.specs.Within.{Within}
 use Rattle.merge_laws.specs.Steps.{Step, log_steps}
 use Rattle.merge_laws.proofs.Past.{steps-below}
 use Rattle.merge_laws.proofs.Kept.{steps-keep}
@@ -19,14 +19,18 @@ use Rattle.merge_laws.proofs.MarkedLemmas.{steps-marked}
 use Rattle.merge_laws.proofs.Markless.{marks-none}
 use Rattle.load_laws.specs.LoadSteps.{load_steps}
 use Rattle.load_laws.proofs.Unmarked.{load-markless}
-use Rattle.merge_laws.proofs.Lookups.{CountedIn, steps-counted, within}
+use Rattle.merge_laws.specs.Lookups.{CountedIn}
+use Rattle.merge_laws.proofs.Lookups.{steps-counted, within}
 use Rattle.merge_laws.specs.Calls.{Linked}
 use Rattle.link_laws.specs.Calls.{Call, intern, add, remove, add_group, merge, merge_file, load, collect, plain_collect, library_in, call_number, call_next, call_notes, run_calls, log_calls, Removes, RemovesNothing, reads, add_list, list_adds}
-use Rattle.link_laws.proofs.CallSteps.{call_steps, Leads, made, cleared, part_steps}
+use Rattle.link_laws.specs.CallSteps.{call_steps, part_steps}
+use Rattle.link_laws.proofs.CallSteps.{Leads, made, cleared}
 use Rattle.link_laws.proofs.CallStepsLemmas.{call-makes, call-log, call-leads}
 use Rattle.link_laws.proofs.Lists.{call-listed}
-use Rattle.merge_laws.proofs.Lists.{ListsPast, lists-none, lists-both}
+use Rattle.merge_laws.specs.Lists.{ListsPast}
+use Rattle.merge_laws.proofs.Lists.{lists-none, lists-both}
 use Rattle.symbol_laws.specs.Calls.{history_parts}
+use Rattle.link_laws.specs.Kept.{call_marks, signatures, meets_groups, Reached}
 
 -- ---- who holds each name
 
@@ -42,27 +46,6 @@ calls-keep (k ∷ ks) s past q i =
     (calls-keep ks (call_next k s) (past ++ call_notes k s) q.1 (call-keep k s past q.0 i))
 
 -- ---- the signatures of the groups that were accepted, in order
-
-abbrev pub call_marks : Call → Linked → List (List ℕ)
-call_marks k s = marks_of (call_steps k s) s.table
-
-abbrev pub signatures : List Call → Linked → List (List ℕ)
-signatures [] s = []
-signatures (k ∷ ks) s = call_marks k s ++ signatures ks (call_next k s)
-
--- whether a call may meet a group
-abbrev pub meets_groups : Call → Bool
-meets_groups (intern x) = false
-meets_groups (reads k) = false
-meets_groups (add conversion u) = false
-meets_groups (add_list conversion adds ids) = false
-meets_groups (remove id) = false
-meets_groups (add_group o work n) = true
-meets_groups (merge o work ids) = true
-meets_groups (merge_file file cells work ids) = true
-meets_groups (load o marks) = false
-meets_groups (collect marks entry work) = false
-meets_groups (plain_collect marks entry work) = false
 
 direct-marks : (ks : List History.Call) (t : State) → marks_of (part_steps (history_parts ks t)) t ≡ []
 direct-marks ks t = go (history_parts ks t) t
@@ -158,14 +141,6 @@ lasting-on ks s met r =
       lent = omega (arith, l.long, r.lent);
       inside = l.inside r.inside;
     }
-
--- a link from which nothing was removed
-pub record Reached (s : Linked) (past : List Entry) (met : List (List ℕ)) : Type 0 where
-  pub held : Inv s.table past
-  pub marked : Marked s.table met
-  pub counted : CountedIn s.table
-  pub lent : length s.lists ≤ not_lent
-  pub inside : s.table.link.lists ≤ length s.lists
 
 pub reached-within : (s : Linked) (past : List Entry) (met : List (List ℕ)) → Reached s past met → Within s.table.link s.table.names
 reached-within s past met r = within s.table.link s.table.names r.counted (omega (arith, r.lent, r.inside))

@@ -22,19 +22,18 @@ use Rattle.shared_objects.specs.Load as Shared
 use Rattle.gc_sections.specs.Run as Collection
 use Rattle.symbol_laws.specs.History.{table, store, with_table, with_store, with_rows, opened}
 use Rattle.merge_laws.specs.Calls.{Linked, linked, all_in, link_in}
-use Rattle.load_laws.proofs.Whole as Loads
+use Rattle.load_laws.specs.Whole as Loads
 use Rattle.key_laws.specs.Rekeyed.{keyed, Rekeyed}
 use Rattle.key_laws.proofs.Tables.{intern-moved, resolve_same, add-moved, remove-keyed, remove-link, get-keyed, global-same, section-symbol-keyed}
-use Rattle.key_laws.proofs.SectionNames.{Named}
+use Rattle.key_laws.specs.SectionNames.{Named}
 use Rattle.key_laws.proofs.ReadsLemmas.{next-same, shadowed-same, matches-same, collect-same, collect-link}
 use Rattle.key_laws.proofs.Groups.{add-group-moved}
 use Rattle.key_laws.proofs.Merge.{merge-moved}
 use Rattle.key_laws.proofs.Load.{load_moved}
 use Rattle.key_laws.proofs.SectionCalls.{intern-named, add-named, remove-named, group-named, merge-named, load-named, collect-named}
 use Rattle.key_laws.proofs.NewTables.{new-said, new-moved, new-named}
-use Rattle.link_laws.specs.Read.{ReadLeft}
 use Rattle.link_laws.specs.Read as Read
-use Rattle.link_laws.specs.Calls.{Call, intern, add, remove, add_group, merge, merge_file, load, archive_next, archive_shadowed, matches, collect, plain_collect, LeftBy, call_left, refusal_in, refusal_by, call_refusal, call_next, run_calls, group_in, library_in, lists_in, view_in, is_read, reads, add_list}
+use Rattle.link_laws.specs.Calls.{Call, intern, add, remove, add_group, merge, merge_file, load, archive_next, archive_shadowed, matches, collect, plain_collect, call_left, refusal_in, refusal_by, call_refusal, call_next, run_calls, group_in, library_in, lists_in, view_in, is_read, reads, add_list}
 use Rattle.link_laws.proofs.PlainCalls.{plain-link}
 use Rattle.key_laws.proofs.PlainReads.{plain-same, plain-named}
 use Rattle.elf_laws.specs.Object as ElfFile
@@ -45,59 +44,11 @@ use Rattle.symbol_resolution.specs.Apply.{Table}
 use Rattle.link.specs.Judge.{refused, none}
 use Rattle.std.proofs.Math.Dec.{eqb}
 use Rattle.symbols.specs.Add.{add_of}
+use Rattle.link_laws.specs.KeyFree.{link_under, Alike, answer_in, call_answer, SameAnswers}
 
 -- ---- two links
 
--- s with the cells n of names, under the key k
-abbrev pub link_under : ℕ → List ℕ → Linked → Linked
-link_under k n s =
-    linked (record { bytes = s.table.bytes; names = n; symbols = s.table.symbols; sections = s.table.sections; link = keyed k s.table.link })
-    s.inputs s.lists
-
--- t is s under the key k: bytes, symbols, sections, inputs, lists and every count are the same; of the names, Rekeyed says which cells are
-pub record Alike (k : ℕ) (s t : Linked) : Type 0 where
-  pub names : List ℕ
-  pub is : t ≡ link_under k names s
-  pub rows : Rekeyed k (store s.table) names
-  -- no section's name is looked for behind the names' rows
-  pub named : Named s.table.link s.table.sections
-
 -- ---- what the caller is told
-
--- number, place and value; and the cells that a call is lent beside the link's own
-abbrev pub AnswerBy : Call → Type 0
-AnswerBy (intern x) = Said
-AnswerBy (reads k) = ReadLeft k
-AnswerBy (add conversion u) = Said
-AnswerBy (add_list conversion adds ids) = List ℕ × Refusal × ℕ
-AnswerBy (remove id) = Said
-AnswerBy (add_group o work n) = List ℕ × Refusal
-AnswerBy (merge o work ids) = List ℕ × List ℕ × Refusal
-AnswerBy (merge_file file cells work ids) = List ℕ × List ℕ × List ℕ × Refusal
-AnswerBy (load o marks) = List ℕ × Said
-AnswerBy (collect marks entry work) = List ℕ × Collection.Said
-AnswerBy (plain_collect marks entry work) = List ℕ × Collection.Said
-
-abbrev pub answer_in : (k : Call) → LeftBy k → AnswerBy k
-answer_in (intern x) o = o.said
-answer_in (reads k) o = o
-answer_in (add conversion u) o = o.said
-answer_in (add_list conversion adds ids) o = (o.ids, o.refusal, o.position)
-answer_in (remove id) o = o.said
-answer_in (add_group o work n) x = (x.work, x.said)
-answer_in (merge o work ids) x = (x.cells.work, x.cells.ids, x.said)
-answer_in (merge_file file cells work ids) x = (x.rows, x.merged.cells.work, x.merged.cells.ids, x.merged.said)
-answer_in (load o marks) x = (x.cells.marks, x.said)
-answer_in (collect marks entry work) o = (o.work, o.said)
-answer_in (plain_collect marks entry work) o = (o.work, o.said)
-
-abbrev pub call_answer : (k : Call) → Linked → AnswerBy k
-call_answer k s = answer_in k (call_left k s)
-
--- every answer of a history is the same on both links
-abbrev pub SameAnswers : List Call → Linked → Linked → Type 0
-SameAnswers [] s t = Unit {0}
-SameAnswers (k ∷ ks) s t = (call_answer k t ≡ call_answer k s) × (call_refusal k t ≡ call_refusal k s) × SameAnswers ks (call_next k s) (call_next k t)
 
 -- ---- one call
 

@@ -8,6 +8,7 @@ use Rattle.std.proofs.Common.{◌∙◌, eqb-true}
 use Rattle.std.proofs.lemmas.Bool.{eqb-false}
 use Rattle.cells.specs.Proof.Split.{by-test}
 use Rattle.byte_slices.specs.Proof.Ways.{pick, apart}
+use Rattle.link.specs.Judge as Answer
 use Rattle.link.specs.Said.{number_in}
 use Rattle.link.specs.declared.cause.Refusal.{Refusal}
 use Rattle.link.specs.Stage.{Stage}
@@ -22,11 +23,11 @@ use Rattle.shared_objects.specs.Load.{load_of}
 use Rattle.symbol_laws.specs.History as History
 use Rattle.symbol_laws.specs.History.{State}
 use Rattle.symbol_laws.proofs.Calls.{call-refused}
-use Rattle.merge_laws.proofs.Stops as Stops
+use Rattle.merge_laws.specs.Stops as Stops
 use Rattle.merge_laws.proofs.ByNumber as ByNumber
 use Rattle.merge_laws.proofs.Refusals.{group-left}
 use Rattle.merge_laws.specs.Calls.{Linked, linked, all_in, link_in}
-use Rattle.load_laws.proofs.Whole as Loads
+use Rattle.load_laws.specs.Whole as Loads
 use Rattle.load_laws.proofs.NeedTerms as Unneeded
 use Rattle.link_laws.specs.Calls.{Call, intern, add, remove, add_group, merge, merge_file, load, collect, plain_collect, group_in, library_in, lists_in, call_left, call_number, call_next, reads, add_list, earlier}
 use Rattle.link_laws.proofs.PlainCalls.{Compared, alike, many, compared, many-next}
@@ -46,7 +47,7 @@ module _ (o : Group.Object) (t : State) (work : List ℕ) (n : ℕ) where
   abbrev pub GroupLeft : AddGroup.Left → Type 0
   GroupLeft x = (grouped o t work n x ≡ t) × (x.work ≡ work)
 
-  answered-zero : (s : Stage) → s.number ≡ 0 → (AddGroup.refusal_of (answer_of s).answer).number ≡ 0
+  answered-zero : (s : Stage) → s.number ≡ 0 → (Answer.refusal_in (answer_of s).answer).number ≡ 0
   unfolding answer_of
   answered-zero s e = by-test (eqb s.number 0) (λ a. rw a) (λ a. absurd (eqb-false _ _ a e))
 

@@ -5,21 +5,22 @@ use Rattle.std.specs.Prelude.{ℕ, ◌+◌, ◌*◌, ◌<◌, ◌≤◌, ◌≡�
 use Rattle.std.proofs.Common.{arith, le_refl, le_trans, sym, ap, ◌∙◌, length-drop, length-take-le, get_or-take, get_or-drop, ext_get_or}
 use Rattle.byte_slices.specs.Bytes.{part}
 use Rattle.link.specs.Bounds.{not_lent}
-use Rattle.interner_laws.specs.Good.{Issued, Stays, count, name}
+use Rattle.interner_laws.specs.Good.{Stays, count, name}
 use Rattle.interner_laws.proofs.Histories.{issued-stays}
-use Rattle.elf_object.specs.Rows.{rows_in, field}
-use Rattle.shared_objects.specs.Need.{input_kind_at, dependencies_at, undefined_at}
+use Rattle.elf_object.specs.Rows.{field}
 use Rattle.shared_objects.specs.Load as Shared
 use Rattle.shared_objects.specs.Load.{name_of}
-use Rattle.load_laws.specs.Names.{Each, undefined_names, dependency_names}
 use Rattle.load_laws.proofs.LawsNames.{each-stays}
-use Rattle.load_laws.proofs.LibraryRow.{self, undefineds, dependencies, library-row, library-names}
+use Rattle.load_laws.specs.LibraryRow.{self, undefineds, dependencies}
+use Rattle.load_laws.proofs.LibraryRow.{library-row, library-names}
 use Rattle.symbol_laws.specs.History.{store}
 use Rattle.merge_laws.specs.Calls.{Linked}
 use Rattle.link_laws.specs.Calls.{Call, load, library_in, call_left, call_next, run_calls}
 use Rattle.link_laws.proofs.Lists.{call-listed}
-use Rattle.link_laws.proofs.Kept.{signatures, Lasting, lasting-on}
+use Rattle.link_laws.specs.Kept.{signatures}
+use Rattle.link_laws.proofs.Kept.{Lasting, lasting-on}
 use Rattle.link_laws.proofs.NamesStay.{calls-stay}
+use Rattle.link_laws.specs.Libraries.{Remembered, Named}
 
 -- ---- counted inputs and lists stay, over any calls
 
@@ -58,24 +59,6 @@ part_same x y f c m h l e same =
     (λ i k. part_at y f c i (omega (arith, b)) ∙ same (f + i) (omega (arith, b)) ∙ sym (part_at x f c i (omega (arith, b))))
 
 -- ---- the library, as the call had it, in a later link
-
-module _ (o : Shared.Input) (a : Shared.All) (t : Linked) where
-  abbrev place : ℕ
-  place = a.link.inputs
-
-  -- its row: a library, its name, the undefined names of binding 1 that it was given, its dependencies
-  pub record Remembered : Type 0 where
-    pub counted : place < t.table.link.inputs
-    pub kind : input_kind_at t.inputs place ≡ 2
-    pub name : field t.inputs place 1 ≡ self o a
-    pub lacks : undefined_at t.inputs t.lists place ≡ undefineds o a
-    pub needs : dependencies_at t.inputs t.lists place ≡ dependencies o a
-
-  -- what these ids stand for
-  pub record Named : Type 0 where
-    pub own : Issued (store t.table) (self o a) (name_of o)
-    pub lacked : Each (store t.table) (undefineds o a) (undefined_names o.entries o.image (rows_in o.entries) 0)
-    pub listed : Each (store t.table) (dependencies o a) (dependency_names o.image o.needs (length o.needs) 0)
 
 module _ (s : Linked) (met : List (List ℕ)) (g : Lasting s met) (o : Shared.Input) (marks : List ℕ)
     (ok : (call_left (load o marks) s).answer ≡ Ok Loaded) (ls : List Call) where

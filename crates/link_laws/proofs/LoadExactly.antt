@@ -32,7 +32,8 @@ use Rattle.shared_objects.specs.Load as Load
 use Rattle.shared_objects.specs.Load.{Input, All}
 use Rattle.load_laws.specs.Names.{record_store, state_store}
 use Rattle.load_laws.proofs.LawsNames.{dependencies-names, symbols-names}
-use Rattle.load_laws.proofs.Whole.{table_in, symbols-loop, dependencies-loop}
+use Rattle.load_laws.specs.Whole.{table_in}
+use Rattle.load_laws.proofs.Whole.{symbols-loop, dependencies-loop}
 use Rattle.symbol_laws.specs.History.{State, store}
 use Rattle.link_laws.specs.Rules.{Rule, ◌gives◌at◌, in_turn, head_rules, first_refusal, numbered}
 use Rattle.link_laws.proofs.Rules.{numbered-both, each-numbered, follows, headed, first-is, head-rules}

@@ -29,8 +29,9 @@ use Rattle.shared_objects.specs.Load.{Input, All, Left, said_of, want_of, ended_
 use Rattle.load_laws.proofs.NeedTerms.{head-marks}
 use Rattle.load_laws.specs.Names.{state_store}
 use Rattle.load_laws.specs.LoadSteps.{list_first, lists_in}
-use Rattle.load_laws.proofs.Stops.{first, added, recorded, end, listed, name-stop, name-pass, symbols-stop, symbols-pass, dependencies-stop, dependencies-pass, fits}
-use Rattle.load_laws.proofs.Whole.{table_in}
+use Rattle.load_laws.specs.Stops.{first, added, recorded, end, fits}
+use Rattle.load_laws.proofs.Stops.{listed, name-stop, name-pass, symbols-stop, symbols-pass, dependencies-stop, dependencies-pass}
+use Rattle.load_laws.specs.Whole.{table_in}
 use Rattle.symbol_laws.specs.History.{State, store}
 use Rattle.link_laws.specs.Calls.{refusal_by}
 use Rattle.link_laws.specs.Rules.{first_refusal, numbered}

@@ -18,7 +18,7 @@ use Rattle.interner.specs.Names.{room_of, added, keep_of}
 use Rattle.symbol.specs.Proof.Ways.{scope-low}
 use Rattle.symbol.specs.declared.Row.{Row}
 use Rattle.symbol.specs.Codes.{successor}
-use Rattle.symbol.specs.Row.{field, state_at, visibility_code_at, set_row}
+use Rattle.symbol.specs.Row.{field, state_at, scope_at, set_row}
 use Rattle.symbol.specs.Hidden.{hide_code, passes, hide_if, pass_hidden}
 use Rattle.symbol_laws.proofs.Standing.{pass-none, pass-packs, joined-packs, joined-rest}
 use Rattle.symbol_resolution.specs.Decision.{Decision, Refuse, Append, Replace, Amend}
@@ -37,7 +37,7 @@ use Rattle.symbol_laws.proofs.ContentWords.{decided-passes}
 use Rattle.symbol_laws.proofs.Refused.{commit-refused, remove-link}
 use Rattle.symbol_laws.specs.Proof.Rows.{row_at}
 use Rattle.symbol_laws.proofs.Rows.{stored_there, stored_row, there-kept, row_kept, Packs, read-packs}
-use Rattle.symbol_laws.proofs.Held.{Inv}
+use Rattle.symbol_laws.specs.Held.{Inv}
 use Rattle.symbol_laws.proofs.Issue.{FreeRow, linked-new, linked-old, room-free}
 use Rattle.symbol_laws.specs.History.{State, table, store, with_table, with_store, issue, put, put_of, id_of}
 use Rattle.merge_laws.specs.Steps.{Step, part, mark, others, rows_from, counts_from, step_next, run_steps, Goes, AllGo}
@@ -45,7 +45,7 @@ use Rattle.merge_laws.proofs.Past.{rows_all, rows_long}
 use Rattle.merge_laws.specs.Calls.{Linked}
 use Rattle.link_laws.specs.Calls.{Call, intern, add, remove, add_group, merge, merge_file, load, collect, plain_collect, lists_in, Drops, call_left, call_next, run_calls, Removes, RemovesNothing, reads, add_list}
 use Rattle.link_laws.proofs.PlainCalls.{Compared, alike, many, compared, many-drops}
-use Rattle.link_laws.proofs.CallSteps.{call_steps}
+use Rattle.link_laws.specs.CallSteps.{call_steps}
 use Rattle.link_laws.proofs.CallStepsLemmas.{call-makes}
 use Rattle.link_laws.proofs.Removal.{Ready, steps-onward}
 use Rattle.link_laws.proofs.LookedUp.{call-onward, calls-later}
@@ -68,7 +68,7 @@ onto-none s w =
 
 module _ (s t : State) (i : ℕ) where
   -- a local row is the same
-  pub stands-local : Stands s t i → visibility_code_at s.symbols i ≡ 0 → row_at t.symbols i ≡ row_at s.symbols i
+  pub stands-local : Stands s t i → scope_at s.symbols i ≡ 0 → row_at t.symbols i ≡ row_at s.symbols i
   stands-local (same e) z = e
   stands-local (other u v c) z = absurd (u z)
 
@@ -76,14 +76,14 @@ module _ (s t : State) (i : ℕ) where
   stands-own y (same e) = ap (λ (r : Row). own_of r y) e
   stands-own y (other u v c) = rw (ne_eqb _ _ u, ne_eqb _ _ v)
 
-  stands-coded : Stands s t i → visibility_code_at s.symbols i < 5 → visibility_code_at t.symbols i < 5
-  stands-coded (same e) h = rw (ap (λ (r : Row). r.visibility) e) h
+  stands-coded : Stands s t i → scope_at s.symbols i < 5 → scope_at t.symbols i < 5
+  stands-coded (same e) h = rw (ap (λ (r : Row). r.scope) e) h
   stands-coded (other u v c) h = c h
 
   stands-both : (u : State) → Stands s t i → Stands t u i → Stands s u i
   stands-both u (same e) (same f) = same (f ∙ e)
-  stands-both u (same e) (other a b c) = other (rw (← ap (λ (r : Row). r.visibility) e) a) b (λ h. c (rw (ap (λ (r : Row). r.visibility) e) h))
-  stands-both u (other a b c) (same f) = other a (rw (ap (λ (r : Row). r.visibility) f) b) (λ h. rw (ap (λ (r : Row). r.visibility) f) (c h))
+  stands-both u (same e) (other a b c) = other (rw (← ap (λ (r : Row). r.scope) e) a) b (λ h. c (rw (ap (λ (r : Row). r.scope) e) h))
+  stands-both u (other a b c) (same f) = other a (rw (ap (λ (r : Row). r.scope) f) b) (λ h. rw (ap (λ (r : Row). r.scope) f) (c h))
   stands-both u (other a b c) (other d e f) = other a e (λ h. f (c h))
 
 module _ (s t u : State) (a : Onto s t) (b : Onto t u) where
@@ -122,7 +122,7 @@ module _ (s : State) (r : Row) where
   roomy e = appended-room s.link s.symbols s.sections r (direct_holder_of s.link s.names s.symbols r.name None) e
 
   -- what isn't refused has a visibility that passes
-  coded_by : (d : Decision) → decided (table s) r ≡ d → refusal_of d ≡ 0 → r.visibility < 5
+  coded_by : (d : Decision) → decided (table s) r ≡ d → refusal_of d ≡ 0 → r.scope < 5
   unfolding decided_of
   coded_by d e z =
       scope-low _
@@ -167,9 +167,9 @@ module _ (l m : Link) (e : m.slots ≡ l.slots) (x : List ℕ) (a v : ℕ) (h : 
       ap (λ (q : ℕ). get_or wrote q 0) (place_same y)
       ∙ get_or-set_other x (section_cell l (length x) a) (section_cell l (length x) y) v 0 (cells-apart l (length x) y a h u)
 
-pub own-parts : (r : Row) (y : ℕ) → own_of r y ≡ true → (r.visibility ≡ 0) × (r.value.kind ≡ 2) × (r.value.a ≡ y)
+pub own-parts : (r : Row) (y : ℕ) → own_of r y ≡ true → (r.scope ≡ 0) × (r.value.kind ≡ 2) × (r.value.a ≡ y)
 own-parts r y e =
-    by-test (eqb r.visibility 0)
+    by-test (eqb r.scope 0)
     (λ v.
     by-test (eqb r.value.kind 2)
     (λ k. by-test (eqb r.value.a y) (λ a. (eqb-true _ _ v, eqb-true _ _ k, eqb-true _ _ a)) (λ a. absurd (false≢true (rw (v, k, a) at e))))
@@ -183,13 +183,13 @@ unfolding hide_code
 hide-coded v =
     by-test (eqb v 3) (λ a. rw a (λ e. omega arith, omega arith)) (λ a. by-test (eqb v 4) (λ b. rw (a, b) (λ e. omega arith, omega arith)) (λ b. rw (a, b) (λ e. omega arith, omega arith)))
 
-pass-code : (gabi : Bool) (v : ℕ) (q : Row) → passes gabi v ≡ true → (pass_hidden gabi v q).visibility ≡ hide_code q.visibility
+pass-code : (gabi : Bool) (v : ℕ) (q : Row) → passes gabi v ≡ true → (pass_hidden gabi v q).scope ≡ hide_code q.scope
 unfolding pass_hidden hide_if
 pass-code gabi v q a = rw a
 
-pass-coded : (gabi : Bool) (v : ℕ) (q : Row) → q.visibility ≢ 0 → q.visibility < 5 → ((pass_hidden gabi v q).visibility ≢ 0) × ((pass_hidden gabi v q).visibility < 5)
+pass-coded : (gabi : Bool) (v : ℕ) (q : Row) → q.scope ≢ 0 → q.scope < 5 → ((pass_hidden gabi v q).scope ≢ 0) × ((pass_hidden gabi v q).scope < 5)
 unfolding pass_hidden hide_if
-pass-coded gabi v q n c = by-test (passes gabi v) (λ a. rw a (hide-coded q.visibility)) (λ a. rw a (n, c))
+pass-coded gabi v q n c = by-test (passes gabi v) (λ a. rw a (hide-coded q.scope)) (λ a. rw a (n, c))
 
 -- ---- a row added
 
@@ -209,7 +209,7 @@ module _ (s : State) (g : Ready s) (w : Shown s) (r : Row) where
   one_more f = rw (lt-ltb s.link.symbols 0xffffffffffffffff (omega (arith, f.few)))
 
   -- a name's row written: x in its place
-  module _ (k : Named (table s) r) (z : id ≢ 0) (x : Row) (p : Packs x) (n : x.visibility ≢ 0) where
+  module _ (k : Named (table s) r) (z : id ≢ 0) (x : Row) (p : Packs x) (n : x.scope ≢ 0) where
     abbrev over : State
     over = with_table s (table_of s.names (set_row s.symbols (record { 0 = id }) x) s.sections s.link)
 
@@ -225,11 +225,11 @@ module _ (s : State) (g : Ready s) (w : Shown s) (r : Row) where
     other_row : (i : ℕ) → i ≢ id → row_at over.symbols i ≡ row_at s.symbols i
     other_row i u = row_kept s.symbols (record { 0 = id }) x i u
 
-    own_code : visibility_code_at over.symbols id ≡ x.visibility
-    own_code = ap (λ (r : Row). r.visibility) own_row
+    own_code : scope_at over.symbols id ≡ x.scope
+    own_code = ap (λ (r : Row). r.scope) own_row
 
     -- it was a name's row, and still is one
-    still : (visibility_code_at s.symbols id < 5 → x.visibility < 5) → Stands s over id
+    still : (scope_at s.symbols id < 5 → x.scope < 5) → Stands s over id
     still c = other (w r.name.0 k.issued z) (λ e. n (sym own_code ∙ e)) (λ h. rw own_code (c h))
 
     at_own : (P : ℕ → Type 0) (i : ℕ) → P id → (i ≢ id → P i) → P i
@@ -245,8 +245,8 @@ module _ (s : State) (g : Ready s) (w : Shown s) (r : Row) where
     written-onto own =
         record {
           shown = λ m h u.
-              at_own (λ (i : ℕ). visibility_code_at s.symbols i ≢ 0 → visibility_code_at over.symbols i ≢ 0) (global_at s.names m)
-              (λ v e. n (sym own_code ∙ e)) (λ d v e. v (sym (ap (λ (r : Row). r.visibility) (other_row _ d)) ∙ e)) (w m h u);
+              at_own (λ (i : ℕ). scope_at s.symbols i ≢ 0 → scope_at over.symbols i ≢ 0) (global_at s.names m)
+              (λ v e. n (sym own_code ∙ e)) (λ d v e. v (sym (ap (λ (r : Row). r.scope) (other_row _ d)) ∙ e)) (w m h u);
           more = le_refl _;
           stands = λ i h. at_own (Stands s over) i own (λ d. same (other_row i d));
           coded = λ i h l. absurd (omega arith);
@@ -254,29 +254,29 @@ module _ (s : State) (g : Ready s) (w : Shown s) (r : Row) where
           since = λ y. none refl (λ i h l. absurd (omega arith));
         }
 
-  replaced-onto : Named (table s) r → id ≢ 0 → Packs r → r.visibility < 5 → Onto s (with_table s (apply_of (table s) r (Replace (record { 0 = id }))))
+  replaced-onto : Named (table s) r → id ≢ 0 → Packs r → r.scope < 5 → Onto s (with_table s (apply_of (table s) r (Replace (record { 0 = id }))))
   unfolding apply_of replaced_in
   replaced-onto k z t c =
-      let p = pass-coded s.link.gabi (visibility_code_at s.symbols id) r k.global c in
-      let x : Row = pass_hidden s.link.gabi (visibility_code_at s.symbols id) r in
-      let q = pass-packs s.link.gabi (visibility_code_at s.symbols id) r t in
+      let p = pass-coded s.link.gabi (scope_at s.symbols id) r k.global c in
+      let x : Row = pass_hidden s.link.gabi (scope_at s.symbols id) r in
+      let q = pass-packs s.link.gabi (scope_at s.symbols id) r t in
       written-onto k z x q p.0 (still k z x q p.0 (λ h. p.1))
 
   amended-onto : Named (table s) r → id ≢ 0 → Onto s (with_table s (apply_of (table s) r (Amend (record { 0 = id }))))
   unfolding apply_of amended_in
   amended-onto k z =
       let old : Row = row_at s.symbols id in
-      let stays : (joined old r).visibility ≡ visibility_code_at s.symbols id = (joined-rest old r).scope in
-      let x : Row = pass_hidden s.link.gabi r.visibility (joined old r) in
-      let p : Packs x = pass-packs s.link.gabi r.visibility (joined old r) (joined-packs old r (read-packs s.symbols id)) in
-      by-test (passes s.link.gabi r.visibility)
+      let stays : (joined old r).scope ≡ scope_at s.symbols id = (joined-rest old r).scope in
+      let x : Row = pass_hidden s.link.gabi r.scope (joined old r) in
+      let p : Packs x = pass-packs s.link.gabi r.scope (joined old r) (joined-packs old r (read-packs s.symbols id)) in
+      by-test (passes s.link.gabi r.scope)
       (λ a.
-      let e : x.visibility ≡ hide_code (visibility_code_at s.symbols id) = pass-code s.link.gabi r.visibility (joined old r) a ∙ ap hide_code stays in
-      let n : x.visibility ≢ 0 = λ q. (hide-coded (visibility_code_at s.symbols id)).0 (sym e ∙ q) in
-      written-onto k z x p n (still k z x p n (λ h. rw e (hide-coded (visibility_code_at s.symbols id)).1)))
+      let e : x.scope ≡ hide_code (scope_at s.symbols id) = pass-code s.link.gabi r.scope (joined old r) a ∙ ap hide_code stays in
+      let n : x.scope ≢ 0 = λ q. (hide-coded (scope_at s.symbols id)).0 (sym e ∙ q) in
+      written-onto k z x p n (still k z x p n (λ h. rw e (hide-coded (scope_at s.symbols id)).1)))
       (λ a.
-      let e : x.visibility ≡ visibility_code_at s.symbols id = ap (λ (y : Row). y.visibility) (pass-none s.link.gabi r.visibility (joined old r) a) ∙ stays in
-      let n : x.visibility ≢ 0 = λ q. w r.name.0 k.issued z (sym e ∙ q) in
+      let e : x.scope ≡ scope_at s.symbols id = ap (λ (y : Row). y.scope) (pass-none s.link.gabi r.scope (joined old r) a) ∙ stays in
+      let n : x.scope ≢ 0 = λ q. w r.name.0 k.issued z (sym e ∙ q) in
       written-onto k z x p n (still k z x p n (λ h. rw e h)))
 
   -- a row appended
@@ -311,8 +311,8 @@ module _ (s : State) (g : Ready s) (w : Shown s) (r : Row) where
     old-state i u = there-kept s.symbols (record { 0 = at }) r i u
 
     -- the row that a name had before
-    shown-old : (i : ℕ) → i < at → visibility_code_at s.symbols i ≢ 0 → visibility_code_at on.symbols i ≢ 0
-    shown-old i h u q = u (sym (ap (λ (r : Row). r.visibility) (old_row i (λ d. omega (arith, h, d)))) ∙ q)
+    shown-old : (i : ℕ) → i < at → scope_at s.symbols i ≢ 0 → scope_at on.symbols i ≢ 0
+    shown-old i h u q = u (sym (ap (λ (r : Row). r.scope) (old_row i (λ d. omega (arith, h, d)))) ∙ q)
 
     abbrev noted : List ℕ
     noted = set s.names (r.name.0 * 8 + 3) at
@@ -332,7 +332,7 @@ module _ (s : State) (g : Ready s) (w : Shown s) (r : Row) where
     shown-on : Shown on
     unfolding append_of note_name
     shown-on n h u =
-        by-test (eqb r.visibility 0)
+        by-test (eqb r.scope 0)
         (λ v. let z : global_at s.names n ≢ 0 = rw v at u in rw v (shown-old _ (g.below.held n h z) (w n h z)))
         (λ v.
         let z : global_at noted n ≢ 0 = rw v at u in
@@ -341,14 +341,14 @@ module _ (s : State) (g : Ready s) (w : Shown s) (r : Row) where
         (λ q.
         let k : n ≡ r.name.0 = eqb-true _ _ q in
         let own : global_at noted n ≡ at = subst (λ (m : ℕ). global_at noted m ≢ 0 → global_at noted m ≡ at) (sym k) noted-own z in
-        subst (λ (i : ℕ). visibility_code_at (set_row s.symbols (record { 0 = at }) r) i ≢ 0) (sym own)
-        (λ d. eqb-false _ _ v (sym (ap (λ (r : Row). r.visibility) (stored_row s.symbols (record { 0 = at }) r f.packs f.fits)) ∙ d)))
+        subst (λ (i : ℕ). scope_at (set_row s.symbols (record { 0 = at }) r) i ≢ 0) (sym own)
+        (λ d. eqb-false _ _ v (sym (ap (λ (r : Row). r.scope) (stored_row s.symbols (record { 0 = at }) r f.packs f.fits)) ∙ d)))
         (λ q.
         let o = noted_other n (eqb-false _ _ q) in
         let y : global_at s.names n ≢ 0 = λ d. z (o ∙ d) in
-        subst (λ (i : ℕ). visibility_code_at (set_row s.symbols (record { 0 = at }) r) i ≢ 0) (sym o) (shown-old _ (g.below.held n h y) (w n h y)))))
+        subst (λ (i : ℕ). scope_at (set_row s.symbols (record { 0 = at }) r) i ≢ 0) (sym o) (shown-old _ (g.below.held n h y) (w n h y)))))
 
-    room : r.visibility ≡ 0 → r.value.kind ≡ 2 → section_cell s.link (length s.sections) r.value.a < length s.sections
+    room : r.scope ≡ 0 → r.value.kind ≡ 2 → section_cell s.link (length s.sections) r.value.a < length s.sections
     unfolding section_room
     room v k =
         let q = roomy s r e in
@@ -356,14 +356,14 @@ module _ (s : State) (g : Ready s) (w : Shown s) (r : Row) where
         (λ t. absurd (false≢true (rw (v, k, t) at q)))
 
     -- the symbol of the row's section is the row, that of others stays
-    symbol-own : r.visibility ≡ 0 → r.value.kind ≡ 2 → symbol_in on r.value.a ≡ at
+    symbol-own : r.scope ≡ 0 → r.value.kind ≡ 2 → symbol_in on r.value.a ≡ at
     unfolding append_of note_section set_section_symbol
     symbol-own v k = rw (v, k) (wrote-own s.link on.link refl s.sections r.value.a at (room v k))
 
     symbol-other : (y : ℕ) → own_of r y ≡ false → symbol_in on y ≡ symbol_in s y
     unfolding append_of note_section set_section_symbol
     symbol-other y o =
-        by-test (eqb r.visibility 0)
+        by-test (eqb r.scope 0)
         (λ v.
         by-test (eqb r.value.kind 2)
         (λ k.
@@ -391,7 +391,7 @@ module _ (s : State) (g : Ready s) (w : Shown s) (r : Row) where
           stands = λ i h. same (old_row i (λ d. omega (arith, h, d)));
           coded = λ i h l.
               let q : i ≡ at = omega (arith, count-on) in
-              rw (q, ap (λ (r : Row). r.visibility) new_row) (coded_by s r Append e refl);
+              rw (q, ap (λ (r : Row). r.scope) new_row) (coded_by s r Append e refl);
           present = λ i h f.
               at_new (λ (i : ℕ). i < on.link.symbols → (i < at → state_at s.symbols i ≢ 2) → state_at on.symbols i ≢ 2) i
               (λ h f d. omega (arith, new-state, d)) (λ u h f d. f (less i at u (omega (arith, h, count-on))) (sym (old-state i u) ∙ d)) h f;
@@ -500,7 +500,7 @@ step-onto (mark n) s g w go =
     onto-rows s (step_next (mark n) s)
     (λ m h u.
     let q : global_at (set s.names (n * 8 + 4) 1) m ≡ global_at s.names m = get_or-set_other s.names (n * 8 + 4) (m * 8 + 3) 1 0 (λ e. omega arith) in
-    subst (λ (i : ℕ). visibility_code_at s.symbols i ≢ 0) (sym q) (w m h (λ z. u (q ∙ z))))
+    subst (λ (i : ℕ). scope_at s.symbols i ≢ 0) (sym q) (w m h (λ z. u (q ∙ z))))
     refl refl (λ y. refl)
 step-onto (others x l) s g w go =
     onto-rows s (step_next (others x l) s) w refl refl (rows-symbol s.link (counts_from l s.link) refl x s.sections go.1)
@@ -548,8 +548,8 @@ rows_stay s t w n l r f =
     record {
       shown = λ m h u.
           let q : global_at t.names m ≡ global_at s.names m = ap (λ (x : List ℕ). global_at x m) n in
-          subst (λ (i : ℕ). visibility_code_at t.symbols i ≢ 0) (sym q)
-          (λ z. w m (subst (λ (k : Link). m < k.names) l h) (λ y. u (q ∙ y)) (sym (ap (λ (r : Row). r.visibility) (r (global_at s.names m))) ∙ z));
+          subst (λ (i : ℕ). scope_at t.symbols i ≢ 0) (sym q)
+          (λ z. w m (subst (λ (k : Link). m < k.names) l h) (λ y. u (q ∙ y)) (sym (ap (λ (r : Row). r.scope) (r (global_at s.names m))) ∙ z));
       more = rw l (le_refl _);
       stands = λ i h. same (r i);
       counted = λ c y. omega (arith, f y, c y, ap (λ (k : Link). k.symbols) l);

@@ -14,7 +14,7 @@ use Rattle.link.specs.Judge.{change_of}
 use Rattle.link.specs.Bounds.{lesser, symbol_rows, section_slots}
 use Rattle.interner.specs.Names.{Store}
 use Rattle.interner.specs.Calls as Names
-use Rattle.interner_laws.proofs.Interns.{id}
+use Rattle.interner_laws.specs.Interns.{id}
 use Rattle.symbol.specs.Row.{state_at, symbol_at, set_row}
 use Rattle.symbol.specs.RowLaws.{symbol_of}
 use Rattle.symbol_resolution.specs.declared.rows.Holder.TheVariants.{Removed}
@@ -31,7 +31,7 @@ use Rattle.symbol_laws.specs.Rank.{first_by_rank, joined_in}
 use Rattle.symbol_laws.specs.Standing.{hidden_by}
 use Rattle.symbol_laws.proofs.Rows.{stored_there}
 use Rattle.symbol_laws.proofs.View.{lesser-second}
-use Rattle.symbol_laws.proofs.Held.{Inv}
+use Rattle.symbol_laws.specs.Held.{Inv}
 use Rattle.symbol_laws.specs.Below.{Below}
 use Rattle.symbol_laws.proofs.BelowLemmas.{inv-below}
 use Rattle.symbol_laws.proofs.Refused.{remove-link}
@@ -40,11 +40,12 @@ use Rattle.merge_laws.specs.Steps.{Step, Makes}
 use Rattle.merge_laws.specs.Calls.{Linked}
 use Rattle.link_laws.specs.Calls.{Call, intern, add, remove, get, get_global, add_group, merge, merge_file, load, collect, plain_collect, lists_in, Drops, call_left, call_number, call_next, run_calls, Removes, RemovesNothing, reads, add_list}
 use Rattle.link_laws.proofs.PlainCalls.{Compared, alike, many, compared, many-next}
-use Rattle.link_laws.proofs.CallSteps.{call_steps}
+use Rattle.link_laws.specs.CallSteps.{call_steps}
 use Rattle.link_laws.proofs.CallStepsLemmas.{call-makes}
 use Rattle.link_laws.proofs.CollectPast.{run_past, remove-past}
 use Rattle.link_laws.proofs.Idle.{drops-nothing}
-use Rattle.link_laws.proofs.Kept.{signatures, Lasting, lasting-within, lasting-on, Reached, reached-within, reached-on}
+use Rattle.link_laws.specs.Kept.{signatures, Reached}
+use Rattle.link_laws.proofs.Kept.{Lasting, lasting-within, lasting-on, reached-within, reached-on}
 use Rattle.link_laws.proofs.Removal.{Ready, Onward, steps-onward}
 
 -- from one state to a later one, whatever is removed between them

@@ -20,9 +20,10 @@ use Rattle.merge_laws.proofs.Accepted.{going, next-going}
 use Rattle.merge_laws.proofs.WorkGroups.{group-cell, removed-cell, group-long, mark-after, told, told_more, told_same, groups-next}
 use Rattle.merge_laws.specs.Marked.{Marked}
 use Rattle.merge_laws.specs.Whole.{table_in}
-use Rattle.merge_laws.proofs.FirstKept as FirstKept
-use Rattle.merge_laws.proofs.FirstKept.{met_to, to-marked, met-group, met-other}
-use Rattle.merge_laws.proofs.Stops.{reserved, object, prepared, grouped, marked, groups_to}
+use Rattle.merge_laws.specs.FirstKept as FirstKept
+use Rattle.merge_laws.specs.FirstKept.{met_to}
+use Rattle.merge_laws.proofs.FirstKept.{to-marked, met-group, met-other}
+use Rattle.merge_laws.specs.Stops.{reserved, object, prepared, grouped, marked, groups_to}
 use Rattle.link_laws.specs.Rules.{some}
 use Rattle.link_laws.proofs.InternExactly.{among-found}
 use Rattle.link_laws.specs.ObjectRules.{cell_at, is_section}

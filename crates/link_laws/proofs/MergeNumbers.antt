@@ -7,9 +7,10 @@ use Rattle.cells.specs.Proof.Split.{by-test}
 use Rattle.merge_stages.specs.Stages as Stages
 use Rattle.merge_elf.specs.Merge as Merge
 use Rattle.merge_elf.specs.Merge.{merge_of}
-use Rattle.merge_laws.proofs.Stops as Stops
-use Rattle.merge_laws.proofs.ByNumber as ByNumber
-use Rattle.merge_laws.proofs.ByNumber.{Between, Leaves, head-leaves, refused-leaves, refused-breaks, accepted-stays, all_left, name_stays}
+use Rattle.merge_laws.specs.Stops as Stops
+use Rattle.merge_laws.specs.ByNumber as ByNumber
+use Rattle.merge_laws.specs.ByNumber.{Between, Leaves, all_left, name_stays}
+use Rattle.merge_laws.proofs.ByNumber.{head-leaves, refused-leaves, refused-breaks, accepted-stays}
 use Rattle.link_laws.proofs.Among.{one-within, Among}
 use Rattle.merge_laws.specs.Table.{within, merge_head_numbers}
 use Rattle.link_laws.specs.Table.{merge_numbers}

@@ -10,7 +10,7 @@ use Rattle.symbol_laws.specs.History.{State}
 use Rattle.merge_laws.specs.Marked.{Marked}
 use Rattle.merge_laws.specs.Whole.{table_in}
 use Rattle.merge_laws.specs.MergeSteps.{reserve_first}
-use Rattle.merge_laws.proofs.Stops.{reserved, object, prepared, grouped, marked}
+use Rattle.merge_laws.specs.Stops.{reserved, object, prepared, grouped, marked}
 use Rattle.link_laws.specs.TableRules.{conversion_in}
 use Rattle.link_laws.specs.ObjectRules.{cell_at, is_kind, is_section}
 use Rattle.link_laws.specs.MergeRules.{Found, absent, found, last_in, number_in, loaded_table, entries_in, loaded, is_removed, conversion_of, table_of}

@@ -10,7 +10,7 @@ use Rattle.merge_stages.specs.Stages.{All, Object}
 use Rattle.symbol_laws.specs.History.{State}
 use Rattle.merge_laws.specs.Marked.{Marked}
 use Rattle.merge_laws.specs.Whole.{table_in}
-use Rattle.merge_laws.proofs.Stops.{reserved, grouped, marked}
+use Rattle.merge_laws.specs.Stops.{reserved, grouped, marked}
 use Rattle.link_laws.specs.Rules.{Rule, ◌gives◌at◌}
 use Rattle.link_laws.proofs.Rules.{each_same}
 use Rattle.link_laws.specs.TableRules.{id_in, is_unroomed, names_of, Conversion, elf_asked, Asked, shown_rules, held_rules}

@@ -5,6 +5,7 @@ use Rattle.std.proofs.Common.{arith, ◌∙◌, subst, length-take, length-drop,
 use Rattle.std.proofs.Math.Path.{sym, ap}
 use Rattle.std.proofs.lemmas.Bool.{false≢true, eqb-false}
 use Rattle.cells.specs.Proof.Split.{by-test}
+use Rattle.link.specs.Judge as Answer
 use Rattle.link.specs.declared.cause.Refusal.{Refusal}
 use Rattle.link.specs.Bounds.{input_rows}
 use Rattle.link.specs.Judge.{refused}
@@ -20,14 +21,16 @@ use Rattle.merge_elf.specs.Merge.{ended_as, finished_of, merge_of}
 use Rattle.merge_laws.specs.MergeSteps.{symbol_steps, reserve_first, group_first, symbol_first}
 use Rattle.merge_laws.specs.Marked.{Marked}
 use Rattle.merge_laws.proofs.MarkedLemmas.{steps-marked}
-use Rattle.merge_laws.proofs.FirstKept.{met_to, to-marked}
+use Rattle.merge_laws.specs.FirstKept.{met_to}
+use Rattle.merge_laws.proofs.FirstKept.{to-marked}
 use Rattle.merge_laws.specs.Whole.{table_in}
-use Rattle.merge_laws.proofs.SymbolStage.{number_of}
+use Rattle.merge_laws.specs.SymbolStage.{number_of}
 use Rattle.merge_laws.proofs.SymbolStageLemmas.{symbols-make}
 use Rattle.merge_laws.specs.Loop.{loop_steps}
 use Rattle.interner_laws.specs.Good.{Good}
 use Rattle.symbol_laws.specs.History.{State, store}
-use Rattle.merge_laws.proofs.Stops.{reserved, object, prepared, symbol_reader, grouped, marked, filtered, added, with_added, builder, before2, before1, before0, end, sections-stop, sections-pass, groups-stop, filter-stop, filter-pass, symbols-stop, symbols-pass}
+use Rattle.merge_laws.specs.Stops.{reserved, object, prepared, symbol_reader, grouped, marked, added, with_added, builder, before2, before1, before0, end}
+use Rattle.merge_laws.proofs.Stops.{filtered, sections-stop, sections-pass, groups-stop, filter-stop, filter-pass, symbols-stop, symbols-pass}
 use Rattle.link_laws.specs.Rules.{Rule, least, first_refusal, in_turn, numbered}
 use Rattle.link_laws.proofs.Rules.{numbered-both, none_both, each_none, each-of-numbered, turn-numbered, turn-same, first-none, follows, taken, left_out}
 use Rattle.link_laws.specs.ObjectRules.{cell_at, is_section, is_bad_header, header_rules, entry_rules, object_rules}
@@ -132,12 +135,12 @@ module _ (o : Object) (a : All) where
       (then-quiet filter_said _
       (then-quiet (symbol_said (added o a)) _ (then-quiet (built_said (before1 o a)) _ (then-quiet (built_said (before0 o a)) _ input-quiet))))))
 
-  ended-said : Merge.refusal_of (ended_as (end o a).stage).answer ≡ end_said
+  ended-said : Answer.refusal_in (ended_as (end o a).stage).answer ≡ end_said
   unfolding ended_as
   ended-said =
       by-test (eqb (end o a).stage.number 0)
-      (λ e. ap (λ (r : Outcome). Merge.refusal_of r.answer) (taken _ _ e) ∙ sym (end_quiet (eqb-true _ _ e)))
-      (λ e. ap (λ (r : Outcome). Merge.refusal_of r.answer) (left_out _ _ e))
+      (λ e. ap (λ (r : Outcome). Answer.refusal_in r.answer) (taken _ _ e) ∙ sym (end_quiet (eqb-true _ _ e)))
+      (λ e. ap (λ (r : Outcome). Answer.refusal_in r.answer) (left_out _ _ e))
 
   -- the answer
   pub merge-chain : (merge_of o a).said ≡ Merge.head_in o a and_then section_said (reserved o a) and_then group_said (grouped o a) and_then filter_said and_then symbol_said (added o a) and_then rest

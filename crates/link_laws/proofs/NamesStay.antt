@@ -5,7 +5,8 @@ use Rattle.std.proofs.Common.{sym, subst}
 use Rattle.interner.specs.Calls.{resolved}
 use Rattle.interner_laws.specs.Good.{Good, Issued, Stays, count, name}
 use Rattle.interner_laws.proofs.Histories.{stays-none, stays-both, issued-stays, one-id, one_name}
-use Rattle.interner_laws.proofs.Interns.{Accepted, id, intern-stays, intern-good, intern-issued}
+use Rattle.interner_laws.specs.Interns.{Accepted, id}
+use Rattle.interner_laws.proofs.Interns.{intern-stays, intern-good, intern-issued}
 use Rattle.interner_laws.proofs.Judged as Judged
 use Rattle.symbol_laws.specs.History.{State, store}
 use Rattle.merge_laws.specs.Steps.{Step}
@@ -13,9 +14,11 @@ use Rattle.merge_laws.specs.Marked.{Marked}
 use Rattle.merge_laws.proofs.NamesOn.{steps-stay}
 use Rattle.merge_laws.specs.Calls.{Linked}
 use Rattle.link_laws.specs.Calls.{Call, intern, resolve, call_left, call_next, run_calls}
-use Rattle.link_laws.proofs.CallSteps.{call_steps, Leads, made, cleared}
+use Rattle.link_laws.specs.CallSteps.{call_steps}
+use Rattle.link_laws.proofs.CallSteps.{Leads, made, cleared}
 use Rattle.link_laws.proofs.CallStepsLemmas.{call-leads}
-use Rattle.link_laws.proofs.Kept.{signatures, calls-marked, Lasting, lasting-within, lasting-on}
+use Rattle.link_laws.specs.Kept.{signatures}
+use Rattle.link_laws.proofs.Kept.{calls-marked, Lasting, lasting-within, lasting-on}
 
 -- ---- every history
 

@@ -6,8 +6,7 @@ use Rattle.std.specs.Prelude.{◌≡◌, refl, true, List, [], ◌∷◌, ◌++�
 use Rattle.std.proofs.Math.Logic.{inr}
 use borrow.Author.Tests.{eqb-true, eqb-false, leb-false, ltb-true, ltb-false}
 use Rattle.cells.specs.Proof.Split.{by-test}
-use Rattle.gabi.specs.StringTable.{has_name, name_at}
-use Rattle.gabi.specs.SymbolTable.{stb_global, shn_undef}
+use Rattle.gabi.specs.StringTable.{name_at}
 use Rattle.link.specs.declared.Link.{Link}
 use Rattle.link.specs.declared.cause.Refusal.{Refusal}
 use Rattle.link.specs.declared.SymbolId.{SymbolId}
@@ -20,7 +19,7 @@ use Rattle.symbol_resolution.specs.declared.rows.Holder.{Holder}
 use Rattle.symbol_resolution.specs.declared.rows.Holder.TheVariants.{Unissued, Nobody, Removed, Known}
 use Rattle.symbol_resolution.specs.Holder.{holder_of}
 use Rattle.symbols.specs.Lookup.{not_found, held_of}
-use Rattle.elf_object.specs.Rows.{rows_in, field, elf_at}
+use Rattle.elf_object.specs.Rows.{rows_in, field}
 use Rattle.shared_objects.specs.Need.{input_kind_at, dependencies_at, undefined_at}
 use Rattle.shared_objects.specs.Load as Shared
 use Rattle.shared_objects.specs.Load.{name_of}
@@ -32,43 +31,17 @@ use Rattle.symbol_laws.proofs.History.{run-append}
 use Rattle.symbol_laws.proofs.Within as Within
 use Rattle.merge_laws.specs.Calls.{Linked}
 use Rattle.link_laws.specs.Calls.{Call, load, call_next, call_notes, run_calls}
-use Rattle.link_laws.proofs.Kept.{signatures, Lasting, lasting-within, lasting-on}
+use Rattle.link_laws.specs.Kept.{signatures}
+use Rattle.link_laws.proofs.Kept.{Lasting, lasting-within, lasting-on}
 use Rattle.link_laws.proofs.Libraries.{library-remembered, library-named}
 use Rattle.link_laws.specs.LibraryLoads.{LoadedAt}
 use Rattle.link_laws.proofs.LibraryLoads.{from-loads}
 use Rattle.link_laws.proofs.Removal.{Ready}
 use Rattle.link_laws.proofs.LookedUp.{calls-later}
 use Rattle.link_laws.specs.Words.{lookup}
+use Rattle.link_laws.specs.NeededIn.{DefinesName, LacksName, DependsOn, NeededIn, by_library, by_table}
 
 -- ---- what a library's own entries say
-
--- "it defines, global or weak, a name": some symbol of it does
-pub record DefinesName (o : Shared.Input) (b : List ℕ) : Type 0 where
-  pub symbol : ℕ
-  pub within : symbol < rows_in o.entries
-  pub defines : Defines o.entries symbol
-  pub named : has_name o.image (field o.entries symbol 0) ≡ true
-  pub is : name_at o.image (field o.entries symbol 0) ≡ b
-
--- "names by an undefined symbol of binding 1"
-pub record LacksName (o : Shared.Input) (b : List ℕ) : Type 0 where
-  pub symbol : ℕ
-  pub within : symbol < rows_in o.entries
-  pub undefined : (elf_at o.entries symbol).section ≡ shn_undef
-  pub global : (elf_at o.entries symbol).binding ≡ stb_global
-  pub is : name_at o.image (field o.entries symbol 0) ≡ b
-
--- it lists the name as a dependency
-pub record DependsOn (o : Shared.Input) (b : List ℕ) : Type 0 where
-  pub at : ℕ
-  pub within : at < length o.needs
-  pub is : name_at o.image (get_or o.needs at 0) ≡ b
-
--- "it defines, global or weak, a name undefined and strong in the table, or one that an earlier loaded library, not listing it as a dependency, names by an
--- undefined symbol of binding 1, since defined or not": of the library o after the calls ks, begun with the link s0
-pub data NeededIn (s0 : Linked) (ks : List Call) (o : Shared.Input) : Type 0 where
-  by_table : (b : List ℕ) → DefinesName o b → (y : Symbol) → lookup b (run_calls ks s0) ≡ Ok y → StrongUndefined y → NeededIn s0 ks o
-  by_library : (b : List ℕ) → DefinesName o b → (k : ℕ) (l : LoadedAt k ks s0) → LacksName l.library b → (DependsOn l.library (name_of o) → ⊥) → NeededIn s0 ks o
 
 -- ---- lists of ids and of the names that they stand for
 

@@ -25,9 +25,10 @@ use Rattle.archive_laws.proofs.RoundLaws.{Kept, kept_fresh, kept-did, did}
 use Rattle.archive_laws.specs.Runs.{view_by, views_by, Run}
 use Rattle.archive_laws.specs.ByKey.{Walked}
 use Rattle.symbol_laws.specs.History.{State, Entry, only}
-use Rattle.symbol_laws.proofs.Held.{Inv}
+use Rattle.symbol_laws.specs.Held.{Inv}
 use Rattle.symbol_laws.proofs.Demand.{holder_known, holder-none}
-use Rattle.symbol_laws.proofs.Within.{Within, Fits}
+use Rattle.symbol_laws.specs.Within.{Within}
+use Rattle.symbol_laws.proofs.Within.{Fits}
 use Rattle.merge_laws.specs.Marked.{Marked}
 use Rattle.link_laws.specs.Calls.{view_in}
 

@@ -1,6 +1,6 @@
 -- `Symbols::new`: number and place are those of the first rule that holds.
 -- Assumes nothing.
-use Rattle.std.specs.Prelude.{ℕ, ◌/◌, ◌≡◌, refl, Bool, not, List, [], ◌∷◌, ltb, length}
+use Rattle.std.specs.Prelude.{ℕ, ◌/◌, ◌≡◌, refl, Bool, not, List, ltb, length}
 use Rattle.std.proofs.Common.{arith, ap, ◌∙◌}
 use Rattle.std.proofs.Math.Path.{sym}
 use Rattle.std.proofs.Math.Bool.{false}
@@ -11,15 +11,13 @@ use Rattle.cells.specs.Proof.Split.{by-test}
 use Rattle.link.specs.Bounds.{lesser, name_rows, symbol_rows}
 use Rattle.link.specs.Said.{number_in}
 use Rattle.interner.specs.Calls as Names
-use Rattle.interner_laws.proofs.Interns as Interns
+use Rattle.interner_laws.specs.Interns as Interns
+use Rattle.interner_laws.proofs.Interns as InternsLaws
 use Rattle.symbols.specs.New.{null_of, new_of}
 use Rattle.link_laws.specs.Calls.{refusal_by}
-use Rattle.link_laws.specs.Rules.{Rule, ◌gives◌at◌, first_refusal, some_holds}
+use Rattle.link_laws.specs.Rules.{first_refusal, some_holds}
 use Rattle.link_laws.proofs.Rules.{none-holds}
-
--- "Two rows lent: null and one undefined name fit": a symbol's row of 8 cells for null, a name's of 8 and its chain's for the empty name. "no free row" (2), "else 0"
-abbrev pub new_rules : List ℕ → List ℕ → List Rule
-new_rules names symbols = (ltb (length symbols / 8) 1 gives 2 at 0) ∷ (ltb (length names / 9) 1 gives 2 at 0) ∷ []
+use Rattle.link_laws.specs.NewExactly.{new_rules}
 
 below_one : (n : ℕ) → ltb n 1 ≡ eqb n 0
 below_one n =
@@ -40,7 +38,7 @@ module _ (key : ℕ) (gabi : Bool) (bytes names symbols sections : List ℕ) whe
   named_none =
       by-test (eqb (name_rows (length names)) 0) (λ a. rw a)
       (λ a.
-      let g = (Interns.new-good key bytes names (number a)).some in
+      let g = (InternsLaws.new-good key bytes names (number a)).some in
       ne_eqb (Names.new_of key bytes names).store.link.names 0 (λ e. omega (arith, g, e)) ∙ sym a)
     where
       number : eqb (name_rows (length names)) 0 ≡ false → Interns.Accepted (Names.new_of key bytes names)

@@ -2,43 +2,25 @@
 -- Assumes nothing.
 use Rattle.std.specs.Prelude.{ℕ, ◌+◌, ◌<◌, ◌≤◌, ◌≡◌, true, false, List, [], ◌∷◌, ◌++◌, get_or, length}
 use Rattle.std.proofs.Common.{arith, sym, ap, ◌∙◌, subst, append-nil}
-use Rattle.gabi.specs.StringTable.{name_at}
 use Rattle.sections.specs.Rows.{first_at, count_at}
-use Rattle.gc_laws.specs.Reached as Relocations
 use Rattle.merge_stages.specs.Stages as Stages
-use Rattle.symbol_laws.specs.ObjectWords.{sections_in, program, uninitialized, name_offset, retains, reads, loaded_as}
-use Rattle.merge_laws.specs.MergeWords.{rowed_below, named_by, own_signatures, is_removed}
+use Rattle.symbol_laws.specs.ObjectWords.{sections_in, program, uninitialized, loaded_as}
+use Rattle.merge_laws.specs.MergeWords.{named_by, own_signatures, is_removed}
 use Rattle.merge_laws.proofs.Built as Built
-use Rattle.merge_laws.proofs.Built.{section_names}
 use Rattle.merge_laws.proofs.BuiltRow.{ids_of, part-long, part_at}
 use Rattle.merge_laws.proofs.BuiltNames as Names
-use Rattle.merge_laws.proofs.BuiltNames.{AllGive}
-use Rattle.merge_laws.proofs.Stops.{added}
+use Rattle.merge_laws.specs.Stops.{added}
 use Rattle.merge_laws.specs.Calls.{Linked, all_in}
-use Rattle.link_laws.specs.Calls.{Call, merge, lists_in, call_number, call_next, run_calls}
-use Rattle.link_laws.proofs.BuiltSections.{SectionIn, SparesAll, calls-keep}
-use Rattle.link_laws.proofs.Kept.{signatures, Lasting, lasting-on}
-
--- the id of section n of an object that is merged into s: rows are taken in the order of its program and uninitialized sections
-abbrev pub section_id : Stages.Object → Linked → ℕ → ℕ
-section_id o s n = s.table.link.sections + rowed_below o.headers n
-
--- section n of the object, merged into s, in a later link: built, with the bytes of its name, its kind and flags; it names, in order, the ids that the merge gave
--- the symbols ks
-pub record ObjectSection (o : Stages.Object) (work ids : List ℕ) (s t : Linked) (n kind : ℕ) (ks : List ℕ) : Type 0 where
-  pub given : List ℕ
-  pub gives : AllGive o (all_in s work ids) ks given
-  pub section : SectionIn t (section_id o s n) (name_at (section_names o) (name_offset o.headers n)) kind (retains o.headers n) (reads o.headers n) given
+use Rattle.link_laws.specs.Calls.{Call, merge, call_number, call_next, run_calls}
+use Rattle.link_laws.specs.BuiltSections.{SparesAll}
+use Rattle.link_laws.proofs.BuiltSections.{calls-keep}
+use Rattle.link_laws.specs.Kept.{signatures}
+use Rattle.link_laws.proofs.Kept.{Lasting, lasting-on}
+use Rattle.link_laws.specs.ObjectSections.{section_id, ObjectSection, NamesIn, LeadsTo}
 
 -- "what relocations reach": in a collection such a section names a symbol of another just if one of these ids does
 module _ (o : Stages.Object) (work ids : List ℕ) (s t : Linked) (n kind : ℕ) (ks : List ℕ) (inside : t.table.link.lists ≤ length t.lists)
     (x : ObjectSection o work ids s t n kind ks) (marks : List ℕ) (z : ℕ) where
-  abbrev pub NamesIn : Type 0
-  NamesIn = Relocations.Names t.table.link (lists_in t marks) t.table.symbols t.table.sections (section_id o s n) z
-
-  abbrev pub LeadsTo : ℕ → Type 0
-  LeadsTo id = Relocations.Leads t.table.link (lists_in t marks) t.table.symbols t.table.sections id z
-
   abbrev first : ℕ
   first = first_at t.table.sections (section_id o s n)
 
@@ -51,13 +33,13 @@ module _ (o : Stages.Object) (work ids : List ℕ) (s t : Linked) (n kind : ℕ)
   at-cell : (j : ℕ) → j < count → get_or t.lists (first + j) 0 ≡ get_or x.given j 0
   at-cell j h = sym (part_at t.lists first count j h) ∙ ap (λ (l : List ℕ). get_or l j 0) x.section.ids-are
 
-  pub names-lead : NamesIn → (j : ℕ) × (j < length x.given) × LeadsTo (get_or x.given j 0)
-  names-lead q = (q.at, rw long q.within, subst LeadsTo (at-cell q.at q.within) q.leads)
+  pub names-lead : NamesIn o work ids s t n kind ks inside x marks z → (j : ℕ) × (j < length x.given) × LeadsTo o work ids s t n kind ks inside x marks z (get_or x.given j 0)
+  names-lead q = (q.at, rw long q.within, subst (LeadsTo o work ids s t n kind ks inside x marks z) (at-cell q.at q.within) q.leads)
 
-  pub lead-named : (j : ℕ) → j < length x.given → LeadsTo (get_or x.given j 0) → NamesIn
+  pub lead-named : (j : ℕ) → j < length x.given → LeadsTo o work ids s t n kind ks inside x marks z (get_or x.given j 0) → NamesIn o work ids s t n kind ks inside x marks z
   lead-named j h q =
       let l : j < count = rw long at h in
-      record { at = j; within = l; listed = omega (arith, x.section.inside); leads = subst LeadsTo (sym (at-cell j l)) q }
+      record { at = j; within = l; listed = omega (arith, x.section.inside); leads = subst (LeadsTo o work ids s t n kind ks inside x marks z) (sym (at-cell j l)) q }
 
 module _ (s : Linked) (met : List (List ℕ)) (g : Lasting s met)
     (o : Stages.Object) (work ids : List ℕ) (ok : call_number (merge o work ids) s ≡ 0) (n : ℕ)

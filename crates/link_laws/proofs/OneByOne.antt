@@ -1,7 +1,7 @@
 -- Request 2026-05: "The table, ids and refusal equal those of adding one by one and stopping at the first refused add; that add's position is returned."
 -- Assumes nothing.
 use Rattle.link.specs.declared.Interned.{Interned}
-use Rattle.std.specs.Prelude.{ℕ, ◌+◌, ◌<◌, ◌≤◌, ◌≡◌, true, false, cond, eqb, set, length, Option}
+use Rattle.std.specs.Prelude.{ℕ, ◌+◌, ◌<◌, ◌≤◌, ◌≡◌, true, false, eqb, set, length, Option}
 use native.Mathlib.Omega.{arith}
 use Rattle.std.proofs.Math.Path.{refl, ap}
 use Rattle.std.proofs.Common.{sym, ◌∙◌, eqb-true, le-ltb, lt-ltb}
@@ -9,7 +9,6 @@ use mathlib.Core.List.{List, [], ◌∷◌, ◌++◌, append-nil}
 use Rattle.std.proofs.lemmas.Bool.{eqb-false}
 use Rattle.cells.specs.Proof.Split.{by-test}
 use Rattle.byte_slices.specs.Proof.Ways.{pick}
-use Rattle.link.specs.declared.cause.Refusal.{Refusal}
 use Rattle.link.specs.Judge.{refused, none}
 use Rattle.link.specs.Said.{Said, accepted, refusing, number_in, value_in}
 use Rattle.symbol.specs.declared.Row.{Row}
@@ -27,41 +26,12 @@ use Rattle.symbol_laws.specs.History.{table}
 use Rattle.symbol_laws.proofs.Calls.{call-refused}
 use Rattle.symbol_laws.proofs.Put.{noted-refused}
 use Rattle.merge_laws.specs.Calls.{Linked, linked}
-use Rattle.link_laws.specs.Calls.{Call, add, add_list, call_left, call_next, call_notes, call_number, call_refusal, run_calls, log_calls, adds_up_to, list_adds}
+use Rattle.link_laws.specs.Calls.{Call, add, add_list, call_left, call_next, call_notes, call_number, run_calls, log_calls, adds_up_to, list_adds}
 use Rattle.link_laws.proofs.Rules.{taken, left_out}
 use Rattle.link_laws.proofs.ListCall.{turn-refusal, turn-table, turn-test, next-is}
+use Rattle.link_laws.specs.OneByOne.{tried, answered, first_refused, in_cells, OneByOne}
 
 -- ---- the words
-
--- the adds in order, up to the first that is refused, and with it
-abbrev pub tried : List ℕ → List UpcomingSymbol → Linked → List Call
-tried conversion [] s = []
-tried conversion (u ∷ us) s =
-    add conversion u ∷ cond (eqb (call_number (add conversion u) s) 0) (tried conversion us (call_next (add conversion u) s)) []
-
--- the ids that the accepted ones answer
-abbrev pub answered : List ℕ → List UpcomingSymbol → Linked → List ℕ
-answered conversion [] s = []
-answered conversion (u ∷ us) s =
-    cond (eqb (call_number (add conversion u) s) 0) (value_in (call_left (add conversion u) s).said ∷ answered conversion us (call_next (add conversion u) s)) []
-
--- number and place of the one that is refused
-abbrev pub first_refused : List ℕ → List UpcomingSymbol → Linked → Refusal
-first_refused conversion [] s = none
-first_refused conversion (u ∷ us) s =
-    cond (eqb (call_number (add conversion u) s) 0) (first_refused conversion us (call_next (add conversion u) s)) (call_refusal (add conversion u) s)
-
--- the ids in cells from k on, the other cells as they were
-abbrev pub in_cells : List ℕ → ℕ → List ℕ → List ℕ
-in_cells cells k [] = cells
-in_cells cells k (x ∷ xs) = in_cells (set cells k x) (k + 1) xs
-
-pub record OneByOne (conversion adds ids : List ℕ) (s : Linked) : Type 0 where
-  pub next : call_next (add_list conversion adds ids) s ≡ run_calls (tried conversion (items_of adds) s) s
-  pub log : call_notes (add_list conversion adds ids) s ≡ log_calls (tried conversion (items_of adds) s) s
-  pub refusal : call_refusal (add_list conversion adds ids) s ≡ first_refused conversion (items_of adds) s
-  pub position : (call_left (add_list conversion adds ids) s).position ≡ length (answered conversion (items_of adds) s)
-  pub cells : (call_left (add_list conversion adds ids) s).ids ≡ in_cells ids 0 (answered conversion (items_of adds) s)
 
 -- ---- an add that has number 0 is accepted
 

@@ -20,39 +20,26 @@ use Rattle.upcoming_symbol.specs.declared.ElfSymbol.{ElfSymbol}
 use Rattle.upcoming_symbol.specs.declared.UpcomingSymbol.{UpcomingSymbol}
 use Rattle.upcoming_symbol.specs.Upcoming.{name_of}
 use Rattle.symbols.specs.Add.{empty_at}
-use Rattle.symbol_laws.specs.Rank as Rank
 use Rattle.symbol_laws.specs.ObjectWords.{entry}
 use Rattle.symbol_laws.specs.Gabi.{Means, AllMean}
 use Rattle.symbol_laws.specs.Hidden.{hides, AllShow}
 use Rattle.symbol_laws.specs.ContentWords.{Admitted, shows, shared_entry}
 use Rattle.symbol_laws.specs.DirectContents as Direct
-use Rattle.symbol_laws.specs.DirectContents.{FromAdd, ElfValue, is_undefined, is_common_value, symbol_of}
+use Rattle.symbol_laws.specs.DirectContents.{FromAdd, ElfValue, is_undefined, is_common_value}
 use Rattle.merge_stages.specs.Stages as Stages
 use Rattle.merge_laws.specs.MergeWords as Words
-use Rattle.merge_laws.proofs.ObjectContents as Objects
-use Rattle.merge_laws.proofs.LogContents.{FromSymbol}
+use Rattle.merge_laws.specs.ObjectContents as Objects
+use Rattle.merge_laws.specs.LogContents.{FromSymbol}
 use Rattle.merge_laws.specs.Calls.{Linked, all_in}
 use Rattle.shared_objects.specs.Load as Shared
-use Rattle.load_laws.proofs.LibraryContents.{FromLibrary}
+use Rattle.load_laws.specs.LibraryContents.{FromLibrary}
 use Rattle.link_laws.specs.Calls.{Call, intern, add, remove, add_group, merge, merge_file, load, collect, plain_collect, library_in, call_next, reads, add_list}
 use Rattle.elf_laws.specs.Object as ElfFile
-use Rattle.link_laws.proofs.Kept.{signatures}
-use Rattle.link_laws.proofs.Contents.{FromCall, FromCalls, here, later}
+use Rattle.link_laws.specs.Kept.{signatures}
+use Rattle.link_laws.specs.Contents.{FromCall, FromCalls, here, later}
+use Rattle.link_laws.specs.OwnEntries.{object_entry, add_entry, call_entry, entry_of, AllFrom, entries_of}
 
 -- ---- an entry as it reaches the link
-
--- of an object: undefined by now, as the gABI has it, if a repeated group lists its section
-abbrev pub object_entry : (o : Stages.Object) (a : Stages.All) (met : List (List ℕ)) → ℕ → Sym
-object_entry o a met i =
-    let table = Words.symbols_of o.headers o.entries o.contents o.image in
-    cond (ltb (entry table i).section shn_loreserve && Objects.is_discarded o.headers o.entries o.contents o.image a.stage.link.sections met table i) (undefine (entry table i)) (entry table i)
-
--- of a direct add, ExternallyDefined as a shared object's: a definition other than an Elf symbol's counts as absolute, if it isn't common
-abbrev pub add_entry : {gabi : Bool} {conversion : List ℕ} {empty : Bool} {r : Row} {u : UpcomingSymbol} → FromAdd gabi conversion empty r u → Sym
-add_entry (Direct.unknown name a b c d) = symbol_of stb_global 0 stv_default shn_undef 0
-add_entry (Direct.hidden name value a b c d e f) = symbol_of stb_global 0 stv_hidden (cond (is_undefined value) shn_undef (cond (is_common_value value) shn_common shn_abs)) 0
-add_entry {gabi} (Direct.external name visibility binding p a b c d) = shared_entry gabi (symbol_of binding 0 visibility shn_abs 0)
-add_entry (Direct.elf e name file p a b c d) = symbol_of e.binding e.kind e.visibility e.section e.value
 
 -- ---- what a row means
 
@@ -109,15 +96,15 @@ common-is w =
 -- weak, hidden and definedness of a row and of a symbol
 pub record Stands (r : Row) (s : Sym) : Type 0 where
   pub means : Means r s
-  pub hidden : hides (visibility_at r.visibility) ≡ eqb s.visibility stv_hidden
+  pub hidden : hides (visibility_at r.scope) ≡ eqb s.visibility stv_hidden
   pub seen : eqb s.visibility stv_default ≡ not (eqb s.visibility stv_hidden)
 
-stands : (r : Row) (s : Sym) → visibility_at r.visibility ≡ Global (eqb s.binding stb_weak) (eqb s.visibility stv_hidden) → eqb s.binding stb_global ≡ not (eqb s.binding stb_weak)
+stands : (r : Row) (s : Sym) → visibility_at r.scope ≡ Global (eqb s.binding stb_weak) (eqb s.visibility stv_hidden) → eqb s.binding stb_global ≡ not (eqb s.binding stb_weak)
     → eqb s.visibility stv_default ≡ not (eqb s.visibility stv_hidden) → is_undefined (value_at r.value) ≡ eqb s.section shn_undef → is_common_value (value_at r.value) ≡ eqb s.section shn_common → Stands r s
 unfolding is_reference is_common is_weak is_global weakness
 stands r s v b e u w =
     record {
-      means = record { refers = sym (undefined-is r.value) ∙ u; commonly = sym (common-is r.value) ∙ w; weakly = weak-is r.visibility ∙ ap weakness v; bound = b };
+      means = record { refers = sym (undefined-is r.value) ∙ u; commonly = sym (common-is r.value) ∙ w; weakly = weak-is r.scope ∙ ap weakness v; bound = b };
       hidden = ap hides v;
       seen = e;
     }
@@ -200,7 +187,7 @@ module _ (o : Stages.Object) (a : Stages.All) (met : List (List ℕ)) (r : Row) 
 
 -- ---- of a library
 
-shared-stands : (gabi : Bool) (r : Row) (e : Sym) → Admitted e → visibility_at r.visibility ≡ shows (shared_entry gabi e) → value_at r.value ≡ Val.ExternallyDefined
+shared-stands : (gabi : Bool) (r : Row) (e : Sym) → Admitted e → visibility_at r.scope ≡ shows (shared_entry gabi e) → value_at r.value ≡ Val.ExternallyDefined
     → e.section ≢ shn_undef → Stands r (shared_entry gabi e)
 shared-stands gabi r e p v x u = stands r (shared_entry gabi e) v p.bound (seen gabi) (ap is_undefined x ∙ sym defined) (ap is_common_value x ∙ sym own)
   where
@@ -260,19 +247,6 @@ add-stands gabi conversion empty r u (Direct.elf e name file p a b c d) = stands
 
 -- ---- of any call
 
-abbrev pub call_entry : (k : Call) (s : Linked) (met : List (List ℕ)) (r : Row) → FromCall k s met r → Sym
-call_entry (intern x) s met r p = absurd p
-call_entry (reads k) s met r p = absurd p
-call_entry (add conversion u) s met r p = add_entry p
-call_entry (add_list conversion adds ids) s met r p = add_entry p.from
-call_entry (remove id) s met r p = absurd p
-call_entry (add_group o work n) s met r p = absurd p
-call_entry (merge o work ids) s met r p = object_entry o (all_in s work ids) met p.number
-call_entry (merge_file file cells work ids) s met r p = object_entry (ElfFile.rows_of file) (all_in s work ids) met p.1.number
-call_entry (load o marks) s met r p = shared_entry s.table.link.gabi (entry o.entries p.number)
-call_entry (collect marks entry work) s met r p = absurd p
-call_entry (plain_collect marks entry work) s met r p = absurd p
-
 call-stands : (k : Call) (s : Linked) (met : List (List ℕ)) (r : Row) (p : FromCall k s met r) → Stands r (call_entry k s met r p)
 call-stands (intern x) s met r p = absurd p
 call-stands (reads k) s met r p = absurd p
@@ -287,30 +261,16 @@ call-stands (load o marks) s met r p = library-stands o (library_in s marks) r p
 call-stands (collect marks entry work) s met r p = absurd p
 call-stands (plain_collect marks entry work) s met r p = absurd p
 
--- the entry that a row is from
-abbrev pub entry_of : (r : Row) (ks : List Call) (s : Linked) (met : List (List ℕ)) → FromCalls r ks s met → Sym
-entry_of r [] s met p = elim p [ ]
-entry_of r (k ∷ ks) s met (here p) = call_entry k s met r p
-entry_of r (k ∷ ks) s met (later p) = entry_of r ks (call_next k s) (met ++ signatures (k ∷ []) s) p
-
 entry-stands : (r : Row) (ks : List Call) (s : Linked) (met : List (List ℕ)) (p : FromCalls r ks s met) → Stands r (entry_of r ks s met p)
 entry-stands r [] s met p = elim p [ ]
 entry-stands r (k ∷ ks) s met (here p) = call-stands k s met r p
 entry-stands r (k ∷ ks) s met (later p) = entry-stands r ks (call_next k s) (met ++ signatures (k ∷ []) s) p
 
 module _ (ks : List Call) (s : Linked) (met : List (List ℕ)) where
-  abbrev pub AllFrom : List Row → Type 0
-  AllFrom rs = Rank.All (λ r. FromCalls r ks s met) rs
-
-  -- the entries of several
-  abbrev pub entries_of : (rs : List Row) → AllFrom rs → List Sym
-  entries_of [] p = []
-  entries_of (r ∷ rs) p = entry_of r ks s met p.0 ∷ entries_of rs p.1
-
-  pub all-mean : (rs : List Row) (p : AllFrom rs) → AllMean rs (entries_of rs p)
+  pub all-mean : (rs : List Row) (p : AllFrom ks s met rs) → AllMean rs (entries_of ks s met rs p)
   all-mean [] p = tt
   all-mean (r ∷ rs) p = ((entry-stands r ks s met p.0).means, all-mean rs p.1)
 
-  pub all-show : (rs : List Row) (p : AllFrom rs) → AllShow rs (entries_of rs p)
+  pub all-show : (rs : List Row) (p : AllFrom ks s met rs) → AllShow rs (entries_of ks s met rs p)
   all-show [] p = tt
   all-show (r ∷ rs) p = ((entry-stands r ks s met p.0).hidden, (entry-stands r ks s met p.0).seen, all-show rs p.1)

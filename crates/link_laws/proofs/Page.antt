@@ -42,7 +42,8 @@ use Rattle.archive_index.specs.Index.{count_of, offset_of, name_of}
 use Rattle.archive_laws.specs.Rounds as Rounds
 use Rattle.archive_walk.specs.Look.{Table}
 use Rattle.archive_laws.specs.Runs.{Run, history, start_run}
-use Rattle.archive_laws.proofs.PassList.{is_in, without, first_seen, offered, Over, among_in}
+use Rattle.archive_laws.specs.PassList.{is_in, without, first_seen, offered, Over}
+use Rattle.archive_laws.proofs.PassList.{among_in}
 use Rattle.gc_laws.proofs.Terms as CollectionLaws
 use Rattle.gc_laws.specs.Reached as Roots
 use Rattle.merge_stages.specs.Stages as Stages
@@ -62,31 +63,32 @@ use Rattle.order_laws.specs.Order.{names_issued, AnyOrder}
 use Rattle.order_laws.proofs.Terms as Order
 use Rattle.link_laws.specs.Calls.{Call, remove, get, get_global, section_symbol, merge, load, archive_start, archive_next, archive_shadowed, collect, library_in, lists_in, call_left, refusal_by, call_refusal, call_number, call_next, run_calls, RemovesNothing, earlier}
 use Rattle.link_laws.specs.Leaves.{by_elements}
-use Rattle.link_laws.proofs.Elements as Elements
+use Rattle.link_laws.specs.Elements as Elements
 use Rattle.link_laws.specs.CallContracts.{Exit, Meets}
-use Rattle.link_laws.proofs.Kept.{signatures}
+use Rattle.link_laws.specs.Kept.{signatures}
 use Rattle.link_laws.proofs.Profile.{calls-profile}
 use Rattle.link_laws.specs.Walks.{next_in, with_walk, walk_after, tables_at, joined}
 use Rattle.link_laws.proofs.Walks.{walk_is}
-use Rattle.link_laws.proofs.WalkIn as WalkIn
+use Rattle.link_laws.specs.WalkIn as WalkIn
+use Rattle.link_laws.proofs.WalkIn as WalkInLaws
 use Rattle.link_laws.specs.SectionSymbols.{SectionRow, LocalSection, LastOf}
-use Rattle.link_laws.proofs.Growth.{Turn, Quiet, run_turns}
-use Rattle.link_laws.proofs.NeededIn.{NeededIn}
+use Rattle.link_laws.specs.Growth.{Turn, Quiet, run_turns}
+use Rattle.link_laws.specs.NeededIn.{NeededIn}
 use Rattle.link_laws.specs.Words.{id_of, lookup, undefined, strong, ties, adds, tied}
 use Rattle.link_laws.proofs.Words.{ties-seen, tied-seen}
 use Rattle.link_laws.specs.Shadowed.{knows, strongly_defined, told, those_below, Tells}
 use Rattle.link_laws.specs.Rules as Rules
 use Rattle.link_laws.specs.CallRules.{rules}
 use Rattle.link_laws.proofs.ExactTerms as ExactTerms
-use Rattle.link_laws.proofs.ExactLinks.{lent_as}
-use Rattle.link_laws.proofs.NewExactly.{new_rules}
-use Rattle.link_laws.proofs.BuiltSections.{SparesAll}
-use Rattle.link_laws.proofs.ObjectSections as ObjectSections
-use Rattle.link_laws.proofs.ObjectSections.{section_id}
-use Rattle.link_laws.proofs.GivenRows.{AllStand}
-use Rattle.link_laws.proofs.Contents.{FromCalls}
-use Rattle.link_laws.proofs.EntryNames.{AllBear}
-use Rattle.link_laws.proofs.OwnEntries.{entry_of, AllFrom, entries_of}
+use Rattle.link_laws.specs.ExactLinks.{lent_as}
+use Rattle.link_laws.specs.NewExactly.{new_rules}
+use Rattle.link_laws.specs.BuiltSections.{SparesAll}
+use Rattle.link_laws.specs.ObjectSections as ObjectSections
+use Rattle.link_laws.specs.ObjectSections.{section_id}
+use Rattle.link_laws.specs.GivenRows.{AllStand}
+use Rattle.link_laws.specs.Contents.{FromCalls}
+use Rattle.link_laws.specs.EntryNames.{AllBear}
+use Rattle.link_laws.specs.OwnEntries.{entry_of, AllFrom, entries_of}
 use Rattle.link_laws.proofs.Terms as Terms
 
 -- ---- 1. answers and refusals
@@ -255,7 +257,7 @@ module _ (key : ℕ) (gabi : Bool) (bytes names symbols sections inputs lists : 
         exactly-3b p q o =
             Terms.exactly-3b key gabi bytes names symbols sections inputs lists new ks quiet walk_key index cells begun kss ls lss p q o
             ∙ ap (λ (l : List ℕ). offered index (walk_by kss) ++ without (offered index (walk_by kss)) (first_seen l))
-            (tied-seen link _ _ (WalkIn.reached_then index walk_key cells begun end _ _ (Terms.reached key gabi bytes names symbols sections inputs lists new ks quiet lent) kss ls lss calm) index)
+            (tied-seen link _ _ (WalkInLaws.reached_then index walk_key cells begun end _ _ (Terms.reached key gabi bytes names symbols sections inputs lists new ks quiet lent) kss ls lss calm) index)
 
         -- a name that ties is one "undefined at its start"; in the gABI profile the walk "reads "undefined and strong" for "undefined""
         pub ties-old : gabi ≡ false → (b : List ℕ) → ties b link ≡ undefined b link
@@ -269,16 +271,16 @@ module _ (key : ℕ) (gabi : Bool) (bytes names symbols sections inputs lists : 
             → is_in (offset_of index k) (offered index first) ≡ true
         last d e k h u =
             sym (among_in index k first.offers)
-            ∙ WalkIn.last-in index walk_key cells begun end kss ls lss d e k h
-            (ties-seen link _ _ (WalkIn.reached_then index walk_key cells begun end _ _ (Terms.reached key gabi bytes names symbols sections inputs lists new ks quiet lent) kss ls lss calm) (name_of index (count_of index) k)
+            ∙ WalkInLaws.last-in index walk_key cells begun end kss ls lss d e k h
+            (ties-seen link _ _ (WalkInLaws.reached_then index walk_key cells begun end _ _ (Terms.reached key gabi bytes names symbols sections inputs lists new ks quiet lent) kss ls lss calm) (name_of index (count_of index) k)
             ∙ u)
 
         -- no call of a walk over such a link is refused
         pub goes : call_number (archive_next index (walk_by kss).cells (walk_by kss).walk) link ≡ 0
         goes =
             subst (λ (r : Run). call_number (archive_next index r.cells r.walk) link ≡ 0) (sym (walk_is index kss (start_run walk_key index cells) end))
-            (WalkIn.next-goes index walk_key cells begun link _ _
-            (WalkIn.reached_then index walk_key cells begun end _ _ (Terms.reached key gabi bytes names symbols sections inputs lists new ks quiet lent) kss ls lss calm)
+            (WalkInLaws.next-goes index walk_key cells begun link _ _
+            (WalkInLaws.reached_then index walk_key cells begun end _ _ (Terms.reached key gabi bytes names symbols sections inputs lists new ks quiet lent) kss ls lss calm)
             (tables_at kss end))
 
       -- and of m + 1 calls the last answers "done"

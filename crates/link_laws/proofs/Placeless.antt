@@ -61,10 +61,12 @@ use Rattle.link_laws.proofs.AddNumbers as AddNumbers
 use Rattle.link_laws.proofs.Numbers.{numbers}
 use Rattle.link_laws.proofs.LoadNumbers.{lent_in, rows-give, head-gives}
 use Rattle.link_laws.specs.Leaves.{by_elements}
-use Rattle.link_laws.proofs.Broken.{changes, broken-refused}
+use Rattle.link_laws.specs.Broken.{changes}
+use Rattle.link_laws.proofs.Broken.{broken-refused}
 use Rattle.link_laws.proofs.Places.{add-place}
 use Rattle.link_laws.proofs.CallPlaces.{differ, intern-place, resolve-place, start-place, global-at, group-of-head}
-use Rattle.link_laws.proofs.Starred.{head_refusal, Stopped, at_head, at-element, stopped, some}
+use Rattle.link_laws.specs.Starred.{head_refusal}
+use Rattle.link_laws.proofs.Starred.{Stopped, at_head, at-element, stopped, some}
 use Rattle.merge_laws.specs.Table.{one_of, within, group_numbers, binding_causes, value_causes, type_causes, starred, placeless}
 use Rattle.link_laws.proofs.ListCall.{list-gives, add-broken-same}
 

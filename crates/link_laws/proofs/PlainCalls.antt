@@ -14,7 +14,7 @@ use Rattle.symbols.specs.Remove.{rows_of}
 use Rattle.gc_sections.specs.Run.{Left, left, Lists, Said, judged, finish_of, sweep_of, purge_of, run_of}
 use Rattle.plain_collector.specs.Visit.{Visited, reached_of}
 use Rattle.plain_collector.specs.Run.{judged_plain, finished, plain_of}
-use Rattle.plain_laws.proofs.Agrees.{Agrees}
+use Rattle.plain_laws.specs.Agrees.{Agrees}
 use Rattle.plain_laws.proofs.AgreesLemmas.{agrees-same}
 use Rattle.plain_laws.specs.BuiltRows.{built_rows}
 use Rattle.plain_laws.proofs.Terms.{plain-agrees, plain-broken, plain-short, plain-thirty}

@@ -14,8 +14,9 @@ use Rattle.merge_laws.proofs.Origin.{log-both, log-shown, group-shown, merge-sho
 use Rattle.load_laws.proofs.Origin.{load-shown}
 use Rattle.link_laws.specs.Calls.{Call, intern, add, remove, add_group, merge, merge_file, load, collect, plain_collect, library_in, call_next, call_notes, run_calls, log_calls, RemovesNothing, is_read, reads, add_list, list_adds}
 use Rattle.elf_laws.specs.Object as ElfFile
-use Rattle.link_laws.proofs.Growth.{Turn, turn_next, turn_notes, grow, run_turns, log_turns, Quiet}
-use Rattle.link_laws.proofs.CallSteps.{call_steps, Leads, made, cleared, head_number}
+use Rattle.link_laws.specs.Growth.{Turn, turn_next, turn_notes, grow, run_turns, log_turns, Quiet}
+use Rattle.link_laws.specs.CallSteps.{call_steps}
+use Rattle.link_laws.proofs.CallSteps.{Leads, made, cleared, head_number}
 use Rattle.link_laws.proofs.CallStepsLemmas.{call-log, call-leads, direct-shown, calls-shown-direct}
 
 leads-profile : (s t : State) (ks : List Step) → Leads s ks t → t.link.gabi ≡ s.link.gabi

@@ -63,7 +63,7 @@ module _ (s : State) (g : Ready s) (r : Row) where
   -- under a removed name nothing is decided but a refusal
   removed-refuses : Named (table s) r → id ≢ 0 → state_at s.symbols id ≡ 2 → Refuses (decided (table s) r)
   unfolding decided_of
-  removed-refuses n z e = absent-refused (table s) r (holder (table s) r) (rw (removed-holder n z e, ne_eqb r.visibility 0 n.global))
+  removed-refuses n z e = absent-refused (table s) r (holder (table s) r) (rw (removed-holder n z e, ne_eqb r.scope 0 n.global))
 
   written-present : (d : Decision) → ((k : ℕ) → d ≡ Refuse k → ⊥) → Named (table s) r → id ≢ 0 → decided (table s) r ≡ d → state_at s.symbols id ≢ 2
   written-present d differ n z p e = differ (removed-refuses n z e).number (sym p ∙ (removed-refuses n z e).is)
@@ -130,7 +130,7 @@ module _ (s : State) (g : Ready s) (r : Row) where
   noted_other : (n at : ℕ) → n ≢ r.name.0 → global_at (set s.names (r.name.0 * 8 + 3) at) n ≡ global_at s.names n
   noted_other n at u = get_or-set_other s.names (r.name.0 * 8 + 3) (n * 8 + 3) at 0 (λ d. u (omega arith))
 
-  appended-keeps : Free (table s) r → (r.visibility ≢ 0 → id ≡ 0) → Kept s (with_table s (append_of (table s) r))
+  appended-keeps : Free (table s) r → (r.scope ≢ 0 → id ≡ 0) → Kept s (with_table s (append_of (table s) r))
   unfolding append_of note_name
   appended-keeps f z =
       let next = one_more f in
@@ -139,7 +139,7 @@ module _ (s : State) (g : Ready s) (r : Row) where
         names_more = le_refl _;
         room = omega (arith, next, f.fits, length-set_row s.symbols (record { 0 = s.link.symbols }) r);
         named = λ n h u.
-            by-test (eqb r.visibility 0) (λ v. rw v)
+            by-test (eqb r.scope 0) (λ v. rw v)
             (λ v.
             rw v
             (noted_other n s.link.symbols

@@ -12,13 +12,13 @@ use Rattle.interner.specs.Names.{Store}
 use Rattle.interner.specs.Calls as Names
 use Rattle.symbols.specs.New.{clear_symbols, null_of, new_of}
 use Rattle.symbol_laws.specs.History.{State, Entry, opened}
-use Rattle.symbol_laws.proofs.Held.{Inv}
+use Rattle.symbol_laws.specs.Held.{Inv}
 use Rattle.symbol_laws.proofs.BelowLemmas.{inv-below}
-use Rattle.symbol_laws.proofs.Within.{Within}
+use Rattle.symbol_laws.specs.Within.{Within}
 use Rattle.merge_laws.proofs.More.{makes-slots}
 use Rattle.merge_laws.specs.Calls.{Linked}
 use Rattle.link_laws.specs.Calls.{Call, call_next, call_notes, run_calls, Removes, RemovesNothing}
-use Rattle.link_laws.proofs.CallSteps.{call_steps}
+use Rattle.link_laws.specs.CallSteps.{call_steps}
 use Rattle.link_laws.proofs.CallStepsLemmas.{call-makes}
 use Rattle.link_laws.proofs.CallPast.{call-past}
 use Rattle.link_laws.proofs.Kept.{call-keep}

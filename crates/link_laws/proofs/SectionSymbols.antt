@@ -24,7 +24,7 @@ use Rattle.symbol.specs.declared.Symbol.{Symbol}
 use Rattle.symbol.specs.declared.SymbolVisibility.TheVariants.{Local, Global}
 use Rattle.symbol.specs.declared.SymbolValue.TheVariants as Val
 use Rattle.symbol.specs.Codes.{visibility_at, value_at}
-use Rattle.symbol.specs.Row.{field, state_at, visibility_code_at, value_words_at, symbol_at}
+use Rattle.symbol.specs.Row.{field, state_at, scope_at, value_words_at, symbol_at}
 use Rattle.symbol_resolution.specs.Decide.{section_cell}
 use Rattle.symbol_resolution.specs.Apply.{set_section_symbol}
 use Rattle.symbols.specs.Lookup.{not_found, section_symbol_at, section_symbol_of}
@@ -161,11 +161,11 @@ module _ (s : Linked) (met : List (List ℕ)) (k : Lasting s met) (g : Ready s.t
       same : (x y : Symbol) → ◌≡◌ {A = Result Symbol Refusal} (Ok x) (Ok y) → x ≡ y
       same x y q = cc
 
-  own-of : (y : SectionId) (i : SymbolId) → visibility_code_at s.table.symbols i.0 < 5 → LocalSection s y i → is_own s.table i.0 y.0 ≡ true
+  own-of : (y : SectionId) (i : SymbolId) → scope_at s.table.symbols i.0 < 5 → LocalSection s y i → is_own s.table i.0 y.0 ≡ true
   unfolding symbol_at
   own-of y i c o =
       let p = got-is i _ o.its.got in
-      let v : visibility_code_at s.table.symbols i.0 ≡ 0 = local-code _ c (sym (ap (λ (x : Symbol). x.visibility) p.is) ∙ o.local) in
+      let v : scope_at s.table.symbols i.0 ≡ 0 = local-code _ c (sym (ap (λ (x : Symbol). x.visibility) p.is) ∙ o.local) in
       let (a, b) = section-code (value_words_at s.table.symbols i.0) y (sym (ap (λ (x : Symbol). x.value) p.is) ∙ o.its.section) in
       rw (v, a, b) (eq-eqb y.0 y.0 refl)
 
@@ -307,10 +307,10 @@ module _ (s : Linked) (f : Fresh s.table) (ready : Ready s.table) (w : Shown s.t
   bare : (i : SymbolId) → i.0 < s.table.link.symbols → LocalSection end y i → ⊥
   bare i h q =
       let z : i.0 ≡ 0 = omega (arith, h, f.one) in
-      let v : visibility_code_at s.table.symbols i.0 ≡ 0 = rw z (ap (λ (r : Row). r.visibility) f.null) in
+      let v : scope_at s.table.symbols i.0 ≡ 0 = rw z (ap (λ (r : Row). r.scope) f.null) in
       let e : row_at end.table.symbols i.0 ≡ null_row =
       stands-local s.table end.table i.0 (onto.stands i.0 h) v ∙ ap (row_at s.table.symbols) z ∙ f.null in
-      let c : visibility_code_at end.table.symbols i.0 ≡ 0 = ap (λ (r : Row). r.visibility) e in
+      let c : scope_at end.table.symbols i.0 ≡ 0 = ap (λ (r : Row). r.scope) e in
       false≢true (sym (ap (λ (r : Row). own_of r y.0) e) ∙ own-of end met k g y i (omega (arith, c)) q)
 
   pub last_of : (i : SymbolId) → (call_left (section_symbol y) end ≡ Some i) ↔ LastOf end y i

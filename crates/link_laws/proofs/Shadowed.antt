@@ -12,7 +12,7 @@ use Rattle.byte_slices.specs.Proof.Ways.{pick, apart}
 use Rattle.link.specs.declared.Interned.{Interned}
 use Rattle.link.specs.declared.cause.Refusal.{Refusal}
 use Rattle.symbol.specs.declared.Symbol.{Symbol}
-use Rattle.symbol.specs.Row.{symbol_at, value_words_at, visibility_code_at, kind_at}
+use Rattle.symbol.specs.Row.{symbol_at, value_words_at, scope_at, kind_at}
 use Rattle.symbol.specs.Codes.{visibility_at}
 use Rattle.symbol.specs.Hidden.{weak_in}
 use Rattle.symbol.specs.declared.SymbolVisibility.{SymbolVisibility}
@@ -30,16 +30,18 @@ use Rattle.archive_index.specs.Index.{count_of, offset_of, name_of, names_at}
 use Rattle.archive_index.specs.Open.{refused_as, offsets_in, open_names_of, open_entries_of, open_of}
 use Rattle.link.specs.Bounds.{lesser}
 use Rattle.archive_laws.specs.Members.{among, is_first, fresh}
-use Rattle.archive_laws.proofs.Counts.{first_one, Below, one_more, once-members, cnt-le}
+use Rattle.archive_laws.specs.Counts.{Below, one_more}
+use Rattle.archive_laws.proofs.Counts.{first_one, once-members, cnt-le}
 use Rattle.archive_laws.proofs.RoundLaws.{Kept, kept_fresh}
 use Rattle.archive_laws.proofs.Pass.{queue-length}
 use Rattle.archive_laws.specs.Runs.{queue_list, views_by, Run, history, start_run, seen}
 use Rattle.archive_laws.proofs.Terms.{walk_fine, walked}
-use Rattle.archive_laws.proofs.Steps.{Fine}
+use Rattle.archive_laws.specs.Steps.{Fine}
 use Rattle.shadowed_members.specs.Shadowed as Shadowed
 use Rattle.shadowed_members.specs.Shadowed.{offered_among, weak_definition, told_row, told_holder, told_name, told_at, those, listed, told_of, fits_index, shadowed_of}
 use Rattle.shadowed_members.specs.Proof.Ways.{any-more}
-use Rattle.symbol_laws.proofs.Within.{Within, Fits}
+use Rattle.symbol_laws.specs.Within.{Within}
+use Rattle.symbol_laws.proofs.Within.{Fits}
 use Rattle.load_laws.proofs.Own as Need
 use Rattle.merge_laws.specs.Marked.{Marked}
 use Rattle.merge_laws.specs.Calls.{Linked}
@@ -77,9 +79,9 @@ module _ (symbols : List ℕ) (name : Interned) where
   holder-told true (Known id) = sym (Need.undefined-code (value_words_at symbols id.0))
   holder-told false (Known id) =
       let a = Need.undefined-code (value_words_at symbols id.0) in
-      let b : is_weak_binding (visibility_at (visibility_code_at symbols id.0)) ≡ weak_of (visibility_code_at symbols id.0) =
-      same-binding (visibility_at (visibility_code_at symbols id.0)) ∙ weak_same (visibility_code_at symbols id.0) in
-      rw (a, b) (defined-weak (eqb (kind_at symbols id.0) 7) (weak_of (visibility_code_at symbols id.0)))
+      let b : is_weak_binding (visibility_at (scope_at symbols id.0)) ≡ weak_of (scope_at symbols id.0) =
+      same-binding (visibility_at (scope_at symbols id.0)) ∙ weak_same (scope_at symbols id.0) in
+      rw (a, b) (defined-weak (eqb (kind_at symbols id.0) 7) (weak_of (scope_at symbols id.0)))
 
 module _ (s : Linked) (f : Fits s.table) (w : Within s.table.link s.table.names) where
   told-lookup : (o : Bool) (b : List ℕ) → told_name (view_in s.table) o b ≡ cond o (undefined b s) (weakly_defined b s)

@@ -25,11 +25,12 @@ use Rattle.gc_sections.specs.Reach as Reach
 use Rattle.gc_sections.specs.Run as Collection
 use Rattle.gc_sections.specs.Run.{judged, purge_of, sweep_of, finish_of, finished, collect_of, run_of}
 use Rattle.symbol_laws.specs.History.{store, table}
-use Rattle.merge_laws.proofs.ByNumber as ByNumber
-use Rattle.merge_laws.proofs.ByNumber.{Between, all_left, name_stays}
+use Rattle.merge_laws.specs.ByNumber as ByNumber
+use Rattle.merge_laws.proofs.ByNumber as ByNumberLaws
+use Rattle.merge_laws.specs.ByNumber.{Between, all_left, name_stays}
 use Rattle.merge_laws.specs.Calls.{Linked, all_in}
-use Rattle.load_laws.proofs.Stops as Loading
-use Rattle.link_laws.specs.Calls.{Call, intern, add, remove, add_group, merge, merge_file, load, collect, plain_collect, library_in, lists_in, call_refusal, call_number, call_next, run_calls, file_head, is_read, reads, add_list, earlier}
+use Rattle.load_laws.specs.Stops as Loading
+use Rattle.link_laws.specs.Calls.{Call, intern, add, remove, add_group, merge, merge_file, load, collect, plain_collect, lists_in, call_refusal, call_number, call_next, run_calls, file_head, is_read, reads, add_list, earlier}
 use Rattle.link_laws.proofs.PlainCalls.{plain-link}
 use Rattle.elf_laws.specs.Object as ElfFile
 use Rattle.link_laws.proofs.FileCall.{next-read, next-unread, refusal-read, refusal-unread, head-numbers}
@@ -37,11 +38,15 @@ use Rattle.link_laws.proofs.Among.{one-within}
 use Rattle.link_laws.proofs.CallSteps.{group-count}
 use Rattle.link_laws.proofs.Leaves as LeavesLaws
 use Rattle.link_laws.specs.Leaves.{by_elements}
-use Rattle.link_laws.proofs.Broken.{changes, broken-refused}
-use Rattle.link_laws.proofs.Elements.{lent_to, MergeLeft, Merges, merges, merge-leaves, Ways, ways, Element, numbers_at, named_at, LoadLeft, load-leaves}
-use Rattle.link_laws.proofs.Elements as Elements
+use Rattle.link_laws.specs.Broken.{changes}
+use Rattle.link_laws.proofs.Broken.{broken-refused}
+use Rattle.link_laws.specs.Elements.{lent_to, MergeLeft, Element, numbers_at, named_at, LoadLeft}
+use Rattle.link_laws.proofs.Elements.{Merges, merges, merge-leaves, Ways, ways, load-leaves}
+use Rattle.link_laws.specs.Elements as Elements
+use Rattle.link_laws.proofs.Elements as ElementsLaws
 use Rattle.merge_laws.specs.Table.{one_of, within, merge_head_numbers, load_head_numbers, file_head_numbers, unstarred, starred}
 use Rattle.link_laws.proofs.ListCall.{keep-broken, add-broken-same, list-broken-same}
+use Rattle.link_laws.specs.Starred.{head_refusal}
 
 -- ---- the numbers of an element
 
@@ -78,20 +83,6 @@ module _ (o : Shared.Input) (marks : List ℕ) (s : Linked) where
   named-starred Loading.row = refl
 
 -- ---- a merge or a load that is refused: at its head it leaves all, at an element it breaks the link
-
--- the refusal of a merge's or a load's head, before its first element
-abbrev pub head_refusal : Call → Linked → Refusal
-head_refusal (intern x) s = none
-head_refusal (reads k) s = none
-head_refusal (add conversion u) s = none
-head_refusal (add_list conversion adds ids) s = none
-head_refusal (remove id) s = none
-head_refusal (add_group o work n) s = none
-head_refusal (merge o work ids) s = Merge.head_in o (all_in s work ids)
-head_refusal (merge_file file cells work ids) s = cond (is_read file cells s) (Merge.head_in (ElfFile.rows_of file) (all_in s work ids)) (file_head file cells s)
-head_refusal (load o marks) s = Shared.head_in o (library_in s marks)
-head_refusal (collect marks entry work) s = none
-head_refusal (plain_collect marks entry work) s = none
 
 pub data Stopped (k : Call) (s : Linked) : Type 0 where
   at_head : call_refusal k s ≡ head_refusal k s → one_of (call_number k s) (2 ∷ unstarred) ≡ true → call_next k s ≡ s → earlier k s ≡ s → Stopped k s
@@ -166,14 +157,14 @@ leaves_all k s h =
 
     go : Stopped k s → call_next k s ≡ earlier k s
     go (at_head r n e f) = e ∙ sym f
-    go (at-element n e) = absurd (ByNumber.apart (call_number k s) unstarred (2 ∷ starred) refl h n)
+    go (at-element n e) = absurd (ByNumberLaws.apart (call_number k s) unstarred (2 ∷ starred) refl h n)
 
 -- "Those marked * break the link when met inside an object or shared object"
 pub starred-breaks : (k : Call) (s : Linked) → by_elements k ≡ true → one_of (call_number k s) starred ≡ true → (call_next k s).table.link.broken ≡ true
 starred-breaks k s g h = go (stopped k s g (some (call_number k s) starred refl h))
   where
     go : Stopped k s → (call_next k s).table.link.broken ≡ true
-    go (at_head r n e f) = absurd (ByNumber.apart (call_number k s) starred (2 ∷ unstarred) refl h n)
+    go (at_head r n e f) = absurd (ByNumberLaws.apart (call_number k s) starred (2 ∷ unstarred) refl h n)
     go (at-element n e) = e
 
 -- 2 breaks it too, but where the head gives it: the cells for the call's own work are too few
@@ -239,16 +230,16 @@ direct-same (plain_collect marks entry work) s g = ap (λ (l : Link). l.broken) 
 -- an accepted merge or load leaves a whole link whole
 merge-whole : (o : Stages.Object) (work ids : List ℕ) (s : Linked) → Merges o work ids s → s.table.link.broken ≡ false → call_number (merge o work ids) s ≡ 0
     → (call_next (merge o work ids) s).table.link.broken ≡ false
-merge-whole o work ids s (Elements.head n h) w z = absurd (n (sym (ap (λ (x : Merge.Left). x.said.number) h.all) ∙ z))
-merge-whole o work ids s (Elements.accepted m) w z = ap (λ (x : Merge.Left). x.cells.stage.link.broken) m.all ∙ m.whole
-merge-whole o work ids s (Elements.element n q) w z = absurd (n (sym (ap (λ (x : Merge.Left). x.said.number) q) ∙ z))
+merge-whole o work ids s (ElementsLaws.head n h) w z = absurd (n (sym (ap (λ (x : Merge.Left). x.said.number) h.all) ∙ z))
+merge-whole o work ids s (ElementsLaws.accepted m) w z = ap (λ (x : Merge.Left). x.cells.stage.link.broken) m.all ∙ m.whole
+merge-whole o work ids s (ElementsLaws.element n q) w z = absurd (n (sym (ap (λ (x : Merge.Left). x.said.number) q) ∙ z))
 
 load-whole : (o : Shared.Input) (marks : List ℕ) (s : Linked) → Ways o marks s → s.table.link.broken ≡ false → call_number (load o marks) s ≡ 0
     → (call_next (load o marks) s).table.link.broken ≡ false
-load-whole o marks s (Elements.refuses n q) w z = absurd (n (sym (ap (λ (x : Shared.Left). number_in x.said) q) ∙ z))
-load-whole o marks s (Elements.unneeded q) w z = ap (λ (x : Shared.Left). x.cells.link.broken) q ∙ w
-load-whole o marks s (Elements.loads m) w z = ap (λ (x : Shared.Left). x.cells.link.broken) m.all ∙ m.whole
-load-whole o marks s (Elements.stops n q) w z = absurd (n (sym (ap (λ (x : Shared.Left). number_in x.said) q) ∙ z))
+load-whole o marks s (ElementsLaws.refuses n q) w z = absurd (n (sym (ap (λ (x : Shared.Left). number_in x.said) q) ∙ z))
+load-whole o marks s (ElementsLaws.unneeded q) w z = ap (λ (x : Shared.Left). x.cells.link.broken) q ∙ w
+load-whole o marks s (ElementsLaws.loads m) w z = ap (λ (x : Shared.Left). x.cells.link.broken) m.all ∙ m.whole
+load-whole o marks s (ElementsLaws.stops n q) w z = absurd (n (sym (ap (λ (x : Shared.Left). number_in x.said) q) ∙ z))
 
 accepted-whole : (k : Call) (s : Linked) → s.table.link.broken ≡ false → call_number k s ≡ 0 → (call_next k s).table.link.broken ≡ false
 accepted-whole (intern x) s w z = direct-same (intern x) s refl ∙ w

@@ -21,7 +21,7 @@ use Rattle.link.specs.Judge.{refused, change_of}
 use Rattle.link.specs.Said.{number_in}
 use Rattle.interner.specs.Calls.{resolved}
 use Rattle.interner_laws.specs.Good.{find}
-use Rattle.interner_laws.proofs.Interns.{Accepted, id}
+use Rattle.interner_laws.specs.Interns.{Accepted, id}
 use Rattle.symbol.specs.declared.Row.{Row}
 use Rattle.symbol.specs.Row.{symbol_at, scope_refused, value_refused}
 use Rattle.symbol.specs.RowLaws.{symbol_of}
@@ -55,7 +55,7 @@ use Rattle.archive_laws.specs.Rounds.{among, members}
 use Rattle.archive_laws.specs.Runs.{Run, history, start_run}
 use Rattle.archive_laws.specs.Walked.{in_index, queue_in, Walked}
 use Rattle.archive_laws.proofs.Terms.{walked}
-use Rattle.archive_laws.proofs.PassList.{Over, offered, without, first_seen, tied_members}
+use Rattle.archive_laws.specs.PassList.{Over, offered, without, first_seen, tied_members}
 use Rattle.gc_laws.proofs.Terms as CollectionLaws
 use Rattle.gc_laws.specs.Reached as Roots
 use Rattle.symbol_laws.specs.ContentWords.{shared_entry}
@@ -65,13 +65,14 @@ use Rattle.symbol_laws.specs.Rank.{ranked, FirstOfGreatestRank, first_by_rank, j
 use Rattle.symbol_laws.specs.Proof.Rows.{row_at}
 use Rattle.symbol_laws.specs.History.{opened, Entry, only, rows, store, upcoming, table}
 use Rattle.symbol_laws.proofs.Start.{new-inv}
-use Rattle.symbol_laws.proofs.Held.{Inv}
+use Rattle.symbol_laws.specs.Held.{Inv}
 use Rattle.symbol_laws.proofs.BelowLemmas.{inv-below}
 use Rattle.symbol_laws.specs.Standing.{SameButHidden, hidden_by}
 use Rattle.symbol_laws.proofs.Profile.{new-profile}
 use Rattle.symbol_laws.specs.Demand as Demand
 use Rattle.symbol_laws.proofs.Demand as DemandLaws
-use Rattle.symbol_laws.proofs.Within as Within
+use Rattle.symbol_laws.specs.Within as Within
+use Rattle.symbol_laws.proofs.Within as WithinLaws
 use Rattle.symbol_laws.proofs.Within.{Fits}
 use Rattle.symbol_laws.specs.Writes as Writes
 use Rattle.symbol_laws.proofs.WritesLemmas as WritesLaws
@@ -84,36 +85,40 @@ use Rattle.symbol_laws.specs.ObjectWords.{sections_in, entries_in, program, unin
 use Rattle.symbol_laws.specs.Agreement as Agreement
 use Rattle.symbol_laws.proofs.Agreement as AgreementLaws
 use Rattle.extraction_laws.specs.Member.{member_of}
-use Rattle.extraction_laws.proofs.Taken as Taken
-use Rattle.extraction_laws.proofs.Taken.{taken, weak_offers, wanted_names}
-use Rattle.extraction_laws.proofs.Wanted.{weak_only}
-use Rattle.extraction_laws.proofs.MemberWords.{symbols_of}
-use Rattle.extraction_laws.proofs.Answer.{says, admitted}
+use Rattle.extraction_laws.specs.Taken as Taken
+use Rattle.extraction_laws.specs.Taken.{taken, weak_offers, wanted_names}
+use Rattle.extraction_laws.specs.Wanted.{weak_only}
+use Rattle.extraction_laws.specs.MemberWords.{symbols_of}
+use Rattle.extraction_laws.specs.Answer.{says, admitted}
 use Rattle.extraction_laws.proofs.Admission as Admission
-use Rattle.extraction_laws.proofs.Admission.{bears_one, defines_one}
-use Rattle.merge_laws.proofs.Stops as Merging
-use Rattle.merge_laws.proofs.Stops.{object, groups_to}
-use Rattle.merge_laws.proofs.ByNumber as ByNumber
+use Rattle.extraction_laws.specs.Admission.{bears_one, defines_one}
+use Rattle.merge_laws.specs.Stops as Merging
+use Rattle.merge_laws.specs.Stops.{object, groups_to}
+use Rattle.merge_laws.specs.ByNumber as ByNumber
 use Rattle.merge_laws.specs.Marked.{Marked}
 use Rattle.merge_laws.proofs.MarkedLemmas.{new-marked}
 use Rattle.merge_laws.proofs.FirstKept as FirstKept
-use Rattle.merge_laws.proofs.FirstKept.{reader, met_to, signature, listed}
-use Rattle.merge_laws.proofs.Discarded as Discarded
-use Rattle.merge_laws.proofs.Accepted as Merged
-use Rattle.merge_laws.proofs.Placed.{row_of}
+use Rattle.merge_laws.specs.FirstKept.{reader, met_to, signature, listed}
+use Rattle.merge_laws.specs.Discarded as Discarded
+use Rattle.merge_laws.proofs.Discarded as DiscardedLaws
+use Rattle.merge_laws.specs.Accepted as Merged
+use Rattle.merge_laws.proofs.Accepted as MergedLaws
+use Rattle.merge_laws.specs.Placed.{row_of}
 use Rattle.merge_laws.proofs.RowStays as RowStays
 use Rattle.merge_laws.proofs.Terms as MergeTerms
 use Rattle.merge_laws.specs.MergeWords.{named_by, own_signatures, is_removed}
 use Rattle.merge_laws.specs.MergeWords as ObjectWords
-use Rattle.load_laws.proofs.Accepted as LoadRows
+use Rattle.load_laws.specs.Accepted as LoadRows
 use Rattle.load_laws.proofs.Terms as LoadTerms
 use Rattle.merge_laws.proofs.Lookups as Lookups
 use Rattle.merge_laws.proofs.Lookups.{new-lists}
 use Rattle.merge_laws.specs.Past as Past
 use Rattle.merge_laws.specs.Calls.{Linked, linked, all_in}
-use Rattle.merge_laws.proofs.SymbolDuplicates as InMerge
-use Rattle.load_laws.proofs.SymbolDuplicates as InLoad
-use Rattle.plain_laws.proofs.Agrees.{Agrees}
+use Rattle.merge_laws.specs.SymbolDuplicates as InMerge
+use Rattle.merge_laws.proofs.SymbolDuplicates as InMergeLaws
+use Rattle.load_laws.specs.SymbolDuplicates as InLoad
+use Rattle.load_laws.proofs.SymbolDuplicates as InLoadLaws
+use Rattle.plain_laws.specs.Agrees.{Agrees}
 use Rattle.plain_laws.proofs.Terms as Plain
 use Rattle.plain_laws.specs.BuiltRows.{built_rows}
 use Rattle.link_laws.specs.Calls.{Call, intern, resolve, add, remove, get, get_global, section_symbol, add_group, merge, merge_file, load, archive_start, archive_next, archive_shadowed, matches, collect, plain_collect, view_in, group_in, library_in, lists_in, call_left, refusal_by, call_refusal, call_number, call_next, call_notes, run_calls, log_calls, Removes, RemovesNothing, file_head, add_list, earlier}
@@ -125,49 +130,56 @@ use Rattle.link_laws.specs.Table.{call_numbers}
 use Rattle.link_laws.specs.Rules as Rules
 use Rattle.link_laws.specs.CallRules.{rules}
 use Rattle.link_laws.proofs.ExactTerms as ExactTerms
-use Rattle.link_laws.proofs.ExactLinks as ExactLinks
+use Rattle.link_laws.specs.ExactLinks as ExactLinks
+use Rattle.link_laws.proofs.ExactLinks as ExactLinksLaws
 use Rattle.link_laws.proofs.NewExactly as NewExactly
-use Rattle.link_laws.proofs.NewExactly.{new_rules}
+use Rattle.link_laws.specs.NewExactly.{new_rules}
 use Rattle.link_laws.proofs.Numbers as Numbers
 use Rattle.link_laws.proofs.Leaves as LeavesLaws
 use Rattle.link_laws.specs.Leaves.{by_elements}
 use Rattle.link_laws.proofs.Broken as Broken
-use Rattle.link_laws.proofs.Broken.{changes}
+use Rattle.link_laws.specs.Broken.{changes}
 use Rattle.link_laws.proofs.ArchiveLeaves as ArchiveLeaves
 use Rattle.link_laws.proofs.NewTable as NewTable
-use Rattle.link_laws.proofs.NewTable.{unopened}
+use Rattle.link_laws.specs.NewTable.{unopened}
 use Rattle.link_laws.proofs.AddCall as AddCall
 use Rattle.link_laws.proofs.CallDuplicates as CallDuplicates
-use Rattle.link_laws.proofs.CallDuplicates.{IsDuplicate, Judges}
+use Rattle.link_laws.specs.CallDuplicates.{IsDuplicate, Judges}
 use Rattle.link_laws.specs.SectionCount.{Sectioned}
 use Rattle.link_laws.proofs.SectionCount.{calls-sectioned, new-sectioned, sections-judged}
-use Rattle.link_laws.proofs.GroupAlone as GroupAlone
-use Rattle.link_laws.proofs.Elements as Elements
+use Rattle.link_laws.specs.GroupAlone as GroupAlone
+use Rattle.link_laws.proofs.GroupAlone as GroupAloneLaws
+use Rattle.link_laws.specs.Elements as Elements
+use Rattle.link_laws.proofs.Elements as ElementsLaws
 use Rattle.link_laws.proofs.Starred as Starred
-use Rattle.link_laws.proofs.Starred.{head_refusal}
+use Rattle.link_laws.specs.Starred.{head_refusal}
 use Rattle.link_laws.proofs.Places as Places
-use Rattle.link_laws.proofs.FirstRow.{First, BadRow}
+use Rattle.link_laws.specs.FirstRow.{First, BadRow}
 use Rattle.link_laws.proofs.CallPlaces as CallPlaces
-use Rattle.link_laws.proofs.CallPlaces.{not_removed, collect_lent}
+use Rattle.link_laws.specs.CallPlaces.{not_removed, collect_lent}
 use Rattle.link_laws.proofs.Placeless as Placeless
-use Rattle.link_laws.proofs.RowPlaces as RowPlaces
-use Rattle.link_laws.proofs.RowPlaces.{library_lent}
-use Rattle.link_laws.proofs.CutShort as CutShort
+use Rattle.link_laws.specs.RowPlaces as RowPlaces
+use Rattle.link_laws.proofs.RowPlaces as RowPlacesLaws
+use Rattle.link_laws.specs.RowPlaces.{library_lent}
+use Rattle.link_laws.specs.CutShort as CutShort
+use Rattle.link_laws.proofs.CutShort as CutShortLaws
 use Rattle.link_laws.proofs.CallContracts as ContractsLaws
 use Rattle.link_laws.specs.CallContracts.{Exit, Meets}
 use Rattle.symbols.specs.Contract.{NewExit, NewMeets}
 use Rattle.strings.specs.Contract.{StringExit, StringMeets, EndedMeets}
 use Rattle.section_groups.specs.Contract.{FilterMeets}
 use Rattle.link_laws.proofs.KeyFree as KeyFree
-use Rattle.link_laws.proofs.KeyFree.{Alike, SameAnswers}
+use Rattle.link_laws.specs.KeyFree.{Alike, SameAnswers}
 use Rattle.link_laws.proofs.Idle as Idle
 use Rattle.link_laws.proofs.CallPast as CallPast
 use Rattle.link_laws.specs.Lists as Lists
 use Rattle.link_laws.proofs.Lists as ListsLaws
 use Rattle.link_laws.proofs.Kept as Kept
-use Rattle.link_laws.proofs.Kept.{signatures, meets_groups, calls-keep, calls-marked, calls-below, Lasting, lasting-within, lasting-on, Reached, reached-within, reached-on}
+use Rattle.link_laws.specs.Kept.{signatures, meets_groups, Reached}
+use Rattle.link_laws.proofs.Kept.{calls-keep, calls-marked, calls-below, Lasting, lasting-within, lasting-on, reached-within, reached-on}
 use Rattle.link_laws.proofs.NamesStay as NamesStay
-use Rattle.link_laws.proofs.Libraries as Libraries
+use Rattle.link_laws.specs.Libraries as Libraries
+use Rattle.link_laws.proofs.Libraries as LibrariesLaws
 use Rattle.link_laws.proofs.LibraryLoads as LibraryLoadsLaws
 use Rattle.link_laws.specs.LibraryLoads.{LoadedAt}
 use Rattle.link_laws.proofs.LibraryLoads.{new-inputs}
@@ -178,35 +190,43 @@ use Rattle.link_laws.specs.LocalRows.{Shown, Counted}
 use Rattle.link_laws.proofs.LocalRows.{calls-onto, calls-stay, inv-shown}
 use Rattle.link_laws.proofs.SectionSymbols as SectionSymbolsLaws
 use Rattle.link_laws.specs.SectionSymbols.{SectionRow, LocalSection, LastOf}
-use Rattle.link_laws.proofs.Growth.{Turn, Quiet, run_turns, log_turns, Some as SomeTurns, turns-reached}
+use Rattle.link_laws.specs.Growth.{Turn, Quiet, run_turns, log_turns}
+use Rattle.link_laws.proofs.Growth.{Some as SomeTurns, turns-reached}
 use Rattle.link_laws.proofs.NeededIn as NeededIn
-use Rattle.link_laws.proofs.NeededIn.{NeededIn}
+use Rattle.link_laws.specs.NeededIn.{NeededIn}
 use Rattle.link_laws.proofs.Walks as WalksLaws
 use Rattle.link_laws.specs.Walks.{next_in, with_walk, walk_after, tables_at, joined}
-use Rattle.link_laws.proofs.WalkIn as WalkIn
+use Rattle.link_laws.specs.WalkIn as WalkIn
+use Rattle.link_laws.proofs.WalkIn as WalkInLaws
 use Rattle.link_laws.specs.Shadowed.{knows, strongly_defined, told, Settled, those_below, Tells}
 use Rattle.link_laws.proofs.Shadowed as ShadowedLaws
 use Rattle.merge_laws.specs.Origin.{from_objects}
 use Rattle.merge_laws.proofs.Origin.{hidden-objects, only-shown}
 use Rattle.link_laws.proofs.Profile.{call-profile, calls-profile, calls-shown, turns-profile, turns-shown}
-use Rattle.link_laws.proofs.Undefined as Undefined
-use Rattle.link_laws.proofs.Undefined.{is_undefined_row, weak_references}
+use Rattle.link_laws.specs.Undefined as Undefined
+use Rattle.link_laws.proofs.Undefined as UndefinedLaws
+use Rattle.link_laws.specs.Undefined.{is_undefined_row, weak_references}
 use Rattle.link_laws.proofs.Ties as Ties
 use Rattle.link_laws.proofs.Ties.{OfName}
-use Rattle.link_laws.proofs.Extraction as Extraction
-use Rattle.link_laws.proofs.BuiltSections.{SparesAll}
-use Rattle.link_laws.proofs.ObjectSections as ObjectSections
-use Rattle.link_laws.proofs.ObjectSections.{section_id}
+use Rattle.link_laws.specs.Extraction as Extraction
+use Rattle.link_laws.proofs.Extraction as ExtractionLaws
+use Rattle.link_laws.specs.BuiltSections.{SparesAll}
+use Rattle.link_laws.specs.ObjectSections as ObjectSections
+use Rattle.link_laws.proofs.ObjectSections as ObjectSectionsLaws
+use Rattle.link_laws.specs.ObjectSections.{section_id}
 use Rattle.link_laws.proofs.GivenRows as GivenRows
-use Rattle.link_laws.proofs.GivenRows.{Stands, AllStand}
+use Rattle.link_laws.specs.GivenRows.{Stands, AllStand}
 use Rattle.link_laws.proofs.Contents as Contents
-use Rattle.link_laws.proofs.Contents.{FromCalls}
-use Rattle.link_laws.proofs.EntryNames as EntryNames
-use Rattle.link_laws.proofs.OwnEntries.{entry_of, AllFrom, entries_of, all-mean, all-show}
+use Rattle.link_laws.specs.Contents.{FromCalls}
+use Rattle.link_laws.specs.EntryNames as EntryNames
+use Rattle.link_laws.proofs.EntryNames as EntryNamesLaws
+use Rattle.link_laws.specs.OwnEntries.{entry_of, AllFrom, entries_of}
+use Rattle.link_laws.proofs.OwnEntries.{all-mean, all-show}
 use Rattle.link_laws.proofs.Admitted as Admitted
-use Rattle.link_laws.proofs.Admitted.{answer_in}
+use Rattle.link_laws.specs.Admitted.{answer_in}
 use Rattle.merge_laws.specs.Table.{one_of, section_causes, group_causes, early_causes, unstarred, starred, placeless, refusals}
-use Rattle.link_laws.proofs.OneByOne as OneByOne
+use Rattle.link_laws.specs.OneByOne as OneByOne
+use Rattle.link_laws.proofs.OneByOne as OneByOneLaws
 use Rattle.add_list.specs.AddList.{items_of, list_left}
 
 -- ---- 1. "The answer to every call is a result or, exactly where document 01's rules in their order give it, one of the refusals 1 to 25"; document 02 adds
@@ -287,16 +307,16 @@ group-element-place = CallPlaces.group-element-place
 -- library's symbols, else 0 for its soname, else of its dependencies; "mark list cut short" at the first symbol without a mark
 pub merge-row : (o : Stages.Object) (work ids : List ℕ) (s : Linked) → (change_of s.table.link (Merge.lent (all_in s work ids))).number ≡ 0
     → call_number (merge o work ids) s ≡ 1 → RowPlaces.BadObject o (call_refusal (merge o work ids) s).place
-merge-row = RowPlaces.merge-row
+merge-row = RowPlacesLaws.merge-row
 
 pub group-row : (o : Group.Object) (work : List ℕ) (n : ℕ) (s : Linked) → (change_of s.table.link (AddGroup.lent (group_in s.table work))).number ≡ 0
     → call_number (add_group o work n) s ≡ 1 → RowPlaces.BadGroup o n (call_refusal (add_group o work n) s).place
-group-row o work n = RowPlaces.group-row o n work
+group-row o work n = RowPlacesLaws.group-row o n work
 
 pub matches-row : (headers entries contents file index cells : List ℕ) (w : Walk) (e : ℕ) (s : Linked)
     → (Elf.judge_of headers entries (length contents) (length file)).number ≢ 0
     → BadRow headers entries (length contents) (length file) (call_refusal (matches headers entries contents file index cells w e) s).place
-matches-row = RowPlaces.matches-row
+matches-row = RowPlacesLaws.matches-row
 
 -- what admission answers where it isn't refused, over any link, walk and entry, also where the index lies. The old profile: "some symbol of binding 1,
 -- defined or not, bears a required name". The gABI's: "a weak or global definition, and nothing else, admits one"
@@ -313,7 +333,7 @@ module _ (s : Linked) (headers entries contents file index cells : List ℕ) (w 
 
 pub load_row : (o : Shared.Input) (marks : List ℕ) (s : Linked) → (change_of s.table.link (library_lent s)).number ≡ 0 → call_number (load o marks) s ≡ 1
     → RowPlaces.BadLibrary o (call_refusal (load o marks) s).place
-load_row = RowPlaces.load_row
+load_row = RowPlacesLaws.load_row
 
 pub collect-marks-place : (marks : List ℕ) (entry : Option SymbolId) (work : List ℕ) (s : Linked) → (change_of s.table.link (collect_lent s)).number ≡ 0
     → call_number (collect marks entry work) s ≡ 1
@@ -328,7 +348,7 @@ collect-link-place = CallPlaces.collect-link-place
 -- an index "of 1 to 3 bytes gives 1 at 0, a longer one at the first entry whose offset, else whose name, is cut short"
 pub start-row : (key : ℕ) (index cells : List ℕ) (s : Linked) → call_number (archive_start key index cells) s ≡ 1
     → CutShort.CutShort index (call_refusal (archive_start key index cells) s).place
-start-row key index cells s = CutShort.start-row index key cells s
+start-row key index cells s = CutShortLaws.start-row index key cells s
 
 -- "and leaves behind what that table says": a refused call leaves every row, name, mark and count of the link, and a list of adds those of the adds
 -- before the refused one (`earlier` is the link as it was for every other call); a merge and a load may leave "that call's earlier elements"
@@ -363,15 +383,15 @@ leaves_all = Starred.leaves_all
 -- request 2026-05: a list of adds is the adds one by one, stopped at the first that is refused: the link, the log, number and place, the position, the ids.
 -- "A broken link gives 22 to any list, then fewer cells than adds give 2, both at position 0, changing nothing"
 pub one_by_one : (conversion adds ids : List ℕ) (s : Linked) → s.table.link.broken ≡ false → length (items_of adds) ≤ length ids → OneByOne.OneByOne conversion adds ids s
-one_by_one = OneByOne.one_by_one
+one_by_one = OneByOneLaws.one_by_one
 
 pub list-broken : (conversion adds ids : List ℕ) (s : Linked) → s.table.link.broken ≡ true
     → call_left (add_list conversion adds ids) s ≡ list_left (table s.table) ids (refused 22 0) 0
-list-broken = OneByOne.list-broken
+list-broken = OneByOneLaws.list-broken
 
 pub list-short : (conversion adds ids : List ℕ) (s : Linked) → s.table.link.broken ≡ false → length ids < length (items_of adds)
     → call_left (add_list conversion adds ids) s ≡ list_left (table s.table) ids (refused 2 0) 0
-list-short = OneByOne.list-short
+list-short = OneByOneLaws.list-short
 
 -- a merge or a load that is refused at its head leaves all: 22, 1, 25, missing work cells or marks
 pub merge-head-leaves : (o : Stages.Object) (work ids : List ℕ) (s : Linked) → (Merge.head_in o (all_in s work ids)).number ≢ 0 → call_next (merge o work ids) s ≡ s
@@ -398,20 +418,20 @@ not-needed-leaves = LeavesLaws.load-unneeded
 -- otherwise it is refused at one of its elements, with that one's place: "that call's earlier elements stay merged", all is left at it, on 10 to 14, 16,
 -- 19 and 28 but for its name, and the link is broken
 pub merge-leaves : (o : Stages.Object) (work ids : List ℕ) (s : Linked) → call_number (merge o work ids) s ≢ 0 → Elements.MergeLeft o work ids s
-merge-leaves = Elements.merge-leaves
+merge-leaves = ElementsLaws.merge-leaves
 
 pub load-leaves : (o : Shared.Input) (marks : List ℕ) (s : Linked) → call_number (load o marks) s ≢ 0 → Elements.LoadLeft o marks s
-load-leaves = Elements.load-leaves
+load-leaves = ElementsLaws.load-leaves
 
 -- 3 and 24: "names, symbols" as before the call
 pub merge-names-left : (o : Stages.Object) (work ids : List ℕ) (s : Linked) → one_of (call_number (merge o work ids) s) section_causes ≡ true
     → ByNumber.NamesLeft o (all_in s work ids) (call_left (merge o work ids) s).cells
-merge-names-left = Elements.names-left
+merge-names-left = ElementsLaws.names-left
 
 -- 3 to 8 and 24: symbols; 8 leaves the "table"
 pub merge-symbols-left : (o : Stages.Object) (work ids : List ℕ) (s : Linked) → one_of (call_number (merge o work ids) s) early_causes ≡ true
     → ByNumber.SymbolsLeft o (all_in s work ids) (call_left (merge o work ids) s).cells
-merge-symbols-left = Elements.symbols-left
+merge-symbols-left = ElementsLaws.symbols-left
 
 -- "Those marked * break the link when met inside an object or shared object"
 pub starred-breaks : (k : Call) (s : Linked) → by_elements k ≡ true
@@ -471,10 +491,10 @@ module _ (key : ℕ) (gabi : Bool) (bytes names symbols sections inputs lists : 
   lent_any = ExactLinks.on key gabi bytes names symbols sections inputs lists new ts symbols' sections' inputs' lists'
 
   pub exactly-any : call_refusal k lent_any ≡ Rules.first_refusal (rules k lent_any)
-  exactly-any = ExactLinks.exactly-any key gabi bytes names symbols sections inputs lists new ts symbols' sections' inputs' lists' k
+  exactly-any = ExactLinksLaws.exactly-any key gabi bytes names symbols sections inputs lists new ts symbols' sections' inputs' lists' k
 
   pub accepted-any : eqb (call_number k lent_any) 0 ≡ not (Rules.some_holds (rules k lent_any))
-  accepted-any = ExactLinks.accepted-any key gabi bytes names symbols sections inputs lists new ts symbols' sections' inputs' lists' k
+  accepted-any = ExactLinksLaws.accepted-any key gabi bytes names symbols sections inputs lists new ts symbols' sections' inputs' lists' k
 
 -- `Symbols::new`
 pub new-exactly : (key : ℕ) (gabi : Bool) (bytes names symbols sections : List ℕ) → refusal_by (new_of key gabi bytes names symbols sections).said ≡ Rules.first_refusal (new_rules names symbols)
@@ -569,7 +589,7 @@ module _ (key : ℕ) (gabi : Bool) (bytes names symbols sections inputs lists : 
         → let met = signatures ks start in
         (call_left (add_group o work n) after).work
         ≡ mark_removed_of (mark_group_of work n) (not (Gabi.kept (met ++ GroupAlone.signature o n ∷ later) (length met))) (GroupAlone.listed o n)
-    alone-kept o work n = GroupAlone.alone-kept o after.table work n (signatures ks start) marked
+    alone-kept o work n = GroupAloneLaws.alone-kept o after.table work n (signatures ks start) marked
 
     -- a mark that a merge makes stands until its end: the section of a group that the gABI doesn't keep isn't built, and its symbols are undefined for the add
     pub repeated-discarded : (o : Stages.Object) (work ids : List ℕ) → call_number (merge o work ids) after ≡ 0 → (n : ℕ) → n < rows_in o.headers
@@ -579,7 +599,7 @@ module _ (key : ℕ) (gabi : Bool) (bytes names symbols sections inputs lists : 
         Gabi.kept (met ++ signature o all n ∷ later) (length met) ≡ false → Discarded.Discarded o all (listed o all n)
     repeated-discarded o work ids ok =
         let all = all_in after work ids in
-        Discarded.repeated-discarded o all (signatures ks start) marked (Discarded.groups-pass o all (Discarded.merge-passes o all ok).1)
+        DiscardedLaws.repeated-discarded o all (signatures ks start) marked (DiscardedLaws.groups-pass o all (DiscardedLaws.merge-passes o all ok).1)
 
     -- and the row that it has, of kind 1 or 2 and not excluded, is still reserved, not built
     pub repeated-reserved : (o : Stages.Object) (work ids : List ℕ) → call_number (merge o work ids) after ≡ 0 → (m : ℕ) → m < rows_in o.headers
@@ -603,11 +623,11 @@ module _ (key : ℕ) (gabi : Bool) (bytes names symbols sections inputs lists : 
     -- an accepted merge adds those of all its groups, in order, excluded ones aside; an accepted group its own; calls of other kinds add none
     pub merge-signatures : (o : Stages.Object) (work ids : List ℕ) → call_number (merge o work ids) after ≡ 0
         → signatures (merge o work ids ∷ []) after ≡ Merged.signatures_to o (all_in after work ids) (rows_in o.headers)
-    merge-signatures o work ids ok = append-nil _ ∙ Merged.merge-signatures o (all_in after work ids) ok (signatures ks start) marked
+    merge-signatures o work ids ok = append-nil _ ∙ MergedLaws.merge-signatures o (all_in after work ids) ok (signatures ks start) marked
 
     pub alone-signature : (o : Group.Object) (work : List ℕ) (n : ℕ) → call_number (add_group o work n) after ≡ 0
         → signatures (add_group o work n ∷ []) after ≡ GroupAlone.signature o n ∷ []
-    alone-signature o work n ok = append-nil _ ∙ GroupAlone.alone-signature o after.table work n (signatures ks start) marked ok
+    alone-signature o work n ok = append-nil _ ∙ GroupAloneLaws.alone-signature o after.table work n (signatures ks start) marked ok
 
     pub no-signatures : (k : Call) → meets_groups k ≡ false → signatures (k ∷ []) after ≡ []
     no-signatures k = Kept.no-signatures k after
@@ -630,7 +650,7 @@ module _ (key : ℕ) (gabi : Bool) (bytes names symbols sections inputs lists : 
           lasting-on ks start []
           (record {
             marked = new-marked key gabi bytes names symbols sections new;
-            counted = Lookups.counted start.table.link start.table.names (Within.new-within key gabi bytes names symbols sections new);
+            counted = Lookups.counted start.table.link start.table.names (WithinLaws.new-within key gabi bytes names symbols sections new);
             below = inv-below start.table [] (new-inv key gabi bytes names symbols sections new);
             lent = lent;
             inside = new-lists key gabi bytes names symbols sections lists;
@@ -711,7 +731,7 @@ module _ (key : ℕ) (gabi : Bool) (bytes names symbols sections inputs lists : 
       -- its row has the ids of its name, of the undefined names of binding 1 that it was given and of its dependencies
       pub library-remembered : (o : Shared.Input) (marks : List ℕ) → (call_left (load o marks) after).answer ≡ Ok Loaded → (ls : List Call)
           → Libraries.Remembered o (library_in after marks) (run_calls ls (call_next (load o marks) after))
-      library-remembered o marks ok ls = Libraries.library-remembered after _ lasting o marks ok ls
+      library-remembered o marks ok ls = LibrariesLaws.library-remembered after _ lasting o marks ok ls
 
       -- and no other call takes a library's row: it comes from a load that was answered "loaded"
       pub library-loaded : (k : ℕ) → k < after.table.link.inputs → input_kind_at after.inputs k ≡ library_kind → LoadedAt k ks start
@@ -726,7 +746,7 @@ module _ (key : ℕ) (gabi : Bool) (bytes names symbols sections inputs lists : 
           NeededIn.needed-in start []
           (record {
             marked = new-marked key gabi bytes names symbols sections new;
-            counted = Lookups.counted start.table.link start.table.names (Within.new-within key gabi bytes names symbols sections new);
+            counted = Lookups.counted start.table.link start.table.names (WithinLaws.new-within key gabi bytes names symbols sections new);
             below = inv-below start.table [] (new-inv key gabi bytes names symbols sections new);
             lent = lent;
             inside = new-lists key gabi bytes names symbols sections lists;
@@ -736,7 +756,7 @@ module _ (key : ℕ) (gabi : Bool) (bytes names symbols sections inputs lists : 
       -- and these stand for the names
       pub library-named : (o : Shared.Input) (marks : List ℕ) → (call_left (load o marks) after).answer ≡ Ok Loaded → (ls : List Call)
           → Libraries.Named o (library_in after marks) (run_calls ls (call_next (load o marks) after))
-      library-named o marks ok ls = Libraries.library-named after _ lasting o marks ok ls
+      library-named o marks ok ls = LibrariesLaws.library-named after _ lasting o marks ok ls
 
       -- ---- "Objects": what a merge built, after any calls
 
@@ -744,11 +764,11 @@ module _ (key : ℕ) (gabi : Bool) (bytes names symbols sections inputs lists : 
       -- last loaded relocation table names, in order. So its row stays, through all calls but a collection that doesn't reach it
       module _ (o : Stages.Object) (work ids : List ℕ) (ok : call_number (merge o work ids) after ≡ 0) where
         pub rows_taken : (call_next (merge o work ids) after).table.link.sections ≡ section_id o after (sections_in o.headers)
-        rows_taken = ObjectSections.rows_taken after _ lasting o work ids ok
+        rows_taken = ObjectSectionsLaws.rows_taken after _ lasting o work ids ok
 
         -- and later merges find the signatures of its groups met
         pub signatures-own : signatures (merge o work ids ∷ []) after ≡ own_signatures o.headers o.entries o.contents o.image (sections_in o.headers)
-        signatures-own = ObjectSections.signatures-own after _ lasting o work ids ok
+        signatures-own = ObjectSectionsLaws.signatures-own after _ lasting o work ids ok
 
         -- the ids that it gave the symbols stand for them after any calls: of a local one the row has what the symbol's entry says, any other is its name's
         pub cell-stands : (ls : List Call) (k id : ℕ)
@@ -763,10 +783,10 @@ module _ (key : ℕ) (gabi : Bool) (bytes names symbols sections inputs lists : 
 
           pub program-built : loaded_as o.headers n program ≡ true
               → ObjectSections.ObjectSection o work ids after then n program (named_by o.headers o.contents n (sections_in o.headers))
-          program-built = ObjectSections.program-built after _ lasting o work ids ok n unremoved ls spared
+          program-built = ObjectSectionsLaws.program-built after _ lasting o work ids ok n unremoved ls spared
 
           pub uninitialized-built : loaded_as o.headers n uninitialized ≡ true → ObjectSections.ObjectSection o work ids after then n uninitialized []
-          uninitialized-built = ObjectSections.uninitialized-built after _ lasting o work ids ok n unremoved ls spared
+          uninitialized-built = ObjectSectionsLaws.uninitialized-built after _ lasting o work ids ok n unremoved ls spared
 
           -- the ids that it names stand for the object's symbols still: of a local one the row has what the symbol's entry says, any other is its name's
           pub symbols-stand : (kind : ℕ) (named : List ℕ) (x : ObjectSections.ObjectSection o work ids after then n kind named)
@@ -782,10 +802,10 @@ module _ (key : ℕ) (gabi : Bool) (bytes names symbols sections inputs lists : 
             LeadsTo = ObjectSections.LeadsTo o work ids after then n kind named lists-in x marks z
 
             pub names-lead : ObjectSections.NamesIn o work ids after then n kind named lists-in x marks z → (j : ℕ) × (j < length x.given) × LeadsTo (get_or x.given j 0)
-            names-lead = ObjectSections.names-lead o work ids after then n kind named lists-in x marks z
+            names-lead = ObjectSectionsLaws.names-lead o work ids after then n kind named lists-in x marks z
 
             pub lead-named : (j : ℕ) → j < length x.given → LeadsTo (get_or x.given j 0) → ObjectSections.NamesIn o work ids after then n kind named lists-in x marks z
-            lead-named = ObjectSections.lead-named o work ids after then n kind named lists-in x marks z
+            lead-named = ObjectSectionsLaws.lead-named o work ids after then n kind named lists-in x marks z
 
       -- ---- what a walk over an archive passed by: over this link, whatever was removed from it, of a walk that an accepted start began and whose calls were
       -- lent whatever tables (those of a history are tables_at, Walks.antt)
@@ -847,7 +867,7 @@ module _ (key : ℕ) (gabi : Bool) (bytes names symbols sections inputs lists : 
               record {
                 held = new-inv key gabi bytes names symbols sections new;
                 marked = new-marked key gabi bytes names symbols sections new;
-                counted = Lookups.counted start.table.link start.table.names (Within.new-within key gabi bytes names symbols sections new);
+                counted = Lookups.counted start.table.link start.table.names (WithinLaws.new-within key gabi bytes names symbols sections new);
                 lent = lent;
                 inside = new-lists key gabi bytes names symbols sections lists;
               };
@@ -872,11 +892,11 @@ module _ (key : ℕ) (gabi : Bool) (bytes names symbols sections inputs lists : 
     pub grown-row : (n : ℕ) (x : Entry) (xs : List Entry) → grown_adds n ≡ x ∷ xs
         → call_left (get_global (record { 0 = n })) grown_end ≡ Ok (symbol_of (record { 0 = x.id }) (hidden_by gabi (rows (x ∷ xs)) (joined_in (rows (x ∷ xs)) (first_by_rank gabi x.row (rows xs)))))
     grown-row n x xs e =
-        Within.lookup-row grown_end.table _ some.reached.held (reached-within grown_end _ _ some.reached) n x xs e
+        WithinLaws.lookup-row grown_end.table _ some.reached.held (reached-within grown_end _ _ some.reached) n x xs e
         ∙ ap (λ (g : Bool). Ok (symbol_of (record { 0 = x.id }) (hidden_by g (rows (x ∷ xs)) (joined_in (rows (x ∷ xs)) (first_by_rank g x.row (rows xs)))))) grown-profile
 
     pub grown-none : (n : ℕ) → grown_adds n ≡ [] → call_left (get_global (record { 0 = n })) grown_end ≡ not_found 23 0
-    grown-none = Within.lookup-none grown_end.table _ some.reached.held (reached-within grown_end _ _ some.reached)
+    grown-none = WithinLaws.lookup-none grown_end.table _ some.reached.held (reached-within grown_end _ _ some.reached)
 
     -- the gABI's resolution
     pub grown-gabi : (n : ℕ) (x : Entry) (xs : List Entry) → grown_adds n ≡ x ∷ xs
@@ -889,7 +909,7 @@ module _ (key : ℕ) (gabi : Bool) (bytes names symbols sections inputs lists : 
     pub grown-walk : (walk_key : ℕ) (index cells : List ℕ) → call_number (archive_start walk_key index cells) grown_end ≡ 0 → (us : List Table)
         → let r = history index us (start_run walk_key index cells) in
         Walked index (count_of index) us r × (call_number (archive_next index r.cells r.walk) grown_end ≡ 0)
-    grown-walk walk_key index cells begun us = (walked walk_key index cells begun us, WalkIn.next-goes index walk_key cells begun grown_end _ _ some.reached us)
+    grown-walk walk_key index cells begun us = (walked walk_key index cells begun us, WalkInLaws.next-goes index walk_key cells begun grown_end _ _ some.reached us)
 
     -- and what a walk passed by is told of such a link too
     pub grown-shadowed : (walk_key : ℕ) (index rows : List ℕ) → call_number (archive_start walk_key index rows) grown_end ≡ 0 → (us : List Table) (cells : List ℕ)
@@ -897,7 +917,7 @@ module _ (key : ℕ) (gabi : Bool) (bytes names symbols sections inputs lists : 
         call_number (archive_shadowed index r.cells r.walk cells) grown_end ≡ 0
         → Tells (those_below (told index r.offers grown_end) (count_of index)) cells (call_left (archive_shadowed index r.cells r.walk cells) grown_end)
     grown-shadowed walk_key index rows begun us cells =
-        ShadowedLaws.told-exactly walk_key index rows begun us grown_end (Within.inv-fits grown_end.table _ some.reached.held) (reached-within grown_end _ _ some.reached) cells
+        ShadowedLaws.told-exactly walk_key index rows begun us grown_end (WithinLaws.inv-fits grown_end.table _ some.reached.held) (reached-within grown_end _ _ some.reached) cells
 
   -- ---- 3. the demands
 
@@ -924,7 +944,7 @@ module _ (key : ℕ) (gabi : Bool) (bytes names symbols sections inputs lists : 
           (record {
             held = new-inv key gabi bytes names symbols sections new;
             marked = new-marked key gabi bytes names symbols sections new;
-            counted = Lookups.counted start.table.link start.table.names (Within.new-within key gabi bytes names symbols sections new);
+            counted = Lookups.counted start.table.link start.table.names (WithinLaws.new-within key gabi bytes names symbols sections new);
             lent = lent;
             inside = new-lists key gabi bytes names symbols sections lists;
           })
@@ -1008,8 +1028,8 @@ module _ (key : ℕ) (gabi : Bool) (bytes names symbols sections inputs lists : 
     pub adds-bear : (b : List ℕ) (x : Entry) (xs : List Entry) → accepted_adds (find (store end.table) b) ≡ x ∷ xs → (from : AllFrom ks start [] (rows (x ∷ xs)))
         → EntryNames.AllBear b (find (store end.table) b) ks start [] (x ∷ xs) from
     adds-bear b x xs e from =
-        EntryNames.adds-bear b (find (store end.table) b) ks start [] (new-marked key gabi bytes names symbols sections new)
-        (EntryNames.issued-by end.table (log_calls ks start) held (marked ks).good.chained b x xs e) (x ∷ xs) e from
+        EntryNamesLaws.adds-bear b (find (store end.table) b) ks start [] (new-marked key gabi bytes names symbols sections new)
+        (EntryNamesLaws.issued-by end.table (log_calls ks start) held (marked ks).good.chained b x xs e) (x ∷ xs) e from
 
     module _ (n : ℕ) (x : Entry) (xs : List Entry) (e : accepted_adds n ≡ x ∷ xs) (from : AllFrom ks start [] (rows (x ∷ xs))) where
       abbrev pub own_entries : List Sym
@@ -1039,7 +1059,7 @@ module _ (key : ℕ) (gabi : Bool) (bytes names symbols sections inputs lists : 
       abbrev pub row : Row
       row = upcoming end.table conversion u
 
-      module _ (e : accepted_adds row.name.0 ≡ x ∷ xs) (global : row.visibility ≢ 0) (passes : scope_refused row ≡ false)
+      module _ (e : accepted_adds row.name.0 ≡ x ∷ xs) (global : row.scope ≢ 0) (passes : scope_refused row ≡ false)
           (valued : value_refused row ≡ false) where
         -- whichever symbols the rows mean
         module _ (s : Sym) (ss : List Sym) (m : AllMean (rows (x ∷ xs)) (s ∷ ss)) (g : Sym) (own : Means row g) where
@@ -1081,7 +1101,7 @@ module _ (key : ℕ) (gabi : Bool) (bytes names symbols sections inputs lists : 
 
       -- to which the merge came without another refusal
       pub merge-refused-at : call_number (merge o work ids) end ≡ 17 → InMerge.RefusedAt o (all_in end work ids) (call_refusal (merge o work ids) end).place
-      merge-refused-at = InMerge.merge-refused-at o (all_in end work ids)
+      merge-refused-at = InMergeLaws.merge-refused-at o (all_in end work ids)
 
       -- and where it sees one the merge is refused so: it comes to symbol i, which is to be added, and is global and passes like a direct add's
       pub merge-duplicate-refused : (i : ℕ) → InMerge.Comes o (all_in end work ids) i → InMerge.Adds o (all_in end work ids) i → Judges (merge_row i)
@@ -1090,11 +1110,11 @@ module _ (key : ℕ) (gabi : Bool) (bytes names symbols sections inputs lists : 
 
       -- the merge's accepted adds begin with those before symbol i
       pub merge-log : (i : ℕ) → InMerge.Comes o (all_in end work ids) i → InMerge.LogBegins o (all_in end work ids) i
-      merge-log = InMerge.log-begins o (all_in end work ids)
+      merge-log = InMergeLaws.log-begins o (all_in end work ids)
 
       -- the entry is undefined by now if its section is removed
       pub merge-row-means : (i : ℕ) → Judges (merge_row i) → Means (merge_row i) (sym_of (InMerge.entry_to o (all_in end work ids) i))
-      merge-row-means i j = InMerge.row-means o (all_in end work ids) i j.global j.passes j.valued
+      merge-row-means i j = InMergeLaws.row-means o (all_in end work ids) i j.global j.passes j.valued
 
     -- and of one more load, whose symbols count like any other (see gabi-agrees)
     module _ (o : Shared.Input) (marks : List ℕ) where
@@ -1110,17 +1130,17 @@ module _ (key : ℕ) (gabi : Bool) (bytes names symbols sections inputs lists : 
       load-refused-duplicate = CallDuplicates.load-refused-duplicate o (library_in end marks) _ held
 
       pub load-refused-at : call_number (load o marks) end ≡ 17 → InLoad.RefusedAt o (library_in end marks) (call_refusal (load o marks) end).place
-      load-refused-at = InLoad.load-refused-at o (library_in end marks)
+      load-refused-at = InLoadLaws.load-refused-at o (library_in end marks)
 
       pub load-duplicate-refused : (i : ℕ) → InLoad.Comes o (library_in end marks) i → InLoad.Adds o (library_in end marks) i → Judges (loaded_row i)
           → IsDuplicate (loaded_to i) (loaded_row i) → call_refusal (load o marks) end ≡ refused 17 i
       load-duplicate-refused = CallDuplicates.load-duplicate-refused o (library_in end marks) _ held
 
       pub load-log : (i : ℕ) → InLoad.Comes o (library_in end marks) i → InLoad.LogBegins o (library_in end marks) i
-      load-log = InLoad.log-begins o (library_in end marks)
+      load-log = InLoadLaws.log-begins o (library_in end marks)
 
       pub load-row-means : (i : ℕ) → InLoad.Adds o (library_in end marks) i → Judges (loaded_row i) → Means (loaded_row i) (shared_entry end.table.link.gabi (sym_of (elf_at o.entries i)))
-      load-row-means i s j = InLoad.row-means o (library_in end marks) i s j.global j.passes
+      load-row-means i s j = InLoadLaws.row-means o (library_in end marks) i s j.global j.passes
 
     -- a lent list has fewer than 2^64 cells
     module _ (lent : length lists ≤ not_lent) where
@@ -1128,11 +1148,11 @@ module _ (key : ℕ) (gabi : Bool) (bytes names symbols sections inputs lists : 
       pub lookup-row : (n : ℕ) (x : Entry) (xs : List Entry) → accepted_adds n ≡ x ∷ xs
           → call_left (get_global (record { 0 = n })) end ≡ Ok (symbol_of (record { 0 = x.id }) (hidden_by gabi (rows (x ∷ xs)) (joined_in (rows (x ∷ xs)) (first_by_rank gabi x.row (rows xs)))))
       lookup-row n x xs e =
-          Within.lookup-row end.table _ held (within lent) n x xs e
+          WithinLaws.lookup-row end.table _ held (within lent) n x xs e
           ∙ ap (λ (g : Bool). Ok (symbol_of (record { 0 = x.id }) (hidden_by g (rows (x ∷ xs)) (joined_in (rows (x ∷ xs)) (first_by_rank g x.row (rows xs)))))) (profile ks)
 
       pub lookup-none : (n : ℕ) → accepted_adds n ≡ [] → call_left (get_global (record { 0 = n })) end ≡ not_found 23 0
-      lookup-none = Within.lookup-none end.table _ held (within lent)
+      lookup-none = WithinLaws.lookup-none end.table _ held (within lent)
 
       -- the same by a name's bytes: interned, and looked up by the id that was answered
       module _ (b : List ℕ) where
@@ -1194,10 +1214,10 @@ module _ (key : ℕ) (gabi : Bool) (bytes names symbols sections inputs lists : 
     pub undefined-name : (b : List ℕ) (x : Entry) (xs : List Entry) → accepted_adds (find (store end.table) b) ≡ x ∷ xs
         → undefined_name (view_in end.table) b ≡ is_undefined_row (first_by_rank gabi x.row (rows xs))
     undefined-name b x xs e =
-        Undefined.undefined-name end.table _ held b x xs e ∙ ap (λ (g : Bool). is_undefined_row (first_by_rank g x.row (rows xs))) (profile ks)
+        UndefinedLaws.undefined-name end.table _ held b x xs e ∙ ap (λ (g : Bool). is_undefined_row (first_by_rank g x.row (rows xs))) (profile ks)
 
     pub undefined-none : (b : List ℕ) → accepted_adds (find (store end.table) b) ≡ [] → undefined_name (view_in end.table) b ≡ false
-    undefined-none = Undefined.undefined-none end.table _ held
+    undefined-none = UndefinedLaws.undefined-none end.table _ held
 
     -- the symbols accepted under a name
     abbrev pub symbols_under : List ℕ → List Sym
@@ -1205,13 +1225,13 @@ module _ (key : ℕ) (gabi : Bool) (bytes names symbols sections inputs lists : 
 
     -- in the gABI's terms: a name is undefined just if it is wanted from an archive, or has weak references only
     pub undefined-is : (b : List ℕ) → undefined_name (view_in end.table) b ≡ wants (symbols_under b) || weak_references (symbols_under b)
-    undefined-is = Undefined.undefined-is end.table _ held
+    undefined-is = UndefinedLaws.undefined-is end.table _ held
 
     -- whichever symbols the rows mean
     pub undefined-wanted : (b : List ℕ) (x : Entry) (xs : List Entry) → accepted_adds (find (store end.table) b) ≡ x ∷ xs
         → (s : Sym) (ss : List Sym) → AllMean (rows (x ∷ xs)) (s ∷ ss)
         → undefined_name (view_in end.table) b ≡ wants (s ∷ ss) || weak_only (s ∷ ss)
-    undefined-wanted = Undefined.undefined-wanted end.table _ held
+    undefined-wanted = UndefinedLaws.undefined-wanted end.table _ held
 
     -- the content of a name is global or weak
     of-name : gabi ≡ true → (n : ℕ) (x : Entry) (xs : List Entry) → accepted_adds n ≡ x ∷ xs → OfName (first_by_rank true x.row (rows xs))
@@ -1237,7 +1257,7 @@ module _ (key : ℕ) (gabi : Bool) (bytes names symbols sections inputs lists : 
       -- at the last pass is tied to an unoffered member" (bound, pass, last; the tables are the link's at those calls); in the gABI profile "undefined and strong"
       -- (ties-old, ties-is)
       pub demand-3b : (kss : List (List Call)) → Walked index (count_of index) (tables_at kss end) (walk_after index kss (start_run walk_key index cells) end)
-      demand-3b = WalkIn.walked-in index walk_key cells begun end
+      demand-3b = WalkInLaws.walked-in index walk_key cells begun end
 
       -- the same as one equation of lists, by members' offsets: what one pass offered, behind what was offered before it, are the members that the index ties
       -- to a name that ties in the link at its first call, in first-seen order, without those offered before. The call behind the parts kss and the
@@ -1249,7 +1269,7 @@ module _ (key : ℕ) (gabi : Bool) (bytes names symbols sections inputs lists : 
           let after = WalkIn.run_after index walk_key cells begun end kss ks lss in
           then.walk.passes ≡ before.walk.passes + 1 → after.walk.passes ≡ then.walk.passes → Over walk_key index cells begun after
           → offered index after ≡ offered index before ++ without (offered index before) (first_seen (tied_members index (view_in link.table)))
-      exactly-3b = WalkIn.pass-in index walk_key cells begun end
+      exactly-3b = WalkInLaws.pass-in index walk_key cells begun end
 
       -- "walks don't change a link": the history with its calls leads where the history without them does
       pub walk-aside : (kss : List (List Call)) → run_calls (with_walk index kss (start_run walk_key index cells) end) end ≡ run_calls (joined kss) end
@@ -1281,24 +1301,24 @@ module _ (key : ℕ) (gabi : Bool) (bytes names symbols sections inputs lists : 
             pub extraction-differs : gabi ≡ false → chosen || weak_offers wanted member ≡ extracts member wanted || taken (λ x. weak_references (symbols_under x)) member
             extraction-differs old =
                 ap (λ (g : Bool). Extraction.chosen_in g index stepped e headers entries file || weak_offers wanted member) old
-                ∙ Extraction.differences end _ held walk_key index cells begun ts made e low unoffered headers entries file listed (profile ks ∙ old) wanted same
+                ∙ ExtractionLaws.differences end _ held walk_key index cells begun ts made e low unoffered headers entries file listed (profile ks ∙ old) wanted same
 
             -- so without these just where the gABI extracts it
             pub extraction-agrees : gabi ≡ false → weak_offers wanted member ≡ false → taken (λ x. weak_references (symbols_under x)) member ≡ false
                 → chosen ≡ extracts member wanted
             extraction-agrees old d r =
                 ap (λ (g : Bool). Extraction.chosen_in g index stepped e headers entries file) old
-                ∙ Extraction.agrees end _ held walk_key index cells begun ts made e low unoffered headers entries file listed (profile ks ∙ old) wanted same d r
+                ∙ ExtractionLaws.agrees end _ held walk_key index cells begun ts made e low unoffered headers entries file listed (profile ks ∙ old) wanted same d r
 
             -- the gABI's profile: just where the gABI extracts it
             pub extraction-gabi : gabi ≡ true → chosen ≡ extracts member wanted
             extraction-gabi p =
                 ap (λ (g : Bool). Extraction.chosen_in g index stepped e headers entries file) p
-                ∙ Extraction.agrees-gabi end _ held walk_key index cells begun ts made e low unoffered headers entries file listed (profile ks ∙ p) (of-name p) wanted same
+                ∙ ExtractionLaws.agrees-gabi end _ held walk_key index cells begun ts made e low unoffered headers entries file listed (profile ks ∙ p) (of-name p) wanted same
 
           pub wanted-names : (x : List ℕ) → Taken.lists member x ≡ true
               → Strings.among x (wanted_names (λ y. wants (symbols_under y)) member) ≡ wants (symbols_under x)
-          wanted-names = Extraction.own-names end _ held walk_key index cells begun ts made e low unoffered headers entries file listed
+          wanted-names = ExtractionLaws.own-names end _ held walk_key index cells begun ts made e low unoffered headers entries file listed
 
         -- what `matches` itself answers about it, after the pass, and if it is queued after any further calls: exactly what the gABI extracts, but in the old
         -- profile for the two known places, each a term: only_weakly_offered, pulled_weakly. The object's fields are in range; its symbols in document 01's
@@ -1343,12 +1363,12 @@ module _ (key : ℕ) (gabi : Bool) (bytes names symbols sections inputs lists : 
         pub walk-goes : (ts : List Table)
             → let r = history index ts (start_run walk_key index cells) in
             call_number (archive_next index r.cells r.walk) end ≡ 0
-        walk-goes = WalkIn.next-goes index walk_key cells begun end _ _ (reached lent)
+        walk-goes = WalkInLaws.next-goes index walk_key cells begun end _ _ (reached lent)
 
         -- and it ends: of m + 1 calls the last answers "done"
         pub walk_ends : (kss : List (List Call)) → RemovesNothing (with_walk index kss (start_run walk_key index cells) end) end → members index (count_of index) < length kss
             → (walk_after index kss (start_run walk_key index cells) end).walk.done ≡ true
-        walk_ends = WalkIn.walk-done index walk_key cells begun end _ _ (reached lent)
+        walk_ends = WalkInLaws.walk-done index walk_key cells begun end _ _ (reached lent)
 
     -- ---- "Collection, unless refused, keeps exactly what relocations reach from the roots"
 

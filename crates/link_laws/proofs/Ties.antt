@@ -18,14 +18,15 @@ use Rattle.symbol.specs.Hidden.{hide_code, hide_if}
 use Rattle.symbol_resolution.specs.Decide.{weak_of}
 use Rattle.interner_laws.specs.Good.{find}
 use Rattle.archive_walk.specs.Look.{is_undefined, name_holder, undefined_name, tied_name}
-use Rattle.archive_laws.proofs.Profiles.{is_strong, strong_name, tied-gabi}
+use Rattle.archive_laws.specs.Profiles.{is_strong, strong_name}
+use Rattle.archive_laws.proofs.Profiles.{tied-gabi}
 use Rattle.symbol_laws.proofs.Standing.{joined-stays}
 use Rattle.symbol_laws.specs.Rank.{weak, first_by_rank, joined_in}
 use Rattle.symbol_laws.specs.Hidden.{some_hidden}
 use Rattle.symbol_laws.specs.Standing.{hidden_by}
 use Rattle.symbol_laws.specs.Proof.Rows.{row_at}
 use Rattle.symbol_laws.specs.History.{State, store, Entry, only, rows}
-use Rattle.symbol_laws.proofs.Held.{Inv}
+use Rattle.symbol_laws.specs.Held.{Inv}
 use Rattle.symbol_laws.specs.Demand.{Resolved}
 use Rattle.symbol_laws.proofs.Demand.{content-apart, resolved, holder_known}
 use Rattle.symbol_laws.specs.Agreement.{Agrees}
@@ -38,8 +39,9 @@ use Rattle.upcoming_symbol.specs.declared.UpcomingSymbol.{UpcomingSymbol}
 use Rattle.merge_laws.specs.Calls.{Linked}
 use Rattle.extraction_laws.proofs.Wanted.{row-strong}
 use Rattle.link_laws.specs.Calls.{Call, intern, add, remove, add_group, merge, merge_file, load, collect, plain_collect, view_in, call_next, reads, add_list}
-use Rattle.link_laws.proofs.Contents.{FromCall, FromCalls, here, later}
-use Rattle.link_laws.proofs.Undefined.{is_undefined_row, symbols_under, undefined-none}
+use Rattle.link_laws.specs.Contents.{FromCall, FromCalls, here, later}
+use Rattle.link_laws.specs.Undefined.{is_undefined_row, symbols_under}
+use Rattle.link_laws.proofs.Undefined.{undefined-none}
 
 -- ---- the row of a name is global or weak, never local
 
@@ -48,7 +50,7 @@ is_of_name Local = false
 is_of_name (Global weak hidden) = true
 
 abbrev pub OfName : Row → Type 0
-OfName r = is_of_name (visibility_at r.visibility) ≡ true
+OfName r = is_of_name (visibility_at r.scope) ≡ true
 
 add-of-name : {gabi : Bool} {conversion : List ℕ} {empty : Bool} (r : Row) (u : UpcomingSymbol) → FromAdd gabi conversion empty r u → OfName r
 add-of-name r u (Direct.unknown name a b c d) = ap is_of_name c
@@ -94,10 +96,10 @@ unfolding weak_of hide_code
 hide-strong v = by-test (eqb v 3) (λ a. rw a) (λ a. by-test (eqb v 4) (λ b. rw (a, b)) (λ b. rw (a, b)))
 
 -- becoming hidden a row stays strong
-hidden-strong : (gabi : Bool) (l : List Row) (r : Row) → OfName r → strong_code (hidden_by gabi l r).visibility ≡ not (weak r)
+hidden-strong : (gabi : Bool) (l : List Row) (r : Row) → OfName r → strong_code (hidden_by gabi l r).scope ≡ not (weak r)
 unfolding hide_if
-hidden-strong false l r o = code-strong r.visibility o
-hidden-strong true l r o = by-test (some_hidden l) (λ h. rw h (hide-strong r.visibility)) (λ h. rw h (code-strong r.visibility o))
+hidden-strong false l r o = code-strong r.scope o
+hidden-strong true l r o = by-test (some_hidden l) (λ h. rw h (hide-strong r.scope)) (λ h. rw h (code-strong r.scope o))
 
 -- ---- the names that tie
 
@@ -116,8 +118,8 @@ module _ (s : State) (past : List Entry) (inv : Inv s past) (gabi : s.link.gabi 
       let r : Row = first_by_rank true x.row (rows xs) in
       let is : Resolved true s n x xs = subst (λ (g : Bool). Resolved g s n x xs) gabi (resolved s past inv n x xs e) in
       ap (is_strong s.symbols) (holder_known s past inv n x xs e)
-      ∙ ap (λ (q : Row). strong_code q.visibility) is.terms
-      ∙ hidden-strong true (rows (x ∷ xs)) (joined_in (rows (x ∷ xs)) r) (joined-stays Bool (λ q. is_of_name (visibility_at q.visibility)) (λ r s a. refl) (rows (x ∷ xs)) r ∙ o)
+      ∙ ap (λ (q : Row). strong_code q.scope) is.terms
+      ∙ hidden-strong true (rows (x ∷ xs)) (joined_in (rows (x ∷ xs)) r) (joined-stays Bool (λ q. is_of_name (visibility_at q.scope)) (λ r s a. refl) (rows (x ∷ xs)) r ∙ o)
       ∙ ap not (sym (content-apart s n x xs true is).weakness)
 
   pub ties-wanted : (x : Entry) (xs : List Entry) → only n past ≡ x ∷ xs → OfName (first_by_rank true x.row (rows xs)) → (g : Sym) (gs : List Sym) → AllMean (rows (x ∷ xs)) (g ∷ gs)

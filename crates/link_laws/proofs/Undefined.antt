@@ -7,7 +7,6 @@ use Rattle.gabi.specs.SymbolTable.{Sym}
 use Rattle.gabi.specs.Resolution as Resolution
 use Rattle.gabi.specs.Resolution.{has}
 use Rattle.gabi.specs.Archive.{is_unresolved, wants}
-use Rattle.symbol.specs.declared.Row.{Row}
 use Rattle.symbol.specs.declared.Words.{Words}
 use Rattle.interner_laws.specs.Good.{find}
 use Rattle.archive_walk.specs.Look.{is_undefined, name_holder, undefined_name}
@@ -15,26 +14,15 @@ use Rattle.symbol_laws.proofs.Standing.{joined-stays}
 use Rattle.symbol_laws.specs.Rank.{first_by_rank}
 use Rattle.symbol_laws.specs.Proof.Rows.{row_at}
 use Rattle.symbol_laws.specs.History.{State, store, Entry, only, rows}
-use Rattle.symbol_laws.proofs.Held.{Inv}
+use Rattle.symbol_laws.specs.Held.{Inv}
 use Rattle.symbol_laws.proofs.Demand.{content-apart, resolved, holder_known, holder-none}
 use Rattle.symbol_laws.specs.Gabi.{AllMean, syms_of}
 use Rattle.symbol_laws.proofs.Gabi.{all-mean-own}
 use Rattle.symbol_laws.proofs.Agreement as AgreementLaws
-use Rattle.extraction_laws.proofs.Wanted.{weak_only, row-undefined}
+use Rattle.extraction_laws.specs.Wanted.{weak_only}
+use Rattle.extraction_laws.proofs.Wanted.{row-undefined}
 use Rattle.link_laws.specs.Calls.{view_in}
-
--- 7 is the kind of an undefined value
-abbrev pub is_undefined_row : Row → Bool
-is_undefined_row r = eqb r.value.kind 7
-
--- the symbols that were accepted under the name b
-abbrev pub symbols_under : State → List Entry → List ℕ → List Sym
-symbols_under s past b = syms_of (rows (only (find (store s) b) past))
-
--- symbols, and weak references only
-abbrev pub weak_references : List Sym → Bool
-weak_references [] = false
-weak_references (g ∷ gs) = weak_only (g ∷ gs)
+use Rattle.link_laws.specs.Undefined.{is_undefined_row, symbols_under, weak_references}
 
 module _ (s : State) (past : List Entry) (inv : Inv s past) (b : List ℕ) where
   -- whether a row is undefined is no matter of hidden

@@ -9,14 +9,17 @@ use Rattle.archive_laws.specs.Rounds.{among, members}
 use Rattle.archive_laws.specs.Runs.{Run, step_run, history, start_run}
 use Rattle.archive_laws.specs.Walked.{Walked}
 use Rattle.archive_laws.proofs.Terms.{walked}
-use Rattle.archive_laws.proofs.PassList.{Over, offered, without, first_seen, tied_members, pass-offers}
+use Rattle.archive_laws.specs.PassList.{Over, offered, without, first_seen, tied_members}
+use Rattle.archive_laws.proofs.PassList.{pass-offers}
 use Rattle.symbol_laws.specs.History.{Entry}
 use Rattle.merge_laws.specs.Calls.{Linked}
 use Rattle.link_laws.specs.Calls.{Call, archive_next, view_in, call_next, call_number, run_calls, log_calls, RemovesNothing}
-use Rattle.link_laws.proofs.Kept.{signatures, Reached, reached-within, reached-on}
+use Rattle.link_laws.specs.Kept.{signatures, Reached}
+use Rattle.link_laws.proofs.Kept.{reached-within, reached-on}
 use Rattle.link_laws.specs.Walks.{next_in, with_walk, walk_after, tables_at, joined}
 use Rattle.link_laws.proofs.Walks.{next-is, walk_is}
 use Rattle.link_laws.proofs.NeverRemoved.{Whole, table-whole, next-accepted, AllWhole, walk_ends}
+use Rattle.link_laws.specs.WalkIn.{run_before, link_then, run_then, run_after}
 
 quiet-front : (ks ls : List Call) (s : Linked) → RemovesNothing (ks ++ ls) s → RemovesNothing ks s
 quiet-front [] ls s q = tt
@@ -51,35 +54,23 @@ module _ (index : List ℕ) where
 
     -- one pass of it: the call behind the parts kss and the calls ks makes it, those behind the parts lss make none, and then it is over
     module _ (kss : List (List Call)) (ks : List Call) (lss : List (List Call)) where
-      abbrev pub run_before : Run
-      run_before = walk_after index kss (start_run key index cells) s
-
-      abbrev pub link_then : Linked
-      link_then = run_calls ks (run_calls (joined kss) s)
-
-      abbrev pub run_then : Run
-      run_then = next_in index run_before link_then
-
-      abbrev pub run_after : Run
-      run_after = walk_after index lss run_then link_then
-
-      same_after : run_after ≡ history index (tables_at lss link_then) (step_run index (view_in link_then.table) (history index (tables_at kss s) (start_run key index cells)))
+      same_after : run_after index key cells begun s kss ks lss ≡ history index (tables_at lss (link_then index key cells begun s kss ks lss)) (step_run index (view_in (link_then index key cells begun s kss ks lss).table) (history index (tables_at kss s) (start_run key index cells)))
       same_after =
-          walk_is index lss run_then link_then
-          ∙ ap (history index (tables_at lss link_then))
-          (next-is index run_before link_then ∙ ap (step_run index (view_in link_then.table)) (walk_is index kss (start_run key index cells) s))
+          walk_is index lss (run_then index key cells begun s kss ks lss) (link_then index key cells begun s kss ks lss)
+          ∙ ap (history index (tables_at lss (link_then index key cells begun s kss ks lss)))
+          (next-is index (run_before index key cells begun s kss ks lss) (link_then index key cells begun s kss ks lss) ∙ ap (step_run index (view_in (link_then index key cells begun s kss ks lss).table)) (walk_is index kss (start_run key index cells) s))
 
-      same_then : run_then ≡ step_run index (view_in link_then.table) (history index (tables_at kss s) (start_run key index cells))
-      same_then = next-is index run_before link_then ∙ ap (step_run index (view_in link_then.table)) (walk_is index kss (start_run key index cells) s)
+      same_then : run_then index key cells begun s kss ks lss ≡ step_run index (view_in (link_then index key cells begun s kss ks lss).table) (history index (tables_at kss s) (start_run key index cells))
+      same_then = next-is index (run_before index key cells begun s kss ks lss) (link_then index key cells begun s kss ks lss) ∙ ap (step_run index (view_in (link_then index key cells begun s kss ks lss).table)) (walk_is index kss (start_run key index cells) s)
 
-      pub pass-in : run_then.walk.passes ≡ run_before.walk.passes + 1 → run_after.walk.passes ≡ run_then.walk.passes → Over key index cells begun run_after
-          → offered index run_after ≡ offered index run_before ++ without (offered index run_before) (first_seen (tied_members index (view_in link_then.table)))
+      pub pass-in : (run_then index key cells begun s kss ks lss).walk.passes ≡ (run_before index key cells begun s kss ks lss).walk.passes + 1 → (run_after index key cells begun s kss ks lss).walk.passes ≡ (run_then index key cells begun s kss ks lss).walk.passes → Over key index cells begun (run_after index key cells begun s kss ks lss)
+          → offered index (run_after index key cells begun s kss ks lss) ≡ offered index (run_before index key cells begun s kss ks lss) ++ without (offered index (run_before index key cells begun s kss ks lss)) (first_seen (tied_members index (view_in (link_then index key cells begun s kss ks lss).table)))
       pass-in p q o =
-          let t : Table = view_in link_then.table in
+          let t : Table = view_in (link_then index key cells begun s kss ks lss).table in
           let ts : List Table = tables_at kss s in
-          let us : List Table = tables_at lss link_then in
-          let b : run_before ≡ history index ts (start_run key index cells) = walk_is index kss (start_run key index cells) s in
-          subst (λ (r : Run). offered index r ≡ offered index run_before ++ without (offered index run_before) (first_seen (tied_members index t))) (sym same_after)
+          let us : List Table = tables_at lss (link_then index key cells begun s kss ks lss) in
+          let b : run_before index key cells begun s kss ks lss ≡ history index ts (start_run key index cells) = walk_is index kss (start_run key index cells) s in
+          subst (λ (r : Run). offered index r ≡ offered index (run_before index key cells begun s kss ks lss) ++ without (offered index (run_before index key cells begun s kss ks lss)) (first_seen (tied_members index t))) (sym same_after)
           (subst
           (λ (r : Run). offered index (history index us (step_run index t (history index ts (start_run key index cells)))) ≡ offered index r ++ without (offered index r) (first_seen (tied_members index t)))
           (sym b)
@@ -89,11 +80,11 @@ module _ (index : List ℕ) where
           (subst (Over key index cells begun) same_after o)))
 
       -- the call that ends the walk: no entry whose name ties there is of a member that wasn't offered
-      pub last-in : run_before.walk.done ≡ false → run_then.walk.done ≡ true → (k : ℕ) → k < count_of index
-          → tied_name (view_in link_then.table) (name_of index (count_of index) k) ≡ true → among index k run_then.offers ≡ true
+      pub last-in : (run_before index key cells begun s kss ks lss).walk.done ≡ false → (run_then index key cells begun s kss ks lss).walk.done ≡ true → (k : ℕ) → k < count_of index
+          → tied_name (view_in (link_then index key cells begun s kss ks lss).table) (name_of index (count_of index) k) ≡ true → among index k (run_then index key cells begun s kss ks lss).offers ≡ true
       last-in d e k h u =
-          let t : Table = view_in link_then.table in
-          let b : run_before ≡ history index (tables_at kss s) (start_run key index cells) = walk_is index kss (start_run key index cells) s in
+          let t : Table = view_in (link_then index key cells begun s kss ks lss).table in
+          let b : run_before index key cells begun s kss ks lss ≡ history index (tables_at kss s) (start_run key index cells) = walk_is index kss (start_run key index cells) s in
           subst (λ (r : Run). among index k r.offers ≡ true) (sym same_then)
           ((walked key index cells begun (tables_at kss s)).last t (ap (λ (r : Run). r.walk.done) (sym b) ∙ d) (ap (λ (r : Run). r.walk.done) (sym same_then) ∙ e) k h u)
 
@@ -104,7 +95,7 @@ module _ (index : List ℕ) where
           → let p = past ++ log_calls (joined kss) s in
           let m = met ++ signatures (joined kss) s in
           let t = run_calls (joined kss) s in
-          Reached (link_then kss ks lss) (p ++ log_calls ks t) (m ++ signatures ks t)
+          Reached (link_then index key cells begun s kss ks lss) (p ++ log_calls ks t) (m ++ signatures ks t)
       reached_then kss ks lss q =
           reached-on ks (run_calls (joined kss) s) _ _ (quiet-back (joined kss) ks s q) (reached-on (joined kss) s past met (quiet-front (joined kss) ks s q) g)
 

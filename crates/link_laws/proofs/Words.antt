@@ -5,23 +5,26 @@ use Rattle.std.specs.Prelude.{◌≡◌, Bool, true, false, cond, ◌&&◌, ◌|
 use Rattle.std.proofs.Math.Path.{refl}
 use Rattle.std.proofs.Common.{sym, ap, ◌∙◌}
 use Rattle.interner_laws.specs.Good.{find}
-use Rattle.symbol.specs.Row.{symbol_at, value_words_at, visibility_code_at}
+use Rattle.symbol.specs.Row.{symbol_at, value_words_at, scope_at}
 use Rattle.symbol_resolution.specs.declared.rows.Holder.{Holder}
 use Rattle.symbol_resolution.specs.declared.rows.Holder.TheVariants.{Unissued, Nobody, Removed, Known}
 use Rattle.symbols.specs.Lookup.{held_of}
 use Rattle.archive_index.specs.Index.{count_of, name_of}
 use Rattle.archive_walk.specs.Look as Look
 use Rattle.archive_walk.specs.Look.{name_holder, undefined_name, tied_name}
-use Rattle.archive_laws.proofs.Profiles as Profiles
-use Rattle.archive_laws.proofs.Profiles.{strong_name, tied-old, tied-gabi}
+use Rattle.archive_laws.specs.Profiles as Profiles
+use Rattle.archive_laws.specs.Profiles.{strong_name}
+use Rattle.archive_laws.proofs.Profiles.{tied-old, tied-gabi}
 use Rattle.archive_laws.specs.Walked.{tied_in}
-use Rattle.archive_laws.proofs.PassList.{members_from, tied_members}
+use Rattle.archive_laws.specs.PassList.{members_from, tied_members}
 use Rattle.load_laws.proofs.Own as Need
 use Rattle.symbol_laws.specs.History.{Entry, store}
-use Rattle.symbol_laws.proofs.Within.{Within, Fits, looked}
+use Rattle.symbol_laws.specs.Within.{Within}
+use Rattle.symbol_laws.proofs.Within.{Fits, looked}
 use Rattle.merge_laws.specs.Calls.{Linked}
 use Rattle.link_laws.specs.Calls.{view_in}
-use Rattle.link_laws.proofs.Kept.{Reached, reached-within}
+use Rattle.link_laws.specs.Kept.{Reached}
+use Rattle.link_laws.proofs.Kept.{reached-within}
 use Rattle.link_laws.specs.Words.{id_of, lookup, is_undefined, undefined, is_strong, strong, ties, tied}
 
 -- ---- these are what the calls go by
@@ -61,7 +64,7 @@ module _ (s : Linked) (f : Fits s.table) (w : Within s.table.link s.table.names)
       go Nobody = refl
       go Removed = refl
       go (Known id) =
-          let v : ℕ = visibility_code_at s.table.symbols id.0 in
+          let v : ℕ = scope_at s.table.symbols id.0 in
           tree (eqb v 1) (eqb v 2) ∙ sym (Need.strong-code v)
 
   pub ties-held : (b : List ℕ) → tied_name (view_in s.table) b ≡ ties b s

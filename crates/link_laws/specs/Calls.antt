@@ -36,7 +36,7 @@ use Rattle.merge_laws.specs.Steps.{Step, log_steps}
 use Rattle.merge_laws.specs.MergeSteps.{merge_steps}
 use Rattle.merge_laws.specs.Calls.{Linked, linked, all_in, link_in}
 use Rattle.load_laws.specs.LoadSteps.{load_steps}
-use Rattle.load_laws.proofs.Whole as Loads
+use Rattle.load_laws.specs.Whole as Loads
 use Rattle.link_laws.specs.Read as Read
 use Rattle.link_laws.specs.Read.{ReadCall, ReadLeft, read_left, read_refusal}
 pub use Rattle.link_laws.specs.Read.{view_in}

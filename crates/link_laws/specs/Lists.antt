@@ -1,6 +1,6 @@
 -- Inputs and lists: no call writes any that was counted before it, nor any past the counts that it leaves.
 -- Assumes nothing.
-use Rattle.merge_laws.proofs.Lists.{Listed}
+use Rattle.merge_laws.specs.Lists.{Listed}
 use Rattle.merge_laws.specs.Calls.{Linked}
 
 -- ---- every call

@@ -7,8 +7,8 @@ use Rattle.shared_objects.specs.Record as Lists
 use Rattle.shared_objects.specs.SymbolsLoad as Symbols
 use Rattle.shared_objects.specs.Load.{Input, All, links_in}
 use Rattle.load_laws.specs.LoadSteps.{list_first, lists_in}
-use Rattle.load_laws.proofs.Stops.{first, added, recorded}
-use Rattle.load_laws.proofs.Whole.{table_in}
+use Rattle.load_laws.specs.Stops.{first, added, recorded}
+use Rattle.load_laws.specs.Whole.{table_in}
 use Rattle.symbol_laws.specs.History.{State}
 use Rattle.link_laws.specs.Rules.{Rule, ◌gives◌at◌, some, each, in_turn, lent_rows, head_rules}
 use Rattle.link_laws.specs.TableRules.{is_issued, is_known, row_of, is_removed, is_undefined_row, is_strong_row, id_in, is_unroomed, names_of, Asked, asked_of, defined, shown_rules, held_rules}

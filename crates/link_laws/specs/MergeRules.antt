@@ -14,7 +14,7 @@ use Rattle.merge_build.specs.Finish.{building}
 use Rattle.symbol_laws.specs.History.{State}
 use Rattle.merge_laws.specs.Whole.{table_in}
 use Rattle.merge_laws.specs.MergeSteps.{group_first, symbol_first}
-use Rattle.merge_laws.proofs.Stops.{prepared, symbol_reader, marked, builder, before2, before1, before0}
+use Rattle.merge_laws.specs.Stops.{prepared, symbol_reader, marked, builder, before2, before1, before0}
 use Rattle.link_laws.specs.Rules.{Rule, ◌gives◌at◌, least, some, each, each_of, in_turn, lent_rows, head_rules}
 use Rattle.link_laws.specs.TableRules.{id_in, is_unroomed, names_of, Conversion, nothing, not_loaded, to_section, elf_asked, Asked, shown_rules, held_rules}
 use Rattle.link_laws.specs.ObjectRules.{is_excluded, is_kind, is_section, is_named, name_in, object_rules, name_offset, link_at, info_at, first_at, count_at, symbol_name, binding_at, type_at, visibility_at, section_at, value_at, size_at}

@@ -8,7 +8,7 @@ use Rattle.symbol.specs.declared.SymbolVisibility.{SymbolVisibility}
 use Rattle.symbol.specs.declared.SymbolVisibility.TheVariants.{Local, Global}
 use Rattle.archive_index.specs.Index.{count_of, offset_of, name_of}
 use Rattle.archive_laws.specs.Members.{among}
-use Rattle.load_laws.proofs.Own as Need
+use Rattle.load_laws.specs.Own as Need
 use Rattle.shadowed_members.specs.Shadowed.{Left}
 use Rattle.merge_laws.specs.Calls.{Linked}
 use Rattle.link_laws.specs.Words.{lookup, undefined, strong}

@@ -6,8 +6,8 @@ use Rattle.std.specs.Prelude.{ℕ, Bool, false, cond, ◌&&◌, List, Result, Ok
 use Rattle.link.specs.declared.Interned.{Interned}
 use Rattle.interner_laws.specs.Good.{find}
 use Rattle.archive_index.specs.Index.{count_of, name_of}
-use Rattle.archive_laws.proofs.PassList.{members_from}
-use Rattle.load_laws.proofs.Own as Need
+use Rattle.archive_laws.specs.PassList.{members_from}
+use Rattle.load_laws.specs.Own as Need
 use Rattle.symbol_laws.specs.History.{Entry, store, only}
 use Rattle.merge_laws.specs.Calls.{Linked}
 use Rattle.link_laws.specs.Calls.{Call, get_global, call_left, run_calls, log_calls}

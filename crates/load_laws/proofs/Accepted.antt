@@ -33,7 +33,9 @@ use Rattle.merge_laws.specs.Kept.{global_rows, added_rows}
 use Rattle.merge_laws.proofs.Markless.{added-append, both-none, loop-none}
 use Rattle.load_laws.specs.LoadSteps.{record_steps, recording, adding, named_steps, symbol_steps, dependency_steps, dependencies_steps, input_steps, list_first, lists_steps, lists_in, list_stage_steps, symbol_first, contents_steps, kept_steps, issued_steps, library_steps, wanted_steps, asked_steps, load_steps}
 use Rattle.load_laws.proofs.Whole.{symbols-loop}
-use Rattle.load_laws.proofs.Stops.{link_id, named, end, number, symbols_to, added, fits, name-stop, name-pass, symbols-stop}
+use Rattle.load_laws.specs.Stops.{link_id, named, end, number, symbols_to, added, fits}
+use Rattle.load_laws.proofs.Stops.{name-stop, name-pass, symbols-stop}
+use Rattle.load_laws.specs.Accepted.{row_of, symbol_rows}
 
 -- ---- lists add no row
 
@@ -59,11 +61,6 @@ lists-none file needs inputs s id first =
 
 -- ---- a symbol's row
 
--- what is planned for a symbol that the library defines
-abbrev pub row_of : List ℕ → List ℕ → State → ℕ → Row
-row_of entries file s i =
-    (plan_of (view (adding (staged s (going_of s.stage.link)))) (look_up file (field entries i 0)).name (field entries i 1) (field entries i 3)).row
-
 symbol-row : (entries file : List ℕ) (s : State) (i : ℕ) → (symbol_of entries file s i).stage.number ≡ 0
     → added_rows (symbol_steps entries file s i) ≡ cond (eqb (field entries i 4) 0) [] (global_rows (row_of entries file s i))
 unfolding symbol_steps named_steps row_steps symbol_of looked_of library_symbol_named define_of commit_of kept_of accept_of
@@ -84,11 +81,6 @@ symbol-row entries file s i e =
     (λ a. let z : ◌≡◌ {A = ℕ} 9 0 = rw a at e in absurd (omega arith))
 
 module _ (entries file needs : List ℕ) (s : Links) (x : List ℕ) where
-  -- the rows of the first n symbols that are defined and not local, each as planned on what the ones before it left
-  abbrev pub symbol_rows : ℕ → List Row
-  symbol_rows zero = []
-  symbol_rows (suc i) = symbol_rows i ++ cond (eqb (field entries i 4) 0) [] (global_rows (row_of entries file (symbols_to entries file needs s x i) i))
-
   module _ (whole : number entries file needs s x ≡ 0) where
     name-fits : fits entries file needs s x ≡ true
     name-fits =
@@ -120,7 +112,7 @@ module _ (entries file needs : List ℕ) (s : Links) (x : List ℕ) where
         ap number_in (symbols-loop entries file n 0 first)
         ∙ loop-going number_in next (rows_in entries) 0 n first refl (ap number_in (sym (symbols-loop entries file (rows_in entries) 0 first)) ∙ symbols-going) h
 
-    symbols-rows : (n : ℕ) → n ≤ rows_in entries → added_rows (steps_of n) ≡ symbol_rows n
+    symbols-rows : (n : ℕ) → n ≤ rows_in entries → added_rows (steps_of n) ≡ symbol_rows entries file needs s x n
     symbols-rows zero h = refl
     symbols-rows (suc n) h =
         let t : State = symbols_to entries file needs s x n in
@@ -136,9 +128,9 @@ module _ (entries file needs : List ℕ) (s : Links) (x : List ℕ) where
         ∙ ap (λ (r : State). steps_of n ++ symbol_steps entries file r n) (sym e) in
         ap added_rows k ∙ added-append (steps_of n) (symbol_steps entries file t n)
         ∙ ap (λ (l : List Row). l ++ added_rows (symbol_steps entries file t n)) (symbols-rows n (omega arith))
-        ∙ ap (◌++◌ (symbol_rows n)) (symbol-row entries file t n taken)
+        ∙ ap (◌++◌ (symbol_rows entries file needs s x n)) (symbol-row entries file t n taken)
 
-    library-rows : added_rows (library_steps entries file needs s x) ≡ symbol_rows (rows_in entries)
+    library-rows : added_rows (library_steps entries file needs s x) ≡ symbol_rows entries file needs s x (rows_in entries)
     unfolding library_steps issued_steps kept_steps contents_steps
     library-rows =
         rw name-fits

@@ -4,10 +4,12 @@ use Rattle.std.specs.Prelude.{◌≤◌, length}
 use Rattle.std.proofs.Common.{arith, subst}
 use Rattle.link.specs.Bounds.{not_lent}
 use Rattle.shared_objects.specs.Load.{All, Input, load_of}
-use Rattle.symbol_laws.proofs.Within.{Within}
-use Rattle.merge_laws.proofs.Lookups.{CountedIn, steps-counted, counted, within}
+use Rattle.symbol_laws.specs.Within.{Within}
+use Rattle.merge_laws.specs.Lookups.{CountedIn}
+use Rattle.merge_laws.proofs.Lookups.{steps-counted, counted, within}
 use Rattle.load_laws.specs.LoadSteps.{load_steps}
-use Rattle.load_laws.proofs.Whole.{table_in, load-makes}
+use Rattle.load_laws.specs.Whole.{table_in}
+use Rattle.load_laws.proofs.Whole.{load-makes}
 use Rattle.load_laws.proofs.Lists.{load-listed}
 
 pub load-within : (o : Input) (a : All) → Within a.link a.names → a.link.lists ≤ length a.lists → length a.lists ≤ not_lent

@@ -126,7 +126,7 @@ apply-names : (bytes : List ℕ) (t : Table) (r : Row) (d : Decision) → r.name
 unfolding append_of note_name
 apply-names bytes t r d h g =
     decision-left (λ (u : Table). Kept (store_of bytes t.names t.link) (store_of bytes u.names u.link)) t r (kept-none _ g)
-    (pick (λ (names : List ℕ). Kept (store_of bytes t.names t.link) (store_of bytes names (append_of t r).link)) (eqb r.visibility 0) _ _
+    (pick (λ (names : List ℕ). Kept (store_of bytes t.names t.link) (store_of bytes names (append_of t r).link)) (eqb r.scope 0) _ _
     (λ u. relinked bytes t.names t.link _ refl refl refl refl g) (λ u. noted bytes t.names t.link _ r.name.0 _ refl refl refl refl h g))
     (λ id x. kept-none _ g) d
 

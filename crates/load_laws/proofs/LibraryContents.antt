@@ -1,20 +1,17 @@
 -- The accepted adds of a load, refused or not: each is that of a symbol that the library defines, and its row has what the symbol's entry says.
 -- Assumes nothing.
-use Rattle.std.specs.Prelude.{ℕ, zero, suc, ◌+◌, ◌<◌, true, false, Bool, ◌≢◌, eqb, length, None}
+use Rattle.std.specs.Prelude.{ℕ, zero, suc, ◌+◌, ◌<◌, true, false, Bool, ◌≢◌, eqb, length}
 use Rattle.std.proofs.Common.{arith, zero-add, sym, ◌∙◌, subst}
 use Rattle.std.proofs.Math.Path.{◌≡◌, refl, ap}
 use mathlib.Core.List.{List, [], ◌∷◌, ◌++◌, append_assoc}
 use borrow.Author.Tests.{eqb-true, eqb-false}
 use Rattle.cells.specs.Proof.Split.{by-test}
-use Rattle.gabi.specs.StringTable.{has_name, name_at}
-use Rattle.gabi.specs.SymbolTable.{Sym, shn_undef}
+use Rattle.gabi.specs.SymbolTable.{Sym}
 use Rattle.merge_symbols.specs.Plan.{View}
 use Rattle.strings.specs.Lookup.{Looked, look_up}
 use Rattle.interner.specs.Names.{store_of, fits_of}
 use Rattle.interner_laws.specs.Good.{Issued, find}
 use Rattle.symbol.specs.declared.Row.{Row}
-use Rattle.symbol.specs.declared.SymbolType.TheVariants as Ty
-use Rattle.symbol.specs.declared.SymbolValue.TheVariants as Val
 use Rattle.symbol.specs.Codes.{type_at, visibility_at, value_at, file_at}
 use Rattle.symbol.specs.Row.{scope_refused}
 use Rattle.symbol_resolution.specs.Decide.{refusal_of}
@@ -29,7 +26,7 @@ use Rattle.shared_objects.specs.Load.{All, Input, links_in, want_of, head_in, na
 use Rattle.symbol_laws.specs.Rank as Rank
 use Rattle.symbol_laws.specs.History as History
 use Rattle.symbol_laws.specs.History.{store, issue, put, library}
-use Rattle.symbol_laws.specs.ObjectWords.{entries_in, entry, entry_name}
+use Rattle.symbol_laws.specs.ObjectWords.{entry}
 use Rattle.symbol_laws.specs.ContentWords.{Admitted, shows, shared_entry}
 use Rattle.symbol_laws.proofs.ContentWords.{shared-is, decided-passes}
 use Rattle.merge_laws.specs.Steps.{Step, part, others}
@@ -43,29 +40,14 @@ use Rattle.merge_laws.specs.Kept.{added_rows}
 use Rattle.merge_laws.proofs.Markless.{added-append}
 use Rattle.merge_laws.proofs.LogContents.{all_append}
 use Rattle.load_laws.specs.LoadSteps.{recording, adding, named_steps, symbol_steps, contents_steps, kept_steps, issued_steps, library_steps, wanted_steps, asked_steps, load_steps}
-use Rattle.load_laws.proofs.Whole.{table_in, number_of, symbols-loop, load-makes}
-use Rattle.load_laws.proofs.Stops as Stops
-use Rattle.load_laws.proofs.Stops.{want}
-use Rattle.load_laws.proofs.SymbolDuplicates.{symbols_to, steps_to, table_to, steps-lead, symbol-number, Begins, steps-begin-to}
+use Rattle.load_laws.specs.Whole.{table_in, number_of}
+use Rattle.load_laws.proofs.Whole.{symbols-loop, load-makes}
+use Rattle.load_laws.specs.Stops as Stops
+use Rattle.load_laws.specs.Stops.{want}
+use Rattle.load_laws.specs.SymbolDuplicates.{symbols_to, steps_to}
+use Rattle.load_laws.proofs.SymbolDuplicates.{table_to, steps-lead, symbol-number, Begins, steps-begin-to}
 use Rattle.load_laws.proofs.Accepted.{record-none, lists-none}
-
--- the row of symbol i of the library: it is defined, whatever its section, type and value; weak and, in the old profile, hidden are its entry's; in the link that
--- the load leaves its name has the bytes of the symbol's; it has neither file nor size
-module _ (o : Input) (a : All) where
-  pub record FromLibrary (r : Row) : Type 0 where
-    pub number : ℕ
-    pub below : number < entries_in o.entries
-    pub defines : (entry o.entries number).section ≢ shn_undef
-    pub passed : Admitted (entry o.entries number)
-    pub type : type_at r.kind ≡ Ty.NoType
-    pub shown : visibility_at r.visibility ≡ shows (shared_entry a.link.gabi (entry o.entries number))
-    pub value : value_at r.value ≡ Val.ExternallyDefined
-    pub found : has_name o.image (entry_name o.entries number) ≡ true
-    pub named : Issued (store (table_in (load_of o a).cells)) r.name.0 (name_at o.image (entry_name o.entries number))
-    pub filed : file_at r.file ≡ None
-    pub size : r.size ≡ 0
-
--- ---- one symbol's steps add its planned row, or none
+use Rattle.load_laws.specs.LibraryContents.{FromLibrary}
 
 module _ (entries file : List ℕ) (s : State) (i : ℕ) (P : Row → Type 0) where
   abbrev x : Looked
@@ -74,7 +56,7 @@ module _ (entries file : List ℕ) (s : State) (i : ℕ) (P : Row → Type 0) wh
   abbrev p : Definition
   p = plan_of (view (adding (staged s (going_of s.stage.link)))) x.name (field entries i 1) (field entries i 3)
 
-  symbol-rows : (x.found ≡ true → eqb (field entries i 4) 0 ≡ false → refusal_of p.decision ≡ 0 → p.row.visibility ≢ 0 → P p.row) → Rank.All P (added_rows (symbol_steps entries file s i))
+  symbol-rows : (x.found ≡ true → eqb (field entries i 4) 0 ≡ false → refusal_of p.decision ≡ 0 → p.row.scope ≢ 0 → P p.row) → Rank.All P (added_rows (symbol_steps entries file s i))
   unfolding symbol_steps named_steps row_steps
   symbol-rows f =
       by-test x.found
@@ -88,7 +70,7 @@ module _ (entries file : List ℕ) (s : State) (i : ℕ) (P : Row → Type 0) wh
       (λ d.
       by-test (eqb (refusal_of p.decision) 0)
       (λ e.
-      by-test (eqb p.row.visibility 0) (λ v. rw (b, c, d, e, v) tt)
+      by-test (eqb p.row.scope 0) (λ v. rw (b, c, d, e, v) tt)
       (λ v. let q : P p.row = f b c (eqb-true _ _ e) (eqb-false _ _ v) in rw (b, c, d, e, v) (q, tt)))
       (λ e. rw (b, c, d, e) tt))))
       (λ b. rw b tt)
@@ -106,13 +88,13 @@ module _ (v : View) (x : List ℕ) (e : Sym) where
       (λ f. (decided-passes v.link v.symbols v.sections planned.row (holder_of v.link v.names v.symbols planned.row.name) (rw f at z)).0)
       (λ f. let q : ◌≡◌ {A = ℕ} 2 0 = rw f at z in absurd (omega arith))
 
-  row_shows : planned.row.visibility ≢ 0 → scope_refused planned.row ≡ false
-      → Admitted e × (visibility_at planned.row.visibility ≡ shows (shared_entry v.link.gabi e))
+  row_shows : planned.row.scope ≢ 0 → scope_refused planned.row ≡ false
+      → Admitted e × (visibility_at planned.row.scope ≡ shows (shared_entry v.link.gabi e))
   unfolding plan_of external_of rowed_of external_row_of
   row_shows = shared-is v.link.gabi e
 
-  planned-shows : planned.row.visibility ≢ 0 → refusal_of planned.decision ≡ 0
-      → Admitted e × (visibility_at planned.row.visibility ≡ shows (shared_entry v.link.gabi e))
+  planned-shows : planned.row.scope ≢ 0 → refusal_of planned.decision ≡ 0
+      → Admitted e × (visibility_at planned.row.scope ≡ shows (shared_entry v.link.gabi e))
   planned-shows g z = row_shows g (planned-passes z)
 
 -- ---- the load
@@ -184,7 +166,7 @@ module _ (o : Input) (a : All) where
   module _ (met : List (List ℕ)) (known : Marked (table_in a) met) where
     from-library : (head_in o a).number ≡ 0 → (want o a).needed ≡ true → Stops.fits entries file o.needs (links_in a) (name_of o) ≡ true
         → (i : ℕ) → i < rows_in entries → (symbols_to o a i).stage.number ≡ 0 → (x entries file (symbols_to o a i) i From).found ≡ true → eqb (field entries i 4) 0 ≡ false
-        → refusal_of (p entries file (symbols_to o a i) i From).decision ≡ 0 → (p entries file (symbols_to o a i) i From).row.visibility ≢ 0
+        → refusal_of (p entries file (symbols_to o a i) i From).decision ≡ 0 → (p entries file (symbols_to o a i) i From).row.scope ≢ 0
         → From (p entries file (symbols_to o a i) i From).row
     unfolding plan_of external_of rowed_of external_row_of type_at value_at file_at
     from-library head needed fits i h going found d z g =

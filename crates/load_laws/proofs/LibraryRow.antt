@@ -18,7 +18,7 @@ use Rattle.link.specs.declared.Interned.{Interned}
 use Rattle.link.specs.Bounds.{lesser, input_rows}
 use Rattle.link.specs.Judge.{going_of, judge_sections, judge_names, judge_lists, after_symbols, after_sections, judge_of, change_of}
 use Rattle.link.specs.Counts.{more_inputs}
-use Rattle.interner.specs.Names.{Store, store_of, fits_of, keep_of}
+use Rattle.interner.specs.Names.{Store, store_of, fits_of}
 use Rattle.interner_laws.specs.Good.{Good, Issued, count, name}
 use Rattle.interner_laws.proofs.Histories.{issued-stays}
 use Rattle.interner_laws.proofs.Terms.{keeps-good, keeps-names, keeps-issued}
@@ -29,13 +29,14 @@ use Rattle.shared_objects.specs.Record.{Recorded, recorded_of, dependencies_of}
 use Rattle.shared_objects.specs.SymbolsLoad.{State, state_of, symbols_of}
 use Rattle.shared_objects.specs.declared.Outcome.{Outcome}
 use Rattle.shared_objects.specs.Stages.{InputLinks, library_cells, library_row_of, ListLinks, list_links, with_input, input_stage, lists_of, Links, with_lists, list_stage, contents_of, with_name, kept_of, issued_of, library_of}
-use Rattle.shared_objects.specs.Load.{All, Input, Left, want_of, ended_as, links_in, wanted_of, library_named, head_in, name_of, load_of}
+use Rattle.shared_objects.specs.Load.{All, Input, Left, want_of, ended_as, links_in, wanted_of, library_named, head_in, load_of}
 use Rattle.load_laws.proofs.Grown.{Grown, first_part, second-part, before_same}
-use Rattle.load_laws.specs.LawsRecorded.{most, id_in, dependency_ids, undefined_ids}
+use Rattle.load_laws.specs.LawsRecorded.{most}
 use Rattle.load_laws.proofs.Recorded.{keep-lists, dependencies-grown, symbols-grown}
 use Rattle.load_laws.specs.Names.{Kept, Each, record_store, state_store, undefined_names, dependency_names}
 use Rattle.load_laws.proofs.LawsNames.{kept-both, relinked, each-stays, symbols-names, dependencies-names}
 use Rattle.load_laws.proofs.Counted.{keep-inputs, dependencies-count, symbols-count}
+use Rattle.load_laws.specs.LibraryRow.{x, self, named, start, loaded, middle, undefineds, dependencies}
 
 -- ---- what the head lets through has its lists
 
@@ -111,51 +112,25 @@ module _ (entries file needs : List ℕ) (s : Links) (id : Interned) where
       (eqb symboled.stage.number 0) _ _ (λ t e. (eqb-true _ _ t, e, refl)) (λ t e. absurd (eqb-false _ _ t e))
 
 module _ (o : Input) (a : All) where
-  abbrev x : List ℕ
-  x = name_of o
-
-  abbrev pub self : ℕ
-  self = id_in a.bytes a.names a.link x
-
-  -- the names after the library's own
-  abbrev named : Store
-  named = keep_of (store_of a.bytes a.names a.link) (record { 0 = self }) x
-
-  abbrev start : State
-  start = state_of named.bytes named.names a.symbols a.sections a.lists (going_of named.link)
-
-  abbrev loaded : State
-  loaded = symbols_of o.entries o.image start
-
-  abbrev middle : Recorded
-  middle = recorded_of loaded.bytes loaded.names loaded.lists (going_of loaded.stage.link)
-
   abbrev end : Recorded
-  end = dependencies_of o.image o.needs middle
-
-  -- the ids of its undefined names of binding 1, and of its dependencies
-  abbrev pub undefineds : List ℕ
-  undefineds = undefined_ids o.entries o.image (rows_in o.entries) 0 start
-
-  abbrev pub dependencies : List ℕ
-  dependencies = dependency_ids o.image o.needs (length o.needs) 0 middle
+  end = dependencies_of o.image o.needs (middle o a)
 
   abbrev after : All
   after = (load_of o a).cells
 
   abbrev whole : Links
-  whole = library_of o.entries o.image o.needs (links_in a) x
+  whole = library_of o.entries o.image o.needs (links_in a) (x o a)
 
   abbrev contents : Links
-  contents = contents_of o.entries o.image o.needs (with_name (links_in a) named (going_of named.link)) (record { 0 = self })
+  contents = contents_of o.entries o.image o.needs (with_name (links_in a) (named o a) (going_of (named o a).link)) (record { 0 = self o a })
 
   library-done : whole.stage.number ≡ 0
-      → (contents.stage.number ≡ 0) × (whole ≡ contents) × (fits_of (store_of a.bytes a.names a.link) (record { 0 = self }) (length x) ≡ true)
+      → (contents.stage.number ≡ 0) × (whole ≡ contents) × (fits_of (store_of a.bytes a.names a.link) (record { 0 = self o a }) (length (x o a)) ≡ true)
   unfolding library_of issued_of kept_of
   library-done =
       pick (λ (r : Links). r.stage.number ≡ 0
-      → (contents.stage.number ≡ 0) × (r ≡ contents) × (fits_of (store_of a.bytes a.names a.link) (record { 0 = self }) (length x) ≡ true))
-      (fits_of (store_of a.bytes a.names a.link) (record { 0 = self }) (length x)) _ _ (λ t e. (e, refl, t)) (λ t e. absurd (omega arith))
+      → (contents.stage.number ≡ 0) × (r ≡ contents) × (fits_of (store_of a.bytes a.names a.link) (record { 0 = self o a }) (length (x o a)) ≡ true))
+      (fits_of (store_of a.bytes a.names a.link) (record { 0 = self o a }) (length (x o a))) _ _ (λ t e. (e, refl, t)) (λ t e. absurd (omega arith))
 
   ended-done : (s : Stage) → (ended_as s).answer ≡ Ok Loaded → (s.number ≡ 0) × ((ended_as s).link ≡ s.link)
   unfolding ended_as
@@ -179,7 +154,7 @@ module _ (o : Input) (a : All) where
       pick (λ (t : Left). t.answer ≡ Ok Loaded → LoadedAs t) (eqb (head_in o a).number 0) _ _
       (λ h.
       pick (λ (t : Left). t.answer ≡ Ok Loaded → LoadedAs t)
-      (want_of o.asneeded a.link a.bytes a.names a.symbols a.inputs a.lists a.marks o.entries o.image x).needed _ _
+      (want_of o.asneeded a.link a.bytes a.names a.symbols a.inputs a.lists a.marks o.entries o.image (x o a)).needed _ _
       (λ u e.
       let d = ended-done whole.stage e in
       record { passed = eqb-true _ _ h; unrefused = d.0; bytes = refl; names = refl; inputs = refl; lists = refl; link = d.1 })
@@ -192,9 +167,9 @@ module _ (o : Input) (a : All) where
   -- what it leaves
   pub record LibraryRow : Type 0 where
     pub kind : input_kind_at after.inputs k ≡ 2
-    pub name : field after.inputs k 1 ≡ self
-    pub lacks : undefined_at after.inputs after.lists k ≡ undefineds
-    pub needs : dependencies_at after.inputs after.lists k ≡ dependencies
+    pub name : field after.inputs k 1 ≡ self o a
+    pub lacks : undefined_at after.inputs after.lists k ≡ undefineds o a
+    pub needs : dependencies_at after.inputs after.lists k ≡ dependencies o a
     -- both lie below the count of the lists
     pub lacks-in : field after.inputs k 4 + field after.inputs k 5 ≤ after.link.lists
     pub needs-in : field after.inputs k 2 + field after.inputs k 3 ≤ after.link.lists
@@ -209,34 +184,34 @@ module _ (o : Input) (a : All) where
     contents-zero : contents.stage.number ≡ 0
     contents-zero = (library-done (load-done e).unrefused).0
 
-    loaded-zero : loaded.stage.number ≡ 0
-    loaded-zero = (contents-done o.entries o.image o.needs (with_name (links_in a) named (going_of named.link)) (record { 0 = self }) contents-zero).0
+    loaded-zero : (loaded o a).stage.number ≡ 0
+    loaded-zero = (contents-done o.entries o.image o.needs (with_name (links_in a) (named o a) (going_of (named o a).link)) (record { 0 = self o a }) contents-zero).0
 
     abbrev lister : ListLinks
-    lister = list_links loaded.bytes loaded.names a.inputs loaded.lists (going_of loaded.stage.link)
+    lister = list_links (loaded o a).bytes (loaded o a).names a.inputs (loaded o a).lists (going_of (loaded o a).stage.link)
 
-    lister-zero : (lists_of o.image o.needs lister (record { 0 = self }) named.link.lists).stage.number ≡ 0
-    lister-zero = (contents-done o.entries o.image o.needs (with_name (links_in a) named (going_of named.link)) (record { 0 = self }) contents-zero).1
+    lister-zero : (lists_of o.image o.needs lister (record { 0 = self o a }) (named o a).link.lists).stage.number ≡ 0
+    lister-zero = (contents-done o.entries o.image o.needs (with_name (links_in a) (named o a) (going_of (named o a).link)) (record { 0 = self o a }) contents-zero).1
 
     abbrev row : InputLinks
-    row = library_row_of a.inputs end.stage.link (record { 0 = self }) named.link.lists loaded.stage.link.lists
+    row = library_row_of a.inputs end.stage.link (record { 0 = self o a }) (named o a).link.lists (loaded o a).stage.link.lists
 
     end-zero : end.stage.number ≡ 0
-    end-zero = (lists-done o.image o.needs lister (record { 0 = self }) named.link.lists lister-zero).0
+    end-zero = (lists-done o.image o.needs lister (record { 0 = self o a }) (named o a).link.lists lister-zero).0
 
     row_zero : row.stage.number ≡ 0
-    row_zero = (lists-done o.image o.needs lister (record { 0 = self }) named.link.lists lister-zero).1
+    row_zero = (lists-done o.image o.needs lister (record { 0 = self o a }) (named o a).link.lists lister-zero).1
 
-    whole_is : whole ≡ with_lists loaded (with_input end row)
+    whole_is : whole ≡ with_lists (loaded o a) (with_input end row)
     whole_is =
         (library-done (load-done e).unrefused).1
-        ∙ (contents-done o.entries o.image o.needs (with_name (links_in a) named (going_of named.link)) (record { 0 = self }) contents-zero).2
-        ∙ ap (λ (r : ListLinks). with_lists loaded r) (lists-done o.image o.needs lister (record { 0 = self }) named.link.lists lister-zero).2
+        ∙ (contents-done o.entries o.image o.needs (with_name (links_in a) (named o a) (going_of (named o a).link)) (record { 0 = self o a }) contents-zero).2
+        ∙ ap (λ (r : ListLinks). with_lists (loaded o a) r) (lists-done o.image o.needs lister (record { 0 = self o a }) (named o a).link.lists lister-zero).2
 
-    first-is : named.link.lists ≡ a.link.lists
-    first-is = keep-lists (store_of a.bytes a.names a.link) (record { 0 = self }) x
+    first-is : (named o a).link.lists ≡ a.link.lists
+    first-is = keep-lists (store_of a.bytes a.names a.link) (record { 0 = self o a }) (x o a)
 
-    low : named.link.lists ≤ length a.lists
+    low : (named o a).link.lists ≤ length a.lists
     low = rw first-is (head-lists o a head-zero)
 
     abbrev inputs : Link → ℕ
@@ -245,26 +220,26 @@ module _ (o : Input) (a : All) where
     inputs-is : end.stage.link.inputs ≡ k
     unfolding dependencies_of symbols_of
     inputs-is =
-        dependencies-count inputs keep-inputs (λ l n. refl) (λ l n. refl) o.image o.needs (length o.needs) 0 middle
-        ∙ symbols-count inputs keep-inputs (λ l n. refl) (λ l n. refl) o.entries o.image (rows_in o.entries) 0 start
-        ∙ keep-inputs (store_of a.bytes a.names a.link) (record { 0 = self }) x
+        dependencies-count inputs keep-inputs (λ l n. refl) (λ l n. refl) o.image o.needs (length o.needs) 0 (middle o a)
+        ∙ symbols-count inputs keep-inputs (λ l n. refl) (λ l n. refl) o.entries o.image (rows_in o.entries) 0 (start o a)
+        ∙ keep-inputs (store_of a.bytes a.names a.link) (record { 0 = self o a }) (x o a)
 
-    grown-symbols : Grown a.lists named.link.lists loaded.lists loaded.stage.link.lists undefineds
+    grown-symbols : Grown a.lists (named o a).link.lists (loaded o a).lists (loaded o a).stage.link.lists (undefineds o a)
     unfolding symbols_of
-    grown-symbols = symbols-grown o.entries o.image (rows_in o.entries) 0 start fit low loaded-zero
+    grown-symbols = symbols-grown o.entries o.image (rows_in o.entries) 0 (start o a) fit low loaded-zero
 
-    grown-dependencies : Grown loaded.lists loaded.stage.link.lists end.lists end.stage.link.lists dependencies
+    grown-dependencies : Grown (loaded o a).lists (loaded o a).stage.link.lists end.lists end.stage.link.lists (dependencies o a)
     unfolding dependencies_of
     grown-dependencies =
-        dependencies-grown o.image o.needs (length o.needs) 0 middle (rw grown-symbols.long fit) grown-symbols.within end-zero
+        dependencies-grown o.image o.needs (length o.needs) 0 (middle o a) (rw grown-symbols.long fit) grown-symbols.within end-zero
 
     abbrev cells : List ℕ
-    cells = library_cells self named.link.lists loaded.stage.link.lists end.stage.link.lists
+    cells = library_cells (self o a) (named o a).link.lists (loaded o a).stage.link.lists end.stage.link.lists
 
     after-inputs : after.inputs ≡ put_row a.inputs k cells
     after-inputs =
         (load-done e).inputs ∙ ap (λ (s : Links). s.inputs) whole_is
-        ∙ (input-done a.inputs end.stage.link (record { 0 = self }) named.link.lists loaded.stage.link.lists row_zero).1
+        ∙ (input-done a.inputs end.stage.link (record { 0 = self o a }) (named o a).link.lists (loaded o a).stage.link.lists row_zero).1
         ∙ ap (λ (n : ℕ). put_row a.inputs n cells) inputs-is
 
     after-lists : after.lists ≡ end.lists
@@ -273,13 +248,13 @@ module _ (o : Input) (a : All) where
     after-link : after.link ≡ more_inputs end.stage.link
     after-link =
         (load-done e).link ∙ ap (λ (s : Links). s.stage.link) whole_is
-        ∙ (input-done a.inputs end.stage.link (record { 0 = self }) named.link.lists loaded.stage.link.lists row_zero).2
+        ∙ (input-done a.inputs end.stage.link (record { 0 = self o a }) (named o a).link.lists (loaded o a).stage.link.lists row_zero).2
 
     last-is : after.link.lists ≡ end.stage.link.lists
     last-is = ap (λ (l : Link). l.lists) after-link
 
     room : k * 8 + 8 ≤ length a.inputs
-    room = rw inputs-is at (input-done a.inputs end.stage.link (record { 0 = self }) named.link.lists loaded.stage.link.lists row_zero).0
+    room = rw inputs-is at (input-done a.inputs end.stage.link (record { 0 = self o a }) (named o a).link.lists (loaded o a).stage.link.lists row_zero).0
 
     cell : (f : ℕ) → f < 8 → field after.inputs k f ≡ get_or cells f 0
     cell f h = ap (λ (l : List ℕ). field l k f) after-inputs ∙ row_same a.inputs k cells f refl h room
@@ -290,10 +265,10 @@ module _ (o : Input) (a : All) where
           kind = cell 0 (omega arith);
           name = cell 1 (omega arith);
           lacks = rw (cell 4 (omega arith), cell 5 (omega arith), after-lists) (
-              first_part a.lists loaded.lists end.lists named.link.lists loaded.stage.link.lists end.stage.link.lists undefineds dependencies low grown-symbols grown-dependencies
+              first_part a.lists (loaded o a).lists end.lists (named o a).link.lists (loaded o a).stage.link.lists end.stage.link.lists (undefineds o a) (dependencies o a) low grown-symbols grown-dependencies
               );
           needs = rw (cell 2 (omega arith), cell 3 (omega arith), after-lists) (
-              second-part a.lists loaded.lists end.lists named.link.lists loaded.stage.link.lists end.stage.link.lists undefineds dependencies low grown-symbols grown-dependencies
+              second-part a.lists (loaded o a).lists end.lists (named o a).link.lists (loaded o a).stage.link.lists end.stage.link.lists (undefineds o a) (dependencies o a) low grown-symbols grown-dependencies
               );
           lacks-in = rw (cell 4 (omega arith), cell 5 (omega arith)) (omega (arith, grown-symbols.count, grown-dependencies.count, last-is));
           needs-in = rw (cell 2 (omega arith), cell 3 (omega arith)) (omega (arith, grown-dependencies.count, last-is));
@@ -301,7 +276,7 @@ module _ (o : Input) (a : All) where
           earlier-rows = λ j f h g. ap (λ (l : List ℕ). field l j f) after-inputs ∙ row_other a.inputs k cells j f refl g (λ q. omega arith);
           earlier-lists =
               ap (λ (l : List ℕ). take a.link.lists l) after-lists ∙ ap (λ (n : ℕ). take n end.lists) (sym first-is)
-              ∙ before_same a.lists loaded.lists end.lists named.link.lists loaded.stage.link.lists end.stage.link.lists undefineds dependencies low grown-symbols grown-dependencies
+              ∙ before_same a.lists (loaded o a).lists end.lists (named o a).link.lists (loaded o a).stage.link.lists end.stage.link.lists (undefineds o a) (dependencies o a) low grown-symbols grown-dependencies
               ∙ ap (λ (n : ℕ). take n a.lists) first-is;
         }
 
@@ -316,21 +291,21 @@ module _ (o : Input) (a : All) where
     -- every id stands for its name: the library's own, those of its undefined names of binding 1, those of its dependencies
     pub record LibraryNames : Type 0 where
       pub kept : Kept before store
-      pub own : Issued store self x
-      pub lacked : Each store undefineds (undefined_names o.entries o.image (rows_in o.entries) 0)
-      pub listed : Each store dependencies (dependency_names o.image o.needs (length o.needs) 0)
+      pub own : Issued store (self o a) (x o a)
+      pub lacked : Each store (undefineds o a) (undefined_names o.entries o.image (rows_in o.entries) 0)
+      pub listed : Each store (dependencies o a) (dependency_names o.image o.needs (length o.needs) 0)
 
     module _ (g : Good before) where
-      own-kept : Kept before named
-      own-kept = record { good = keeps-good before g x; stays = keeps-names before g x (record { 0 = self }) }
+      own-kept : Kept before (named o a)
+      own-kept = record { good = keeps-good before g (x o a); stays = keeps-names before g (x o a) (record { 0 = self o a }) }
 
-      symbols-kept : Kept named (state_store loaded) × Each (state_store loaded) undefineds (undefined_names o.entries o.image (rows_in o.entries) 0)
+      symbols-kept : Kept (named o a) (state_store (loaded o a)) × Each (state_store (loaded o a)) (undefineds o a) (undefined_names o.entries o.image (rows_in o.entries) 0)
       unfolding symbols_of
-      symbols-kept = symbols-names o.entries o.image (rows_in o.entries) 0 start own-kept.good loaded-zero
+      symbols-kept = symbols-names o.entries o.image (rows_in o.entries) 0 (start o a) own-kept.good loaded-zero
 
-      dependencies-kept : Kept (state_store loaded) (record_store end) × Each (record_store end) dependencies (dependency_names o.image o.needs (length o.needs) 0)
+      dependencies-kept : Kept (state_store (loaded o a)) (record_store end) × Each (record_store end) (dependencies o a) (dependency_names o.image o.needs (length o.needs) 0)
       unfolding dependencies_of
-      dependencies-kept = dependencies-names o.image o.needs (length o.needs) 0 middle symbols-kept.0.good end-zero
+      dependencies-kept = dependencies-names o.image o.needs (length o.needs) 0 (middle o a) symbols-kept.0.good end-zero
 
       store_is : store ≡ store_of end.bytes end.names (more_inputs end.stage.link)
       store_is =
@@ -346,17 +321,17 @@ module _ (o : Input) (a : All) where
           subst (λ (s : Store). Kept (record_store end) s) (sym store_is)
           (relinked end.bytes end.names end.stage.link (more_inputs end.stage.link) refl refl refl refl dependencies-kept.0.good)
 
-      after-symbols : Kept (state_store loaded) store
-      after-symbols = kept-both (state_store loaded) (record_store end) store dependencies-kept.0 row_kept
+      after-symbols : Kept (state_store (loaded o a)) store
+      after-symbols = kept-both (state_store (loaded o a)) (record_store end) store dependencies-kept.0 row_kept
 
-      after-own : Kept named store
-      after-own = kept-both named (state_store loaded) store symbols-kept.0 after-symbols
+      after-own : Kept (named o a) store
+      after-own = kept-both (named o a) (state_store (loaded o a)) store symbols-kept.0 after-symbols
 
       pub library-names : LibraryNames
       library-names =
           record {
-            kept = kept-both before named store own-kept after-own;
-            own = issued-stays count name named store self x after-own.stays (keeps-issued before g x (library-done (load-done e).unrefused).2);
-            lacked = each-stays (state_store loaded) store undefineds _ after-symbols.stays symbols-kept.1;
-            listed = each-stays (record_store end) store dependencies _ row_kept.stays dependencies-kept.1;
+            kept = kept-both before (named o a) store own-kept after-own;
+            own = issued-stays count name (named o a) store (self o a) (x o a) after-own.stays (keeps-issued before g (x o a) (library-done (load-done e).unrefused).2);
+            lacked = each-stays (state_store (loaded o a)) store (undefineds o a) _ after-symbols.stays symbols-kept.1;
+            listed = each-stays (record_store end) store (dependencies o a) _ row_kept.stays dependencies-kept.1;
           }

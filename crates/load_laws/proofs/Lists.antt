@@ -24,7 +24,8 @@ use Rattle.shared_objects.specs.Stages as Stages
 use Rattle.shared_objects.specs.Load.{All, Input, ended_as, links_in, wanted_of, head_in, name_of, load_of}
 use Rattle.shared_objects.specs.Load as Load
 use Rattle.merge_laws.proofs.Loop.{loop-holds}
-use Rattle.merge_laws.proofs.Lists.{Listed, listed-none, lists-listed, listed-both, row-taken, keep-lists, keep-inputs}
+use Rattle.merge_laws.specs.Lists.{Listed}
+use Rattle.merge_laws.proofs.Lists.{listed-none, lists-listed, listed-both, row-taken, keep-lists, keep-inputs}
 use Rattle.load_laws.specs.LoadSteps.{recording, adding, list_first, lists_in, symbol_first}
 use Rattle.load_laws.proofs.Whole.{record-room, symbols-loop, dependencies-loop}
 use Rattle.load_laws.proofs.Unbroken.{commit-count}

@@ -1,6 +1,6 @@
 -- The tests of the judgement of need say what Needed.antt says in its own words.
 -- Assumes nothing.
-use Rattle.std.specs.Prelude.{ℕ, ◌≡◌, Bool, false, cond, List}
+use Rattle.std.specs.Prelude.{ℕ, ◌≡◌, false, cond, List}
 use Rattle.std.proofs.Math.Path.{sym, ap}
 use Rattle.std.proofs.Common.{◌∙◌, eqb-true}
 use Rattle.std.proofs.Math.Bool.{true}
@@ -9,32 +9,15 @@ use Rattle.cells.specs.Proof.Split.{by-test}
 use Rattle.byte_slices.specs.Proof.Ways.{apart}
 use Rattle.link.specs.declared.SymbolId.{SymbolId}
 use Rattle.symbol.specs.declared.Words.{Words}
-use Rattle.symbol.specs.declared.SymbolVisibility.{SymbolVisibility}
-use Rattle.symbol.specs.declared.SymbolVisibility.TheVariants.{Local, Global}
-use Rattle.symbol.specs.declared.SymbolValue.{SymbolValue}
+use Rattle.symbol.specs.declared.SymbolVisibility.TheVariants.{Global}
 use Rattle.symbol.specs.declared.SymbolValue.TheVariants as Val
 use Rattle.symbol.specs.Codes.{visibility_at, value_at}
-use Rattle.symbol.specs.Row.{field, visibility_code_at, value_words_at, symbol_at}
+use Rattle.symbol.specs.Row.{field, scope_at, value_words_at, symbol_at}
 use Rattle.symbol_resolution.specs.RowsUndefined.{strong_undefined}
 use Rattle.load_laws.specs.Needed.{StrongUndefined}
+use Rattle.load_laws.specs.Own.{is_undefined, is_strong}
 
 -- ---- an undefined strong row
-
-abbrev pub is_undefined : SymbolValue → Bool
-is_undefined Val.Null = false
-is_undefined (Val.Absolute v) = false
-is_undefined (Val.Section s) = false
-is_undefined (Val.SectionRelative s z) = false
-is_undefined (Val.SectionVirtualAddress s v) = false
-is_undefined Val.SectionNotLoaded = false
-is_undefined Val.ExternallyDefined = false
-is_undefined (Val.Undefined zero) = true
-is_undefined (Val.Common alignment) = false
-
-abbrev pub is_strong : SymbolVisibility → Bool
-is_strong Local = false
-is_strong (Global true hidden) = false
-is_strong (Global false hidden) = true
 
 pub undefined-code : (w : Words) → is_undefined (value_at w) ≡ eqb w.kind 7
 unfolding value_at
@@ -64,7 +47,7 @@ strong-code k =
 
 module _ (symbols : List ℕ) (id : SymbolId) where
   abbrev code : ℕ
-  code = visibility_code_at symbols id.0
+  code = scope_at symbols id.0
 
   undefined-own : field symbols id.0 5 ≡ 7 → value_at (value_words_at symbols id.0) ≡ Val.Undefined (eqb (field symbols id.0 6) 1)
   unfolding value_at

@@ -24,7 +24,7 @@ use Rattle.shared_objects.specs.Load as Load
 use Rattle.merge_laws.proofs.Loop.{loop-holds}
 use Rattle.load_laws.specs.LoadSteps.{adding, symbol_first}
 use Rattle.load_laws.proofs.Whole.{symbols-loop}
-use Rattle.load_laws.proofs.Stops.{want}
+use Rattle.load_laws.specs.Stops.{want}
 
 -- "A local `Section` row becomes its section's symbol", and a library's rows are `ExternallyDefined`
 applied-sections : (t : Table) (gabi : Bool) (id : Interned) (binding visibility : ℕ) (d : Decision) → (apply_of t (external_row_of gabi id binding visibility) d).sections ≡ t.sections

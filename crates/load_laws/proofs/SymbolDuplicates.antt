@@ -1,6 +1,6 @@
 -- 17 of a library's symbol: what an add of its row answers where the symbols before it have led.
 -- Assumes nothing.
-use Prim.Native.Nat.{ℕ, ◌+◌, ◌<◌, ◌≤◌}
+use Prim.Native.Nat.{ℕ, ◌+◌, ◌≤◌}
 use Rattle.std.proofs.Common.{zero-add, ◌∙◌, eqb-true, eq-eqb}
 use native.Mathlib.Omega.{arith}
 use Rattle.std.proofs.Math.Path.{◌≡◌, refl, sym, ap, subst}
@@ -17,7 +17,6 @@ use Rattle.link.specs.Said.{number_in, place_in}
 use Rattle.gabi.specs.SymbolTable.{Sym}
 use Rattle.gabi.specs.Resolution.{duplicate, resolve}
 use Rattle.interner.specs.Names.{fits_of, find_of}
-use Rattle.symbol.specs.declared.Row.{Row}
 use Rattle.symbol.specs.Row.{scope_refused, value_refused}
 use Rattle.upcoming_symbol.specs.declared.Conversion.TheVariants as To
 use Rattle.upcoming_symbol.specs.Upcoming.{external_row_of}
@@ -37,7 +36,7 @@ use Rattle.shared_objects.specs.Load as Load
 use Rattle.symbol_laws.specs.History as History
 use Rattle.symbol_laws.specs.History.{store, Entry, only, rows, issue, id_of}
 use Rattle.symbol_laws.proofs.History.{log-append}
-use Rattle.symbol_laws.proofs.Held.{Inv}
+use Rattle.symbol_laws.specs.Held.{Inv}
 use Rattle.symbol_laws.specs.Gabi.{Means, AllMean, sym_of}
 use Rattle.symbol_laws.specs.ContentWords.{shared_entry}
 use Rattle.symbol_laws.proofs.Gabi.{external-means}
@@ -51,13 +50,16 @@ use Rattle.merge_laws.proofs.ByNumber.{changed}
 use Rattle.merge_laws.proofs.Duplicates as Duplicates
 use Rattle.merge_laws.proofs.Duplicates.{judged, Held, seventeen-held}
 use Rattle.load_laws.specs.LoadSteps.{recording, adding, symbol_steps, list_first, lists_in, list_stage_steps, contents_steps, kept_steps, issued_steps, library_steps, wanted_steps, asked_steps, load_steps}
-use Rattle.load_laws.proofs.Whole.{table_in, symbol_table, add_table, number_of, symbols-loop, symbols-make-to, dependencies-loop}
-use Rattle.load_laws.specs.Elements.{symbol_name, past_with}
+use Rattle.load_laws.specs.Whole.{table_in, number_of}
+use Rattle.load_laws.proofs.Whole.{symbol_table, add_table, symbols-loop, symbols-make-to, dependencies-loop}
+use Rattle.load_laws.specs.Elements.{symbol_name}
 use Rattle.load_laws.proofs.Refusals.{external-fields, DependencyLeft}
 use Rattle.load_laws.proofs.RefusalsLemmas.{dependency-left}
-use Rattle.load_laws.proofs.Stops as Stops
-use Rattle.load_laws.proofs.Stops.{want, ending}
+use Rattle.load_laws.specs.Stops as Stops
+use Rattle.load_laws.proofs.Stops as StopsLaws
+use Rattle.load_laws.specs.Stops.{want, ending}
 use Rattle.merge_laws.specs.Table.{binding_causes}
+use Rattle.load_laws.specs.SymbolDuplicates.{plan_at, first, symbols_to, steps_to, past_to, symbol_number, row_to, Adds, Comes, RefusedAt, LogBegins}
 
 -- ---- one symbol, from the state that the symbols before it left
 
@@ -99,15 +101,12 @@ record-other s x place q =
     (λ t. let z : ◌≡◌ {A = ℕ} 0 17 = rw t at q in omega arith) (λ t. let z : ◌≡◌ {A = ℕ} 2 17 = rw t at q in omega arith)
 
 module _ (entries file : List ℕ) (s : State) (i : ℕ) where
-  abbrev pub plan_at : Definition
-  plan_at = plan_of (view (adding s)) (symbol_name entries file i).name (field entries i 1) (field entries i 3)
-
   module _ (f : (symbol_name entries file i).found ≡ true) (d : eqb (field entries i 4) 0 ≡ false) where
-    pub symbol-number : (symbol_of entries file s i).stage.number ≡ refusal_of plan_at.decision
+    pub symbol-number : (symbol_of entries file s i).stage.number ≡ refusal_of (plan_at entries file s i).decision
     unfolding symbol_of looked_of library_symbol_named
     symbol-number = rw (f, d) (define-number (adding s) (symbol_name entries file i).name (field entries i 1) (field entries i 3) i)
 
-    symbol-place : refusal_of plan_at.decision ≡ 17 → (symbol_of entries file s i).stage.place ≡ i
+    symbol-place : refusal_of (plan_at entries file s i).decision ≡ 17 → (symbol_of entries file s i).stage.place ≡ i
     unfolding symbol_of looked_of library_symbol_named
     symbol-place q = rw (f, d) (define-place (adding s) (symbol_name entries file i).name (field entries i 1) (field entries i 3) i q)
 
@@ -129,115 +128,76 @@ module _ (entries file : List ℕ) (s : State) (i : ℕ) where
 -- ---- a load: what it has done before symbol i
 
 module _ (o : Input) (a : All) where
-  abbrev first : State
-  first = Stops.first o.entries o.image o.needs (links_in a) (name_of o)
-
-  abbrev pub symbols_to : ℕ → State
-  symbols_to i = Stops.symbols_to o.entries o.image o.needs (links_in a) (name_of o) i
-
-  -- its own name, the symbols before i
-  abbrev pub steps_to : ℕ → List Step
-  steps_to i = part (issue (name_of o)) ∷ loop_steps number_of (symbol_of o.entries o.image) (symbol_steps o.entries o.image) i 0 first
-
   abbrev pub table_to : ℕ → History.State
-  table_to i = symbol_table (symbols_to i)
+  table_to i = symbol_table (symbols_to o a i)
 
-  pub steps-lead : (i : ℕ) → run_steps (steps_to i) (table_in a) ≡ table_to i
-  steps-lead i = (symbols-make-to o.entries o.image i first).leads
+  pub steps-lead : (i : ℕ) → run_steps (steps_to o a i) (table_in a) ≡ table_to i
+  steps-lead i = (symbols-make-to o.entries o.image i (first o a)).leads
 
-  -- the accepted adds before symbol i
-  abbrev pub past_to : List Entry → ℕ → List Entry
-  past_to past i = past_with past (log_steps (steps_to i) (table_in a))
-
-  abbrev pub symbol_number : ℕ → ℕ
-  symbol_number i = (symbol_of o.entries o.image (symbols_to i) i).stage.number
-
-  -- the row that symbol i would become
-  abbrev pub row_to : ℕ → Row
-  row_to i = (plan_at o.entries o.image (symbols_to i) i).row
-
-  -- its name is found, and it is to be added: it is no reference
-  pub record Adds (i : ℕ) : Type 0 where
-    pub found : (symbol_name o.entries o.image i).found ≡ true
-    pub defines : eqb (field o.entries i 4) 0 ≡ false
-
-  pub row-means : (i : ℕ) → Adds i → (row_to i).visibility ≢ 0 → scope_refused (row_to i) ≡ false → Means (row_to i) (shared_entry a.link.gabi (sym_of (elf_at o.entries i)))
+  pub row-means : (i : ℕ) → Adds o a i → (row_to o a i).scope ≢ 0 → scope_refused (row_to o a i) ≡ false → Means (row_to o a i) (shared_entry a.link.gabi (sym_of (elf_at o.entries i)))
   unfolding plan_of external_of rowed_of
   row-means i is z p =
       external-means To.Nothing (elf_at o.entries i) (id_of (table_to i) (symbol_name o.entries o.image i).name) false 0 _ a.link.gabi is.defines z p
 
   module _ (past : List Entry) (inv : Inv (table_in a) past) (i : ℕ) where
-    kept-to : Inv (table_to i) (past_to past i)
-    kept-to = subst (λ (t : History.State). Inv t (past_to past i)) (steps-lead i) (steps-keep (steps_to i) (table_in a) past inv)
+    kept-to : Inv (table_to i) (past_to o a past i)
+    kept-to = subst (λ (t : History.State). Inv t (past_to o a past i)) (steps-lead i) (steps-keep (steps_to o a i) (table_in a) past inv)
 
-    module _ (is : Adds i) where
+    module _ (is : Adds o a i) where
       abbrev name : List ℕ
       name = (symbol_name o.entries o.image i).name
 
-      abbrev own : (row_to i).name ≡ id_of (table_to i) name
-      own = plan-own (adding (symbols_to i)) name (field o.entries i 1) (field o.entries i 3) i
+      abbrev own : (row_to o a i).name ≡ id_of (table_to i) name
+      own = plan-own (adding (symbols_to o a i)) name (field o.entries i 1) (field o.entries i 3) i
 
-      number-judged : fits_of (store (table_to i)) (row_to i).name (length name) ≡ true → symbol_number i ≡ refusal_of (judged (table_to i) name (row_to i) own)
+      number-judged : fits_of (store (table_to i)) (row_to o a i).name (length name) ≡ true → symbol_number o a i ≡ refusal_of (judged (table_to i) name (row_to o a i) own)
       number-judged w =
-          symbol-number o.entries o.image (symbols_to i) i is.found is.defines
-          ∙ ap (λ (d : Decision). refusal_of d) (plan-judged (adding (symbols_to i)) name (field o.entries i 1) (field o.entries i 3) i w)
+          symbol-number o.entries o.image (symbols_to o a i) i is.found is.defines
+          ∙ ap (λ (d : Decision). refusal_of d) (plan-judged (adding (symbols_to o a i)) name (field o.entries i 1) (field o.entries i 3) i w)
 
       -- 17 itself says that its name has accepted adds, and that it is global and passes
-      pub held_at : symbol_number i ≡ 17 → Held binding_causes refl (table_to i) (past_to past i) (row_to i)
+      pub held_at : symbol_number o a i ≡ 17 → Held binding_causes refl (table_to i) (past_to o a past i) (row_to o a i)
       held_at q =
-          let k : refusal_of (plan_at o.entries o.image (symbols_to i) i).decision ≡ 17 =
-          sym (symbol-number o.entries o.image (symbols_to i) i is.found is.defines) ∙ q in
-          let two : eqb (refusal_of (plan_at o.entries o.image (symbols_to i) i).decision) 2 ≡ false = rw k in
-          let w = plan-room (adding (symbols_to i)) name (field o.entries i 1) (field o.entries i 3) i two in
-          seventeen-held binding_causes refl (table_to i) (past_to past i) kept-to (row_to i)
-          (plan-fields (adding (symbols_to i)) name (field o.entries i 1) (field o.entries i 3) i) (sym (number-judged w) ∙ q)
+          let k : refusal_of (plan_at o.entries o.image (symbols_to o a i) i).decision ≡ 17 =
+          sym (symbol-number o.entries o.image (symbols_to o a i) i is.found is.defines) ∙ q in
+          let two : eqb (refusal_of (plan_at o.entries o.image (symbols_to o a i) i).decision) 2 ≡ false = rw k in
+          let w = plan-room (adding (symbols_to o a i)) name (field o.entries i 1) (field o.entries i 3) i two in
+          seventeen-held binding_causes refl (table_to i) (past_to o a past i) kept-to (row_to o a i)
+          (plan-fields (adding (symbols_to o a i)) name (field o.entries i 1) (field o.entries i 3) i) (sym (number-judged w) ∙ q)
 
-      module _ (y : Entry) (ys : List Entry) (e : only (row_to i).name.0 (past_to past i) ≡ y ∷ ys) where
-        number_is : symbol_number i ≡ refusal_of (judged (table_to i) name (row_to i) own)
-        number_is = number-judged (Duplicates.fits (table_to i) name (row_to i) own (past_to past i) kept-to y ys e)
+      module _ (y : Entry) (ys : List Entry) (e : only (row_to o a i).name.0 (past_to o a past i) ≡ y ∷ ys) where
+        number_is : symbol_number o a i ≡ refusal_of (judged (table_to i) name (row_to o a i) own)
+        number_is = number-judged (Duplicates.fits (table_to i) name (row_to o a i) own (past_to o a past i) kept-to y ys e)
 
-        module _ (global : (row_to i).visibility ≢ 0) (passes : scope_refused (row_to i) ≡ false) (valued : value_refused (row_to i) ≡ false)
-            (g : Sym) (gs : List Sym) (m : AllMean (rows (y ∷ ys)) (g ∷ gs)) (h : Sym) (mine : Means (row_to i) h) where
-          pub refused-duplicate : symbol_number i ≡ 17 → resolve ((g ∷ gs) ++ (h ∷ [])) ≡ duplicate
+        module _ (global : (row_to o a i).scope ≢ 0) (passes : scope_refused (row_to o a i) ≡ false) (valued : value_refused (row_to o a i) ≡ false)
+            (g : Sym) (gs : List Sym) (m : AllMean (rows (y ∷ ys)) (g ∷ gs)) (h : Sym) (mine : Means (row_to o a i) h) where
+          pub refused-duplicate : symbol_number o a i ≡ 17 → resolve ((g ∷ gs) ++ (h ∷ [])) ≡ duplicate
           refused-duplicate q =
-              Duplicates.refused-duplicate (table_to i) name (row_to i) own (past_to past i) kept-to y ys e global passes valued g gs m h mine (sym number_is ∙ q)
+              Duplicates.refused-duplicate (table_to i) name (row_to o a i) own (past_to o a past i) kept-to y ys e global passes valued g gs m h mine (sym number_is ∙ q)
 
-          pub duplicate-refused : resolve ((g ∷ gs) ++ (h ∷ [])) ≡ duplicate → symbol_number i ≡ 17
+          pub duplicate-refused : resolve ((g ∷ gs) ++ (h ∷ [])) ≡ duplicate → symbol_number o a i ≡ 17
           duplicate-refused d =
-              number_is ∙ Duplicates.duplicate-refused (table_to i) name (row_to i) own (past_to past i) kept-to y ys e global passes valued g gs m h mine d
+              number_is ∙ Duplicates.duplicate-refused (table_to i) name (row_to o a i) own (past_to o a past i) kept-to y ys e global passes valued g gs m h mine d
 
   -- ---- the call's 17 is a symbol's
 
-  -- the load comes to symbol i, and nothing before it is refused
-  pub record Comes (i : ℕ) : Type 0 where
-    pub head : (head_in o a).number ≡ 0
-    pub needed : (want o a).needed ≡ true
-    pub named : Stops.fits o.entries o.image o.needs (links_in a) (name_of o) ≡ true
-    pub below : i < rows_in o.entries
-    pub going : (symbols_to i).stage.number ≡ 0
-
-  pub record RefusedAt (i : ℕ) : Type 0 where
-    pub comes : Comes i
-    pub refuses : symbol_number i ≡ 17
-    pub adds : Adds i
-
-  refused-at : (i : ℕ) → Comes i → symbol_number i ≡ 17 → RefusedAt i
+  refused-at : (i : ℕ) → Comes o a i → symbol_number o a i ≡ 17 → RefusedAt o a i
   refused-at i c q =
       record {
         comes = c;
         refuses = q;
         adds =
             record {
-              found = symbol-found o.entries o.image (symbols_to i) i q;
-              defines = symbol-defines o.entries o.image (symbols_to i) i q;
+              found = symbol-found o.entries o.image (symbols_to o a i) i q;
+              defines = symbol-defines o.entries o.image (symbols_to o a i) i q;
             };
       }
 
-  place_at : (i : ℕ) → symbol_number i ≡ 17 → (symbol_of o.entries o.image (symbols_to i) i).stage.place ≡ i
+  place_at : (i : ℕ) → symbol_number o a i ≡ 17 → (symbol_of o.entries o.image (symbols_to o a i) i).stage.place ≡ i
   place_at i q =
-      let f = symbol-found o.entries o.image (symbols_to i) i q in
-      let d = symbol-defines o.entries o.image (symbols_to i) i q in
-      symbol-place o.entries o.image (symbols_to i) i f d (sym (symbol-number o.entries o.image (symbols_to i) i f d) ∙ q)
+      let f = symbol-found o.entries o.image (symbols_to o a i) i q in
+      let d = symbol-defines o.entries o.image (symbols_to o a i) i q in
+      symbol-place o.entries o.image (symbols_to o a i) i f d (sym (symbol-number o.entries o.image (symbols_to o a i) i f d) ∙ q)
 
   abbrev added : State
   added = Stops.added o.entries o.image o.needs (links_in a) (name_of o)
@@ -261,33 +221,33 @@ module _ (o : Input) (a : All) where
       (λ n. dependencies-loop o.image o.needs n 0 start) refl u in
       two-other (sym (ap (λ (t : Recorded). t.stage.number) r.leaves.as_it_was) ∙ q)
 
-  library-refused-at : (head_in o a).number ≡ 0 → (want o a).needed ≡ true → (ending o a).stage.number ≡ 17 → RefusedAt (ending o a).stage.place
+  library-refused-at : (head_in o a).number ≡ 0 → (want o a).needed ≡ true → (ending o a).stage.number ≡ 17 → RefusedAt o a (ending o a).stage.place
   unfolding symbols_of library_row_of
   library-refused-at h w q =
       by-test (Stops.fits o.entries o.image o.needs (links_in a) (name_of o))
       (λ f.
-      let p = Stops.name-pass o.entries o.image o.needs (links_in a) (name_of o) f in
+      let p = StopsLaws.name-pass o.entries o.image o.needs (links_in a) (name_of o) f in
       by-test (eqb added.stage.number 0)
       (λ b.
-      let e = p ∙ Stops.symbols-pass o.entries o.image o.needs (links_in a) (name_of o) (eqb-true _ _ b) in
+      let e = p ∙ StopsLaws.symbols-pass o.entries o.image o.needs (links_in a) (name_of o) (eqb-true _ _ b) in
       by-test (eqb recorded.stage.number 0)
       (λ c.
-      let k = ap (λ (t : Links). t.stage.number) (e ∙ Stops.dependencies-pass o.entries o.image o.needs (links_in a) (name_of o) (eqb-true _ _ c)) in
+      let k = ap (λ (t : Links). t.stage.number) (e ∙ StopsLaws.dependencies-pass o.entries o.image o.needs (links_in a) (name_of o) (eqb-true _ _ c)) in
       by-test (ltb recorded.stage.link.inputs (input_rows (length a.inputs)))
       (λ t. absurd (none_other (sym (k ∙ rw t) ∙ q))) (λ t. absurd (two-other (sym (k ∙ rw t) ∙ q))))
       (λ c.
-      let k = ap (λ (t : Links). t.stage.number) (e ∙ Stops.dependencies-stop o.entries o.image o.needs (links_in a) (name_of o) (eqb-false _ _ c)) in
+      let k = ap (λ (t : Links). t.stage.number) (e ∙ StopsLaws.dependencies-stop o.entries o.image o.needs (links_in a) (name_of o) (eqb-false _ _ c)) in
       absurd (recorded-other (eqb-false _ _ c) (sym k ∙ q))))
       (λ b.
       let r =
       loop-left (λ (t : State). t.stage.number) (symbol_of o.entries o.image) (λ (s t : State) (i : ℕ). Unit {0}) (λ s i z u. tt)
-      (rows_in o.entries) symbols_to first (λ n. symbols-loop o.entries o.image n 0 first) refl (eqb-false _ _ b) in
-      let e = p ∙ Stops.symbols-stop o.entries o.image o.needs (links_in a) (name_of o) (eqb-false _ _ b) in
-      let k : symbol_number r.n ≡ 17 = sym (ap (λ (t : Links). t.stage.number) e ∙ ap (λ (t : State). t.stage.number) r.is) ∙ q in
+      (rows_in o.entries) (symbols_to o a) (first o a) (λ n. symbols-loop o.entries o.image n 0 (first o a)) refl (eqb-false _ _ b) in
+      let e = p ∙ StopsLaws.symbols-stop o.entries o.image o.needs (links_in a) (name_of o) (eqb-false _ _ b) in
+      let k : symbol_number o a r.n ≡ 17 = sym (ap (λ (t : Links). t.stage.number) e ∙ ap (λ (t : State). t.stage.number) r.is) ∙ q in
       let at : (ending o a).stage.place ≡ r.n =
       ap (λ (t : Links). t.stage.place) e ∙ ap (λ (t : State). t.stage.place) r.is ∙ place_at r.n k in
-      subst RefusedAt (sym at) (refused-at r.n (record { head = h; needed = w; named = f; below = r.below; going = r.goes }) k)))
-      (λ f. absurd (two-other (sym (ap (λ (t : Links). t.stage.number) (Stops.name-stop o.entries o.image o.needs (links_in a) (name_of o) f)) ∙ q)))
+      subst (RefusedAt o a) (sym at) (refused-at r.n (record { head = h; needed = w; named = f; below = r.below; going = r.goes }) k)))
+      (λ f. absurd (two-other (sym (ap (λ (t : Links). t.stage.number) (StopsLaws.name-stop o.entries o.image o.needs (links_in a) (name_of o) f)) ∙ q)))
 
   head-other : (head_in o a).number ≡ 17 → ⊥
   unfolding check_of after_rows name_refusal rows_of
@@ -308,7 +268,7 @@ module _ (o : Input) (a : All) where
       P : Refusal → Type 0
       P r = r.number ≡ 17 → ⊥
 
-  pub load-refused-at : number_in (load_of o a).said ≡ 17 → RefusedAt (place_in (load_of o a).said)
+  pub load-refused-at : number_in (load_of o a).said ≡ 17 → RefusedAt o a (place_in (load_of o a).said)
   unfolding load_of Load.library_named wanted_of ended_as
   load-refused-at q =
       by-test (eqb (head_in o a).number 0)
@@ -321,24 +281,24 @@ module _ (o : Input) (a : All) where
       (λ h. absurd (head-other (rw h at q)))
 
   -- and a symbol's 17 is the call's
-  pub load-ends-at : (i : ℕ) → Comes i → symbol_number i ≡ 17 → refused (number_in (load_of o a).said) (place_in (load_of o a).said) ≡ refused 17 i
+  pub load-ends-at : (i : ℕ) → Comes o a i → symbol_number o a i ≡ 17 → refused (number_in (load_of o a).said) (place_in (load_of o a).said) ≡ refused 17 i
   unfolding symbols_of
   load-ends-at i c q =
       let next : State → ℕ → State = symbol_of o.entries o.image in
-      let at : symbols_to i ≡ loop number_of next i 0 first = symbols-loop o.entries o.image i 0 first in
-      let here : next (symbols_to i) i ≡ next (loop number_of next i 0 first) (0 + i) =
-      ap (λ (t : State). next t i) at ∙ ap (next (loop number_of next i 0 first)) (sym (zero-add i)) in
-      let last : added ≡ next (symbols_to i) i =
-      symbols-loop o.entries o.image (rows_in o.entries) 0 first
-      ∙ loop-ends number_of next i (rows_in o.entries) 0 first c.below (ap number_of (sym at) ∙ c.going) (λ z. seventeen (sym q ∙ ap number_of here ∙ z))
+      let at : symbols_to o a i ≡ loop number_of next i 0 (first o a) = symbols-loop o.entries o.image i 0 (first o a) in
+      let here : next (symbols_to o a i) i ≡ next (loop number_of next i 0 (first o a)) (0 + i) =
+      ap (λ (t : State). next t i) at ∙ ap (next (loop number_of next i 0 (first o a))) (sym (zero-add i)) in
+      let last : added ≡ next (symbols_to o a i) i =
+      symbols-loop o.entries o.image (rows_in o.entries) 0 (first o a)
+      ∙ loop-ends number_of next i (rows_in o.entries) 0 (first o a) c.below (ap number_of (sym at) ∙ c.going) (λ z. seventeen (sym q ∙ ap number_of here ∙ z))
       ∙ sym here in
       let k : added.stage.number ≡ 17 = ap number_of last ∙ q in
       let e =
-      Stops.name-pass o.entries o.image o.needs (links_in a) (name_of o) c.named
-      ∙ Stops.symbols-stop o.entries o.image o.needs (links_in a) (name_of o) (λ z. seventeen (sym k ∙ z)) in
+      StopsLaws.name-pass o.entries o.image o.needs (links_in a) (name_of o) c.named
+      ∙ StopsLaws.symbols-stop o.entries o.image o.needs (links_in a) (name_of o) (λ z. seventeen (sym k ∙ z)) in
       let number : (ending o a).stage.number ≡ 17 = ap (λ (t : Links). t.stage.number) e ∙ k in
       let place : (ending o a).stage.place ≡ i = ap (λ (t : Links). t.stage.place) e ∙ ap (λ (t : State). t.stage.place) last ∙ place_at i q in
-      ap (λ (x : Left). refused (number_in x.said) (place_in x.said)) (Stops.refused-breaks o a c.head c.needed (λ z. seventeen (sym number ∙ z)))
+      ap (λ (x : Left). refused (number_in x.said) (place_in x.said)) (StopsLaws.refused-breaks o a c.head c.needed (λ z. seventeen (sym number ∙ z)))
       ∙ rw (number, place)
     where
       seventeen : ◌≡◌ {A = ℕ} 17 0 → ⊥
@@ -346,28 +306,24 @@ module _ (o : Input) (a : All) where
 
   -- ---- what was done before the symbol is the beginning of what the load does
 
-  pub record LogBegins (i : ℕ) : Type 0 where
-    pub rest : List Entry
-    pub is : log_steps (load_steps o a) (table_in a) ≡ log_steps (steps_to i) (table_in a) ++ rest
-
   joined : (s r b e : List Step) → ((s ++ r) ++ b) ++ e ≡ s ++ ((r ++ b) ++ e)
   joined s r b e = ap (λ (l : List Step). l ++ e) (append_assoc s r b) ∙ append_assoc s (r ++ b) e
 
   pub record Begins (i : ℕ) : Type 0 where
     pub rest : List Step
-    pub is : load_steps o a ≡ steps_to i ++ rest
+    pub is : load_steps o a ≡ steps_to o a i ++ rest
 
   pub steps-begin-to : (i : ℕ) → (head_in o a).number ≡ 0 → (want o a).needed ≡ true → Stops.fits o.entries o.image o.needs (links_in a) (name_of o) ≡ true
-      → i ≤ rows_in o.entries → (symbols_to i).stage.number ≡ 0 → Begins i
+      → i ≤ rows_in o.entries → (symbols_to o a i).stage.number ≡ 0 → Begins i
   unfolding load_steps asked_steps wanted_steps library_steps issued_steps kept_steps contents_steps
   steps-begin-to i head needed named small going =
       let next : State → ℕ → State = symbol_of o.entries o.image in
       let k =
-      steps-split number_of next (symbol_steps o.entries o.image) i (rows_in o.entries) 0 first small
-      (ap number_of (sym (symbols-loop o.entries o.image i 0 first)) ∙ going) in
-      let symbols : List Step = loop_steps number_of next (symbol_steps o.entries o.image) i 0 first in
+      steps-split number_of next (symbol_steps o.entries o.image) i (rows_in o.entries) 0 (first o a) small
+      (ap number_of (sym (symbols-loop o.entries o.image i 0 (first o a))) ∙ going) in
+      let symbols : List Step = loop_steps number_of next (symbol_steps o.entries o.image) i 0 (first o a) in
       let lists : List Step =
-      list_stage_steps o.image o.needs a.inputs added (id_of (table_in a) (name_of o)) first.stage.link.lists in
+      list_stage_steps o.image o.needs a.inputs added (id_of (table_in a) (name_of o)) (first o a).stage.link.lists in
       let last : List Step = others (ending o a).sections (ended_as (ending o a).stage).link ∷ [] in
       record {
         rest = (k.rest ++ lists) ++ last;
@@ -377,13 +333,13 @@ module _ (o : Input) (a : All) where
             ∙ ap (◌∷◌ (part (issue (name_of o)))) (joined symbols k.rest lists last));
       }
 
-  steps-begin : (i : ℕ) → Comes i → Begins i
+  steps-begin : (i : ℕ) → Comes o a i → Begins i
   steps-begin i c = steps-begin-to i c.head c.needed c.named (omega (arith, c.below)) c.going
 
-  pub log-begins : (i : ℕ) → Comes i → LogBegins i
+  pub log-begins : (i : ℕ) → Comes o a i → LogBegins o a i
   log-begins i c =
       let b = steps-begin i c in
       record {
-        rest = log_steps b.rest (run_steps (steps_to i) (table_in a));
-        is = ap (λ (l : List Step). log_steps l (table_in a)) b.is ∙ log-append step_next step_notes (steps_to i) b.rest (table_in a);
+        rest = log_steps b.rest (run_steps (steps_to o a i) (table_in a));
+        is = ap (λ (l : List Step). log_steps l (table_in a)) b.is ∙ log-append step_next step_notes (steps_to o a i) b.rest (table_in a);
       }

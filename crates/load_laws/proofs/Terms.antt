@@ -8,28 +8,33 @@ use Rattle.link.specs.Judge.{refused, broken_of}
 use Rattle.elf_object.specs.Rows.{rows_in}
 use Rattle.shared_objects.specs.Load.{All, Input, leave_links, links_in, head_in, name_of, load_of}
 use Rattle.symbol_laws.specs.History.{State, Entry, rows}
-use Rattle.symbol_laws.proofs.Held.{Inv}
+use Rattle.symbol_laws.specs.Held.{Inv}
 use Rattle.symbol_laws.proofs.BelowLemmas.{inv-below}
-use Rattle.symbol_laws.proofs.Within.{Within}
+use Rattle.symbol_laws.specs.Within.{Within}
 use Rattle.merge_laws.specs.Steps.{log_steps, Makes}
 use Rattle.merge_laws.specs.Kept.{added_rows}
 use Rattle.merge_laws.proofs.Kept.{log-rows, steps-keep}
-use Rattle.merge_laws.proofs.Seen.{parts_in, MadeAlone, makes-parts}
+use Rattle.merge_laws.specs.Seen.{parts_in, MadeAlone}
+use Rattle.merge_laws.proofs.Seen.{makes-parts}
 use Rattle.merge_laws.specs.Past.{TablePast}
 use Rattle.merge_laws.proofs.Past.{makes-past}
-use Rattle.merge_laws.proofs.Lists.{Listed}
+use Rattle.merge_laws.specs.Lists.{Listed}
 use Rattle.merge_laws.specs.Marked.{Marked, marks_of}
 use Rattle.merge_laws.proofs.Markless.{marks-none}
 use Rattle.load_laws.specs.LoadSteps.{load_steps}
-use Rattle.load_laws.proofs.Whole.{table_in, load-makes}
+use Rattle.load_laws.specs.Whole.{table_in}
+use Rattle.load_laws.proofs.Whole.{load-makes}
 use Rattle.load_laws.proofs.Unmarked as Unmarked
-use Rattle.load_laws.proofs.Accepted as Accepted
+use Rattle.load_laws.specs.Accepted as Accepted
+use Rattle.load_laws.proofs.Accepted as AcceptedLaws
 use Rattle.load_laws.proofs.Lists as Lists
 use Rattle.load_laws.proofs.Counts as Counts
 use Rattle.load_laws.proofs.Sections as Sections
-use Rattle.load_laws.proofs.Stops as Stops
-use Rattle.load_laws.proofs.Stops.{want, ending}
-use Rattle.load_laws.proofs.Unbroken as Unbroken
+use Rattle.load_laws.specs.Stops as Stops
+use Rattle.load_laws.proofs.Stops as StopsLaws
+use Rattle.load_laws.specs.Stops.{want, ending}
+use Rattle.load_laws.specs.Unbroken as Unbroken
+use Rattle.load_laws.proofs.Unbroken as UnbrokenLaws
 
 module _ (o : Input) (a : All) where
   abbrev pub after : All
@@ -45,10 +50,10 @@ module _ (o : Input) (a : All) where
   load-log = log-rows (load_steps o a) (table_in a) (load-makes o a).accepted
 
   -- and of a library that is loaded these are, in order, the rows of all symbols that it defines and that aren't local, each as it is planned on what
-  -- the symbols before it left (symbol_rows, Accepted.antt): no add is left out
+  -- the symbols before it left (symbol_rows, AcceptedLaws.antt): no add is left out
   pub load-log-whole : (load_of o a).answer ≡ Ok Loaded
       → rows (log_steps (load_steps o a) (table_in a)) ≡ Accepted.symbol_rows o.entries o.image o.needs (links_in a) (name_of o) (rows_in o.entries)
-  load-log-whole ok = load-log ∙ Accepted.load-rows o a ok
+  load-log-whole ok = load-log ∙ AcceptedLaws.load-rows o a ok
 
   -- with no more names than rows, as after every history from a new table: names issued and rows added one by one, as direct calls do it, leave the
   -- same names, symbols, sections' symbols and counts of names and symbols; each is accepted where it is made, and the log is the same
@@ -93,12 +98,12 @@ module _ (o : Input) (a : All) where
       → load_of o a
       ≡ leave_links (want o a).marks (ending o a)
       (record { link = broken_of (ending o a).stage.link; answer = Err (refused (ending o a).stage.number (ending o a).stage.place) })
-  refused-breaks = Stops.refused-breaks o a
+  refused-breaks = StopsLaws.refused-breaks o a
 
   -- it leaves every cell as the elements before the refused one left it; on 10 to 12 that one's name is issued besides
   pub refused-leaves : (ending o a).stage.number ≢ 0 → Stops.Leaves o.entries o.image o.needs (links_in a) (name_of o)
-  refused-leaves = Stops.refused-leaves o.entries o.image o.needs (links_in a) (name_of o) refl
+  refused-leaves = StopsLaws.refused-leaves o.entries o.image o.needs (links_in a) (name_of o) refl
 
   -- a load that isn't refused doesn't break the link
   pub loaded-whole : (head_in o a).number ≡ 0 → (want o a).needed ≡ true → (ending o a).stage.number ≡ 0 → Unbroken.Loads o a
-  loaded-whole = Unbroken.loaded-whole o a
+  loaded-whole = UnbrokenLaws.loaded-whole o a

@@ -1,7 +1,6 @@
 -- What names, rows and lists don't touch of the link stays; so a load that isn't refused leaves it unbroken.
 -- Assumes nothing.
-use Rattle.shared_objects.specs.declared.Load.TheVariants.{Loaded}
-use Rattle.std.specs.Prelude.{ℕ, ◌≡◌, refl, Bool, true, false, List, eqb, ltb, get_or, length, Ok}
+use Rattle.std.specs.Prelude.{ℕ, ◌≡◌, refl, Bool, true, false, List, eqb, ltb, get_or, length}
 use Rattle.std.proofs.Common.{◌∙◌}
 use borrow.Author.Tests.{eqb-true, eqb-false, eq-eqb}
 use Rattle.cells.specs.Proof.Split.{by-test}
@@ -23,7 +22,7 @@ use Rattle.shared_objects.specs.Define.{Added, plan_of, accept_of, kept_of, comm
 use Rattle.shared_objects.specs.SymbolsLoad.{State, staged, library_symbol_named, looked_of, symbol_of, symbols_of}
 use Rattle.shared_objects.specs.Stages.{ListLinks, Links, library_row_of, input_stage, lists_of, list_stage, contents_of, with_name, issued_of, library_of}
 use Rattle.shared_objects.specs.Stages as Stages
-use Rattle.shared_objects.specs.Load.{All, Input, ended_as, leave_links, links_in, wanted_of, head_in, name_of, load_of}
+use Rattle.shared_objects.specs.Load.{All, Input, ended_as, links_in, wanted_of, head_in, name_of, load_of}
 use Rattle.shared_objects.specs.Load as Load
 use Rattle.merge_laws.proofs.Issue.{keeps}
 use Rattle.merge_laws.proofs.Loop.{loop-holds}
@@ -31,7 +30,8 @@ use Rattle.merge_laws.proofs.SymbolStageLemmas.{applied-count}
 use Rattle.merge_laws.proofs.Whole.{change-passed}
 use Rattle.load_laws.specs.LoadSteps.{recording, adding, list_first, lists_in, symbol_first}
 use Rattle.load_laws.proofs.Whole.{symbols-loop, dependencies-loop}
-use Rattle.load_laws.proofs.Stops.{want, ending}
+use Rattle.load_laws.specs.Stops.{want, ending}
+use Rattle.load_laws.specs.Unbroken.{Loads}
 
 module _ {A : Type 0} (count : Link → A) (same : (s : Store) (id : Interned) (x : List ℕ) → count (keep_of s id x).link ≡ count s.link)
     (also : (l : Link) (n : ℕ) → count (with_symbols l n) ≡ count l) where
@@ -135,12 +135,7 @@ head-whole l n entries file needs archived sonamed soname asneeded marks h =
     by-test (eqb (change_of l n).number 0) (λ a. (change-passed l n (eqb-true _ _ a)).0) (λ a. absurd (eqb-false _ _ a (rw a at h)))
 
 module _ (o : Input) (a : All) where
-  -- what a library that is loaded leaves
-  pub record Loads : Type 0 where
-    pub all : load_of o a ≡ leave_links (want o a).marks (ending o a) (record { link = (ending o a).stage.link; answer = (Ok Loaded) })
-    pub whole : (ending o a).stage.link.broken ≡ false
-
-  pub loaded-whole : (head_in o a).number ≡ 0 → (want o a).needed ≡ true → (ending o a).stage.number ≡ 0 → Loads
+  pub loaded-whole : (head_in o a).number ≡ 0 → (want o a).needed ≡ true → (ending o a).stage.number ≡ 0 → Loads o a
   unfolding load_of Load.library_named wanted_of ended_as
   loaded-whole h w z =
       record {

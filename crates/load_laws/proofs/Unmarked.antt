@@ -19,7 +19,8 @@ use Rattle.merge_laws.specs.Marked.{marks_of, Marked}
 use Rattle.merge_laws.proofs.MarkedLemmas.{steps-marked}
 use Rattle.merge_laws.proofs.Markless.{Markless, marks-none, both, loop-markless, row-markless}
 use Rattle.load_laws.specs.LoadSteps.{record_steps, recording, named_steps, looked_steps, symbol_steps, symbols_steps, dependency_steps, dependencies_steps, input_steps, list_first, lists_steps, lists_in, list_stage_steps, symbol_first, contents_steps, kept_steps, issued_steps, library_steps, wanted_steps, asked_steps, load_steps}
-use Rattle.load_laws.proofs.Whole.{table_in, load-makes}
+use Rattle.load_laws.specs.Whole.{table_in}
+use Rattle.load_laws.proofs.Whole.{load-makes}
 
 -- ---- symbols
 

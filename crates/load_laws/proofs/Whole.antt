@@ -40,10 +40,7 @@ use Rattle.merge_laws.specs.MergeSteps.{adds_of}
 use Rattle.merge_laws.proofs.Committed.{Fair, committed, committed-makes}
 use Rattle.merge_laws.proofs.SymbolStage.{chosen-fits, chosen-add}
 use Rattle.load_laws.specs.LoadSteps.{record_steps, recording, adding, defined_steps, named_steps, looked_steps, symbol_steps, symbols_steps, dependency_steps, dependencies_steps, input_steps, list_first, lists_steps, lists_in, list_stage_steps, symbol_first, contents_steps, kept_steps, issued_steps, library_steps, wanted_steps, asked_steps, load_steps}
-
--- the table among all cells
-abbrev pub table_in : All → History.State
-table_in a = record { bytes = a.bytes; names = a.names; symbols = a.symbols; sections = a.sections; link = a.link }
+use Rattle.load_laws.specs.Whole.{table_in, number_of}
 
 abbrev library_table : Links → History.State
 library_table s = record { bytes = s.bytes; names = s.names; symbols = s.symbols; sections = s.sections; link = s.stage.link }
@@ -141,9 +138,6 @@ looked-makes : (entries : List ℕ) (s : State) (i : ℕ) (x : Looked) → Makes
 unfolding looked_of
 looked-makes entries s i x =
     by-test x.found (λ a. rw a (named-makes entries (staged s (going_of s.stage.link)) x.name i)) (λ a. rw a (makes_none (symbol_table s)))
-
-abbrev pub number_of : State → ℕ
-number_of s = s.stage.number
 
 module _ (entries file : List ℕ) where
   pub symbol-makes : (s : State) (i : ℕ) → Makes (symbol_table s) (symbol_steps entries file s i) (symbol_table (symbol_of entries file s i))

@@ -3,3 +3,11 @@ pub mod Needed
 pub mod LawsRecorded
 pub mod Names
 pub mod Elements
+pub mod Accepted
+pub mod LibraryContents
+pub mod LibraryRow
+pub mod Own
+pub mod Stops
+pub mod SymbolDuplicates
+pub mod Unbroken
+pub mod Whole

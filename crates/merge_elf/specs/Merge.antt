@@ -2,13 +2,14 @@
 -- Assumes nothing.
 use Rattle.std.specs.Prelude.{ℕ, ◌/◌, cond, List, eqb, ltb, length, Result, Ok, Err}
 use denote.Triple.Both.{Both}
+use Rattle.cells.specs.Rows.{row_width}
 use Rattle.link.specs.declared.Link.{Link}
 use Rattle.link.specs.declared.Lent.{Lent}
 use Rattle.link.specs.declared.cause.Refusal.{Refusal}
 use Rattle.link.specs.Stage.{Stage}
 use Rattle.link.specs.Judge as Link
 use Rattle.link.specs.Counts.{lent_of}
-use Rattle.elf_object.specs.Rows.{rows_in, row_width}
+use Rattle.elf_object.specs.Rows.{rows_in}
 use Rattle.elf_object.specs.Judge as Elf
 use Rattle.merge_stages.specs.Stages.{All, all_of, Object, stages_of, Cells, merge_before}
 use Rattle.merge_stages.specs.declared.Merge as Lent
@@ -36,16 +37,12 @@ pub record Left : Type 0 where
   pub answer : Result Unit Refusal
   pub said : Refusal
 
--- document 01's number and place of the answer; it has no value
-abbrev pub refusal_of : Result Unit Refusal → Refusal
-refusal_of = Link.refusal_in
-
 abbrev pub linked_as : All → Link → All
 linked_as a l =
     all_of a.bytes a.names a.symbols a.sections a.inputs a.lists a.work a.ids (Link.going_of l)
 
 abbrev pub leave : All → Link → Result Unit Refusal → Left
-leave a l answer = record { cells = linked_as a l; answer = answer; said = refusal_of answer }
+leave a l answer = record { cells = linked_as a l; answer = answer; said = Link.refusal_in answer }
 
 abbrev pub outcome : List ℕ → List ℕ → List ℕ → List ℕ → List ℕ → List ℕ → List ℕ → List ℕ → Outcome → Left
 outcome b n s x i l w d r = leave (all_of b n s x i l w d (Link.going_of r.link)) r.link r.answer

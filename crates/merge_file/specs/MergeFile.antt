@@ -1,9 +1,9 @@
 -- Document 02, 2026-01: the merge of a file. "A file read and merged must equal its rows merged by hand": the merge is `mergeOf` of `rows_of`.
 -- Assumes nothing.
 use Rattle.std.specs.Prelude.{ℕ, ◌+◌, ◌*◌, Bool, cond, List, eqb, ltb, length, take, drop, Err}
+use Rattle.cells.specs.Rows.{row_width}
 use Rattle.link.specs.declared.cause.Refusal.{Refusal}
 use Rattle.link.specs.Judge.{refused}
-use Rattle.elf_object.specs.Rows.{row_width}
 use Rattle.merge_stages.specs.Stages.{All, Object, object_of}
 use Rattle.merge_elf.specs.Merge.{Left, leave, merge_of}
 use Rattle.elf_file.specs.Check.{file_refusal}

@@ -2,7 +2,7 @@
 #![tactic(auto)]
 
 ghost use Rattle.std.specs.Prelude.{◌≡◌, ◌+◌, ◌*◌, ◌≤◌, length};
-ghost use Rattle.elf_object.specs.Rows.{row_width};
+ghost use Rattle.cells.specs.Rows.{row_width};
 ghost use Rattle.merge_stages.specs.Stages.{cells_in, object_read, same_loans, merge_before};
 ghost use Rattle.merge_elf.specs.Merge.{left_after};
 ghost use Rattle.merge_file.specs.MergeFile.{file_left, merge_file_of, cut_of, reading_of};

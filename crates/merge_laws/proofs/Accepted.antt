@@ -31,18 +31,21 @@ use Rattle.merge_laws.specs.Loop.{loop_steps}
 use Rattle.merge_laws.proofs.Loop.{loop, loop-going, loop-next, steps_next}
 use Rattle.merge_laws.specs.MergeSteps.{adds, row_steps, named_steps, symbol_steps, symbols_steps, signed_steps, group_section_steps, built_steps, section_steps, build_steps, input_steps, program_steps, both_steps, build_first, build_stage_steps, symbol_first, table_steps, filtered_steps, filter_steps, group_first, merge_groups_steps, group_stage_steps, reserved_steps, reserve_first, stages_steps, merge_steps}
 use Rattle.merge_laws.specs.Kept.{global_rows, added_rows}
-use Rattle.merge_laws.specs.Marked.{Marked, marks_of, own_signature}
+use Rattle.merge_laws.specs.Marked.{Marked, marks_of}
 use Rattle.merge_laws.proofs.MarkedLemmas.{marks-append}
 use Rattle.merge_laws.proofs.Markless.{Markless, marks-none, both, loop-markless, row-markless, added-append, both-none, loop-none}
 use Rattle.merge_laws.proofs.GroupStage as GroupStage
-use Rattle.merge_laws.proofs.GroupStage.{number_of}
+use Rattle.merge_laws.specs.GroupStage.{number_of}
 use Rattle.merge_laws.proofs.GroupStageLemmas.{groups-loop}
 use Rattle.merge_laws.proofs.SymbolStageLemmas.{symbols-loop}
-use Rattle.merge_laws.proofs.SymbolIds.{name_of, plan_of}
+use Rattle.merge_laws.specs.SymbolIds.{name_of, plan_of}
 use Rattle.merge_laws.specs.Whole.{table_in}
-use Rattle.merge_laws.proofs.Stops.{reserved, object, prepared, grouped, marked, symbol_reader, added, groups_to, symbols_to, number, end, sections-stop, sections-pass, filtered, filter-stop, filter-pass, symbols-stop}
-use Rattle.merge_laws.proofs.FirstKept.{reader, signature, steps_to, met_to, to-marked, marks-to, section-marks, other-marks}
+use Rattle.merge_laws.specs.Stops.{reserved, object, prepared, grouped, marked, symbol_reader, added, groups_to, symbols_to, number, end}
+use Rattle.merge_laws.proofs.Stops.{sections-stop, sections-pass, filtered, filter-stop, filter-pass, symbols-stop}
+use Rattle.merge_laws.specs.FirstKept.{reader, signature, steps_to, met_to}
+use Rattle.merge_laws.proofs.FirstKept.{to-marked, marks-to, section-marks, other-marks}
 use Rattle.merge_laws.proofs.Discarded.{groups-pass, merge-passes}
+use Rattle.merge_laws.specs.Accepted.{signatures_to, symbol_rows}
 
 -- ---- what is built marks nothing and adds no row
 
@@ -147,17 +150,6 @@ symbol-row o s i e =
     (λ a. let z : ◌≡◌ {A = ℕ} 9 0 = rw a at e in absurd (omega arith))
 
 module _ (o : Object) (a : All) where
-  -- the signatures of the groups among the first n sections, excluded ones aside
-  abbrev pub signatures_to : ℕ → List (List ℕ)
-  signatures_to zero = []
-  signatures_to (suc n) = signatures_to n ++ own_signature (is_loaded o.headers n 7) (signature o a n)
-
-  -- the rows of the first n symbols that are added and not local, each as planned on what the ones before it left
-  abbrev pub symbol_rows : ℕ → List Row
-  symbol_rows zero = []
-  symbol_rows (suc i) =
-      symbol_rows i ++ cond (adds (input_of (object o a).entries (marked o a).work) (name_of (symbol_reader o a) i).name i) (global_rows (plan_of (symbol_reader o a) (symbols_to o a i) i).row) []
-
   module _ (passes : (grouped o a).stage.number ≡ 0) where
     abbrev first : Group.Step
     first = group_first (prepared o a)
@@ -178,15 +170,15 @@ module _ (o : Object) (a : All) where
         ∙ ap number_of (sym (groups-loop (reader o a) (suc n) 0 first)) ∙ going (suc n) (omega arith)
 
     module _ (met : List (List ℕ)) (known : Marked (table_in a) met) where
-      groups-signatures : (n : ℕ) → n ≤ rows_in o.headers → marks_of (steps_to o a n) (table_in (prepared o a)) ≡ signatures_to n
+      groups-signatures : (n : ℕ) → n ≤ rows_in o.headers → marks_of (steps_to o a n) (table_in (prepared o a)) ≡ signatures_to o a n
       groups-signatures zero h = refl
       groups-signatures (suc n) h =
           let last : List (List ℕ) = marks_of (group_section_steps (reader o a) (groups_to o a n) n) (GroupStage.table_in a.symbols (reserved o a).sections (groups_to o a n)) in
           marks-to o a met known n (going n (omega arith))
           ∙ ap (λ (l : List (List ℕ)). l ++ last) (groups-signatures n (omega arith))
           ∙ by-test (is_loaded o.headers n 7)
-          (λ t. rw t (ap (◌++◌ (signatures_to n)) (section-marks o a met known (groups_to o a n) n (met_to o a met n) (to-marked o a met known n) t (next-going n (omega arith)))))
-          (λ t. rw t (ap (◌++◌ (signatures_to n)) (other-marks o a met known (groups_to o a n) n t)))
+          (λ t. rw t (ap (◌++◌ (signatures_to o a n)) (section-marks o a met known (groups_to o a n) n (met_to o a met n) (to-marked o a met known n) t (next-going n (omega arith)))))
+          (λ t. rw t (ap (◌++◌ (signatures_to o a n)) (other-marks o a met known (groups_to o a n) n t)))
 
   -- ---- the merge as its stages
 
@@ -215,7 +207,7 @@ module _ (o : Object) (a : All) where
 
     -- ---- signatures
 
-    pub merge-signatures : (met : List (List ℕ)) → Marked (table_in a) met → marks_of (merge_steps o a) (table_in a) ≡ signatures_to (rows_in o.headers)
+    pub merge-signatures : (met : List (List ℕ)) → Marked (table_in a) met → marks_of (merge_steps o a) (table_in a) ≡ signatures_to o a (rows_in o.headers)
     merge-signatures met known =
         let groups : List Step = steps_to o a (rows_in o.headers) in
         let s : State = table_in (prepared o a) in
@@ -263,7 +255,7 @@ module _ (o : Object) (a : All) where
         ∙ loop-going symbol_number (symbol_of (symbol_reader o a)) (rows_in (object o a).entries) 0 n first_symbol refl
         (ap symbol_number (sym (symbols-loop (symbol_reader o a) (rows_in (object o a).entries) 0 first_symbol)) ∙ symbols-going) h
 
-    symbols-rows : (n : ℕ) → n ≤ rows_in (object o a).entries → added_rows (steps_of n) ≡ symbol_rows n
+    symbols-rows : (n : ℕ) → n ≤ rows_in (object o a).entries → added_rows (steps_of n) ≡ symbol_rows o a n
     symbols-rows zero h = refl
     symbols-rows (suc n) h =
         let next : Symbols.State → ℕ → Symbols.State = symbol_of (symbol_reader o a) in
@@ -280,9 +272,9 @@ module _ (o : Object) (a : All) where
         ∙ ap (λ (s : Symbols.State). steps_of n ++ symbol_steps (symbol_reader o a) s n) (sym e) in
         ap added_rows k ∙ added-append (steps_of n) (symbol_steps (symbol_reader o a) (symbols_to o a n) n)
         ∙ ap (λ (l : List Row). l ++ added_rows (symbol_steps (symbol_reader o a) (symbols_to o a n) n)) (symbols-rows n (omega arith))
-        ∙ ap (◌++◌ (symbol_rows n)) (symbol-row (symbol_reader o a) (symbols_to o a n) n taken)
+        ∙ ap (◌++◌ (symbol_rows o a n)) (symbol-row (symbol_reader o a) (symbols_to o a n) n taken)
 
-    rest-rows : added_rows rest ≡ symbol_rows (rows_in (object o a).entries)
+    rest-rows : added_rows rest ≡ symbol_rows o a (rows_in (object o a).entries)
     unfolding filter_steps filtered_steps table_steps
     rest-rows =
         rw (eq-eqb (grouped o a).stage.number 0 (groups-pass o a whole), filter_passes)
@@ -290,7 +282,7 @@ module _ (o : Object) (a : All) where
         ∙ ap (◌++◌ (added_rows (steps_of (rows_in (object o a).entries)))) (built-none (object o a) (marked o a).work (after_symbols (symbols_in (marked o a)) (added o a)))
         ∙ append-nil (added_rows (steps_of (rows_in (object o a).entries))) ∙ symbols-rows (rows_in (object o a).entries) (le_refl _))
 
-    pub merge-rows : added_rows (merge_steps o a) ≡ symbol_rows (rows_in (object o a).entries)
+    pub merge-rows : added_rows (merge_steps o a) ≡ symbol_rows o a (rows_in (object o a).entries)
     merge-rows =
         let groups : List Step = steps_to o a (rows_in o.headers) in
         ap added_rows (merge-steps head whole)

@@ -26,7 +26,8 @@ use Rattle.merge_laws.proofs.Issue.{keep-slots, keep-sections}
 use Rattle.merge_laws.proofs.More.{makes-more, makes-slots}
 use Rattle.merge_laws.proofs.Beside.{Beside, beside_none, others-make, row-beside}
 use Rattle.merge_laws.proofs.Loop.{loop, loop-makes, loop-holds}
-use Rattle.merge_laws.proofs.Placed.{Placed, row_of, built-placed}
+use Rattle.merge_laws.specs.Placed.{row_of}
+use Rattle.merge_laws.proofs.Placed.{Placed, built-placed}
 use Rattle.merge_laws.specs.MergeSteps.{built_steps, section_steps, build_steps}
 
 -- ---- what a plan says

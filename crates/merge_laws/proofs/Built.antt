@@ -30,7 +30,7 @@ use Rattle.merge_build.specs.Finish.{building, input_row_of, program_stage, with
 use Rattle.merge_stages.specs.Stages.{All, Object, group_object, symbols_in, put_symbols}
 use Rattle.merge_elf.specs.Merge.{head_in, lent, finished_of, merge_of, ended_as}
 use Rattle.symbol_laws.specs.History as History
-use Rattle.symbol_laws.specs.ObjectWords.{sections_in, program, uninitialized, string_table, group, name_offset, retains, reads, strings_of, loaded_as}
+use Rattle.symbol_laws.specs.ObjectWords.{sections_in, program, uninitialized, group, name_offset, retains, reads, loaded_as}
 use Rattle.merge_laws.specs.MergeWords.{is_rowed, rowed_below, named_by, own_signatures, is_removed}
 use Rattle.link.specs.declared.Interned.{Interned}
 use Rattle.link.specs.Counts.{with_symbols}
@@ -41,21 +41,26 @@ use Rattle.merge_laws.proofs.Loop.{loop, loop-holds}
 use Rattle.merge_laws.specs.MergeSteps.{reserve_first, group_first, symbol_first, merge_steps}
 use Rattle.merge_laws.specs.Marked.{Marked, marks_of}
 use Rattle.merge_laws.proofs.MarkedLemmas.{steps-marked}
-use Rattle.merge_laws.proofs.Placed.{row_of, few, slots, converted, reserve-beside, reserve-placed}
+use Rattle.merge_laws.specs.Placed.{row_of}
+use Rattle.merge_laws.proofs.Placed.{few, slots, converted, reserve-beside, reserve-placed}
 use Rattle.merge_laws.proofs.Issue.{keep-sections}
 use Rattle.merge_laws.proofs.Lists.{keep-lists, reserve-count}
 use Rattle.merge_laws.proofs.GroupStageLemmas.{groups-count}
 use Rattle.merge_laws.proofs.SymbolStageLemmas.{symbols-long, symbols-count}
 use Rattle.merge_laws.proofs.BuildStage.{number_of, build-loop}
-use Rattle.merge_laws.proofs.SymbolDuplicates.{steps_to, steps-make}
+use Rattle.merge_laws.specs.SymbolDuplicates.{steps_to}
+use Rattle.merge_laws.proofs.SymbolDuplicates.{steps-make}
 use Rattle.merge_laws.specs.Whole.{table_in}
 use Rattle.merge_laws.proofs.Whole.{passed}
-use Rattle.merge_laws.proofs.Stops.{reserved, object, prepared, grouped, marked, symbol_reader, added, builder, before2, before1, before0, with_build, end, number, sections-pass, filter-pass, symbols-pass, program-pass, program-stop, input-pass, input-stop}
+use Rattle.merge_laws.specs.Stops.{reserved, object, prepared, grouped, marked, symbol_reader, added, builder, before2, before1, before0, with_build, end, number}
+use Rattle.merge_laws.proofs.Stops.{sections-pass, filter-pass, symbols-pass, program-pass, program-stop, input-pass, input-stop}
 use Rattle.merge_laws.proofs.Discarded.{groups-pass, merge-passes}
 use Rattle.merge_laws.proofs.Accepted.{sections-going, filter_passes, symbols-going, merge-signatures}
 use Rattle.merge_laws.proofs.WorkRows.{loaded-same, class-rowed}
 use Rattle.merge_laws.proofs.WorkGroups.{noted, conversion-is, relocations-are, mark-is, clean-section, name-same, signatures-are}
-use Rattle.merge_laws.proofs.BuiltRow.{BuiltAs, ids_of, relink-stays, Stands, section-stands, section-keeps, builds, builds-named}
+use Rattle.merge_laws.specs.BuiltRow.{BuiltAs}
+use Rattle.merge_laws.proofs.BuiltRow.{ids_of, relink-stays, Stands, section-stands, section-keeps, builds, builds-named}
+use Rattle.merge_laws.specs.Built.{section_names}
 
 -- ---- an element of a loop, and those after it
 
@@ -134,10 +139,6 @@ reserve-slots o a head =
 -- the id of section n: rows are taken in the order of the sections
 abbrev pub id_of : All → List ℕ → ℕ → ℕ
 id_of a headers n = a.stage.link.sections + rowed_below headers n
-
--- the bytes of the section of section names
-abbrev pub section_names : Object → List ℕ
-section_names o = strings_of o.headers o.image (loaded_as o.headers o.section_names string_table) o.section_names
 
 module _ (o : Object) (a : All) (ok : (merge_of o a).said.number ≡ 0) (met : List (List ℕ)) (known : Marked (table_in a) met)
     (inside : a.stage.link.lists ≤ length a.lists) where

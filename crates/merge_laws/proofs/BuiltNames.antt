@@ -6,7 +6,6 @@ use Rattle.std.proofs.lemmas.Bool.{false≢true, eqb-false}
 use mathlib.Core.List.{List, [], ◌∷◌}
 use Rattle.cells.specs.Proof.Split.{by-test}
 use Rattle.elf_object.specs.Rows.{rows_in, link_at, first_at, count_at, section_of, table_entries, entries_from}
-use Rattle.merge_symbols.specs.Plan.{input_of}
 use Rattle.merge_build.specs.Relocations.{table_for, limit_of, relocations_of, symbols_ok, symbol_ok, id_in}
 use Rattle.merge_symbols.specs.Stage as Symbols
 use Rattle.merge_stages.specs.Stages.{All, Object, symbols_in}
@@ -14,19 +13,20 @@ use Rattle.merge_elf.specs.Merge.{merge_of}
 use Rattle.symbol_laws.specs.Below.{Below}
 use Rattle.symbol_laws.specs.ObjectWords.{sections_in, program, loaded_as}
 use Rattle.merge_laws.specs.MergeWords.{named_by, is_removed}
-use Rattle.merge_laws.specs.MergeSteps.{adds, symbol_first}
+use Rattle.merge_laws.specs.MergeSteps.{symbol_first}
 use Rattle.merge_laws.specs.Marked.{Marked}
-use Rattle.merge_laws.proofs.SymbolIds.{name_of}
-use Rattle.merge_laws.proofs.SymbolDuplicates.{steps_to, table_to, steps-make}
+use Rattle.merge_laws.specs.SymbolDuplicates.{steps_to}
+use Rattle.merge_laws.proofs.SymbolDuplicates.{table_to, steps-make}
 use Rattle.merge_laws.proofs.Past.{steps-below}
 use Rattle.merge_laws.specs.Whole.{table_in}
 use Rattle.merge_laws.proofs.Whole.{passed}
-use Rattle.merge_laws.proofs.Stops.{reserved, object, marked, symbol_reader, symbols_to, added}
+use Rattle.merge_laws.specs.Stops.{reserved, object, marked, added}
 use Rattle.merge_laws.proofs.Discarded.{merge-passes}
 use Rattle.merge_laws.proofs.Accepted.{symbols-going}
 use Rattle.merge_laws.proofs.BuiltRow.{ids_of}
 use Rattle.merge_laws.proofs.GivenIds as GivenIds
 use Rattle.merge_laws.proofs.Built as Built
+use Rattle.merge_laws.specs.BuiltNames.{reader, Gives, answered, null, AllGive}
 
 -- ---- relocations whose symbols all have ids
 
@@ -55,38 +55,21 @@ entries-most headers entries t =
 -- ---- the merge
 
 module _ (o : Object) (a : All) where
-  abbrev reader : Symbols.Object
-  reader = symbol_reader o a
-
-  -- the id that the merge gives symbol k of the loaded table
-  pub data Gives (k id : ℕ) : Type 0 where
-    -- "The first symbol, if named empty, undefined and of type 0, maps to id 0"
-    null : k < rows_in (object o a).entries → GivenIds.first reader (symbols_to o a k) k ≡ true → id ≡ 0 → Gives k id
-    -- the answer to its add
-    answered : k < rows_in (object o a).entries → (name_of reader k).found ≡ true → adds (input_of reader.entries reader.work) (name_of reader k).name k ≡ true
-        → (Symbols.symbol_of reader (symbols_to o a k) k).stage.number ≡ 0 → id ≡ GivenIds.answer reader (symbols_to o a k) k → Gives k id
-
-  abbrev pub AllGive : List ℕ → List ℕ → Type 0
-  AllGive [] [] = Unit {0}
-  AllGive [] (i ∷ is) = ⊥
-  AllGive (k ∷ ks) [] = ⊥
-  AllGive (k ∷ ks) (i ∷ is) = Gives k i × AllGive ks is
-
   module _ (ok : (merge_of o a).said.number ≡ 0) (below : Below (table_in a)) where
     below-to : (i : ℕ) → Below (table_to o a i)
     below-to i = subst Below (steps-make o a i).leads (steps-below (steps_to o a i) (table_in a) below)
 
-    pub gives : (k : ℕ) → k < rows_in (object o a).entries → get_or (added o a).ids k 0 ≢ 0 → Gives k (id_in (added o a).ids k)
+    pub gives : (k : ℕ) → k < rows_in (object o a).entries → get_or (added o a).ids k 0 ≢ 0 → Gives o a k (id_in (added o a).ids k)
     gives k h u =
         let first : Symbols.State = symbol_first (symbols_in (marked o a)) in
         let room : k < length first.ids = omega (arith, (passed o a (merge-passes o a ok).0).ids, entries-most o.headers o.entries (reserved o a).reserved.table) in
-        go (GivenIds.id-given reader first refl (symbols-going o a ok) k h room (below-to k) u)
+        go (GivenIds.id-given (reader o a) first refl (symbols-going o a ok) k h room (below-to k) u)
       where
-        go : GivenIds.IdOf reader (symbol_first (symbols_in (marked o a))) refl (symbols-going o a ok) k h (omega (arith, (passed o a (merge-passes o a ok).0).ids, entries-most o.headers o.entries (reserved o a).reserved.table)) → Gives k (id_in (added o a).ids k)
+        go : GivenIds.IdOf (reader o a) (symbol_first (symbols_in (marked o a))) refl (symbols-going o a ok) k h (omega (arith, (passed o a (merge-passes o a ok).0).ids, entries-most o.headers o.entries (reserved o a).reserved.table)) → Gives o a k (id_in (added o a).ids k)
         go (GivenIds.null f e) = null h f e
         go (GivenIds.answered f d z e) = answered h f d z e
 
-    all_give : (limit : ℕ) → limit ≤ rows_in (object o a).entries → (ks : List ℕ) → symbols_ok (added o a).ids limit ks ≡ true → AllGive ks (ids_of (added o a).ids ks)
+    all_give : (limit : ℕ) → limit ≤ rows_in (object o a).entries → (ks : List ℕ) → symbols_ok (added o a).ids limit ks ≡ true → AllGive o a ks (ids_of (added o a).ids ks)
     unfolding symbols_ok
     all_give limit h [] e = tt
     all_give limit h (k ∷ ks) e =
@@ -102,7 +85,7 @@ module _ (o : Object) (a : All) where
       symbols-known : symbols_ok (added o a).ids limit (relocations_of o.headers o.contents (table_for (marked o a).work n program)) ≡ true
       symbols-known = Built.each-known o a ok met known inside n e r
 
-      pub program-names : AllGive (named_by o.headers o.contents n (sections_in o.headers)) (ids_of (added o a).ids (named_by o.headers o.contents n (sections_in o.headers)))
+      pub program-names : AllGive o a (named_by o.headers o.contents n (sections_in o.headers)) (ids_of (added o a).ids (named_by o.headers o.contents n (sections_in o.headers)))
       program-names =
           all_give limit (limit-most o.headers (table_for (marked o a).work n program) (object o a).table (rows_in (object o a).entries)) (named_by o.headers o.contents n (sections_in o.headers))
           (ap (symbols_ok (added o a).ids limit) (sym (Built.relocations-named o a ok met known inside n e r)) ∙ symbols-known)

@@ -16,42 +16,24 @@ use Rattle.link.specs.declared.Interned.{Interned}
 use Rattle.link.specs.Counts.{more_lists}
 use Rattle.strings.specs.Lookup.{Looked}
 use Rattle.interner.specs.Names.{Store, store_of, find_of, fits_of, keep_of}
-use Rattle.interner_laws.specs.Good.{Good, Issued, Stays}
+use Rattle.interner_laws.specs.Good.{Good, Stays}
 use Rattle.interner_laws.specs.Good as Good
 use Rattle.interner_laws.proofs.Histories.{issued-stays}
 use Rattle.interner_laws.proofs.Terms.{keeps-good, keeps-names, keeps-issued, same_good, same_names}
 use Rattle.sections.specs.Rows as Sections
-use Rattle.sections.specs.Rows.{state_at, name_id_at, first_at, count_at, built_of}
+use Rattle.sections.specs.Rows.{first_at, count_at, built_of}
 use Rattle.elf_object.specs.Rows.{name_offset_at, retain_at, read_at, name_in, conversion_at}
 use Rattle.elf_object.specs.Judge.{range_ok}
 use Rattle.merge_build.specs.Build.{Plan}
 use Rattle.merge_build.specs.Relocations.{table_for, limit_of, relocations_of, symbols_ok, id_in, append_from}
 use Rattle.merge_build.specs.Build as Build
 use Rattle.merge_build.specs.Build.{State, Object, lists_fit, plan_with, plan_of, build_row_of, kept_of, commit_of, tabled_of, section_named, looked_of, built_from, section_of}
-use Rattle.merge_laws.proofs.Placed.{row_of}
+use Rattle.merge_laws.specs.Placed.{row_of}
 use Rattle.merge_laws.proofs.Issue.{keep-sections}
 use Rattle.merge_laws.proofs.Lists.{keep-lists}
+use Rattle.merge_laws.specs.BuiltRow.{BuiltAs}
 
 -- ---- the statement
-
--- the kind of a section row
-abbrev pub kind_at : List ℕ → ℕ → ℕ
-kind_at sections r = Sections.field sections r 2
-
--- the symbols that a built section names, by its list cells
-abbrev pub names_at : List ℕ → List ℕ → ℕ → List ℕ
-names_at sections lists r = part lists (first_at sections r) (count_at sections r)
-
--- row r is a built section of that name, kind, flags, and names these symbols
-pub record BuiltAs (bytes names sections lists : List ℕ) (l : Link) (r : ℕ) (x : List ℕ) (kind retain read : ℕ) (ids : List ℕ) : Type 0 where
-  pub counted : r < l.sections
-  pub built : state_at sections r ≡ 2
-  pub named : Issued (store_of bytes names l) (name_id_at sections r) x
-  pub kind-is : kind_at sections r ≡ kind
-  pub retains : Sections.retain_at sections r ≡ retain
-  pub reads : Sections.read_at sections r ≡ read
-  pub inside : first_at sections r + count_at sections r ≤ l.lists
-  pub ids-are : names_at sections lists r ≡ ids
 
 -- ---- list cells
 

@@ -4,7 +4,7 @@ use Rattle.std.specs.Prelude.{ℕ, List, [], ◌∷◌, ◌++◌}
 use Rattle.std.proofs.Common.{sym, subst, append-nil, append_assoc}
 use Rattle.symbol_laws.specs.History as History
 use Rattle.symbol_laws.specs.History.{State, Entry}
-use Rattle.symbol_laws.proofs.Held.{Inv}
+use Rattle.symbol_laws.specs.Held.{Inv}
 use Rattle.symbol_laws.specs.Calls.{history_parts}
 use Rattle.symbol_laws.proofs.Calls.{calls-keep, history-run}
 use Rattle.merge_laws.specs.MergeSteps.{merge_steps}

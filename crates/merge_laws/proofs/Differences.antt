@@ -9,7 +9,7 @@ use Rattle.elf_object.specs.Judge.{first_bad}
 use Rattle.section_groups.specs.Filter.{section_after, symbol_ok, filter_of}
 use Rattle.merge_stages.specs.Stages.{All, table_of, stop, filtered_of, filter_stage}
 use Rattle.symbol_laws.specs.Gabi.{sym_of}
-use Rattle.merge_laws.proofs.FirstKept.{removed_in}
+use Rattle.merge_laws.specs.FirstKept.{removed_in}
 
 -- section 1 is removed
 abbrev pub removed : List ℕ

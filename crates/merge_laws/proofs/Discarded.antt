@@ -11,25 +11,26 @@ use Rattle.cells.specs.Proof.Split.{by-test}
 use Rattle.gabi.specs.StringTable.{among}
 use Rattle.gabi.specs.Groups as Gabi
 use Rattle.strings.specs.Lookup.{Looked}
-use Rattle.elf_object.specs.Rows.{rows_in, field, first_at, is_loaded, mark_at}
+use Rattle.elf_object.specs.Rows.{rows_in, first_at, is_loaded, mark_at}
 use Rattle.section_groups.specs.Group.{Plan}
 use Rattle.section_groups.specs.Group as Group
-use Rattle.section_groups.specs.Group.{shape_of, signature_of, plan_of, mark_group_of, mark_removed_of, admit_of, decided_of, group_named, signed_of, shaped_of, group_of, group_section_of, groups_of}
+use Rattle.section_groups.specs.Group.{shape_of, signature_of, plan_of, mark_group_of, mark_removed_of, commit_group_of, decided_of, group_named, signed_of, shaped_of, group_of, group_section_of, groups_of}
 use Rattle.section_groups.specs.Filter.{section_after}
-use Rattle.merge_symbols.specs.Plan.{filtered_at}
-use Rattle.merge_build.specs.Build as Build
 use Rattle.merge_build.specs.Build.{built_from, section_of}
 use Rattle.merge_stages.specs.Stages.{All, Object}
 use Rattle.merge_elf.specs.Merge.{head_in, ended_as, finished_of, merge_of}
 use Rattle.merge_laws.proofs.Loop.{loop, loop-later}
 use Rattle.merge_laws.specs.MergeSteps.{group_first}
-use Rattle.merge_laws.proofs.GroupStage.{number_of}
+use Rattle.merge_laws.specs.GroupStage.{number_of}
 use Rattle.merge_laws.proofs.GroupStageLemmas.{groups-loop}
 use Rattle.merge_laws.specs.Whole.{table_in}
-use Rattle.merge_laws.proofs.Stops.{reserved, object, prepared, grouped, marked, builder, groups_to, number, sections-stop, sections-pass, groups-stop}
+use Rattle.merge_laws.specs.Stops.{reserved, prepared, grouped, marked, groups_to, number}
+use Rattle.merge_laws.proofs.Stops.{sections-stop, sections-pass, groups-stop}
 use Rattle.merge_laws.specs.Marked.{Marked}
 use Rattle.merge_laws.proofs.GroupMarks.{kept_new, group-removes}
-use Rattle.merge_laws.proofs.FirstKept.{reader, signature, listed, met_to, to-marked}
+use Rattle.merge_laws.specs.FirstKept.{reader, signature, listed, met_to}
+use Rattle.merge_laws.proofs.FirstKept.{to-marked}
+use Rattle.merge_laws.specs.Discarded.{Discarded}
 
 -- ---- no later group takes a mark back
 
@@ -57,7 +58,7 @@ removed-stays work true k m e =
     (λ a. let u : m ≢ k = eqb-false _ _ a in get_or-set_other work (k * 8 + 1) (m * 8 + 1) 2 0 (λ q. u (omega arith)) ∙ e)
 
 mark-stays : (o : Group.Object) (m : ℕ) (s : Group.Step) (n : ℕ) → mark_at s.work m ≡ 2 → mark_at (group_section_of o s n).work m ≡ 2
-unfolding group_section_of group_of shaped_of signed_of group_named decided_of admit_of
+unfolding group_section_of group_of shaped_of signed_of group_named decided_of commit_group_of
 mark-stays o m s n e =
     let x : Looked = signature_of o.headers o.entries o.image o.table n in
     let k : ℕ = get_or o.contents (first_at o.headers n) 0 in
@@ -77,15 +78,7 @@ mark-stays o m s n e =
 module _ (o : Object) (a : All) where
   -- ---- what becomes of section m of the object, behind its groups
 
-  pub record Discarded (m : ℕ) : Type 0 where
-    -- filter, symbols and build read this mark
-    pub mark : mark_at (marked o a).work m ≡ 2
-    -- nothing is built from it: its name isn't read, and no row is written for it
-    pub unbuilt : (s : Build.State) (kind : ℕ) → section_of (builder o a) s m kind ≡ s
-    -- "Non-local symbols there become undefined": so they reach the add
-    pub undefined : (i : ℕ) → field (object o a).entries i 4 ≡ m → m < 0xff00 → (filtered_at (object o a).entries (marked o a).work i).section ≡ 0
-
-  discarded-by : (m : ℕ) → mark_at (marked o a).work m ≡ 2 → Discarded m
+  discarded-by : (m : ℕ) → mark_at (marked o a).work m ≡ 2 → Discarded o a m
   unfolding section_of built_from section_after
   discarded-by m e =
       record {
@@ -97,7 +90,7 @@ module _ (o : Object) (a : All) where
   module _ (met : List (List ℕ)) (known : Marked (table_in a) met) where
     -- of the accepted groups of a merge one that the gABI doesn't keep
     pub repeated-discarded : (grouped o a).stage.number ≡ 0 → (n : ℕ) → n < rows_in o.headers → is_loaded (reader o a).headers n 7 ≡ true → (later : List (List ℕ))
-        → Gabi.kept (met_to o a met n ++ signature o a n ∷ later) (length (met_to o a met n)) ≡ false → Discarded (listed o a n)
+        → Gabi.kept (met_to o a met n ++ signature o a n ∷ later) (length (met_to o a met n)) ≡ false → Discarded o a (listed o a n)
     unfolding groups_of
     repeated-discarded z n h g later k =
         discarded-by (listed o a n)

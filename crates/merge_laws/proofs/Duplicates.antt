@@ -21,7 +21,7 @@ use Rattle.symbol_resolution.specs.Decide.{decide_of, refusal_of, type_refusal}
 use Rattle.symbol_resolution.specs.Proof.Outcomes.{decision-number}
 use Rattle.symbols.specs.Add.{decided_of}
 use Rattle.symbol_laws.specs.History.{State, table, store, with_store, Entry, only, rows, issue, put_of, id_of, part_next}
-use Rattle.symbol_laws.proofs.Held.{Inv}
+use Rattle.symbol_laws.specs.Held.{Inv}
 use Rattle.symbol_laws.proofs.Demand.{resolved, holder_known, holder-none}
 use Rattle.symbol_laws.specs.Gabi.{Means, AllMean}
 use Rattle.symbol_laws.proofs.Duplicate as Duplicate
@@ -61,7 +61,7 @@ module _ (s : State) (x : List ℕ) (r : Row) (own : r.name ≡ id_of s x) where
     named-inv : Inv named past
     named-inv = subst (Inv named) (append-nil past) (step-keep (part (issue x)) s past inv)
 
-    module _ (global : r.visibility ≢ 0) (passes : scope_refused r ≡ false) (valued : value_refused r ≡ false)
+    module _ (global : r.scope ≢ 0) (passes : scope_refused r ≡ false) (valued : value_refused r ≡ false)
         (g : Sym) (gs : List Sym) (m : AllMean (rows (y ∷ ys)) (g ∷ gs)) (h : Sym) (mine : Means r h) where
       pub refused-duplicate : refusal_of judged ≡ 17 → resolve ((g ∷ gs) ++ (h ∷ [])) ≡ duplicate
       refused-duplicate q = Duplicate.refused-duplicate named past named-inv r y ys e global passes valued g gs m h mine (put-judged ∙ q)
@@ -80,17 +80,17 @@ module _ (numbers : List ℕ) (other : one_of 17 numbers ≡ false) where
     pub first : Entry
     pub more : List Entry
     pub are : only r.name.0 past ≡ first ∷ more
-    pub global : r.visibility ≢ 0
+    pub global : r.scope ≢ 0
     pub passes : scope_refused r ≡ false
     pub valued : value_refused r ≡ false
 
   module _ (l : Link) (symbols sections : List ℕ) (r : Row) (f : Fields numbers r) (id : SymbolId) where
     known-passes : refusal_of (decide_of l symbols sections r (Known id)) ≡ 17
-        → (r.visibility ≢ 0) × (scope_refused r ≡ false) × (value_refused r ≡ false)
+        → (r.scope ≢ 0) × (scope_refused r ≡ false) × (value_refused r ≡ false)
     known-passes =
-        decision-number l symbols sections r (λ (k : ℕ). k ≡ 17 → (r.visibility ≢ 0) × (scope_refused r ≡ false) × (value_refused r ≡ false)) (Known id)
+        decision-number l symbols sections r (λ (k : ℕ). k ≡ 17 → (r.scope ≢ 0) × (scope_refused r ≡ false) × (value_refused r ≡ false)) (Known id)
         (λ q. absurd (omega arith)) (λ q. absurd (omega arith)) (λ a q. absurd (omega arith)) (λ i p m q. (eqb-false _ _ m.global, p.scope, p.value))
-        (λ v q. absurd (not-here r.visibility (f.shown v) q)) (λ v q. absurd (not-here r.value.kind (f.valued v) q))
+        (λ v q. absurd (not-here r.scope (f.shown v) q)) (λ v q. absurd (not-here r.value.kind (f.valued v) q))
         (λ q. absurd (not-here (type_refusal r.kind) f.typed q))
 
   pub seventeen-held : (s : State) (past : List Entry) → Inv s past → (r : Row) → Fields numbers r

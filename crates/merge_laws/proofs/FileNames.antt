@@ -33,14 +33,16 @@ use Rattle.merge_laws.specs.MergeSteps.{symbol_first, adds_of, row_steps, named_
 use Rattle.merge_laws.specs.Marked.{Marked, marks_of}
 use Rattle.merge_laws.proofs.MarkedLemmas.{steps-marked}
 use Rattle.merge_laws.proofs.NamesOn.{rest-makes, steps-stay}
-use Rattle.merge_laws.proofs.SymbolIds.{name_of, plan_of, commit-number}
-use Rattle.merge_laws.proofs.SymbolStage as SymbolStage
-use Rattle.merge_laws.proofs.SymbolStage.{number_of}
+use Rattle.merge_laws.specs.SymbolIds.{name_of, plan_of}
+use Rattle.merge_laws.proofs.SymbolIds.{commit-number}
+use Rattle.merge_laws.specs.SymbolStage as SymbolStage
+use Rattle.merge_laws.specs.SymbolStage.{number_of}
 use Rattle.merge_laws.proofs.SymbolStageLemmas.{symbol-makes, symbols-loop}
-use Rattle.merge_laws.proofs.SymbolDuplicates.{steps_to, table_to, row_to, steps-make, Begins, steps-begin-to}
+use Rattle.merge_laws.specs.SymbolDuplicates.{steps_to, row_to}
+use Rattle.merge_laws.proofs.SymbolDuplicates.{table_to, steps-make, Begins, steps-begin-to}
 use Rattle.merge_laws.specs.Whole.{table_in}
 use Rattle.merge_laws.proofs.Whole.{merge-makes}
-use Rattle.merge_laws.proofs.Stops.{reserved, object, grouped, marked, symbol_reader, symbols_to}
+use Rattle.merge_laws.specs.Stops.{reserved, object, grouped, marked, symbol_reader, symbols_to}
 use Rattle.merge_laws.proofs.WorkGroups.{symbols-are, bears-own}
 
 -- ---- laws of the words

@@ -1,6 +1,6 @@
 -- Of the groups of one signature the first is kept, over several objects too; and what becomes of the symbols of the others.
 -- Assumes nothing.
-use Rattle.std.specs.Prelude.{ℕ, zero, suc, ◌≤◌, ◌<◌, ◌≡◌, refl, Bool, true, cond, not, ◌||◌, List, [], ◌∷◌, ◌++◌, ◌≢◌, ltb, get_or, length}
+use Rattle.std.specs.Prelude.{ℕ, zero, suc, ◌≤◌, ◌<◌, ◌≡◌, refl, Bool, true, cond, not, ◌||◌, List, [], ◌∷◌, ◌++◌, ◌≢◌, ltb, length}
 use Rattle.std.proofs.Common.{zero-add, arith, sym, ap, ◌∙◌, subst, append-nil, append_assoc}
 use Rattle.std.proofs.Math.Bool.{false}
 use Rattle.std.proofs.lemmas.Bool.{false≢true}
@@ -11,52 +11,34 @@ use Rattle.gabi.specs.StringTable.{among}
 use Rattle.gabi.specs.SymbolTable.{is_local, is_global, is_weak}
 use Rattle.gabi.specs.Groups as Gabi
 use Rattle.gabi.specs.Groups.{stays, gone, unsaid, after_discard, undefine}
-use Rattle.elf_object.specs.Rows.{field, elf_at, first_at, is_loaded, mark_at}
+use Rattle.elf_object.specs.Rows.{field, elf_at, is_loaded, mark_at}
 use Rattle.section_groups.specs.Group as Group
-use Rattle.section_groups.specs.Group.{mark_group_of, mark_removed_of, group_section_of, signature_of}
+use Rattle.section_groups.specs.Group.{mark_group_of, mark_removed_of, group_section_of}
 use Rattle.section_groups.specs.Filter.{section_after, symbol_ok}
 use Rattle.merge_symbols.specs.Plan.{filtered_at}
-use Rattle.merge_stages.specs.Stages.{All, Object, group_object}
+use Rattle.merge_stages.specs.Stages.{All, Object}
 use Rattle.symbol_laws.specs.History.{State}
 use Rattle.symbol_laws.specs.Gabi.{sym_of}
 use Rattle.merge_laws.specs.Steps.{Step, others, run_steps}
 use Rattle.merge_laws.proofs.Beside.{others-make}
 use Rattle.merge_laws.proofs.Placed.{reserve-beside}
-use Rattle.merge_laws.specs.Loop.{loop_steps}
 use Rattle.merge_laws.proofs.Loop.{loop, steps_next}
 use Rattle.merge_laws.specs.MergeSteps.{group_section_steps, group_first, reserve_first}
-use Rattle.merge_laws.proofs.GroupStage.{number_of}
+use Rattle.merge_laws.specs.GroupStage.{number_of}
 use Rattle.merge_laws.proofs.GroupStageLemmas.{groups-loop, groups-make-to}
 use Rattle.merge_laws.proofs.GroupStage as GroupStage
 use Rattle.merge_laws.specs.Whole.{table_in}
-use Rattle.merge_laws.proofs.Stops.{reserved, object, prepared, groups_to}
+use Rattle.merge_laws.specs.Stops.{reserved, prepared, groups_to}
 use Rattle.merge_laws.specs.Marked.{Marked, marks_of}
 use Rattle.merge_laws.proofs.MarkedLemmas.{marks-append, steps-marked}
 use Rattle.merge_laws.proofs.GroupMarks.{kept_new, group-marks, group-signature}
+use Rattle.merge_laws.specs.FirstKept.{reader, signature, listed, steps_to, met_to, removed_in}
 
 not-not : (b : Bool) → not (not b) ≡ b
 not-not true = refl
 not-not false = refl
 
 module _ (o : Object) (a : All) where
-  -- what the group stage reads
-  abbrev pub reader : Group.Object
-  reader = group_object (object o a)
-
-  -- of the group at section n, and the one section that it lists
-  abbrev pub signature : ℕ → List ℕ
-  signature n = (signature_of reader.headers reader.entries reader.image reader.table n).name
-
-  abbrev pub listed : ℕ → ℕ
-  listed n = get_or reader.contents (first_at reader.headers n) 0
-
-  abbrev pub steps_to : ℕ → List Step
-  steps_to n = loop_steps number_of (group_section_of reader) (group_section_steps reader) n 0 (group_first (prepared o a))
-
-  -- the signatures met before section n, after those of earlier objects
-  abbrev pub met_to : List (List ℕ) → ℕ → List (List ℕ)
-  met_to met n = met ++ marks_of (steps_to n) (table_in (prepared o a))
-
   module _ (met : List (List ℕ)) (m : Marked (table_in a) met) where
     prepared-marked : Marked (table_in (prepared o a)) met
     prepared-marked =
@@ -66,63 +48,59 @@ module _ (o : Object) (a : All) where
         (subst (λ (t : State). Marked t (met ++ [])) steps.leads
         (steps-marked (others (reserved o a).sections (reserved o a).reserved.link ∷ []) (table_in a) met steps.accepted m))
 
-    pub to-marked : (n : ℕ) → Marked (GroupStage.table_in a.symbols (reserved o a).sections (groups_to o a n)) (met_to met n)
+    pub to-marked : (n : ℕ) → Marked (GroupStage.table_in a.symbols (reserved o a).sections (groups_to o a n)) (met_to o a met n)
     to-marked n =
-        let steps = groups-make-to a.symbols (reserved o a).sections reader n (group_first (prepared o a)) in
-        subst (λ (t : State). Marked t (met_to met n)) steps.leads
-        (steps-marked (steps_to n) (table_in (prepared o a)) met steps.accepted prepared-marked)
+        let steps = groups-make-to a.symbols (reserved o a).sections (reader o a) n (group_first (prepared o a)) in
+        subst (λ (t : State). Marked t (met_to o a met n)) steps.leads
+        (steps-marked (steps_to o a n) (table_in (prepared o a)) met steps.accepted prepared-marked)
 
     -- the n-th section's own signature
     pub section-marks : (s : Group.Step) (n : ℕ) (now : List (List ℕ)) → Marked (GroupStage.table_in a.symbols (reserved o a).sections s) now
-        → is_loaded reader.headers n 7 ≡ true → (group_section_of reader s n).stage.number ≡ 0
-        → marks_of (group_section_steps reader s n) (GroupStage.table_in a.symbols (reserved o a).sections s) ≡ signature n ∷ []
-    section-marks s n now k g z = group-signature a.symbols (reserved o a).sections reader s now k n g z
+        → is_loaded (reader o a).headers n 7 ≡ true → (group_section_of (reader o a) s n).stage.number ≡ 0
+        → marks_of (group_section_steps (reader o a) s n) (GroupStage.table_in a.symbols (reserved o a).sections s) ≡ signature o a n ∷ []
+    section-marks s n now k g z = group-signature a.symbols (reserved o a).sections (reader o a) s now k n g z
 
-    pub other-marks : (s : Group.Step) (n : ℕ) → is_loaded reader.headers n 7 ≡ false
-        → marks_of (group_section_steps reader s n) (GroupStage.table_in a.symbols (reserved o a).sections s) ≡ []
+    pub other-marks : (s : Group.Step) (n : ℕ) → is_loaded (reader o a).headers n 7 ≡ false
+        → marks_of (group_section_steps (reader o a) s n) (GroupStage.table_in a.symbols (reserved o a).sections s) ≡ []
     unfolding group_section_steps
     other-marks s n g = rw g
 
     pub marks-to : (n : ℕ) → (groups_to o a n).stage.number ≡ 0
-        → marks_of (steps_to (suc n)) (table_in (prepared o a)) ≡ marks_of (steps_to n) (table_in (prepared o a)) ++ marks_of (group_section_steps reader (groups_to o a n) n) (GroupStage.table_in a.symbols (reserved o a).sections (groups_to o a n))
+        → marks_of (steps_to o a (suc n)) (table_in (prepared o a)) ≡ marks_of (steps_to o a n) (table_in (prepared o a)) ++ marks_of (group_section_steps (reader o a) (groups_to o a n) n) (GroupStage.table_in a.symbols (reserved o a).sections (groups_to o a n))
     marks-to n z =
         let first : Group.Step = group_first (prepared o a) in
         let t : State = table_in (prepared o a) in
-        let e : groups_to o a n ≡ loop number_of (group_section_of reader) n 0 first = groups-loop reader n 0 first in
-        let k : steps_to (suc n) ≡ steps_to n ++ group_section_steps reader (groups_to o a n) n =
-        steps_next number_of (group_section_of reader) (group_section_steps reader) n 0 first (ap number_of (sym e) ∙ z)
-        ∙ ap (λ (k : ℕ). steps_to n ++ group_section_steps reader (loop number_of (group_section_of reader) n 0 first) k) (zero-add n)
-        ∙ ap (λ (s : Group.Step). steps_to n ++ group_section_steps reader s n) (sym e) in
-        let m : marks_of (steps_to (suc n)) t ≡ marks_of (steps_to n) t ++ marks_of (group_section_steps reader (groups_to o a n) n) (run_steps (steps_to n) t) =
-        ap (λ (l : List Step). marks_of l t) k ∙ marks-append (steps_to n) (group_section_steps reader (groups_to o a n) n) t in
-        let r = (groups-make-to a.symbols (reserved o a).sections reader n first).leads in
-        m ∙ ap (λ (u : State). marks_of (steps_to n) t ++ marks_of (group_section_steps reader (groups_to o a n) n) u) r
+        let e : groups_to o a n ≡ loop number_of (group_section_of (reader o a)) n 0 first = groups-loop (reader o a) n 0 first in
+        let k : steps_to o a (suc n) ≡ steps_to o a n ++ group_section_steps (reader o a) (groups_to o a n) n =
+        steps_next number_of (group_section_of (reader o a)) (group_section_steps (reader o a)) n 0 first (ap number_of (sym e) ∙ z)
+        ∙ ap (λ (k : ℕ). steps_to o a n ++ group_section_steps (reader o a) (loop number_of (group_section_of (reader o a)) n 0 first) k) (zero-add n)
+        ∙ ap (λ (s : Group.Step). steps_to o a n ++ group_section_steps (reader o a) s n) (sym e) in
+        let m : marks_of (steps_to o a (suc n)) t ≡ marks_of (steps_to o a n) t ++ marks_of (group_section_steps (reader o a) (groups_to o a n) n) (run_steps (steps_to o a n) t) =
+        ap (λ (l : List Step). marks_of l t) k ∙ marks-append (steps_to o a n) (group_section_steps (reader o a) (groups_to o a n) n) t in
+        let r = (groups-make-to a.symbols (reserved o a).sections (reader o a) n first).leads in
+        m ∙ ap (λ (u : State). marks_of (steps_to o a n) t ++ marks_of (group_section_steps (reader o a) (groups_to o a n) n) u) r
 
     marks-next : (n : ℕ) → (groups_to o a n).stage.number ≡ 0
-        → met_to met (suc n) ≡ met_to met n ++ marks_of (group_section_steps reader (groups_to o a n) n) (GroupStage.table_in a.symbols (reserved o a).sections (groups_to o a n))
-    marks-next n z = ap (◌++◌ met) (marks-to n z) ∙ sym (append_assoc met (marks_of (steps_to n) (table_in (prepared o a))) _)
+        → met_to o a met (suc n) ≡ met_to o a met n ++ marks_of (group_section_steps (reader o a) (groups_to o a n) n) (GroupStage.table_in a.symbols (reserved o a).sections (groups_to o a n))
+    marks-next n z = ap (◌++◌ met) (marks-to n z) ∙ sym (append_assoc met (marks_of (steps_to o a n) (table_in (prepared o a))) _)
 
     -- the signatures met are those of the accepted groups, in order
-    pub met-group : (n : ℕ) → (groups_to o a n).stage.number ≡ 0 → is_loaded reader.headers n 7 ≡ true
-        → (group_section_of reader (groups_to o a n) n).stage.number ≡ 0 → met_to met (suc n) ≡ met_to met n ++ (signature n ∷ [])
-    met-group n z g h = marks-next n z ∙ ap (◌++◌ (met_to met n)) (section-marks (groups_to o a n) n (met_to met n) (to-marked n) g h)
+    pub met-group : (n : ℕ) → (groups_to o a n).stage.number ≡ 0 → is_loaded (reader o a).headers n 7 ≡ true
+        → (group_section_of (reader o a) (groups_to o a n) n).stage.number ≡ 0 → met_to o a met (suc n) ≡ met_to o a met n ++ (signature o a n ∷ [])
+    met-group n z g h = marks-next n z ∙ ap (◌++◌ (met_to o a met n)) (section-marks (groups_to o a n) n (met_to o a met n) (to-marked n) g h)
 
-    pub met-other : (n : ℕ) → (groups_to o a n).stage.number ≡ 0 → is_loaded reader.headers n 7 ≡ false → met_to met (suc n) ≡ met_to met n
-    met-other n z g = marks-next n z ∙ ap (◌++◌ (met_to met n)) (other-marks (groups_to o a n) n g) ∙ append-nil (met_to met n)
+    pub met-other : (n : ℕ) → (groups_to o a n).stage.number ≡ 0 → is_loaded (reader o a).headers n 7 ≡ false → met_to o a met (suc n) ≡ met_to o a met n
+    met-other n z g = marks-next n z ∙ ap (◌++◌ (met_to o a met n)) (other-marks (groups_to o a n) n g) ∙ append-nil (met_to o a met n)
 
-    pub first-kept : (n : ℕ) → is_loaded reader.headers n 7 ≡ true → (group_section_of reader (groups_to o a n) n).stage.number ≡ 0 → (later : List (List ℕ))
-        → (group_section_of reader (groups_to o a n) n).work
-        ≡ mark_removed_of (mark_group_of (groups_to o a n).work n) (not (Gabi.kept (met_to met n ++ signature n ∷ later) (length (met_to met n)))) (listed n)
+    pub first-kept : (n : ℕ) → is_loaded (reader o a).headers n 7 ≡ true → (group_section_of (reader o a) (groups_to o a n) n).stage.number ≡ 0 → (later : List (List ℕ))
+        → (group_section_of (reader o a) (groups_to o a n) n).work
+        ≡ mark_removed_of (mark_group_of (groups_to o a n).work n) (not (Gabi.kept (met_to o a met n ++ signature o a n ∷ later) (length (met_to o a met n)))) (listed o a n)
     first-kept n g z later =
-        group-marks a.symbols (reserved o a).sections reader (groups_to o a n) (met_to met n) (to-marked n) n g z
-        ∙ ap (λ (b : Bool). mark_removed_of (mark_group_of (groups_to o a n).work n) b (listed n))
-        (sym (ap not (kept_new (met_to met n) (signature n) later) ∙ not-not (among (signature n) (met_to met n))))
+        group-marks a.symbols (reserved o a).sections (reader o a) (groups_to o a n) (met_to o a met n) (to-marked n) n g z
+        ∙ ap (λ (b : Bool). mark_removed_of (mark_group_of (groups_to o a n).work n) b (listed o a n))
+        (sym (ap not (kept_new (met_to o a met n) (signature o a n) later) ∙ not-not (among (signature o a n) (met_to o a met n))))
 
 -- ---- the filter, and the gABI's rule for symbols of a discarded section
-
--- defined in a section that is marked as removed; 0 is no section
-abbrev pub removed_in : List ℕ → ℕ → Bool
-removed_in work s = cond (eqb s 0) false (cond (ltb s 0xff00) (eqb (mark_at work s) 2) false)
 
 named : (b : ℕ) → b ≢ 0 → b ≤ 2 → (eqb b 1 || eqb b 2) ≡ true
 named zero n h = absurd (n refl)

@@ -19,10 +19,8 @@ use Rattle.symbol_resolution.specs.Decision.{Decision, Refuse, Nothing, Keep}
 use Rattle.symbol_resolution.specs.Decide.{refusal_of}
 use Rattle.symbols.specs.Calls.{Left}
 use Rattle.symbols.specs.Add.{committed_of, add_row_of}
-use Rattle.strings.specs.Lookup.{Looked}
 use Rattle.elf_object.specs.Rows.{rows_in}
-use Rattle.merge_symbols.specs.Plan.{Planned}
-use Rattle.merge_symbols.specs.Plan.{Input, input_of, is_first, defines_of, rule_of, judged_of, rowed_of, read_of, planned_of, filtered_at}
+use Rattle.merge_symbols.specs.Plan.{Input, input_of, defines_of, rule_of, judged_of, rowed_of, read_of, planned_of, filtered_at}
 use Rattle.merge_symbols.specs.Stage as Symbols
 use Rattle.merge_symbols.specs.Stage.{cell_of, accept_row, kept_of, commit_of, view, symbol_named, looked_of, symbol_of, symbols_from, symbols_of}
 use Rattle.merge_build.specs.Relocations.{id_in}
@@ -33,86 +31,75 @@ use Rattle.symbol_laws.specs.Below.{Below}
 use Rattle.symbol_laws.proofs.BelowLemmas.{part-below}
 use Rattle.merge_laws.proofs.Loop.{loop, loop-holds, loop-going, loop-next}
 use Rattle.merge_laws.specs.MergeSteps.{adds_of, adds}
-use Rattle.merge_laws.proofs.SymbolStage as SymbolStage
-use Rattle.merge_laws.proofs.SymbolStage.{number_of}
+use Rattle.merge_laws.specs.SymbolStage as SymbolStage
+use Rattle.merge_laws.specs.SymbolStage.{number_of}
 use Rattle.merge_laws.proofs.SymbolStageLemmas.{symbols-loop}
-use Rattle.merge_laws.proofs.SymbolIds.{name_of, plan_of, commit-number, ids_set}
+use Rattle.merge_laws.specs.SymbolIds.{name_of, plan_of}
+use Rattle.merge_laws.proofs.SymbolIds.{commit-number, ids_set}
 use Rattle.merge_laws.proofs.SymbolIdsLemmas.{symbol-id}
 use Rattle.merge_laws.proofs.Built.{loop-since}
+use Rattle.merge_laws.specs.GivenIds.{x, p, first, answer}
 
 -- ---- one symbol
 
 module _ (o : Symbols.Object) (s : Symbols.State) (i : ℕ) where
-  abbrev x : Looked
-  x = name_of o i
-
-  abbrev p : Planned
-  p = plan_of o s i
-
   ids-other : (k : ℕ) → k ≢ i → get_or (symbol_of o s i).ids k 0 ≡ get_or s.ids k 0
   unfolding symbol_of looked_of symbol_named commit_of kept_of accept_row
   ids-other k u =
-      by-test x.found
+      by-test (x o s i).found
       (λ a.
-      by-test (eqb (refusal_of p.decision) 2) (λ b. rw (a, b))
-      (λ b. by-test (eqb (refusal_of p.decision) 0) (λ c. rw (a, b, c) (get_or-set_other s.ids i k _ 0 u)) (λ c. rw (a, b, c))))
+      by-test (eqb (refusal_of (p o s i).decision) 2) (λ b. rw (a, b))
+      (λ b. by-test (eqb (refusal_of (p o s i).decision) 0) (λ c. rw (a, b, c) (get_or-set_other s.ids i k _ 0 u)) (λ c. rw (a, b, c))))
       (λ a. rw a)
 
   ids-long : length (symbol_of o s i).ids ≡ length s.ids
   unfolding symbol_of looked_of symbol_named commit_of kept_of accept_row
   ids-long =
-      by-test x.found
+      by-test (x o s i).found
       (λ a.
-      by-test (eqb (refusal_of p.decision) 2) (λ b. rw (a, b))
-      (λ b. by-test (eqb (refusal_of p.decision) 0) (λ c. rw (a, b, c) (length-set s.ids i _)) (λ c. rw (a, b, c))))
+      by-test (eqb (refusal_of (p o s i).decision) 2) (λ b. rw (a, b))
+      (λ b. by-test (eqb (refusal_of (p o s i).decision) 0) (λ c. rw (a, b, c) (length-set s.ids i _)) (λ c. rw (a, b, c))))
       (λ a. rw a)
 
   abbrev o' : Input
   o' = input_of o.entries o.work
 
-  abbrev pub first : Bool
-  first = is_first i (eqb (length x.name) 0) (filtered_at o.entries o.work i)
-
-  found-by : (symbol_of o s i).stage.number ≡ 0 → x.found ≡ true
+  found-by : (symbol_of o s i).stage.number ≡ 0 → (x o s i).found ≡ true
   unfolding symbol_of looked_of
-  found-by e = by-test x.found (λ t. t) (λ t. let z : ◌≡◌ {A = ℕ} 9 0 = rw t at e in absurd (omega arith))
+  found-by e = by-test (x o s i).found (λ t. t) (λ t. let z : ◌≡◌ {A = ℕ} 9 0 = rw t at e in absurd (omega arith))
 
-  named-number : (symbol_of o s i).stage.number ≡ 0 → (symbol_named o' s x.name i).stage.number ≡ 0
+  named-number : (symbol_of o s i).stage.number ≡ 0 → (symbol_named o' s (x o s i).name i).stage.number ≡ 0
   unfolding symbol_of looked_of
   named-number e = rw (found-by e) at e
 
   -- a symbol that isn't added: id 0 for the first one, else none
-  other-decision : adds o' x.name i ≡ false → refusal_of p.decision ≡ 0 → p.decision ≡ cond first (Keep (record { 0 = 0 })) Nothing
+  other-decision : adds o' (x o s i).name i ≡ false → refusal_of (p o s i).decision ≡ 0 → (p o s i).decision ≡ cond (first o s i) (Keep (record { 0 = 0 })) Nothing
   unfolding planned_of read_of rowed_of judged_of rule_of adds_of
   other-decision b z =
-      by-test (fits_of (store_of s.bytes s.names s.stage.link) p.row.name (length x.name))
+      by-test (fits_of (store_of s.bytes s.names s.stage.link) (p o s i).row.name (length (x o s i).name))
       (λ f.
       rw f
-      (by-test first (λ t. rw t)
+      (by-test (first o s i) (λ t. rw t)
       (λ t.
       by-test (eqb (filtered_at o.entries o.work i).kind 4) (λ u. rw (t, u))
       (λ u.
       by-test (defines_of o.work (filtered_at o.entries o.work i).section) (λ v. rw (t, u, v)) (λ v. absurd (false≢true (sym (rw (t, u, v) at b))))))))
       (λ f. let q : ◌≡◌ {A = ℕ} 2 0 = rw f at z in absurd (omega arith))
 
-  other-cell : adds o' x.name i ≡ false → (symbol_of o s i).stage.number ≡ 0 → i < length s.ids → get_or (symbol_of o s i).ids i 0 ≡ cond first 1 0
+  other-cell : adds o' (x o s i).name i ≡ false → (symbol_of o s i).stage.number ≡ 0 → i < length s.ids → get_or (symbol_of o s i).ids i 0 ≡ cond (first o s i) 1 0
   unfolding symbol_of looked_of successor
   other-cell b e h =
-      let z : refusal_of p.decision ≡ 0 = commit-number o' s x.name i (named-number e) in
+      let z : refusal_of (p o s i).decision ≡ 0 = commit-number o' s (x o s i).name i (named-number e) in
       rw (found-by e)
-      (ap (λ (l : List ℕ). get_or l i 0) (ids_set o' s x.name i z) ∙ get_or-set_same s.ids i _ 0 h
-      ∙ ap (λ (d : Decision). cell_of d (part_next (issue x.name) (SymbolStage.table_in s)).link.symbols) (other-decision b z) ∙ pick first)
+      (ap (λ (l : List ℕ). get_or l i 0) (ids_set o' s (x o s i).name i z) ∙ get_or-set_same s.ids i _ 0 h
+      ∙ ap (λ (d : Decision). cell_of d (part_next (issue (x o s i).name) (SymbolStage.table_in s)).link.symbols) (other-decision b z) ∙ pick (first o s i))
     where
-      pick : (t : Bool) → cell_of (cond t (Keep (record { 0 = 0 })) Nothing) (part_next (issue x.name) (SymbolStage.table_in s)).link.symbols ≡ cond t 1 0
+      pick : (t : Bool) → cell_of (cond t (Keep (record { 0 = 0 })) Nothing) (part_next (issue (x o s i).name) (SymbolStage.table_in s)).link.symbols ≡ cond t 1 0
       pick true = refl
       pick false = refl
 
-  -- what its add is answered
-  abbrev pub answer : ℕ
-  answer = value_in (put_of (part_next (issue x.name) (SymbolStage.table_in s)) p.row).said
-
-  added-cell : adds o' x.name i ≡ true → (symbol_of o s i).stage.number ≡ 0 → i < length s.ids → get_or (symbol_of o s i).ids i 0 ≡ successor answer
-  added-cell b e h = ap (λ (l : List ℕ). get_or l i 0) (symbol-id o s i (found-by e) b e) ∙ get_or-set_same s.ids i (successor answer) 0 h
+  added-cell : adds o' (x o s i).name i ≡ true → (symbol_of o s i).stage.number ≡ 0 → i < length s.ids → get_or (symbol_of o s i).ids i 0 ≡ successor (answer o s i)
+  added-cell b e h = ap (λ (l : List ℕ). get_or l i 0) (symbol-id o s i (found-by e) b e) ∙ get_or-set_same s.ids i (successor (answer o s i)) 0 h
 
 -- ---- an answered id is small
 

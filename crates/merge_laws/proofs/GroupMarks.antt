@@ -19,7 +19,7 @@ use Rattle.interner_laws.proofs.Interns.{keep-issued}
 use Rattle.interner.specs.Names.{store_of, fits_of}
 use Rattle.elf_object.specs.Rows.{first_at, is_loaded, mark_at}
 use Rattle.section_groups.specs.Group.{Plan}
-use Rattle.section_groups.specs.Group.{Object, shape_of, signature_of, repeated_of, mark_refusal, plan_with, plan_of, mark_group_of, mark_removed_of, admit_of, decided_of, group_named, signed_of, shaped_of, group_of, group_section_of}
+use Rattle.section_groups.specs.Group.{Object, shape_of, signature_of, repeated_of, mark_refusal, plan_with, plan_of, mark_group_of, mark_removed_of, commit_group_of, decided_of, group_named, signed_of, shaped_of, group_of, group_section_of}
 use Rattle.section_groups.specs.Group as Group
 use Rattle.symbol_laws.specs.History.{State, store}
 use Rattle.merge_laws.proofs.GroupStage.{table_in, plan-repeated, section-makes}
@@ -66,7 +66,7 @@ module _ (symbols sections : List ℕ) (o : Object) (s : Group.Step) (met : List
   listed = get_or o.contents (first_at o.headers n) 0
 
   pub group-marks : (group_section_of o s n).work ≡ mark_removed_of (mark_group_of s.work n) (among signature met) listed
-  unfolding group_section_of group_of shaped_of signed_of group_named decided_of admit_of
+  unfolding group_section_of group_of shaped_of signed_of group_named decided_of commit_group_of
   group-marks =
       let x : Looked = signature_of o.headers o.entries o.image o.table n in
       let q : Plan = plan_of s.stage.link s.bytes s.names (length s.work / 8) x.name listed in

@@ -11,7 +11,7 @@ use Rattle.interner.specs.Names.{Store, store_of, find_of, fits_of, keep_of}
 use Rattle.interner_laws.proofs.Find.{find-low}
 use Rattle.elf_object.specs.Rows.{first_at, is_loaded}
 use Rattle.section_groups.specs.Group.{Plan}
-use Rattle.section_groups.specs.Group.{Object, State, shape_of, signature_of, repeated_of, plan_with, plan_of, admit_of, decided_of, group_named, signed_of, shaped_of, group_of, group_section_of}
+use Rattle.section_groups.specs.Group.{Object, State, shape_of, signature_of, repeated_of, plan_with, plan_of, commit_group_of, decided_of, group_named, signed_of, shaped_of, group_of, group_section_of}
 use Rattle.section_groups.specs.Group as Group
 use Rattle.symbol_laws.specs.History as History
 use Rattle.merge_laws.specs.Steps.{Makes}
@@ -53,9 +53,9 @@ module _ (symbols sections : List ℕ) where
     abbrev p : Plan
     p = plan_of s.link s.bytes s.names (length s.work / 8) x listed
 
-    admitted-makes : p.number ≡ 0 → Makes (table_at s) (signed_steps s.bytes s.names s.link x) (table_at (admit_of s x p n listed))
-    unfolding admit_of signed_steps
-    admitted-makes e =
+    committed-makes : p.number ≡ 0 → Makes (table_at s) (signed_steps s.bytes s.names s.link x) (table_at (commit_group_of s x p n listed))
+    unfolding commit_group_of signed_steps
+    committed-makes e =
         record {
           leads =
               ap
@@ -77,7 +77,7 @@ module _ (symbols sections : List ℕ) where
     named-makes : NamedMakes (group_named s x n listed)
     unfolding group_named decided_of
     named-makes =
-        by-test (eqb p.number 0) (λ t. rw t (admitted-makes (eqb-true _ _ t))) (λ t. rw (t, t) (makes_none (table_at s)))
+        by-test (eqb p.number 0) (λ t. rw t (committed-makes (eqb-true _ _ t))) (λ t. rw (t, t) (makes_none (table_at s)))
 
   module _ (o : Object) where
     abbrev GroupMakes : State → Looked → Group.Step → Type 0
@@ -99,6 +99,3 @@ module _ (symbols sections : List ℕ) where
     section-makes s n =
         by-test (is_loaded o.headers n 7)
         (λ t. rw t (group-makes (Group.state_of s.bytes s.names s.work s.stage.link) n)) (λ t. rw t (makes_none (table_in s)))
-
-abbrev pub number_of : Group.Step → ℕ
-number_of s = s.stage.number

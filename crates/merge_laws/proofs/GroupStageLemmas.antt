@@ -11,14 +11,15 @@ use Rattle.strings.specs.Lookup.{Looked}
 use Rattle.interner.specs.Names.{Store, store_of, keep_of}
 use Rattle.elf_object.specs.Rows.{rows_in, first_at, is_loaded, mark_at}
 use Rattle.section_groups.specs.Group.{Plan}
-use Rattle.section_groups.specs.Group.{Object, shape_of, signature_of, plan_of, mark_group_of, mark_removed_of, admit_of, decided_of, group_named, signed_of, shaped_of, group_of, group_section_of, groups_from, groups_of}
+use Rattle.section_groups.specs.Group.{Object, shape_of, signature_of, plan_of, mark_group_of, mark_removed_of, commit_group_of, decided_of, group_named, signed_of, shaped_of, group_of, group_section_of, groups_from, groups_of}
 use Rattle.section_groups.specs.Group as Group
 use Rattle.merge_laws.specs.Steps.{Makes}
 use Rattle.merge_laws.specs.Loop.{loop_steps}
 use Rattle.merge_laws.proofs.Loop.{loop, loop-makes, loop-holds}
 use Rattle.merge_laws.proofs.Placed.{Firsts}
 use Rattle.merge_laws.specs.MergeSteps.{group_section_steps}
-use Rattle.merge_laws.proofs.GroupStage.{table_in, section-makes, number_of}
+use Rattle.merge_laws.specs.GroupStage.{number_of}
+use Rattle.merge_laws.proofs.GroupStage.{table_in, section-makes}
 
 pub groups-loop : (o : Object) (k n : ℕ) (s : Group.Step) → groups_from o k n s ≡ loop number_of (group_section_of o) k n s
 unfolding groups_from
@@ -52,7 +53,7 @@ removed-firsts rows w true n m h = get_or-set_other w (n * 8 + 1) (m * 8 + 0) 2 
 removed-firsts rows w false n m h = refl
 
 section-firsts : (o : Object) (rows : ℕ) (s : Group.Step) (n : ℕ) → Firsts rows s.work (group_section_of o s n).work
-unfolding group_section_of group_of shaped_of signed_of group_named decided_of admit_of
+unfolding group_section_of group_of shaped_of signed_of group_named decided_of commit_group_of
 section-firsts o rows s n m h =
     by-test (is_loaded o.headers n 7)
     (λ a.
@@ -82,7 +83,7 @@ groups-firsts o rows s =
 
 module _ {A : Type 0} (count : Link → A) (same : (s : Store) (id : Interned) (x : List ℕ) → count (keep_of s id x).link ≡ count s.link) where
   section-count : (o : Object) (s : Group.Step) (n : ℕ) → count (group_section_of o s n).stage.link ≡ count s.stage.link
-  unfolding group_section_of group_of shaped_of signed_of group_named decided_of admit_of
+  unfolding group_section_of group_of shaped_of signed_of group_named decided_of commit_group_of
   section-count o s n =
       let x : Looked = signature_of o.headers o.entries o.image o.table n in
       let listed : ℕ = get_or o.contents (first_at o.headers n) 0 in

@@ -8,7 +8,8 @@ use Rattle.symbol.specs.declared.Row.{Row}
 use Rattle.symbol_resolution.specs.Holder.{global_at}
 use Rattle.symbol_laws.specs.History.{State, Entry, noted, only, rows, Part, issue, put, put_of, part_notes}
 use Rattle.symbol_laws.proofs.History.{kept}
-use Rattle.symbol_laws.proofs.Held.{Inv, held_kept}
+use Rattle.symbol_laws.specs.Held.{Inv}
+use Rattle.symbol_laws.proofs.Held.{held_kept}
 use Rattle.symbol_laws.proofs.Calls.{parts-keep}
 use Rattle.merge_laws.specs.Steps.{Step, part, mark, others, step_next, step_notes, run_steps, log_steps, PartGoes, AllGo}
 use Rattle.merge_laws.specs.Kept.{part_rows, added_rows}
@@ -49,7 +50,7 @@ part-rows : (p : Part) (s : State) → PartGoes p s → rows (part_notes p s) �
 unfolding noted
 part-rows (issue x) s g = refl
 part-rows (put r from) s g =
-    by-test (eqb r.visibility 0) (λ t. rw t) (λ t. rw (t, eq-eqb (number_in (put_of s r).said) 0 g))
+    by-test (eqb r.scope 0) (λ t. rw t) (λ t. rw (t, eq-eqb (number_in (put_of s r).said) 0 g))
 
 pub log-rows : (ks : List Step) (s : State) → AllGo ks s → rows (log_steps ks s) ≡ added_rows ks
 log-rows [] s g = refl

@@ -41,26 +41,9 @@ use Rattle.merge_laws.proofs.GroupStageLemmas.{groups-count}
 use Rattle.merge_laws.proofs.SymbolStageLemmas.{symbols-count}
 use Rattle.merge_laws.proofs.BuildStage.{number_of, build-loop}
 use Rattle.merge_laws.specs.MergeSteps.{build_first, symbol_first, group_first, reserve_first}
+use Rattle.merge_laws.specs.Lists.{ListsPast, Listed}
 
 -- ---- inputs and lists, from i, x and k to j, y and l
-
--- lists past the later count stand as they stood
-pub record ListsPast (x : List ℕ) (k : Link) (y : List ℕ) (l : Link) : Type 0 where
-  pub more : k.lists ≤ l.lists
-  pub past : (q : ℕ) → l.lists ≤ q → get_or y q 0 ≡ get_or x q 0
-  pub long : length y ≡ length x
-  -- no more are counted than are lent
-  pub inside : k.lists ≤ length x → l.lists ≤ length y
-
-pub record Listed (i x : List ℕ) (k : Link) (j y : List ℕ) (l : Link) : Type 0 where
-  pub lists : ListsPast x k y l
-  -- those that are counted before stand as they stood
-  pub lists-below : (q : ℕ) → q < k.lists → get_or y q 0 ≡ get_or x q 0
-  pub inputs-past : (q : ℕ) → l.inputs * 8 ≤ q → get_or j q 0 ≡ get_or i q 0
-  pub inputs-below : (q : ℕ) → q < k.inputs * 8 → get_or j q 0 ≡ get_or i q 0
-  pub inputs-more : k.inputs ≤ l.inputs
-  pub inputs_long : length j ≡ length i
-  pub inputs_in : k.inputs ≤ input_rows (length i) → l.inputs ≤ input_rows (length j)
 
 pub lists-none : (x : List ℕ) (k l : Link) → l.lists ≡ k.lists → ListsPast x k x l
 lists-none x k l e = record { more = omega arith; past = λ q h. refl; long = refl; inside = λ h. omega arith }

@@ -6,7 +6,6 @@ use Rattle.std.proofs.Math.Path.{refl}
 use mathlib.Core.List.{List, [], ◌∷◌, ◌++◌}
 use Rattle.std.proofs.lemmas.Bool.{eqb-false}
 use Rattle.cells.specs.Proof.Split.{by-test}
-use Rattle.interner_laws.specs.Good.{Issued}
 use Rattle.symbol.specs.declared.Row.{Row}
 use Rattle.symbol_resolution.specs.Decision.{Decision}
 use Rattle.symbol_resolution.specs.Decide.{refusal_of}
@@ -14,13 +13,10 @@ use Rattle.elf_object.specs.Rows.{rows_in}
 use Rattle.section_groups.specs.Group.{group_section_of}
 use Rattle.merge_symbols.specs.Plan.{input_of}
 use Rattle.merge_symbols.specs.Stage as Symbols
-use Rattle.merge_symbols.specs.Stage.{symbol_of, looked_of, symbol_named, commit_of, kept_of, accept_row, symbols_of}
+use Rattle.merge_symbols.specs.Stage.{symbol_of, looked_of, symbol_named, commit_of, kept_of, accept_row}
 use Rattle.merge_stages.specs.Stages.{All, Object, symbols_in, after_symbols}
-use Rattle.merge_elf.specs.Merge.{head_in, merge_of}
+use Rattle.merge_elf.specs.Merge.{head_in}
 use Rattle.symbol_laws.specs.Rank as Rank
-use Rattle.symbol_laws.specs.History.{store}
-use Rattle.symbol_laws.specs.ObjectWords.{entries_in}
-use Rattle.merge_laws.specs.MergeWords as Words
 use Rattle.merge_laws.specs.Steps.{others}
 use Rattle.merge_laws.specs.Loop.{loop_steps}
 use Rattle.merge_laws.proofs.Loop.{loop, loop-next}
@@ -28,20 +24,21 @@ use Rattle.merge_laws.specs.MergeSteps.{adds, row_steps, named_steps, symbol_ste
 use Rattle.merge_laws.specs.Marked.{Marked}
 use Rattle.merge_laws.specs.Kept.{added_rows}
 use Rattle.merge_laws.proofs.Markless.{added-append, loop-none}
-use Rattle.merge_laws.proofs.GroupStage as GroupStage
-use Rattle.merge_laws.proofs.SymbolStage.{number_of}
+use Rattle.merge_laws.specs.GroupStage as GroupStage
+use Rattle.merge_laws.specs.SymbolStage.{number_of}
 use Rattle.merge_laws.proofs.SymbolStageLemmas.{symbols-loop}
-use Rattle.merge_laws.proofs.SymbolIds.{name_of, plan_of}
-use Rattle.merge_laws.proofs.SymbolDuplicates.{row_to, Comes}
+use Rattle.merge_laws.specs.SymbolIds.{name_of, plan_of}
+use Rattle.merge_laws.specs.SymbolDuplicates.{row_to, Comes}
 use Rattle.merge_laws.proofs.SymbolNames.{row_named}
-use Rattle.merge_laws.specs.FileNames.{IsFile}
 use Rattle.merge_laws.proofs.FileNames.{row-file}
 use Rattle.merge_laws.specs.Whole.{table_in}
-use Rattle.merge_laws.proofs.Stops.{reserved, object, prepared, grouped, marked, symbol_reader, symbols_to, added, filtered}
-use Rattle.merge_laws.proofs.FirstKept.{reader}
+use Rattle.merge_laws.specs.Stops.{reserved, object, prepared, grouped, marked, symbol_reader, symbols_to, added}
+use Rattle.merge_laws.proofs.Stops.{filtered}
+use Rattle.merge_laws.specs.FirstKept.{reader}
 use Rattle.merge_laws.proofs.Accepted.{group-none, built-none}
 use Rattle.merge_laws.proofs.WorkGroups.{symbols-are, bears-own}
 use Rattle.merge_laws.proofs.ObjectContents as Contents
+use Rattle.merge_laws.specs.LogContents.{FromSymbol}
 
 -- ---- lists of rows
 
@@ -52,7 +49,7 @@ all_append P (x ∷ a) b p q = (p.0, all_append P a b p.1 q)
 -- ---- one symbol's steps add its planned row, or none
 
 module _ (o : Symbols.Object) (s : Symbols.State) (i : ℕ) (P : Row → Type 0) where
-  symbol-rows : ((symbol_of o s i).stage.number ≡ 0 → (name_of o i).found ≡ true → adds (input_of o.entries o.work) (name_of o i).name i ≡ true → (plan_of o s i).row.visibility ≢ 0 → P (plan_of o s i).row)
+  symbol-rows : ((symbol_of o s i).stage.number ≡ 0 → (name_of o i).found ≡ true → adds (input_of o.entries o.work) (name_of o i).name i ≡ true → (plan_of o s i).row.scope ≢ 0 → P (plan_of o s i).row)
       → Rank.All P (added_rows (symbol_steps o s i))
   unfolding symbol_steps named_steps row_steps symbol_of looked_of symbol_named commit_of kept_of accept_row
   symbol-rows f =
@@ -65,7 +62,7 @@ module _ (o : Symbols.Object) (s : Symbols.State) (i : ℕ) (P : Row → Type 0)
       (λ c.
       by-test (adds (input_of o.entries o.work) (name_of o i).name i)
       (λ g.
-      by-test (eqb (plan_of o s i).row.visibility 0) (λ v. rw (a, b, c, g, v) tt)
+      by-test (eqb (plan_of o s i).row.scope 0) (λ v. rw (a, b, c, g, v) tt)
       (λ v. let p : P (plan_of o s i).row = (rw (a, b, c) at f) refl refl g (eqb-false _ _ v) in rw (a, b, c, g, v) (p, tt)))
       (λ g. rw (a, b, c, g) tt))
       (λ c. rw (a, b, c) tt)))
@@ -74,23 +71,6 @@ module _ (o : Symbols.Object) (s : Symbols.State) (i : ℕ) (P : Row → Type 0)
 -- ---- the merge
 
 module _ (o : Object) (a : All) (met : List (List ℕ)) where
-  abbrev table : List ℕ
-  table = Words.symbols_of o.headers o.entries o.contents o.image
-
-  abbrev Bears : ℕ → List ℕ → Type 0
-  Bears = Words.Bears o.headers o.entries o.contents o.image
-
-  -- the row of symbol i of the loaded table: what its entry says; in the link that the merge leaves its name has the bytes that the symbol bears, and
-  -- its file's those of the last symbol of type 4 before it
-  pub record FromSymbol (r : Row) : Type 0 where
-    pub number : ℕ
-    pub below : number < entries_in table
-    pub content : Contents.Content o.headers o.entries o.contents o.image a.stage.link.sections met table number r
-    pub bytes : List ℕ
-    pub bears : Bears number bytes
-    pub named : Issued (store (table_in (merge_of o a).cells)) r.name.0 bytes
-    pub filed : IsFile (store (table_in (merge_of o a).cells)) table Bears number r.file
-
   module _ (known : Marked (table_in a) met) where
     abbrev first : Symbols.State
     first = symbol_first (symbols_in (marked o a))
@@ -100,7 +80,7 @@ module _ (o : Object) (a : All) (met : List (List ℕ)) where
 
     module _ (head : (head_in o a).number ≡ 0) (goes : (reserved o a).reserved.number ≡ 0) (passes : (grouped o a).stage.number ≡ 0) where
       from-symbol : (i : ℕ) → Comes o a i → (next (symbols_to o a i) i).stage.number ≡ 0 → (name_of (symbol_reader o a) i).found ≡ true
-          → adds (input_of (object o a).entries (marked o a).work) (name_of (symbol_reader o a) i).name i ≡ true → (row_to o a i).visibility ≢ 0 → FromSymbol (row_to o a i)
+          → adds (input_of (object o a).entries (marked o a).work) (name_of (symbol_reader o a) i).name i ≡ true → (row_to o a i).scope ≢ 0 → FromSymbol o a met (row_to o a i)
       from-symbol i c z f d g =
           let h = c.below in
           record {
@@ -115,14 +95,14 @@ module _ (o : Object) (a : All) (met : List (List ℕ)) where
 
       -- the symbols from i on
       rows-from : ltb (filtered o a) (rows_in (object o a).entries) ≡ false → (n i : ℕ) → i + n ≡ rows_in (object o a).entries → number_of (loop number_of next i 0 first) ≡ 0
-          → Rank.All FromSymbol (added_rows (loop_steps number_of next (symbol_steps (symbol_reader o a)) n i (loop number_of next i 0 first)))
+          → Rank.All (FromSymbol o a met) (added_rows (loop_steps number_of next (symbol_steps (symbol_reader o a)) n i (loop number_of next i 0 first)))
       rows-from filter zero i e z = tt
       rows-from filter (suc n) i e z =
           let t : Symbols.State = loop number_of next i 0 first in
           let same : symbols_to o a i ≡ t = symbols-loop (symbol_reader o a) i 0 first in
-          let mine : Rank.All FromSymbol (added_rows (symbol_steps (symbol_reader o a) t i)) =
-          subst (λ (s : Symbols.State). Rank.All FromSymbol (added_rows (symbol_steps (symbol_reader o a) s i))) same
-          (symbol-rows (symbol_reader o a) (symbols_to o a i) i FromSymbol
+          let mine : Rank.All (FromSymbol o a met) (added_rows (symbol_steps (symbol_reader o a) t i)) =
+          subst (λ (s : Symbols.State). Rank.All (FromSymbol o a met) (added_rows (symbol_steps (symbol_reader o a) s i))) same
+          (symbol-rows (symbol_reader o a) (symbols_to o a i) i (FromSymbol o a met)
           (from-symbol i
           (record {
             head = head;
@@ -137,41 +117,41 @@ module _ (o : Object) (a : All) (met : List (List ℕ)) where
           let k : loop number_of next (i + 1) 0 first ≡ next t i =
           ap (λ (j : ℕ). loop number_of next j 0 first) (let q : i + 1 ≡ suc i = omega arith in q) ∙ loop-next number_of next i 0 first z ∙ ap (next t) (zero-add i) in
           rw (b, added-append (symbol_steps (symbol_reader o a) t i) (loop_steps number_of next (symbol_steps (symbol_reader o a)) n (i + 1) (next t i)))
-          (all_append FromSymbol (added_rows (symbol_steps (symbol_reader o a) t i)) _ mine
-          (subst (λ (s : Symbols.State). Rank.All FromSymbol (added_rows (loop_steps number_of next (symbol_steps (symbol_reader o a)) n (i + 1) s))) k
+          (all_append (FromSymbol o a met) (added_rows (symbol_steps (symbol_reader o a) t i)) _ mine
+          (subst (λ (s : Symbols.State). Rank.All (FromSymbol o a met) (added_rows (loop_steps number_of next (symbol_steps (symbol_reader o a)) n (i + 1) s))) k
           (rows-from filter n (i + 1) (omega arith) (ap number_of k ∙ eqb-true _ _ b)))))
           (λ b. rw b mine)
 
-      table-rows : ltb (filtered o a) (rows_in (object o a).entries) ≡ false → Rank.All FromSymbol (added_rows (table_steps (object o a) (marked o a).work (symbols_in (marked o a))))
+      table-rows : ltb (filtered o a) (rows_in (object o a).entries) ≡ false → Rank.All (FromSymbol o a met) (added_rows (table_steps (object o a) (marked o a).work (symbols_in (marked o a))))
       unfolding table_steps
       table-rows filter =
           let build = after_symbols (symbols_in (marked o a)) (added o a) in
           rw (added-append (loop_steps number_of next (symbol_steps (symbol_reader o a)) (rows_in (object o a).entries) 0 first) _, built-none (object o a) (marked o a).work build)
-          (all_append FromSymbol (added_rows (loop_steps number_of next (symbol_steps (symbol_reader o a)) (rows_in (object o a).entries) 0 first)) [] (rows-from filter (rows_in (object o a).entries) 0 (zero-add _) refl) tt)
+          (all_append (FromSymbol o a met) (added_rows (loop_steps number_of next (symbol_steps (symbol_reader o a)) (rows_in (object o a).entries) 0 first)) [] (rows-from filter (rows_in (object o a).entries) 0 (zero-add _) refl) tt)
 
-      filter-rows : Rank.All FromSymbol (added_rows (filter_steps (object o a) (marked o a)))
+      filter-rows : Rank.All (FromSymbol o a met) (added_rows (filter_steps (object o a) (marked o a)))
       unfolding filter_steps filtered_steps
       filter-rows =
           by-test (eqb (grouped o a).stage.number 0)
           (λ b. by-test (ltb (filtered o a) (rows_in (object o a).entries)) (λ c. rw (b, c) tt) (λ c. rw (b, c) (table-rows c))) (λ b. rw b tt)
 
     -- groups refused: no symbol is come to
-    filter_none : (grouped o a).stage.number ≢ 0 → Rank.All FromSymbol (added_rows (filter_steps (object o a) (marked o a)))
+    filter_none : (grouped o a).stage.number ≢ 0 → Rank.All (FromSymbol o a met) (added_rows (filter_steps (object o a) (marked o a)))
     unfolding filter_steps
     filter_none u = rw (ne_eqb _ _ u) tt
 
-    groups-rows : (head_in o a).number ≡ 0 → (reserved o a).reserved.number ≡ 0 → Rank.All FromSymbol (added_rows (merge_groups_steps (object o a) (prepared o a)))
+    groups-rows : (head_in o a).number ≡ 0 → (reserved o a).reserved.number ≡ 0 → Rank.All (FromSymbol o a met) (added_rows (merge_groups_steps (object o a) (prepared o a)))
     unfolding merge_groups_steps
     groups-rows head goes =
         rw (added-append (groups_steps (reader o a) (group_first (prepared o a))) (filter_steps (object o a) (marked o a)), loop-none GroupStage.number_of (group_section_of (reader o a)) (group_section_steps (reader o a)) (group-none (reader o a)) (rows_in o.headers) 0 (group_first (prepared o a)))
         (by-test (eqb (grouped o a).stage.number 0) (λ b. filter-rows head goes (eqb-true _ _ b)) (λ b. filter_none (eqb-false _ _ b)))
 
-    pub merge-logged : Rank.All FromSymbol (added_rows (merge_steps o a))
+    pub merge-logged : Rank.All (FromSymbol o a met) (added_rows (merge_steps o a))
     unfolding merge_steps stages_steps reserved_steps group_stage_steps
     merge-logged =
         by-test (eqb (head_in o a).number 0)
         (λ b.
         rw (b, added-append (stages_steps o a) (others _ _ ∷ []))
-        (all_append FromSymbol (added_rows (stages_steps o a)) []
+        (all_append (FromSymbol o a met) (added_rows (stages_steps o a)) []
         (by-test (eqb (reserved o a).reserved.number 0) (λ c. rw c (groups-rows (eqb-true _ _ b) (eqb-true _ _ c))) (λ c. rw c tt)) tt))
         (λ b. rw b tt)

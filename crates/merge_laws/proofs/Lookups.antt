@@ -19,29 +19,20 @@ use Rattle.symbol_resolution.specs.Proof.Outcomes.{decision-left}
 use Rattle.symbols.specs.Add.{add_row_of, decided_of}
 use Rattle.symbols.specs.Proof.AddOutcomes.{added-left}
 use Rattle.symbol_laws.proofs.View.{lesser-first}
-use Rattle.symbol_laws.proofs.Within.{Within}
+use Rattle.symbol_laws.specs.Within.{Within}
 use Rattle.symbol_laws.specs.Calls.{history_parts}
 use Rattle.symbol_laws.proofs.Calls.{history-run}
 use Rattle.symbol_laws.specs.History as History
 use Rattle.symbol_laws.specs.History.{State, table, store, Part, issue, put, id_of, part_next, run_parts}
 use Rattle.symbol_laws.proofs.Issue.{room-free}
-use Rattle.merge_laws.specs.Steps.{Step, part, mark, others, step_next, Bounded, Goes, AllGo, run_steps}
+use Rattle.merge_laws.specs.Steps.{Step, part, mark, others, step_next, Goes, AllGo, run_steps}
 use Rattle.merge_laws.specs.MergeSteps.{merge_steps}
 use Rattle.merge_laws.proofs.Whole.{merge-makes}
 use Rattle.merge_laws.proofs.Issue.{keeps}
 use Rattle.merge_laws.proofs.SymbolStageLemmas.{applied-count}
 use Rattle.merge_laws.proofs.Lists.{keep-lists, merge-left}
 use Rattle.merge_laws.specs.Calls.{Linked, all_in, Call, direct, merge, call_next, run_calls, Removes, RemovesNothing}
-
--- all but the count of the lists
-pub record Counted (l : Link) (names : List ℕ) : Type 0 where
-  pub bytes-in : l.bytes ≤ 1048576
-  pub bounded : Bounded l
-  pub names_in : l.names ≤ l.chains
-  pub chains-lent : l.chains ≤ name_rows (length names)
-
-abbrev pub CountedIn : State → Type 0
-CountedIn s = Counted s.link s.names
+use Rattle.merge_laws.specs.Lookups.{Counted, CountedIn}
 
 -- ---- a name issued
 
@@ -76,7 +67,7 @@ issue-counted s x c =
 
 noted-long : (names : List ℕ) (r : Row) (id : ℕ) → length (note_name names r id) ≡ length names
 unfolding note_name
-noted-long names r id = by-test (eqb r.visibility 0) (λ a. rw a) (λ a. rw a (length-set names (r.name.0 * 8 + 3) id))
+noted-long names r id = by-test (eqb r.scope 0) (λ a. rw a) (λ a. rw a (length-set names (r.name.0 * 8 + 3) id))
 
 applied-counted : (t : Table) (r : Row) (d : Decision) → Counted t.link t.names → Counted (apply_of t r d).link (apply_of t r d).names
 unfolding append_of

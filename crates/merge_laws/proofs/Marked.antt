@@ -76,10 +76,10 @@ module _ (s : State) (met : List (List ℕ)) (m : Marked s met) (r : Row) where
       marked-alike s (with_table s t) met
       (record { bytes = refl; long = ap length a; cells = λ i f h l. rw a; heads = λ q h l. rw a; chains = d; key = e; counted = b; filled = c }) (λ n h. rw a) m
 
-  appended-names : r.visibility ≢ 0 → r.name.0 < s.link.names → Marked (with_table s (append_of (table s) r)) met
+  appended-names : r.scope ≢ 0 → r.name.0 < s.link.names → Marked (with_table s (append_of (table s) r)) met
   unfolding append_of note_name
   appended-names v h =
-      let e : note_name s.names r s.link.symbols ≡ set s.names (r.name.0 * 8 + 3) s.link.symbols = rw (ne_eqb r.visibility 0 v) in
+      let e : note_name s.names r s.link.symbols ≡ set s.names (r.name.0 * 8 + 3) s.link.symbols = rw (ne_eqb r.scope 0 v) in
       let a = set-alike s r.name.0 3 s.link.symbols m.good h (omega arith) (omega arith) in
       marked-alike s (with_table s (append_of (table s) r)) met
       (record {
@@ -97,9 +97,9 @@ module _ (s : State) (met : List (List ℕ)) (m : Marked s met) (r : Row) where
       ∙ get_or-set_other s.names (r.name.0 * 8 + 3) (n * 8 + 4) s.link.symbols 0 (λ e. omega arith))
       m
 
-  local-names : r.visibility ≡ 0 → Marked (with_table s (append_of (table s) r)) met
+  local-names : r.scope ≡ 0 → Marked (with_table s (append_of (table s) r)) met
   unfolding append_of note_name
-  local-names v = same_names (append_of (table s) r) (rw (eq-eqb r.visibility 0 v)) refl refl refl refl
+  local-names v = same_names (append_of (table s) r) (rw (eq-eqb r.scope 0 v)) refl refl refl refl
 
   viewed : View (table s) r → Fine (put_of s r)
   unfolding committed_of apply_of

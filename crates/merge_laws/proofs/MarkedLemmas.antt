@@ -15,7 +15,8 @@ use Rattle.interner.specs.Calls as Names
 use Rattle.interner_laws.specs.Good.{Good, Stays, name, find}
 use Rattle.interner_laws.proofs.Find.{find-issued}
 use Rattle.interner_laws.proofs.Written.{head-behind, row_new}
-use Rattle.interner_laws.proofs.Interns as Interns
+use Rattle.interner_laws.specs.Interns as Interns
+use Rattle.interner_laws.proofs.Interns as InternsLaws
 use Rattle.interner_laws.proofs.Same.{alike-stays, good-same, find-same}
 use Rattle.symbols.specs.New.{one_symbol, null_of, new_of}
 use Rattle.symbol_laws.proofs.Issue.{FreeRow, room-free}
@@ -125,8 +126,8 @@ names-unmarked key bytes names z =
 
 names-good : (key : ℕ) (bytes names : List ℕ) → (Names.new_of key bytes names).store.link.names ≢ 0 → Good (Names.new_of key bytes names).store
 names-good key bytes names z =
-    by-test (eqb (Interns.number (Names.new_of key bytes names)) 0) (λ a. Interns.new-good key bytes names (eqb-true _ _ a))
-    (λ a. absurd (z (ap (λ (s : Store). s.link.names) (Interns.new-refused key bytes names (eqb-false _ _ a)))))
+    by-test (eqb (Interns.number (Names.new_of key bytes names)) 0) (λ a. InternsLaws.new-good key bytes names (eqb-true _ _ a))
+    (λ a. absurd (z (ap (λ (s : Store). s.link.names) (InternsLaws.new-refused key bytes names (eqb-false _ _ a)))))
 
 null-marked : (gabi : Bool) (symbols sections : List ℕ) (s : Store) → (s.link.names ≢ 0 → Good s) → (s.link.names ≢ 0 → Unmarked s)
     → number_in (null_of gabi symbols sections s).said ≡ 0 → Marked (opened (null_of gabi symbols sections s)) []

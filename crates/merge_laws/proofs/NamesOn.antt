@@ -52,7 +52,7 @@ applied-lies t r d =
     decision-left (RowLies t) t r (row_same t t refl refl)
     (record {
       cells = λ i f h.
-          by-test (eqb r.visibility 0) (λ a. rw a)
+          by-test (eqb r.scope 0) (λ a. rw a)
           (λ a. rw a (get_or-set_other t.names (r.name.0 * 8 + 3) (i * 8 + f) t.link.symbols 0 (λ e. omega arith)));
       counted = refl;
     })

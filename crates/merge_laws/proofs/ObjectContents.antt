@@ -1,6 +1,6 @@
 -- What an object's symbol says of the row that its add makes, in document 01's words: type, weak and hidden, and the value through the object's own sections.
 -- Assumes nothing.
-use Prim.Native.Nat.{ℕ, ◌+◌, ◌-◌, ◌*◌, ◌/◌, ◌^◌, ◌<◌, ◌≤◌}
+use Prim.Native.Nat.{ℕ, ◌+◌, ◌-◌, ◌*◌, ◌/◌, ◌<◌, ◌≤◌}
 use Rattle.std.specs.Int.{is_power_of_two}
 use native.Mathlib.Omega.{arith}
 use Rattle.std.proofs.Math.Path.{◌≡◌, sym, ap}
@@ -11,15 +11,14 @@ use Rattle.std.proofs.lemmas.Bool.{false≢true}
 use mathlib.Core.List.{List}
 use borrow.Author.Tests.{eqb-true, eqb-false, ltb-true, ltb-false, lt-ltb, ne_eqb}
 use Rattle.cells.specs.Proof.Split.{by-test}
-use Rattle.gabi.specs.StringTable.{name_at}
-use Rattle.gabi.specs.SymbolTable.{stb_local, stb_weak, shn_undef, shn_loreserve, shn_abs, shn_common}
+use Rattle.gabi.specs.SymbolTable.{stb_local, stb_weak, shn_undef, shn_common}
 use Rattle.interner.specs.Names.{store_of, fits_of}
 use Rattle.symbol.specs.declared.Row.{Row}
 use Rattle.symbol.specs.declared.Words.{Words}
 use Rattle.symbol.specs.declared.SymbolVisibility.TheVariants.{Local}
 use Rattle.symbol.specs.declared.SymbolValue.{SymbolValue}
 use Rattle.symbol.specs.declared.SymbolValue.TheVariants as Val
-use Rattle.symbol.specs.Codes.{type_at, visibility_at, value_at, successor}
+use Rattle.symbol.specs.Codes.{visibility_at, value_at, successor}
 use Rattle.symbol.specs.Layout.{refuses_scope, refuses_value}
 use Rattle.symbol.specs.Row.{scope_refused, value_refused}
 use Rattle.symbol_resolution.specs.Decide.{refusal_of}
@@ -34,85 +33,25 @@ use Rattle.merge_symbols.specs.Plan.{input_of, is_first, defines_of, rule_of, ju
 use Rattle.merge_symbols.specs.Stage as Symbols
 use Rattle.merge_stages.specs.Stages.{All, Object}
 use Rattle.merge_elf.specs.Merge.{head_in}
-use Rattle.symbol_laws.specs.ObjectWords.{sections_in, is_section, is_excluded, loaded_as, group, entry, entry_name, entry_size}
-use Rattle.symbol_laws.specs.DirectContents.{IsAlignment}
+use Rattle.symbol_laws.specs.ObjectWords.{sections_in, is_excluded, loaded_as, group, entry}
 use Rattle.symbol_laws.proofs.Alignment.{power-alignment}
-use Rattle.symbol_laws.specs.ContentWords.{IsType, IsOffset, Admitted, shows}
+use Rattle.symbol_laws.specs.ContentWords.{IsOffset}
 use Rattle.symbol_laws.proofs.ContentWords.{type-is, offset-is, shown-is, admitted-is, decided-passes}
-use Rattle.merge_laws.specs.MergeWords.{is_rowed, rowed_below, symbol_names, symbols_of, is_removed}
+use Rattle.merge_laws.specs.MergeWords.{is_rowed, rowed_below, symbols_of}
 use Rattle.merge_laws.specs.MergeSteps.{adds_of, adds}
 use Rattle.merge_laws.specs.Marked.{Marked}
 use Rattle.merge_laws.proofs.Placed.{few}
-use Rattle.merge_laws.proofs.SymbolIds.{name_of, plan_of, commit-number}
-use Rattle.merge_laws.proofs.SymbolDuplicates.{row_to}
+use Rattle.merge_laws.specs.SymbolIds.{name_of, plan_of}
+use Rattle.merge_laws.proofs.SymbolIds.{commit-number}
+use Rattle.merge_laws.specs.SymbolDuplicates.{row_to}
 use Rattle.merge_laws.specs.Whole.{table_in}
-use Rattle.merge_laws.proofs.Stops.{reserved, object, grouped, marked, symbol_reader, symbols_to}
+use Rattle.merge_laws.specs.Stops.{reserved, object, grouped, marked, symbol_reader, symbols_to}
 use Rattle.merge_laws.proofs.WorkRows.{class-rowed, next-is}
 use Rattle.merge_laws.proofs.WorkGroups.{noted, few-rows, symbols-are, names-are, conversion-is, conversion-none, mark-is, clean-section, clean-past}
 use Rattle.merge_laws.proofs.Built.{rowed-own, reserve-full}
+use Rattle.merge_laws.specs.ObjectContents.{is_discarded, name_bytes, IsValue, absolute, common, discarded, undefined, unloaded, whole, within, Content, LocalContent, IsUndefined, nowhere, repeated, IsNull}
 
 -- ---- the words
-
--- symbol i of the table of an object that is merged where count section rows are taken, and these signatures are met
-module _ (headers entries contents file : List ℕ) (count : ℕ) (met : List (List ℕ)) (table : List ℕ) (i : ℕ) where
-  abbrev pub section : ℕ
-  section = (entry table i).section
-
-  -- a repeated group lists its section
-  abbrev pub is_discarded : Bool
-  is_discarded = is_removed headers entries contents file met (sections_in headers) section
-
-  abbrev pub name_bytes : List ℕ
-  name_bytes = name_at (symbol_names headers file (sections_in headers)) (entry_name table i)
-
-  -- "An empty name with value 0"
-  abbrev pub is_bare : Bool
-  is_bare = eqb (length name_bytes) 0 && eqb (entry table i).value 0
-
-  -- "Undefined and weak gives `default_zero`"
-  abbrev pub reference : SymbolValue
-  reference = Val.Undefined (eqb (entry table i).binding stb_weak)
-
-  pub data IsValue : SymbolValue → Type 0 where
-    undefined : section ≡ shn_undef → IsValue reference
-    -- "Non-local symbols there become undefined"
-    discarded : section < shn_loreserve → is_discarded ≡ true → IsValue reference
-    absolute : section ≡ shn_abs → IsValue (Val.Absolute (entry table i).value)
-    -- 2026-06: its alignment is its value field
-    common : section ≡ shn_common → (entry table i).binding ≢ stb_local → ((entry table i).value < 2 ^ 64 → IsAlignment (entry table i).value) → IsValue (Val.Common (entry table i).value)
-    -- "Non-excluded sections other than kinds 1 and 2 are "not loaded", which is a definition"
-    unloaded : section ≢ shn_undef → section ≢ shn_common → is_discarded ≡ false → is_section headers section ≡ true → is_excluded headers section ≡ false → is_rowed headers section ≡ false → IsValue Val.SectionNotLoaded
-    -- "An empty name with value 0 gives `Section`"
-    whole : section ≢ shn_undef → section ≢ shn_common → is_discarded ≡ false → is_rowed headers section ≡ true → is_bare ≡ true → IsValue (Val.Section (record { 0 = count + rowed_below headers section }))
-    -- "A value in a section becomes a signed offset"
-    within : (z : ℤ) → section ≢ shn_undef → section ≢ shn_common → is_discarded ≡ false → is_rowed headers section ≡ true → is_bare ≡ false → IsOffset (entry table i).value z → IsValue (Val.SectionRelative (record { 0 = count + rowed_below headers section }) z)
-
-  pub record Content (r : Row) : Type 0 where
-    pub passed : Admitted (entry table i)
-    pub type : IsType (entry table i).type (type_at r.kind)
-    pub shown : visibility_at r.visibility ≡ shows (entry table i)
-    pub value : IsValue (value_at r.value)
-    pub size : r.size ≡ entry_size table i
-
-  -- of a local symbol
-  pub record LocalContent (r : Row) : Type 0 where
-    pub bound : (entry table i).binding ≡ stb_local
-    pub type : IsType (entry table i).type (type_at r.kind)
-    pub shown : visibility_at r.visibility ≡ Local
-    pub value : IsValue (value_at r.value)
-    pub size : r.size ≡ entry_size table i
-
-  -- "undefined" by now
-  pub data IsUndefined : Type 0 where
-    nowhere : section ≡ shn_undef → IsUndefined
-    repeated : section < shn_loreserve → is_discarded ≡ true → IsUndefined
-
-  -- "The first symbol, if named empty, undefined and of type 0"
-  pub record IsNull : Type 0 where
-    pub first : i ≡ 0
-    pub bare : length name_bytes ≡ 0
-    pub type : (entry table i).type ≡ 0
-    pub undefined : IsUndefined
 
 local-shown : visibility_at 0 ≡ Local
 unfolding visibility_at
@@ -360,28 +299,28 @@ module _ (o : Object) (a : All) (head : (head_in o a).number ≡ 0) (goes : (res
         (λ d. decided-passes s.stage.link s.symbols s.sections row (holder_of s.stage.link s.names s.symbols row.name) (rw (f, b, c, d) at decided)))))
         (λ f. let z : ◌≡◌ {A = ℕ} 2 0 = rw f at decided in absurd (omega arith))
 
-    content-own : row.visibility ≢ 0 → Content headers o.entries o.contents o.image a.stage.link.sections met t i row
+    content-own : row.scope ≢ 0 → Content headers o.entries o.contents o.image a.stage.link.sections met t i row
     unfolding planned_of read_of rowed_of elf_row_of
     content-own global =
         let (p, q) = row-passes in
         record { passed = admitted-is (entry t i) global p; type = type-is (field t i 2); shown = shown-is (field t i 1) (field t i 3) global p; value = value-is q; size = refl }
 
     -- of the object's own table, and not local
-    pub content : row.visibility ≢ 0 → Content headers o.entries o.contents o.image a.stage.link.sections met (symbols_of headers o.entries o.contents o.image) i row
+    pub content : row.scope ≢ 0 → Content headers o.entries o.contents o.image a.stage.link.sections met (symbols_of headers o.entries o.contents o.image) i row
     content global = subst (λ (l : List ℕ). Content headers o.entries o.contents o.image a.stage.link.sections met l i row) (symbols-are o a head goes) (content-own global)
 
-    local-own : row.visibility ≡ 0 → LocalContent headers o.entries o.contents o.image a.stage.link.sections met t i row
+    local-own : row.scope ≡ 0 → LocalContent headers o.entries o.contents o.image a.stage.link.sections met t i row
     unfolding planned_of read_of rowed_of elf_row_of
     local-own z =
         let (p, q) = row-passes in
         record { bound = local-is (field t i 1) (field t i 3) z; type = type-is (field t i 2); shown = ap visibility_at z ∙ local-shown; value = value-is q; size = refl }
 
     -- and local
-    pub local-content : row.visibility ≡ 0 → LocalContent headers o.entries o.contents o.image a.stage.link.sections met (symbols_of headers o.entries o.contents o.image) i row
+    pub local-content : row.scope ≡ 0 → LocalContent headers o.entries o.contents o.image a.stage.link.sections met (symbols_of headers o.entries o.contents o.image) i row
     local-content z = subst (λ (l : List ℕ). LocalContent headers o.entries o.contents o.image a.stage.link.sections met l i row) (symbols-are o a head goes) (local-own z)
 
     -- which of the two, by the binding
-    pub binding-local : (entry (symbols_of headers o.entries o.contents o.image) i).binding ≡ stb_local → row.visibility ≡ 0
+    pub binding-local : (entry (symbols_of headers o.entries o.contents o.image) i).binding ≡ stb_local → row.scope ≡ 0
     unfolding planned_of read_of rowed_of elf_row_of
     binding-local e =
         let (p, q) = row-passes in

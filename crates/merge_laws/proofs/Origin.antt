@@ -51,7 +51,7 @@ log-both (x ∷ a) b p q = (p.0, log-both a b p.1 q)
 noted-shown : (r : Row) (from : Source) (a : Said) → ShownFrom from r → LogShown (noted r from a)
 unfolding noted
 noted-shown r from a p =
-    pick LogShown (eqb r.visibility 0) _ _ (λ t. tt) (λ t. pick LogShown (eqb (number_in a) 0) _ _ (λ t. (p, tt)) (λ t. tt))
+    pick LogShown (eqb r.scope 0) _ _ (λ t. tt) (λ t. pick LogShown (eqb (number_in a) 0) _ _ (λ t. (p, tt)) (λ t. tt))
 
 pub log-shown : (ks : List Step) (s : State) → AllShown ks → LogShown (log_steps ks s)
 log-shown [] s p = tt

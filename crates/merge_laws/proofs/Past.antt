@@ -54,7 +54,7 @@ applied-names : (t : Table) (r : Row) (d : Decision) → length (apply_of t r d)
 unfolding append_of note_name
 applied-names t r d =
     decision-left (λ (u : Table). length u.names ≡ length t.names) t r refl
-    (by-test (eqb r.visibility 0) (λ a. rw a) (λ a. rw a (length-set t.names (r.name.0 * 8 + 3) t.link.symbols))) (λ id x. refl) d
+    (by-test (eqb r.scope 0) (λ a. rw a) (λ a. rw a (length-set t.names (r.name.0 * 8 + 3) t.link.symbols))) (λ id x. refl) d
 
 applied-symbols : (t : Table) (r : Row) (d : Decision) → length (apply_of t r d).symbols ≡ length t.symbols
 unfolding append_of

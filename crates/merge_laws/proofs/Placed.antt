@@ -23,10 +23,7 @@ use Rattle.merge_build.specs.Build.{section_id_of, built_from}
 use Rattle.symbol_laws.proofs.View.{lesser-first, lesser-second}
 use Rattle.merge_laws.proofs.Beside.{Beside, beside_none, beside-both, row-beside}
 use Rattle.merge_laws.proofs.Loop.{loop}
-
--- the row of section m
-abbrev pub row_of : List ℕ → ℕ → ℕ
-row_of work m = (section_id_of (conversion_at work m)).0
+use Rattle.merge_laws.specs.Placed.{row_of}
 
 -- the first n sections' rows are below the count
 abbrev pub PlacedTo : ℕ → List ℕ → List ℕ → ℕ → Type 0

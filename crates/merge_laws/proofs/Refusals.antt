@@ -31,8 +31,7 @@ use Rattle.symbol_resolution.specs.Decision.{Decision}
 use Rattle.symbol_resolution.specs.Holder.{holder_of}
 use Rattle.symbol_resolution.specs.Decide.{type_refusal, decide_of, refusal_of}
 use Rattle.symbol_resolution.specs.Proof.Outcomes.{absent_under, is_local_row, Meets, decision-number}
-use Rattle.elf_object.specs.Rows as Elf
-use Rattle.elf_object.specs.Rows.{conversion_at, rows_in, first_at, is_loaded, name_in, name_offset_at, comdat_at, count_at, link_at, info_at}
+use Rattle.elf_object.specs.Rows.{conversion_at, rows_in, first_at, is_loaded, comdat_at, count_at, link_at, info_at}
 use Rattle.merge_sections.specs.Reserve as Reserve
 use Rattle.section_groups.specs.Group as Group
 use Rattle.merge_symbols.specs.Plan.{Planned}
@@ -40,6 +39,7 @@ use Rattle.merge_symbols.specs.Plan.{View, Input, is_first, defines_of, filtered
 use Rattle.merge_symbols.specs.Stage as Symbols
 use Rattle.merge_build.specs.Build as Build
 use Rattle.merge_laws.specs.Table.{one_of, section_numbers, group_numbers, new_numbers, known_numbers, symbol_numbers, built_numbers}
+use Rattle.merge_laws.specs.Refusals.{symbol_name, section_name}
 
 -- all as it was at the section
 pub record SectionLeft (s t : Reserve.State) (n : ℕ) : Type 0 where
@@ -174,7 +174,7 @@ module _ (numbers : List ℕ) where
 pub fields-more : (xs ys : List ℕ) (r : Row) → Fields xs r → Fields (xs ++ ys) r
 fields-more xs ys r f =
     record {
-      shown = λ t u w. one-front r.visibility xs ys (f.shown t u w);
+      shown = λ t u w. one-front r.scope xs ys (f.shown t u w);
       valued = λ t u w. one-front r.value.kind xs ys (f.valued t u w);
       typed = λ u w. one-front (type_refusal r.kind) xs ys (f.typed u w);
     }
@@ -260,10 +260,6 @@ id_in s x = record { 0 = find_of s.bytes s.names s.stage.link x }
 abbrev pub named_in : Symbols.State → List ℕ → Store
 named_in s x = keep_of (store_of s.bytes s.names s.stage.link) (id_in s x) x
 
--- what the string table says of symbol i's name
-abbrev pub symbol_name : Symbols.Object → ℕ → Looked
-symbol_name o i = name_in o.headers o.image o.symbol_names (Elf.field o.entries i 0)
-
 -- all as it was at the symbol, or all but its name; the place of 21 is the name's id
 pub data SymbolLeft (o : Symbols.Object) (s t : Symbols.State) (i : ℕ) : Type 0 where
   as_it_was : one_of t.stage.number symbol_numbers ≡ true
@@ -299,10 +295,6 @@ module _ (o : Symbols.Object) (s : Symbols.State) (i : ℕ) (found : (symbol_nam
 
 abbrev pub name_kept : Build.State → List ℕ → Store
 name_kept s x = keep_of (store_of s.bytes s.names s.stage.link) (record { 0 = find_of s.bytes s.names s.stage.link x }) x
-
--- what the string table says of section n's name
-abbrev pub section_name : Build.Object → ℕ → Looked
-section_name o n = name_in o.headers o.image o.section_names (name_offset_at o.headers n)
 
 -- 19 at section n, every cell as it was but the name's
 abbrev pub refuse_build : Build.State → Store → ℕ → Build.State

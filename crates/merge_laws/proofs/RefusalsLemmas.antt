@@ -16,7 +16,8 @@ use Rattle.merge_symbols.specs.Stage as Symbols
 use Rattle.merge_build.specs.Relocations.{table_for, limit_of, relocations_of, symbols_ok}
 use Rattle.merge_build.specs.Build as Build
 use Rattle.merge_laws.specs.Table.{one_of, section_numbers}
-use Rattle.merge_laws.proofs.Refusals.{SectionLeft, e, planned-numbers, planned-new, symbol_name, SymbolLeft, commit-left, section_name, BuildLeft, as_it_was, but-its-name}
+use Rattle.merge_laws.specs.Refusals.{symbol_name, section_name}
+use Rattle.merge_laws.proofs.Refusals.{SectionLeft, e, planned-numbers, planned-new, SymbolLeft, commit-left, BuildLeft, as_it_was, but-its-name}
 
 reserve-numbers : (l : Link) (sections : List ℕ) (class table : ℕ) → Reserve.reserve_number l sections class table ≢ 0
     → one_of (Reserve.reserve_number l sections class table) section_numbers ≡ true

@@ -34,13 +34,15 @@ use Rattle.merge_laws.specs.MergeSteps.{group_first, symbol_first, reserve_first
 use Rattle.merge_laws.proofs.Issue.{keep-slots}
 use Rattle.merge_laws.proofs.More.{makes-slots}
 use Rattle.merge_laws.proofs.GroupStageLemmas.{groups-make}
-use Rattle.merge_laws.proofs.Placed.{row_of, noted-firsts, slots, reserve-placed, reserve-rows, loaded-class}
+use Rattle.merge_laws.specs.Placed.{row_of}
+use Rattle.merge_laws.proofs.Placed.{noted-firsts, slots, reserve-placed, reserve-rows, loaded-class}
 use Rattle.merge_laws.proofs.GroupStageLemmas.{groups-firsts}
 use Rattle.merge_laws.proofs.SymbolStageLemmas.{symbols-loop, symbol-makes}
 use Rattle.merge_laws.proofs.BuildStage.{build-loop}
 use Rattle.merge_laws.specs.Whole.{Passed}
 use Rattle.merge_laws.proofs.Whole.{passed}
-use Rattle.merge_laws.proofs.Stops.{reserved, object, prepared, marked, symbol_reader, added, builder, before2, before1, before0, with_build, end, number, sections-pass, filter-pass, symbols-pass}
+use Rattle.merge_laws.specs.Stops.{reserved, object, prepared, marked, symbol_reader, added, builder, before2, before1, before0, with_build, end, number}
+use Rattle.merge_laws.proofs.Stops.{sections-pass, filter-pass, symbols-pass}
 use Rattle.merge_laws.proofs.Discarded.{groups-pass, merge-passes}
 use Rattle.merge_laws.proofs.Accepted.{sections-going, filter_passes, symbols-going}
 

@@ -26,13 +26,15 @@ use Rattle.merge_elf.specs.Merge.{head_in, finished_of, merge_of}
 use Rattle.merge_laws.proofs.Loop.{loop-holds}
 use Rattle.merge_laws.specs.MergeSteps.{reserve_first, group_first, symbol_first}
 use Rattle.merge_laws.specs.MergeWords.{rowed_below}
-use Rattle.merge_laws.proofs.Placed.{link_in, row_of, few, slots, converted, reserve-loop, loaded-class}
+use Rattle.merge_laws.specs.Placed.{row_of}
+use Rattle.merge_laws.proofs.Placed.{link_in, few, slots, converted, reserve-loop, loaded-class}
 use Rattle.merge_laws.proofs.SymbolStageLemmas.{symbols-loop, symbol-makes}
 use Rattle.merge_laws.proofs.More.{makes-slots}
 use Rattle.merge_laws.proofs.GroupStageLemmas.{groups-make}
 use Rattle.merge_laws.proofs.BuildStage.{number_of, build-loop}
 use Rattle.merge_laws.proofs.RowStays.{symbol-front}
-use Rattle.merge_laws.proofs.Stops.{reserved, object, prepared, grouped, marked, symbol_reader, added, builder, before2, before1, before0, end, filtered, sections-pass, sections-stop, groups-stop, filter-stop, filter-pass, symbols-pass, symbols-stop, program-pass, program-stop}
+use Rattle.merge_laws.specs.Stops.{reserved, object, prepared, grouped, marked, symbol_reader, added, builder, before2, before1, before0, end}
+use Rattle.merge_laws.proofs.Stops.{filtered, sections-pass, sections-stop, groups-stop, filter-stop, filter-pass, symbols-pass, symbols-stop, program-pass, program-stop}
 use Rattle.merge_laws.proofs.WorkGroups.{noted, conversion-is}
 use Rattle.merge_laws.proofs.Built.{rowed-own, reserve-full}
 use Rattle.merge_laws.proofs.WorkRows.{class-rowed}

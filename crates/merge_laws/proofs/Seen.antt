@@ -34,30 +34,7 @@ use Rattle.merge_laws.specs.Steps as Steps
 use Rattle.merge_laws.proofs.SymbolStageLemmas.{noted-long}
 use Rattle.merge_laws.proofs.Issue.{keeps}
 use Rattle.merge_laws.proofs.Past.{rows_long, rows_all}
-
--- the parts among the steps
-abbrev pub parts_in : List Step → List Part
-parts_in [] = []
-parts_in (Steps.part p ∷ ks) = p ∷ parts_in ks
-parts_in (mark n ∷ ks) = parts_in ks
-parts_in (others x l ∷ ks) = parts_in ks
-
--- t is s but for marks, section rows and the counts of sections, inputs and lists
-pub record Seen (s t : State) : Type 0 where
-  pub bytes : t.bytes ≡ s.bytes
-  pub symbols : t.symbols ≡ s.symbols
-  pub names-long : length t.names ≡ length s.names
-  pub names : (i f : ℕ) → f < 8 → f ≢ 4 → get_or t.names (i * 8 + f) 0 ≡ get_or s.names (i * 8 + f) 0
-  pub heads : (q : ℕ) → s.link.chains * 8 ≤ q → get_or t.names q 0 ≡ get_or s.names q 0
-  pub sections-long : length t.sections ≡ length s.sections
-  pub section-symbols : drop (s.link.slots * 8) t.sections ≡ drop (s.link.slots * 8) s.sections
-  pub names-count : t.link.names ≡ s.link.names
-  pub bytes_count : t.link.bytes ≡ s.link.bytes
-  pub symbols-count : t.link.symbols ≡ s.link.symbols
-  pub chains : t.link.chains ≡ s.link.chains
-  pub key : t.link.key ≡ s.link.key
-  pub slots : t.link.slots ≡ s.link.slots
-  pub profile : t.link.gabi ≡ s.link.gabi
+use Rattle.merge_laws.specs.Seen.{parts_in, Seen, PartsGo, MadeAlone}
 
 -- ---- names are found alike
 
@@ -226,11 +203,11 @@ with_symbols s l = record { bytes = s.bytes; names = s.names; symbols = l; secti
 module _ (s t : State) (e : Seen s t) (r : Row) where
   note-cell : (id j : ℕ) → get_or t.names j 0 ≡ get_or s.names j 0 → get_or (note_name t.names r id) j 0 ≡ get_or (note_name s.names r id) j 0
   unfolding note_name
-  note-cell id j q = by-test (eqb r.visibility 0) (λ a. rw a q) (λ a. rw a (set-alike s.names t.names (r.name.0 * 8 + 3) id j e.names-long q))
+  note-cell id j q = by-test (eqb r.scope 0) (λ a. rw a q) (λ a. rw a (set-alike s.names t.names (r.name.0 * 8 + 3) id j e.names-long q))
 
   note-long : (l : List ℕ) (id : ℕ) → length (note_name l r id) ≡ length l
   unfolding note_name
-  note-long l id = by-test (eqb r.visibility 0) (λ a. rw a) (λ a. rw a (length-set l (r.name.0 * 8 + 3) id))
+  note-long l id = by-test (eqb r.scope 0) (λ a. rw a) (λ a. rw a (length-set l (r.name.0 * 8 + 3) id))
 
   out-same : (n : ℕ) → length s.sections ≤ n → (id : ℕ)
       → drop (s.link.slots * 8) (set t.sections n id) ≡ drop (s.link.slots * 8) (set s.sections n id)
@@ -252,7 +229,7 @@ module _ (s t : State) (e : Seen s t) (r : Row) where
       → drop (s.link.slots * 8) (note_section t.link t.sections r id) ≡ drop (s.link.slots * 8) (note_section s.link s.sections r id)
   unfolding note_section
   section-behind id =
-      by-test (eqb r.visibility 0)
+      by-test (eqb r.scope 0)
       (λ a. by-test (eqb r.value.kind 2) (λ b. rw (a, b) (symbol-behind r.value.a id)) (λ b. rw (a, b) e.section-symbols)) (λ a. rw a e.section-symbols)
 
   append-seen : Seen (History.with_table s (append_of (table s) r)) (History.with_table t (append_of (table t) r))
@@ -391,11 +368,6 @@ part-goes : (p : Part) (s t : State) → Seen s t → PartGoes p t → PartGoes 
 part-goes (issue x) s t e g = sym (fits-seen x s t e) ∙ g
 part-goes (put r from) s t e g = ap number_in (sym (put-said s t e r)) ∙ g
 
--- each name fits and each add is accepted, where it is issued or made
-abbrev pub PartsGo : List Part → State → Type 0
-PartsGo [] s = Unit {0}
-PartsGo (p ∷ ps) s = PartGoes p s × PartsGo ps (part_next p s)
-
 -- as many names as rows
 abbrev Roomy : State → Type 0
 Roomy t = t.link.names ≤ t.link.chains
@@ -503,12 +475,6 @@ seen_same s =
       slots = refl;
       profile = refl;
     }
-
--- steps from s to t, and the parts ps made alone
-pub record MadeAlone (s : State) (ks : List Step) (t : State) (ps : List Part) : Type 0 where
-  pub seen : Seen (run_parts ps s) t
-  pub accepted : PartsGo ps s
-  pub logged : log_steps ks s ≡ log_parts ps s
 
 pub makes-parts : (s t : State) (ks : List Step) → s.link.names ≤ s.link.chains → Makes s ks t → MadeAlone s ks t (parts_in ks)
 makes-parts s t ks r m =

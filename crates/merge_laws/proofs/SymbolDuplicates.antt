@@ -1,6 +1,6 @@
 -- 17 of an object's symbol: what an add of its row answers where the symbols before it have led.
 -- Assumes nothing.
-use Prim.Native.Nat.{ℕ, ◌+◌, ◌<◌, ◌≤◌}
+use Prim.Native.Nat.{ℕ, ◌+◌, ◌≤◌}
 use Rattle.std.proofs.Common.{zero-add, ◌∙◌, subst}
 use native.Mathlib.Omega.{arith}
 use Rattle.std.proofs.Math.Path.{◌≡◌, refl, sym, ap}
@@ -13,16 +13,14 @@ use Rattle.link.specs.Judge.{refused}
 use Rattle.gabi.specs.SymbolTable.{Sym}
 use Rattle.gabi.specs.Resolution.{duplicate, resolve}
 use Rattle.interner.specs.Names.{fits_of}
-use Rattle.symbol.specs.declared.Row.{Row}
 use Rattle.symbol.specs.Row.{scope_refused, value_refused}
-use Rattle.upcoming_symbol.specs.declared.ElfSymbol.{ElfSymbol}
 use Rattle.upcoming_symbol.specs.Upcoming.{conversion_from, elf_row_of}
 use Rattle.symbol_resolution.specs.Decision.{Decision}
 use Rattle.symbol_resolution.specs.Decide.{refusal_of}
 use Rattle.elf_object.specs.Rows.{rows_in, conversion_at}
 use Rattle.section_groups.specs.Filter.{filter_of}
 use Rattle.merge_symbols.specs.Plan.{Planned}
-use Rattle.merge_symbols.specs.Plan.{Input, input_of, is_first, defines_of, filtered_at, rule_of, judged_of, rowed_of, read_of, planned_of, place_of}
+use Rattle.merge_symbols.specs.Plan.{Input, is_first, defines_of, filtered_at, rule_of, judged_of, rowed_of, read_of, planned_of, place_of}
 use Rattle.merge_symbols.specs.Stage as Symbols
 use Rattle.merge_symbols.specs.Stage.{accept_row, kept_of, commit_of, view, symbol_named, looked_of, symbol_of}
 use Rattle.merge_build.specs.Build as Build
@@ -30,9 +28,8 @@ use Rattle.merge_stages.specs.Stages.{All, Object, group_object, symbols_in, put
 use Rattle.merge_elf.specs.Merge.{head_in, merge_of}
 use Rattle.merge_elf.specs.Merge as Merge
 use Rattle.symbol_laws.specs.History.{State, store, Entry, only, rows, id_of}
-use Rattle.merge_laws.specs.Past.{past_with}
 use Rattle.symbol_laws.proofs.History.{log-append}
-use Rattle.symbol_laws.proofs.Held.{Inv}
+use Rattle.symbol_laws.specs.Held.{Inv}
 use Rattle.symbol_laws.specs.Gabi.{Means, AllMean, sym_of}
 use Rattle.symbol_laws.proofs.Gabi.{elf-means}
 use Rattle.merge_laws.specs.Steps.{Step, others, step_next, step_notes, run_steps, log_steps, Makes}
@@ -43,20 +40,23 @@ use Rattle.merge_laws.specs.Loop.{loop_steps}
 use Rattle.merge_laws.proofs.Loop.{loop, loop-ends, steps-split}
 use Rattle.merge_laws.specs.MergeSteps.{adds_of, adds, symbol_steps, groups_steps, build_stage_steps, symbol_first, table_steps, filtered_steps, filter_steps, group_first, merge_groups_steps, group_stage_steps, reserved_steps, reserve_first, stages_steps, merge_steps}
 use Rattle.merge_laws.proofs.GroupStageLemmas.{groups-make}
-use Rattle.merge_laws.proofs.SymbolStage.{chosen, chosen-fits, number_of}
+use Rattle.merge_laws.specs.SymbolStage.{number_of}
+use Rattle.merge_laws.proofs.SymbolStage.{chosen, chosen-fits}
 use Rattle.merge_laws.proofs.SymbolStageLemmas.{symbols-loop, symbols-make-to}
-use Rattle.merge_laws.proofs.SymbolStage as SymbolStage
-use Rattle.merge_laws.proofs.SymbolIds.{name_of, plan_of}
+use Rattle.merge_laws.specs.SymbolStage as SymbolStage
+use Rattle.merge_laws.specs.SymbolIds.{name_of, plan_of}
 use Rattle.merge_laws.specs.Whole.{table_in}
 use Rattle.merge_laws.proofs.Kept.{steps-keep}
 use Rattle.merge_laws.proofs.Refusals.{Fields, row-fields}
 use Rattle.merge_laws.proofs.Refusals as Refusals
-use Rattle.merge_laws.proofs.Stops.{reserved, object, prepared, grouped, marked, symbol_reader, added, with_added, symbols_to, end, Stops, in-sections, in-groups, in-filter, in-symbols, in-uninitialized, in-program, in-input, stops, sections-pass, filter-pass, symbols-stop}
-use Rattle.merge_laws.proofs.Stops as Stops
+use Rattle.merge_laws.specs.Stops.{reserved, object, prepared, grouped, marked, symbol_reader, added, with_added, symbols_to, end}
+use Rattle.merge_laws.proofs.Stops.{Stops, in-sections, in-groups, in-filter, in-symbols, in-uninitialized, in-program, in-input, stops, sections-pass, filter-pass, symbols-stop}
+use Rattle.merge_laws.specs.Stops as Stops
 use Rattle.merge_laws.proofs.ByNumber.{head-leaves, refused-breaks, accepted-stays}
 use Rattle.merge_laws.proofs.Duplicates as Duplicates
 use Rattle.merge_laws.proofs.Duplicates.{judged, Held, seventeen-held}
 use Rattle.merge_laws.specs.Table.{one_of, section_numbers, group_numbers, new_numbers, built_numbers, merge_head_numbers}
+use Rattle.merge_laws.specs.SymbolDuplicates.{input, steps_to, past_to, symbol_number, row_to, entry_to, Adds, Comes, RefusedAt, LogBegins}
 
 -- ---- one symbol, from the state that the symbols before it left
 
@@ -129,9 +129,6 @@ module _ (o : Input) (s : Symbols.State) (x : List ℕ) (i : ℕ) where
   unfolding symbol_named commit_of kept_of place_of
   named-place q = rw q
 
-abbrev input : Symbols.Object → Input
-input o = input_of o.entries o.work
-
 module _ (o : Symbols.Object) (s : Symbols.State) (i : ℕ) where
   symbol-number : (name_of o i).found ≡ true → (symbol_of o s i).stage.number ≡ refusal_of (plan_of o s i).decision
   unfolding symbol_of looked_of
@@ -154,17 +151,10 @@ module _ (o : Symbols.Object) (s : Symbols.State) (i : ℕ) where
 -- ---- a merge: what it has done before symbol i
 
 module _ (o : Object) (a : All) where
-  -- the sections' rows, the groups, the symbols before i
-  abbrev pub steps_to : ℕ → List Step
-  steps_to i =
-      (others (reserved o a).sections (reserved o a).reserved.link ∷ [])
-      ++ (groups_steps (group_object (object o a)) (group_first (prepared o a))
-      ++ loop_steps number_of (symbol_of (symbol_reader o a)) (symbol_steps (symbol_reader o a)) i 0 (symbol_first (symbols_in (marked o a))))
-
   abbrev pub table_to : ℕ → State
   table_to i = SymbolStage.table_in (symbols_to o a i)
 
-  pub steps-make : (i : ℕ) → Makes (table_in a) (steps_to i) (table_to i)
+  pub steps-make : (i : ℕ) → Makes (table_in a) (steps_to o a i) (table_to i)
   steps-make i =
       makes_both (table_in a) (table_in (prepared o a)) (table_to i) (others (reserved o a).sections (reserved o a).reserved.link ∷ []) _
       (others-make (table_in a) (reserved o a).sections (reserved o a).reserved.link (reserve-beside o.headers (reserve_first a)))
@@ -172,88 +162,54 @@ module _ (o : Object) (a : All) where
       (groups-make a.symbols (reserved o a).sections (group_object (object o a)) (group_first (prepared o a)))
       (symbols-make-to (symbol_reader o a) i (symbol_first (symbols_in (marked o a)))))
 
-  -- the accepted adds before symbol i
-  abbrev pub past_to : List Entry → ℕ → List Entry
-  past_to past i = past_with past (log_steps (steps_to i) (table_in a))
-
-  abbrev pub symbol_number : ℕ → ℕ
-  symbol_number i = (symbol_of (symbol_reader o a) (symbols_to o a i) i).stage.number
-
-  -- the row that symbol i would become
-  abbrev pub row_to : ℕ → Row
-  row_to i = (plan_of (symbol_reader o a) (symbols_to o a i) i).row
-
-  -- its entry, undefined by now if its section is removed
-  abbrev pub entry_to : ℕ → ElfSymbol
-  entry_to i = filtered_at (object o a).entries (marked o a).work i
-
-  pub row-means : (i : ℕ) → (row_to i).visibility ≢ 0 → scope_refused (row_to i) ≡ false → value_refused (row_to i) ≡ false → Means (row_to i) (sym_of (entry_to i))
+  pub row-means : (i : ℕ) → (row_to o a i).scope ≢ 0 → scope_refused (row_to o a i) ≡ false → value_refused (row_to o a i) ≡ false → Means (row_to o a i) (sym_of (entry_to o a i))
   unfolding planned_of read_of rowed_of
   row-means i z p v =
       let x : List ℕ = (name_of (symbol_reader o a) i).name in
-      elf-means (conversion_from (conversion_at (marked o a).work (entry_to i).section)) (entry_to i) (id_of (table_to i) x) (eqb (length x) 0) (symbols_to o a i).stage.file z p v
-
-  -- its name is found, and it is to be added: it is neither the first symbol, nor a file's, nor of a section that defines a group
-  pub record Adds (i : ℕ) : Type 0 where
-    pub found : (name_of (symbol_reader o a) i).found ≡ true
-    pub added : adds (input (symbol_reader o a)) (name_of (symbol_reader o a) i).name i ≡ true
+      elf-means (conversion_from (conversion_at (marked o a).work (entry_to o a i).section)) (entry_to o a i) (id_of (table_to i) x) (eqb (length x) 0) (symbols_to o a i).stage.file z p v
 
   module _ (past : List Entry) (inv : Inv (table_in a) past) (i : ℕ) where
-    kept-to : Inv (table_to i) (past_to past i)
-    kept-to = subst (λ (t : State). Inv t (past_to past i)) (steps-make i).leads (steps-keep (steps_to i) (table_in a) past inv)
+    kept-to : Inv (table_to i) (past_to o a past i)
+    kept-to = subst (λ (t : State). Inv t (past_to o a past i)) (steps-make i).leads (steps-keep (steps_to o a i) (table_in a) past inv)
 
-    module _ (is : Adds i) where
+    module _ (is : Adds o a i) where
       abbrev name : List ℕ
       name = (name_of (symbol_reader o a) i).name
 
-      abbrev own : (row_to i).name ≡ id_of (table_to i) name
+      abbrev own : (row_to o a i).name ≡ id_of (table_to i) name
       own = plan-own (input (symbol_reader o a)) (symbols_to o a i) name i
 
-      number-judged : fits_of (store (table_to i)) (row_to i).name (length name) ≡ true → symbol_number i ≡ refusal_of (judged (table_to i) name (row_to i) own)
+      number-judged : fits_of (store (table_to i)) (row_to o a i).name (length name) ≡ true → symbol_number o a i ≡ refusal_of (judged (table_to i) name (row_to o a i) own)
       number-judged w =
           symbol-number (symbol_reader o a) (symbols_to o a i) i is.found
           ∙ ap (λ (d : Decision). refusal_of d) (plan-judged (input (symbol_reader o a)) (symbols_to o a i) name i is.added w)
 
       -- 17 itself says that its name has accepted adds, and that it is global and passes
-      pub held_at : symbol_number i ≡ 17 → Held new_numbers refl (table_to i) (past_to past i) (row_to i)
+      pub held_at : symbol_number o a i ≡ 17 → Held new_numbers refl (table_to i) (past_to o a past i) (row_to o a i)
       held_at q =
           let k : refusal_of (plan_of (symbol_reader o a) (symbols_to o a i) i).decision ≡ 17 = sym (symbol-number (symbol_reader o a) (symbols_to o a i) i is.found) ∙ q in
           let two : eqb (refusal_of (plan_of (symbol_reader o a) (symbols_to o a i) i).decision) 2 ≡ false = rw k in
           let w = plan-room (input (symbol_reader o a)) (symbols_to o a i) name i two in
-          seventeen-held new_numbers refl (table_to i) (past_to past i) kept-to (row_to i)
+          seventeen-held new_numbers refl (table_to i) (past_to o a past i) kept-to (row_to o a i)
           (plan-fields (input (symbol_reader o a)) (symbols_to o a i) name i is.added) (sym (number-judged w) ∙ q)
 
-      module _ (y : Entry) (ys : List Entry) (e : only (row_to i).name.0 (past_to past i) ≡ y ∷ ys) where
-        number_is : symbol_number i ≡ refusal_of (judged (table_to i) name (row_to i) own)
-        number_is = number-judged (Duplicates.fits (table_to i) name (row_to i) own (past_to past i) kept-to y ys e)
+      module _ (y : Entry) (ys : List Entry) (e : only (row_to o a i).name.0 (past_to o a past i) ≡ y ∷ ys) where
+        number_is : symbol_number o a i ≡ refusal_of (judged (table_to i) name (row_to o a i) own)
+        number_is = number-judged (Duplicates.fits (table_to i) name (row_to o a i) own (past_to o a past i) kept-to y ys e)
 
-        module _ (global : (row_to i).visibility ≢ 0) (passes : scope_refused (row_to i) ≡ false) (valued : value_refused (row_to i) ≡ false)
-            (g : Sym) (gs : List Sym) (m : AllMean (rows (y ∷ ys)) (g ∷ gs)) (h : Sym) (mine : Means (row_to i) h) where
-          pub refused-duplicate : symbol_number i ≡ 17 → resolve ((g ∷ gs) ++ (h ∷ [])) ≡ duplicate
+        module _ (global : (row_to o a i).scope ≢ 0) (passes : scope_refused (row_to o a i) ≡ false) (valued : value_refused (row_to o a i) ≡ false)
+            (g : Sym) (gs : List Sym) (m : AllMean (rows (y ∷ ys)) (g ∷ gs)) (h : Sym) (mine : Means (row_to o a i) h) where
+          pub refused-duplicate : symbol_number o a i ≡ 17 → resolve ((g ∷ gs) ++ (h ∷ [])) ≡ duplicate
           refused-duplicate q =
-              Duplicates.refused-duplicate (table_to i) name (row_to i) own (past_to past i) kept-to y ys e global passes valued g gs m h mine (sym number_is ∙ q)
+              Duplicates.refused-duplicate (table_to i) name (row_to o a i) own (past_to o a past i) kept-to y ys e global passes valued g gs m h mine (sym number_is ∙ q)
 
-          pub duplicate-refused : resolve ((g ∷ gs) ++ (h ∷ [])) ≡ duplicate → symbol_number i ≡ 17
+          pub duplicate-refused : resolve ((g ∷ gs) ++ (h ∷ [])) ≡ duplicate → symbol_number o a i ≡ 17
           duplicate-refused d =
-              number_is ∙ Duplicates.duplicate-refused (table_to i) name (row_to i) own (past_to past i) kept-to y ys e global passes valued g gs m h mine d
+              number_is ∙ Duplicates.duplicate-refused (table_to i) name (row_to o a i) own (past_to o a past i) kept-to y ys e global passes valued g gs m h mine d
 
   -- ---- the call's 17 is a symbol's
 
-  -- the merge comes to symbol i, and nothing before it is refused
-  pub record Comes (i : ℕ) : Type 0 where
-    pub head : (head_in o a).number ≡ 0
-    pub sections : (reserved o a).reserved.number ≡ 0
-    pub groups : (grouped o a).stage.number ≡ 0
-    pub filter : rows_in (object o a).entries ≤ filter_of (marked o a).work (object o a).entries
-    pub below : i < rows_in (object o a).entries
-    pub going : (symbols_to o a i).stage.number ≡ 0
-
-  pub record RefusedAt (i : ℕ) : Type 0 where
-    pub comes : Comes i
-    pub refuses : symbol_number i ≡ 17
-    pub adds : Adds i
-
-  refused-at : (i : ℕ) → Comes i → symbol_number i ≡ 17 → RefusedAt i
+  refused-at : (i : ℕ) → Comes o a i → symbol_number o a i ≡ 17 → RefusedAt o a i
   refused-at i c q =
       record {
         comes = c;
@@ -265,7 +221,7 @@ module _ (o : Object) (a : All) where
             };
       }
 
-  place_at : (i : ℕ) → symbol_number i ≡ 17 → (symbol_of (symbol_reader o a) (symbols_to o a i) i).stage.place ≡ i
+  place_at : (i : ℕ) → symbol_number o a i ≡ 17 → (symbol_of (symbol_reader o a) (symbols_to o a i) i).stage.place ≡ i
   place_at i q =
       let f = symbol-found (symbol_reader o a) (symbols_to o a i) i q in
       symbol-place (symbol_reader o a) (symbols_to o a i) i f (sym (symbol-number (symbol_reader o a) (symbols_to o a i) i f) ∙ q)
@@ -280,20 +236,20 @@ module _ (o : Object) (a : All) where
       nineteen : ◌≡◌ {A = ℕ} 19 17 → ⊥
       nineteen z = omega arith
 
-  stopped-at : (head_in o a).number ≡ 0 → Stops.number o a ≡ 17 → Stops o a → RefusedAt (end o a).stage.place
+  stopped-at : (head_in o a).number ≡ 0 → Stops.number o a ≡ 17 → Stops o a → RefusedAt o a (end o a).stage.place
   stopped-at d q (in-sections n h z k e) = none_of section_numbers refl k q
   stopped-at d q (in-groups n h z k e) = none_of group_numbers refl k q
   stopped-at d q (in-filter h z e) = let w : ◌≡◌ {A = ℕ} 8 17 = sym (ap (λ (t : All). t.stage.number) e) ∙ q in absurd (omega arith)
   stopped-at d q (in-symbols i t x y f h z w l e) =
-      let k : symbol_number i ≡ 17 = sym (ap (λ (t : All). t.stage.number) e ∙ ap (λ (t : Symbols.State). t.stage.number) w) ∙ q in
+      let k : symbol_number o a i ≡ 17 = sym (ap (λ (t : All). t.stage.number) e ∙ ap (λ (t : Symbols.State). t.stage.number) w) ∙ q in
       let p : (end o a).stage.place ≡ i = ap (λ (t : All). t.stage.place) e ∙ ap (λ (t : Symbols.State). t.stage.place) w ∙ place_at i k in
-      subst RefusedAt (sym p)
+      subst (RefusedAt o a) (sym p)
       (refused-at i (record { head = d; sections = x; groups = y; filter = ltb-false _ _ f; below = h; going = z }) k)
   stopped-at d q (in-uninitialized n t h z l e) = built-other l (sym (ap (λ (t : All). t.stage.number) e) ∙ q)
   stopped-at d q (in-program n t h z l e) = built-other l (sym (ap (λ (t : All). t.stage.number) e) ∙ q)
   stopped-at d q (in-input z e) = let w : ◌≡◌ {A = ℕ} 2 17 = sym (ap (λ (t : All). t.stage.number) e) ∙ q in absurd (omega arith)
 
-  pub merge-refused-at : (merge_of o a).said.number ≡ 17 → RefusedAt (merge_of o a).said.place
+  pub merge-refused-at : (merge_of o a).said.number ≡ 17 → RefusedAt o a (merge_of o a).said.place
   merge-refused-at q =
       by-test (eqb (head_in o a).number 0)
       (λ h.
@@ -301,7 +257,7 @@ module _ (o : Object) (a : All) where
       (λ z.
       let e = refused-breaks o a (eqb-true _ _ h) (eqb-false _ _ z) in
       let k : Stops.number o a ≡ 17 = sym (ap (λ (x : Merge.Left). x.said.number) e) ∙ q in
-      subst RefusedAt (sym (ap (λ (x : Merge.Left). x.said.place) e)) (stopped-at (eqb-true _ _ h) k (stops o a (eqb-false _ _ z)))))
+      subst (RefusedAt o a) (sym (ap (λ (x : Merge.Left). x.said.place) e)) (stopped-at (eqb-true _ _ h) k (stops o a (eqb-false _ _ z)))))
       (λ h.
       let e = head-leaves o a (eqb-false _ _ h) in
       let k : (head_in o a).number ≡ 17 = sym (ap (λ (x : Merge.Left). x.said.number) e.all) ∙ q in
@@ -311,7 +267,7 @@ module _ (o : Object) (a : All) where
       accepted h z = let w : ◌≡◌ {A = ℕ} 0 17 = sym (ap (λ (x : Merge.Left). x.said.number) (accepted-stays o a h z).all) ∙ q in omega arith
 
   -- and a symbol's 17 is the call's
-  pub merge-ends-at : (i : ℕ) → Comes i → symbol_number i ≡ 17 → (merge_of o a).said ≡ refused 17 i
+  pub merge-ends-at : (i : ℕ) → Comes o a i → symbol_number o a i ≡ 17 → (merge_of o a).said ≡ refused 17 i
   unfolding Symbols.symbols_of
   merge-ends-at i c q =
       let first : Symbols.State = symbol_first (symbols_in (marked o a)) in
@@ -339,7 +295,7 @@ module _ (o : Object) (a : All) where
 
   pub record Begins (i : ℕ) : Type 0 where
     pub rest : List Step
-    pub is : merge_steps o a ≡ steps_to i ++ rest
+    pub is : merge_steps o a ≡ steps_to o a i ++ rest
 
   joined : (g s r b e : List Step) → (g ++ ((s ++ r) ++ b)) ++ e ≡ (g ++ s) ++ ((r ++ b) ++ e)
   joined g s r b e =
@@ -373,18 +329,13 @@ module _ (o : Object) (a : All) where
             ∙ ap (◌++◌ reads) (joined groups symbols k.rest build last));
       }
 
-  pub steps-begin : (i : ℕ) → Comes i → Begins i
+  pub steps-begin : (i : ℕ) → Comes o a i → Begins i
   steps-begin i c = steps-begin-to i c.head c.sections c.groups (le-ltb _ _ c.filter) (omega (arith, c.below)) c.going
 
-  -- so the accepted adds before it are the first of the merge's
-  pub record LogBegins (i : ℕ) : Type 0 where
-    pub rest : List Entry
-    pub is : log_steps (merge_steps o a) (table_in a) ≡ log_steps (steps_to i) (table_in a) ++ rest
-
-  pub log-begins : (i : ℕ) → Comes i → LogBegins i
+  pub log-begins : (i : ℕ) → Comes o a i → LogBegins o a i
   log-begins i c =
       let b = steps-begin i c in
       record {
-        rest = log_steps b.rest (run_steps (steps_to i) (table_in a));
-        is = ap (λ (l : List Step). log_steps l (table_in a)) b.is ∙ log-append step_next step_notes (steps_to i) b.rest (table_in a);
+        rest = log_steps b.rest (run_steps (steps_to o a i) (table_in a));
+        is = ap (λ (l : List Step). log_steps l (table_in a)) b.is ∙ log-append step_next step_notes (steps_to o a i) b.rest (table_in a);
       }

@@ -15,17 +15,16 @@ use Rattle.symbol_resolution.specs.Decision.{Decision}
 use Rattle.symbol_resolution.specs.Decide.{refusal_of, id_of}
 use Rattle.symbol_resolution.specs.Apply.{Table}
 use Rattle.symbols.specs.Add.{committed_of, add_row_of}
-use Rattle.strings.specs.Lookup.{Looked}
-use Rattle.elf_object.specs.Rows.{field, name_in}
 use Rattle.merge_symbols.specs.Plan.{Planned}
-use Rattle.merge_symbols.specs.Plan.{Input, input_of, planned_of}
+use Rattle.merge_symbols.specs.Plan.{Input, planned_of}
 use Rattle.merge_symbols.specs.Stage as Symbols
-use Rattle.merge_symbols.specs.Stage.{Object, cell_of, accept_row, kept_of, commit_of, view, symbol_named}
+use Rattle.merge_symbols.specs.Stage.{cell_of, accept_row, kept_of, commit_of, view, symbol_named}
 use Rattle.symbol_laws.proofs.View.{View, refused, kept, amended, replaced, appended, local, decided}
 use Rattle.symbol_laws.proofs.View as Decided
 use Rattle.symbol_laws.specs.History.{State, table, issue, part_next, put_of}
 use Rattle.merge_laws.specs.MergeSteps.{adds}
-use Rattle.merge_laws.proofs.SymbolStage.{table_in, plan-id, plan-decides}
+use Rattle.merge_laws.specs.SymbolStage.{table_in}
+use Rattle.merge_laws.proofs.SymbolStage.{plan-id, plan-decides}
 
 -- a decision that is accepted answers the id that its cell has
 decided-cell : (t : Table) (r : Row) → refusal_of (decided t r) ≡ 0 → View t r → cell_of (decided t r) t.link.symbols ≡ successor (id_of (decided t r) t.link.symbols).0
@@ -69,10 +68,3 @@ module _ (o : Input) (s : Symbols.State) (x : List ℕ) (i : ℕ) where
   named-id b e =
       let z : refusal_of plan.decision ≡ 0 = commit-number e in
       ids_set z ∙ ap (set s.ids i) (put-cell (table named) plan.row plan.decision (plan-decides o s x i b z) z)
-
--- the name of symbol i, and what is planned for it
-abbrev pub name_of : Object → ℕ → Looked
-name_of o i = name_in o.headers o.image o.symbol_names (field o.entries i 0)
-
-abbrev pub plan_of : Object → Symbols.State → ℕ → Planned
-plan_of o s i = planned_of (view s) (input_of o.entries o.work) (name_of o i).name i s.stage.file

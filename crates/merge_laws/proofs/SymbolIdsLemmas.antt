@@ -8,8 +8,9 @@ use Rattle.merge_symbols.specs.Stage as Symbols
 use Rattle.merge_symbols.specs.Stage.{Object, looked_of, symbol_of}
 use Rattle.symbol_laws.specs.History.{issue, part_next, put_of}
 use Rattle.merge_laws.specs.MergeSteps.{adds}
-use Rattle.merge_laws.proofs.SymbolStage.{table_in}
-use Rattle.merge_laws.proofs.SymbolIds.{named-id, name_of, plan_of}
+use Rattle.merge_laws.specs.SymbolStage.{table_in}
+use Rattle.merge_laws.specs.SymbolIds.{name_of, plan_of}
+use Rattle.merge_laws.proofs.SymbolIds.{named-id}
 
 pub symbol-id : (o : Object) (s : Symbols.State) (i : ℕ) → (name_of o i).found ≡ true → adds (input_of o.entries o.work) (name_of o i).name i ≡ true
     → (symbol_of o s i).stage.number ≡ 0

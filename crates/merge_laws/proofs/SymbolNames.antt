@@ -23,14 +23,17 @@ use Rattle.merge_laws.proofs.Loop.{loop, loop-next}
 use Rattle.merge_laws.specs.MergeSteps.{symbol_first, adds, row_steps, named_steps, symbol_steps, merge_steps}
 use Rattle.merge_laws.specs.Marked.{Marked, marks_of}
 use Rattle.merge_laws.proofs.MarkedLemmas.{steps-marked}
-use Rattle.merge_laws.proofs.SymbolIds.{name_of, plan_of, commit-number}
-use Rattle.merge_laws.proofs.SymbolStage as SymbolStage
-use Rattle.merge_laws.proofs.SymbolStage.{plan-decides, number_of}
+use Rattle.merge_laws.specs.SymbolIds.{name_of, plan_of}
+use Rattle.merge_laws.proofs.SymbolIds.{commit-number}
+use Rattle.merge_laws.specs.SymbolStage as SymbolStage
+use Rattle.merge_laws.specs.SymbolStage.{number_of}
+use Rattle.merge_laws.proofs.SymbolStage.{plan-decides}
 use Rattle.merge_laws.proofs.SymbolStageLemmas.{symbol-makes, symbols-loop}
-use Rattle.merge_laws.proofs.SymbolDuplicates.{steps_to, table_to, row_to, steps-make, Comes, Begins, steps-begin-to}
+use Rattle.merge_laws.specs.SymbolDuplicates.{steps_to, row_to, Comes}
+use Rattle.merge_laws.proofs.SymbolDuplicates.{table_to, steps-make, Begins, steps-begin-to}
 use Rattle.merge_laws.specs.Whole.{table_in}
 use Rattle.merge_laws.proofs.Whole.{merge-makes}
-use Rattle.merge_laws.proofs.Stops.{marked, symbol_reader, symbols_to}
+use Rattle.merge_laws.specs.Stops.{marked, symbol_reader, symbols_to}
 use Rattle.merge_laws.proofs.NamesOn.{rest-makes, issued-on}
 
 module _ (o : Object) (a : All) (met : List (List ℕ)) (known : Marked (table_in a) met) (i : ℕ) (comes : Comes o a i) where

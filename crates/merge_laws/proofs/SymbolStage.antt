@@ -20,10 +20,7 @@ use Rattle.symbol_laws.specs.History.{State, table, with_store, issue, object, p
 use Rattle.merge_laws.specs.Steps.{Makes}
 use Rattle.merge_laws.proofs.Committed.{Fair, same, committed, committed-makes}
 use Rattle.merge_laws.specs.MergeSteps.{adds_of, adds, planned_steps, named_steps}
-
--- the table, without what the stage keeps for itself
-abbrev pub table_in : Symbols.State → State
-table_in s = record { bytes = s.bytes; names = s.names; symbols = s.symbols; sections = s.sections; link = s.stage.link }
+use Rattle.merge_laws.specs.SymbolStage.{table_in}
 
 -- what a plan decides, by its tests: fits, first, file, group
 abbrev pub chosen : Bool → Bool → Bool → Bool → Decision → Decision
@@ -109,6 +106,3 @@ module _ (o : Input) (s : Symbols.State) (x : List ℕ) (i : ℕ) where
   pub named-makes : Makes (table_in s) (named_steps o s x i) (table_in (symbol_named o s x i))
   unfolding symbol_named named_steps
   named-makes = commit-makes s x plan i (adds o x i) fair
-
-abbrev pub number_of : Symbols.State → ℕ
-number_of s = s.stage.number

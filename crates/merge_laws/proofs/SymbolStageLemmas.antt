@@ -24,7 +24,8 @@ use Rattle.merge_laws.proofs.Steps.{makes_none}
 use Rattle.merge_laws.specs.Loop.{loop_steps}
 use Rattle.merge_laws.proofs.Loop.{loop, loop-makes, loop-holds}
 use Rattle.merge_laws.specs.MergeSteps.{looked_steps, symbol_steps}
-use Rattle.merge_laws.proofs.SymbolStage.{table_in, id, named-makes, number_of}
+use Rattle.merge_laws.specs.SymbolStage.{table_in, number_of}
+use Rattle.merge_laws.proofs.SymbolStage.{id, named-makes}
 
 looked-makes : (o : Object) (s : Symbols.State) (i : ℕ) (x : Looked) → Makes (table_in s) (looked_steps o s i x) (table_in (looked_of o s i x))
 unfolding looked_of
@@ -57,7 +58,7 @@ symbols-make o s = symbols-make-to o (rows_in o.entries) s
 pub noted-long : (k : Link) (l : List ℕ) (r : Row) (id : ℕ) → length (note_section k l r id) ≡ length l
 unfolding note_section set_section_symbol
 noted-long k l r id =
-    by-test (eqb r.visibility 0)
+    by-test (eqb r.scope 0)
     (λ a. by-test (eqb r.value.kind 2) (λ b. rw (a, b) (length-set l (section_cell k (length l) r.value.a) id)) (λ b. rw (a, b))) (λ a. rw a)
 
 pub applied-long : (t : Table) (r : Row) (d : Decision) → length (apply_of t r d).sections ≡ length t.sections

@@ -25,14 +25,15 @@ use Rattle.merge_stages.specs.Stages.{All, Object}
 use Rattle.merge_elf.specs.Merge.{leave, head_in, merge_of}
 use Rattle.symbol_laws.specs.Rank.{first_by_rank, joined_in}
 use Rattle.symbol_laws.specs.History.{opened, Entry, only, rows, issue, put_of, part_next}
-use Rattle.symbol_laws.proofs.Held.{Inv}
+use Rattle.symbol_laws.specs.Held.{Inv}
 use Rattle.symbol_laws.proofs.Start.{new-inv}
 use Rattle.symbol_laws.specs.Proof.Rows.{row_at}
 use Rattle.symbol_laws.specs.Standing.{hidden_by}
 use Rattle.symbol_laws.proofs.Profile.{new-profile}
 use Rattle.symbol_laws.specs.Demand as Demand
 use Rattle.symbol_laws.proofs.Demand as DemandLaws
-use Rattle.symbol_laws.proofs.Within as Within
+use Rattle.symbol_laws.specs.Within as Within
+use Rattle.symbol_laws.proofs.Within as WithinLaws
 use Rattle.symbol_laws.proofs.BelowLemmas.{inv-below}
 use Rattle.symbol_laws.specs.Writes as Writes
 use Rattle.symbol_laws.proofs.WritesLemmas as WritesLaws
@@ -42,33 +43,38 @@ use Rattle.symbol_laws.specs.Agreement as Agreement
 use Rattle.symbol_laws.proofs.Agreement as AgreementLaws
 use Rattle.merge_laws.specs.Steps.{log_steps, Makes}
 use Rattle.merge_laws.specs.MergeSteps.{adds, merge_steps}
-use Rattle.merge_laws.proofs.SymbolStage as SymbolStage
+use Rattle.merge_laws.specs.SymbolStage as SymbolStage
 use Rattle.merge_laws.proofs.SymbolIdsLemmas as SymbolIdsLaws
-use Rattle.merge_laws.proofs.SymbolIds.{name_of, plan_of}
+use Rattle.merge_laws.specs.SymbolIds.{name_of, plan_of}
 use Rattle.merge_laws.specs.Whole.{table_in}
 use Rattle.merge_laws.proofs.Whole.{merge-makes}
 use Rattle.merge_laws.specs.Kept.{added_rows}
 use Rattle.merge_laws.proofs.Kept.{log-rows}
-use Rattle.merge_laws.proofs.Seen.{parts_in, MadeAlone, makes-parts}
+use Rattle.merge_laws.specs.Seen.{parts_in, MadeAlone}
+use Rattle.merge_laws.proofs.Seen.{makes-parts}
 use Rattle.merge_laws.specs.Calls.{Linked, linked, all_in, Call, merge, call_next, run_calls, log_calls, RemovesNothing, signatures}
 use Rattle.merge_laws.proofs.Calls.{calls-keep-inv, calls-marked}
 use Rattle.merge_laws.proofs.Profile.{calls-profile}
-use Rattle.merge_laws.proofs.Stops as Stages
-use Rattle.merge_laws.proofs.Stops.{groups_to}
-use Rattle.merge_laws.proofs.ByNumber as ByNumber
+use Rattle.merge_laws.specs.Stops as Stages
+use Rattle.merge_laws.specs.Stops.{groups_to}
+use Rattle.merge_laws.specs.ByNumber as ByNumber
+use Rattle.merge_laws.proofs.ByNumber as ByNumberLaws
 use Rattle.merge_laws.specs.Marked.{marks_of, Marked}
 use Rattle.merge_laws.proofs.MarkedLemmas.{new-marked}
 use Rattle.merge_laws.proofs.FirstKept as FirstKept
-use Rattle.merge_laws.proofs.FirstKept.{reader, met_to, signature, listed, removed_in}
-use Rattle.merge_laws.proofs.Discarded as Discarded
-use Rattle.merge_laws.proofs.Accepted as Accepted
-use Rattle.merge_laws.proofs.Placed.{row_of}
+use Rattle.merge_laws.specs.FirstKept.{reader, met_to, signature, listed, removed_in}
+use Rattle.merge_laws.specs.Discarded as Discarded
+use Rattle.merge_laws.proofs.Discarded as DiscardedLaws
+use Rattle.merge_laws.specs.Accepted as Accepted
+use Rattle.merge_laws.proofs.Accepted as AcceptedLaws
+use Rattle.merge_laws.specs.Placed.{row_of}
 use Rattle.merge_laws.proofs.RowStays as RowStays
 use Rattle.merge_laws.proofs.Lookups as Lookups
 use Rattle.merge_laws.proofs.Lookups.{new-lists}
 use Rattle.merge_laws.specs.Past as Past
 use Rattle.merge_laws.proofs.Past as PastLaws
-use Rattle.merge_laws.proofs.Lists as Lists
+use Rattle.merge_laws.specs.Lists as Lists
+use Rattle.merge_laws.proofs.Lists as ListsLaws
 use Rattle.merge_laws.specs.Table.{one_of, section_causes, early_causes}
 
 -- ---- demand 3a
@@ -83,10 +89,10 @@ pub merge-log : (o : Object) (a : All) → rows (log_steps (merge_steps o a) (ta
 merge-log o a = log-rows (merge_steps o a) (table_in a) (merge-makes o a).accepted
 
 -- and of an accepted merge these are, in order, the rows of all symbols that are added and aren't local, each as it is planned on what the symbols
--- before it left (symbol_rows, Accepted.antt): no add is left out
+-- before it left (symbol_rows, AcceptedLaws.antt): no add is left out
 pub merge-log-whole : (o : Object) (a : All) → (merge_of o a).said.number ≡ 0
     → rows (log_steps (merge_steps o a) (table_in a)) ≡ Accepted.symbol_rows o a (rows_in (Stages.object o a).entries)
-merge-log-whole o a ok = merge-log o a ∙ Accepted.merge-rows o a ok
+merge-log-whole o a ok = merge-log o a ∙ AcceptedLaws.merge-rows o a ok
 
 -- with no more names than rows, as after every history from a new table: names issued and rows added one by one, as direct calls do it, leave the
 -- same names but for the groups' marks, the same symbols, sections' symbols and counts of names and symbols; each is accepted where it is made,
@@ -138,16 +144,16 @@ module _ (key : ℕ) (gabi : Bool) (bytes names symbols sections inputs lists : 
     -- what a lookup by a name then answers; a lent list has fewer than 2^64 cells
     module _ (lent : length lists ≤ not_lent) where
       within : Within.Within end.table.link end.table.names
-      within = Lookups.calls-within ks start quiet (Within.new-within key gabi bytes names symbols sections new) (new-lists key gabi bytes names symbols sections lists) lent
+      within = Lookups.calls-within ks start quiet (WithinLaws.new-within key gabi bytes names symbols sections new) (new-lists key gabi bytes names symbols sections lists) lent
 
       pub lookup-row : (n : ℕ) (x : Entry) (xs : List Entry) → accepted_adds n ≡ x ∷ xs
           → get_global_of end.table.link end.table.names end.table.symbols (record { 0 = n }) ≡ Ok (symbol_of (record { 0 = x.id }) (hidden_by gabi (rows (x ∷ xs)) (joined_in (rows (x ∷ xs)) (first_by_rank gabi x.row (rows xs)))))
       lookup-row n x xs e =
-          Within.lookup-row end.table _ kept within n x xs e
+          WithinLaws.lookup-row end.table _ kept within n x xs e
           ∙ ap (λ (g : Bool). Ok (symbol_of (record { 0 = x.id }) (hidden_by g (rows (x ∷ xs)) (joined_in (rows (x ∷ xs)) (first_by_rank g x.row (rows xs)))))) profile
 
       pub lookup-none : (n : ℕ) → accepted_adds n ≡ [] → get_global_of end.table.link end.table.names end.table.symbols (record { 0 = n }) ≡ not_found 23 0
-      lookup-none = Within.lookup-none end.table _ kept within
+      lookup-none = WithinLaws.lookup-none end.table _ kept within
 
     -- an id once given to a name stays its own
     pub ids-stay : (ls : List Call) → RemovesNothing ls end → (n : ℕ) → n < end.table.link.names → global_at end.table.names n ≢ 0
@@ -196,13 +202,13 @@ module _ (key : ℕ) (gabi : Bool) (bytes names symbols sections inputs lists : 
 
       -- an accepted merge marks the signatures of all its groups, in order, excluded ones aside
       pub merge-signatures : (merge_of o all).said.number ≡ 0 → marks_of (merge_steps o all) end.table ≡ Accepted.signatures_to o all (rows_in o.headers)
-      merge-signatures ok = Accepted.merge-signatures o all ok (signatures ks start) marked
+      merge-signatures ok = AcceptedLaws.merge-signatures o all ok (signatures ks start) marked
 
       -- the section of a group that the gABI doesn't keep: its mark stands until the merge's end, so it isn't built, and its symbols are undefined
       pub repeated-discarded : (Stages.grouped o all).stage.number ≡ 0 → (n : ℕ) → n < rows_in o.headers → is_loaded o.headers n 7 ≡ true → (later : List (List ℕ))
           → let met = met_to o all (signatures ks start) n in
           Gabi.kept (met ++ signature o all n ∷ later) (length met) ≡ false → Discarded.Discarded o all (listed o all n)
-      repeated-discarded = Discarded.repeated-discarded o all (signatures ks start) marked
+      repeated-discarded = DiscardedLaws.repeated-discarded o all (signatures ks start) marked
 
       -- and after an accepted merge the row that it has, of kind 1 or 2 and not excluded, is still reserved, not built
       pub repeated-reserved : (merge_of o all).said.number ≡ 0 → (m : ℕ) → m < rows_in o.headers → class_of o.headers m ≡ 2 → Discarded.Discarded o all m
@@ -214,35 +220,35 @@ module _ (key : ℕ) (gabi : Bool) (bytes names symbols sections inputs lists : 
 module _ (o : Object) (a : All) where
   -- 22, 1 and missing work cells (2) leave all, and the link isn't broken by them
   pub head-leaves-all : (head_in o a).number ≢ 0 → ByNumber.HeadLeaves o a
-  head-leaves-all = ByNumber.head-leaves o a
+  head-leaves-all = ByNumberLaws.head-leaves o a
 
   pub broken-refused : a.stage.link.broken ≡ true → merge_of o a ≡ leave a a.stage.link (Err (refused 22 0))
-  broken-refused = ByNumber.broken-refused o a
+  broken-refused = ByNumberLaws.broken-refused o a
 
   -- every other refusal breaks the link; "that call's earlier elements stay merged"
   pub refused-breaks : (head_in o a).number ≡ 0 → Stages.number o a ≢ 0
       → merge_of o a ≡ leave (Stages.end o a) (broken_of (Stages.end o a).stage.link) (Err (refused (Stages.number o a) (Stages.end o a).stage.place))
-  refused-breaks = ByNumber.refused-breaks o a
+  refused-breaks = ByNumberLaws.refused-breaks o a
 
   -- an accepted merge doesn't
   pub merged-whole : (head_in o a).number ≡ 0 → Stages.number o a ≡ 0 → ByNumber.MergeLeaves o a
-  merged-whole = ByNumber.accepted-stays o a
+  merged-whole = ByNumberLaws.accepted-stays o a
 
   -- it leaves every cell as the elements before the refused one left it; on 10 to 14, 16, 19 and 28 that one's name is issued besides
   pub refused-leaves : Stages.number o a ≢ 0 → ByNumber.Leaves o a
-  refused-leaves = ByNumber.refused-leaves o a
+  refused-leaves = ByNumberLaws.refused-leaves o a
 
   -- 3 and 24: names and symbols as before the call
   pub names-left : Stages.number o a ≢ 0 → one_of (Stages.number o a) section_causes ≡ true → ByNumber.NamesLeft o a (Stages.end o a)
-  names-left = ByNumber.names-left o a
+  names-left = ByNumberLaws.names-left o a
 
   -- 3 to 8 and 24: symbols as before the call
   pub symbols-left : Stages.number o a ≢ 0 → one_of (Stages.number o a) early_causes ≡ true → ByNumber.SymbolsLeft o a (Stages.end o a)
-  symbols-left = ByNumber.symbols-left o a
+  symbols-left = ByNumberLaws.symbols-left o a
 
   -- inputs and lists that are counted before, and those past the counts that it leaves, are never written
   pub lists-past : Lists.Listed a.inputs a.lists a.stage.link (merge_of o a).cells.inputs (merge_of o a).cells.lists (merge_of o a).cells.stage.link
-  lists-past = Lists.merge-left o a
+  lists-past = ListsLaws.merge-left o a
 
 -- ---- symbols of a removed section
 

@@ -21,7 +21,7 @@ use Rattle.elf_object.specs.Rows.{rows_in, field, link_at, info_at, first_at, ma
 use Rattle.elf_object.specs.Judge as Judge
 use Rattle.section_groups.specs.Group.{Plan}
 use Rattle.section_groups.specs.Group as Group
-use Rattle.section_groups.specs.Group.{shape_of, signature_of, mark_group_of, mark_removed_of, plan_of, group_section_of, group_of, shaped_of, signed_of, group_named, decided_of, admit_of, groups_of}
+use Rattle.section_groups.specs.Group.{shape_of, signature_of, mark_group_of, mark_removed_of, plan_of, group_section_of, group_of, shaped_of, signed_of, group_named, decided_of, commit_group_of, groups_of}
 use Rattle.merge_sections.specs.Reserve.{class_of, conversion_of}
 use Rattle.merge_build.specs.Relocations.{relocations_of}
 use Rattle.merge_stages.specs.Stages.{All, Object}
@@ -32,16 +32,18 @@ use Rattle.merge_laws.proofs.Loop.{loop, loop-holds, loop-next}
 use Rattle.merge_laws.specs.MergeSteps.{group_first, reserve_first}
 use Rattle.merge_laws.proofs.WorkRows.{loaded-same, table_to, NotedTo, reserve-noted}
 use Rattle.merge_laws.proofs.WorkNotes.{done-cell, done-names, done-past, done-long}
-use Rattle.merge_laws.proofs.GroupStage.{number_of}
+use Rattle.merge_laws.specs.GroupStage.{number_of}
 use Rattle.merge_laws.proofs.GroupStageLemmas.{groups-loop}
-use Rattle.merge_laws.proofs.SymbolIds.{name_of}
+use Rattle.merge_laws.specs.SymbolIds.{name_of}
 use Rattle.merge_laws.specs.Marked.{Marked}
 use Rattle.merge_laws.proofs.GroupMarks.{group-marks, mark-lent}
-use Rattle.merge_laws.proofs.Accepted.{going, next-going, signatures_to}
-use Rattle.merge_laws.proofs.FirstKept.{reader, signature, listed, met_to, to-marked, met-group, met-other}
+use Rattle.merge_laws.specs.Accepted.{signatures_to}
+use Rattle.merge_laws.proofs.Accepted.{going, next-going}
+use Rattle.merge_laws.specs.FirstKept.{reader, signature, listed, met_to}
+use Rattle.merge_laws.proofs.FirstKept.{to-marked, met-group, met-other}
 use Rattle.merge_laws.specs.Whole.{table_in}
 use Rattle.merge_laws.proofs.Whole.{passed}
-use Rattle.merge_laws.proofs.Stops.{reserved, object, prepared, grouped, marked, symbol_reader, groups_to}
+use Rattle.merge_laws.specs.Stops.{reserved, object, prepared, grouped, marked, symbol_reader, groups_to}
 
 -- ---- what a head that passes says of the object
 
@@ -144,7 +146,7 @@ group-long w b n k = by-test (eqb (mark_at w n) 2) (λ t. rw t (last b w)) (λ t
     last false v = refl
 
 section-cell : (o : Group.Object) (s : Group.Step) (n m f : ℕ) → f < 8 → f ≢ 1 → get_or (group_section_of o s n).work (m * 8 + f) 0 ≡ get_or s.work (m * 8 + f) 0
-unfolding group_section_of group_of shaped_of signed_of group_named decided_of admit_of
+unfolding group_section_of group_of shaped_of signed_of group_named decided_of commit_group_of
 section-cell o s n m f h u =
     let x : Looked = signature_of o.headers o.entries o.image o.table n in
     let k : ℕ = get_or o.contents (first_at o.headers n) 0 in

@@ -8,7 +8,7 @@ use Rattle.merge_laws.specs.Steps.{Step, part, mark, others}
 -- ---- the log of accepted steps has every row that they add and that isn't local
 
 abbrev pub global_rows : Row → List Row
-global_rows r = cond (eqb r.visibility 0) [] (r ∷ [])
+global_rows r = cond (eqb r.scope 0) [] (r ∷ [])
 
 abbrev pub part_rows : Part → List Row
 part_rows (issue x) = []

@@ -3,6 +3,7 @@
 use Rattle.std.specs.Prelude.{ℕ, ◌+◌, ◌*◌, ◌<◌, ◌≡◌, Bool, true, cond, eqb}
 use mathlib.Core.List.{List, [], ◌∷◌, ◌++◌}
 use Rattle.std.proofs.Math.ListN.{get_or, set}
+use Rattle.cells.specs.Rows.{row_width}
 use Rattle.gabi.specs.StringTable.{among}
 use Rattle.interner.specs.Names.{Store}
 use Rattle.interner_laws.specs.Good.{Good, name, find}
@@ -27,7 +28,7 @@ pub record Marked (s : State) (met : List (List ℕ)) : Type 0 where
   pub known : (x : List ℕ) → among x met ≡ true → find (store s) x < s.link.names
 
 abbrev pub cell_set : State → ℕ → ℕ → ℕ → State
-cell_set s n f v = record { bytes = s.bytes; names = set s.names (n * 8 + f) v; symbols = s.symbols; sections = s.sections; link = s.link }
+cell_set s n f v = record { bytes = s.bytes; names = set s.names (n * row_width + f) v; symbols = s.symbols; sections = s.sections; link = s.link }
 
 -- ---- a new table
 

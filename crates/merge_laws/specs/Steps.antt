@@ -1,6 +1,7 @@
 -- What calls write of the table, one step after the other.
 -- Assumes nothing.
 use Rattle.std.specs.Prelude.{ℕ, ◌+◌, ◌*◌, ◌<◌, ◌≤◌, ◌≡◌, List, [], ◌∷◌, ◌++◌, true, get_or, set, take, drop, length}
+use Rattle.cells.specs.Rows.{row_width}
 use Rattle.link.specs.Said.{number_in}
 use Rattle.link.specs.declared.Link.{Link}
 use Rattle.interner.specs.Names.{fits_of}
@@ -19,7 +20,7 @@ pub data Step : Type 0 where
 
 -- the rows of x; what lies behind them, the sections' symbols, stays
 abbrev pub rows_from : ℕ → List ℕ → List ℕ → List ℕ
-rows_from slots x old = take (slots * 8) x ++ drop (slots * 8) old
+rows_from slots x old = take (slots * row_width) x ++ drop (slots * row_width) old
 
 -- the counts of names, of their bytes and of symbols stay, and the profile
 abbrev pub counts_from : Link → Link → Link
@@ -65,7 +66,7 @@ Goes (mark n) s = n < s.link.names
 Goes (others x l) s =
     (s.link.sections ≤ l.sections)
     × (length x ≡ length s.sections)
-    × ((q : ℕ) → l.sections * 8 ≤ q → get_or x q 0 ≡ get_or s.sections q 0)
+    × ((q : ℕ) → l.sections * row_width ≤ q → get_or x q 0 ≡ get_or s.sections q 0)
     × (Bounded s.link → Bounded (counts_from l s.link))
 
 abbrev pub AllGo : List Step → State → Type 0

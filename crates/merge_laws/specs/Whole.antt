@@ -2,6 +2,7 @@
 -- Assumes nothing.
 use Rattle.std.specs.Prelude.{ℕ, ◌/◌, ◌≤◌, false, List, length}
 use Rattle.std.proofs.Math.Path.{◌≡◌}
+use Rattle.cells.specs.Rows.{row_width}
 use Rattle.link.specs.Judge.{judge_of}
 use Rattle.elf_object.specs.Rows.{rows_in}
 use Rattle.merge_build.specs.Finish.{BuildLinks}
@@ -25,5 +26,5 @@ symbol_table s = record { bytes = s.bytes; names = s.names; symbols = s.symbols;
 pub record Passed (o : Object) (a : All) : Type 0 where
   pub whole : a.stage.link.broken ≡ false
   pub counts : (judge_of a.stage.link (lent a)).number ≡ 0
-  pub work : rows_in o.headers ≤ length a.work / 8
+  pub work : rows_in o.headers ≤ length a.work / row_width
   pub ids : rows_in o.entries ≤ length a.ids

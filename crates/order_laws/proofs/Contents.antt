@@ -152,7 +152,7 @@ module _ (s : State) (conversion : List ℕ) where
     global : is_global (sym_of e) ≡ true
     global = by-test (is_global (sym_of e)) (λ a. a) (λ a. absurd (false≢true (rw a at strong)))
 
-    scope : (gabi : Bool) (us : List UpcomingSymbol) → Contains us (Elf e name file) → visibility_at (settled gabi us name own).visibility ≡ Global false (hidden_among gabi us e name)
+    scope : (gabi : Bool) (us : List UpcomingSymbol) → Contains us (Elf e name file) → visibility_at (settled gabi us name own).scope ≡ Global false (hidden_among gabi us e name)
     unfolding hide_if
     scope false us c = Entries.shown-is s.link.gabi conversion e name file empty_name p.scope global
     scope true us c =
@@ -176,7 +176,7 @@ module _ (s : State) (conversion : List ℕ) where
           value = rw q.value v;
         }
       where
-        visible : own.visibility ≢ 0
+        visible : own.scope ≢ 0
         visible z = absurd (false≢true (sym (Entries.local-is s.link.gabi conversion e name file empty_name p.scope ∙ not-local e strong) ∙ eq-eqb _ _ z))
 
     -- hidden by the adds of its name in any arrangement, it is that row

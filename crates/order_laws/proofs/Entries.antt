@@ -182,11 +182,11 @@ module _ (gabi : Bool) (conversion : List ℕ) (e : ElfSymbol) (name : Interned)
     unfolding elf_row_of
     hidden-is = code-hidden e p
 
-    pub shown-is : is_global (sym_of e) ≡ true → visibility_at row.visibility ≡ Global false (eqb e.visibility stv_hidden)
+    pub shown-is : is_global (sym_of e) ≡ true → visibility_at row.scope ≡ Global false (eqb e.visibility stv_hidden)
     unfolding elf_row_of
     shown-is = code-shown e p
 
-    pub hides-is : is_global (sym_of e) ≡ true → visibility_at (hide_code row.visibility) ≡ Global false true
+    pub hides-is : is_global (sym_of e) ≡ true → visibility_at (hide_code row.scope) ≡ Global false true
     unfolding elf_row_of
     hides-is = code-hides e p
 
@@ -243,9 +243,9 @@ module _ (gabi : Bool) (conversion : List ℕ) (e : ElfSymbol) (name : Interned)
     pub strong-is : ScopePasses e → is_local (sym_of e) ≡ false → Rank.strong_definition row ≡ is_strong_definition e
     unfolding is_definition elf_row_of
     strong-is p n =
-        ap (λ (b : Bool). (not b && not (Rank.common row)) && not (weak_of row.visibility)) reference-is
-        ∙ ap (λ (c : Bool). (not (is_reference (sym_of e)) && not c) && not (weak_of row.visibility)) common-is
-        ∙ ap (λ (b : Bool). b && not (weak_of row.visibility)) (alone (not (is_reference (sym_of e))))
+        ap (λ (b : Bool). (not b && not (Rank.common row)) && not (weak_of row.scope)) reference-is
+        ∙ ap (λ (c : Bool). (not (is_reference (sym_of e)) && not c) && not (weak_of row.scope)) common-is
+        ∙ ap (λ (b : Bool). b && not (weak_of row.scope)) (alone (not (is_reference (sym_of e))))
         ∙ ap (λ (b : Bool). not (is_reference (sym_of e)) && b) (code-weak e p n) ∙ both (not (is_reference (sym_of e))) (is_global (sym_of e))
       where
         alone : (a : Bool) → (a && not false) ≡ a

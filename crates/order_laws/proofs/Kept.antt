@@ -18,8 +18,9 @@ use Rattle.symbols.specs.Calls.{lent_of}
 use Rattle.symbols.specs.Add.{empty_at, lent, decided_of, add_row_of}
 use Rattle.symbols.specs.Proof.AddOutcomes.{added-left}
 use Rattle.symbol_laws.specs.History.{State, table, Entry}
-use Rattle.symbol_laws.proofs.Held.{Inv}
-use Rattle.symbol_laws.proofs.Within.{Within, inv-fits, judged}
+use Rattle.symbol_laws.specs.Held.{Inv}
+use Rattle.symbol_laws.specs.Within.{Within}
+use Rattle.symbol_laws.proofs.Within.{inv-fits, judged}
 
 pub record Kept (s t : Table) : Type 0 where
   pub whole : t.link.broken ≡ false
@@ -37,14 +38,14 @@ kept-all t b c =
 section-long : (l : Link) (sections : List ℕ) (r : Row) (id : ℕ) → length (note_section l sections r id) ≡ length sections
 unfolding note_section set_section_symbol
 section-long l sections r id =
-    by-test (eqb r.visibility 0)
+    by-test (eqb r.scope 0)
     (λ a. by-test (eqb r.value.kind 2) (λ b. rw (a, b) (length-set sections (section_cell l (length sections) r.value.a) id)) (λ b. rw (a, b)))
     (λ a. rw a)
 
 name-empty : (names : List ℕ) (r : Row) (id : ℕ) (n : Interned) → empty_at (note_name names r id) n ≡ empty_at names n
 unfolding note_name
 name-empty names r id n =
-    by-test (eqb r.visibility 0) (λ a. rw a)
+    by-test (eqb r.scope 0) (λ a. rw a)
     (λ a. rw a (ap (λ (k : ℕ). eqb k 0) (get_or-set_other names (r.name.0 * 8 + 3) (n.0 * 8 + 1) id 0 (λ q. omega arith))))
 
 module _ (s t : Table) (r : Row) (k : Kept s t) where

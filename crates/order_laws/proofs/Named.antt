@@ -31,14 +31,14 @@ count-cons p u us = sum_by-cons (λ x. cond (p x) 1 0) u us
 -- ---- the rows of a name: an add's, if it isn't local
 
 abbrev pub named : ℕ → Row → List Row
-named m r = cond (eqb r.visibility 0) [] (cond (eqb r.name.0 m) (r ∷ []) [])
+named m r = cond (eqb r.scope 0) [] (cond (eqb r.name.0 m) (r ∷ []) [])
 
 abbrev entry : Row → ℕ → Entry
 entry r id = record { name = r.name.0; id = id; row = r; from = direct }
 
 pub noted-rows : (m : ℕ) (past : List Entry) (r : Row) (id : ℕ) → rows (only m (past ++ noted r direct (accepted id))) ≡ rows (only m past) ++ named m r
 noted-rows m past r id =
-    by-test (eqb r.visibility 0)
+    by-test (eqb r.scope 0)
     (λ v.
     rw v
     (ap (λ (l : List Entry). rows (only m (past ++ l))) (noted-local r direct (accepted id) (eqb-true _ _ v))

@@ -14,7 +14,7 @@ use Rattle.interner.specs.Calls as Names
 use Rattle.interner_laws.proofs.Interns.{keeps, intern-untouched}
 use Rattle.symbols.specs.New.{clear_symbols, null_of, new_of}
 use Rattle.symbol_laws.specs.History.{State, table, store, opened, intern, call_next, log_calls, RemovesNothing}
-use Rattle.symbol_laws.proofs.Held.{Inv}
+use Rattle.symbol_laws.specs.Held.{Inv}
 use Rattle.symbol_laws.proofs.Start.{new-inv}
 use Rattle.symbol_laws.proofs.Calls.{calls-keep}
 use Rattle.symbol_laws.proofs.Profile.{calls-profile, new-profile}

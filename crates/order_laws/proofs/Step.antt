@@ -27,10 +27,11 @@ use Rattle.symbol_laws.specs.Rank.{count, strong_definition}
 use Rattle.symbol_laws.proofs.Rank.{count-append, rank-strong}
 use Rattle.symbol_laws.specs.History.{State, table, with_table, direct, Entry, noted, only, rows, put, put_of, upcoming}
 use Rattle.symbol_laws.proofs.Refused.{add-accepted}
-use Rattle.symbol_laws.proofs.Held.{Inv}
+use Rattle.symbol_laws.specs.Held.{Inv}
 use Rattle.symbol_laws.proofs.Demand as Demand
 use Rattle.symbol_laws.proofs.Put.{put_step}
-use Rattle.symbol_laws.proofs.Within.{Within, parts_within}
+use Rattle.symbol_laws.specs.Within.{Within}
+use Rattle.symbol_laws.proofs.Within.{parts_within}
 use Rattle.order_laws.specs.Premises.{EntryPasses, FileIssued, is_strong_definition, adds_to}
 use Rattle.order_laws.specs.Premises as Premises
 use Rattle.order_laws.proofs.Entries as Entries
@@ -174,11 +175,11 @@ module _ (s t : State) (past : List Entry) (go : Going s t past) (conversion : L
   more-room : (with_table t o.table).link.symbols + (count_by Premises.is_local_add us + unheld (with_table t o.table).names ns) ≤ symbol_rows (length (with_table t o.table).symbols)
   more-room =
       let used = rows-used t past go.inv r ns is-among in
-      let own : ◌≡◌ {A = ℕ} (cond (eqb r.visibility 0) 1 0) (cond (is_local (sym_of e)) 1 0) = rw local in
+      let own : ◌≡◌ {A = ℕ} (cond (eqb r.scope 0) 1 0) (cond (is_local (sym_of e)) 1 0) = rw local in
       let long : length (with_table t o.table).symbols ≡ length t.symbols = (added-kept (table t) (table t) r (kept-all (table t) go.kept.whole go.kept.cells)).rows in
       rw long (omega (arith, rest.room, locals, used, own))
     where
-      is-among : r.visibility ≢ 0 → Contains ns r.name.0
+      is-among : r.scope ≢ 0 → Contains ns r.name.0
       is-among v = rw (Entries.named-as g conversion e name file empty) (among (sym local ∙ ne_eqb _ _ v))
 
   put-next : Next o

@@ -15,7 +15,7 @@ use Rattle.symbol_laws.proofs.View.{Named, Free, View, refused, kept, amended, r
 use Rattle.symbol_laws.proofs.Refused.{commit-refused}
 use Rattle.symbol_laws.proofs.Put as Put
 use Rattle.symbol_laws.specs.History.{State, table, put_of, direct, Entry}
-use Rattle.symbol_laws.proofs.Held.{Inv}
+use Rattle.symbol_laws.specs.Held.{Inv}
 
 -- ---- names that have no row yet
 
@@ -70,12 +70,12 @@ module _ (names : List ℕ) (n : ℕ) (z : global_at names n ≡ 0) where
 
 -- ---- a row added
 
-module _ (s : State) (past : List Entry) (inv : Inv s past) (r : Row) (ns : List ℕ) (among : r.visibility ≢ 0 → Contains ns r.name.0) where
+module _ (s : State) (past : List Entry) (inv : Inv s past) (r : Row) (ns : List ℕ) (among : r.scope ≢ 0 → Contains ns r.name.0) where
   abbrev n : ℕ
   n = r.name.0
 
   abbrev own : ℕ
-  own = cond (eqb r.visibility 0) 1 0
+  own = cond (eqb r.scope 0) 1 0
 
   abbrev Fine : Left → Type 0
   Fine o = o.table.link.symbols + unheld o.table.names ns ≤ s.link.symbols + unheld s.names ns + own
@@ -96,11 +96,11 @@ module _ (s : State) (past : List Entry) (inv : Inv s past) (r : Row) (ns : List
       let less : unheld after ns + 1 ≤ unheld s.names ns =
       fewer s.names n z after (λ q. omega (arith, got, q, inv.some))
       (λ m u. get_or-set_other s.names (n * 8 + 3) (m * 8 + 3) s.link.symbols 0 (λ q. u (omega arith))) ns (among k.global) in
-      rw (ne_eqb r.visibility 0 k.global) (omega (arith, one-more f, less))
+      rw (ne_eqb r.scope 0 k.global) (omega (arith, one-more f, less))
 
-  new-local : Free (table s) r → r.visibility ≡ 0 → Fine (left (append_of (table s) r) (put_of s r).said)
+  new-local : Free (table s) r → r.scope ≡ 0 → Fine (left (append_of (table s) r) (put_of s r).said)
   unfolding append_of note_name
-  new-local f v = rw (eq-eqb r.visibility 0 v) (omega (arith, one-more f))
+  new-local f v = rw (eq-eqb r.scope 0 v) (omega (arith, one-more f))
 
   viewed : View (table s) r → Fine (put_of s r)
   unfolding committed_of apply_of

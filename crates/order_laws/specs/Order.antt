@@ -45,7 +45,7 @@ hidden_among true us e name = list_any (adds_to name is_hidden_global) us
 pub record ContentOf (gabi : Bool) (s : State) (conversion : List ℕ) (us : List UpcomingSymbol) (e : ElfSymbol) (name : Interned) (file : Option Interned) (r : Row) : Type 0 where
   pub labelled : Labelled r name file e.size
   pub type : IsType e.kind (type_at r.kind)
-  pub scope : visibility_at r.visibility ≡ Global false (hidden_among gabi us e name)
+  pub scope : visibility_at r.scope ≡ Global false (hidden_among gabi us e name)
   pub value : ElfValue conversion (empty_at s.names name) e (value_at r.value)
 
 -- a lookup of the name answers this row, under some id

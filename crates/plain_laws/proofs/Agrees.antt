@@ -20,15 +20,7 @@ use Rattle.gc_laws.proofs.Paint.{paint-hit, paint-miss, paint-same}
 use Rattle.gc_laws.specs.Proof.Swept.{state_cell, itself, doomed}
 use Rattle.gc_laws.proofs.Swept.{swept-is, each_same}
 use Rattle.gc_laws.proofs.WorkCells.{picked_same}
-
--- the same sections and rows, the same answer, and of n sections the same work cells
-pub record Agrees (n : ℕ) (a b : Left) : Type 0 where
-  pub symbols : a.symbols ≡ b.symbols
-  pub sections : a.sections ≡ b.sections
-  pub link : a.link ≡ b.link
-  pub answer : a.answer ≡ b.answer
-  pub said : a.said ≡ b.said
-  pub work : (y : ℕ) → y < n → get_or a.work y 0 ≡ get_or b.work y 0
+use Rattle.plain_laws.specs.Agrees.{Agrees}
 
 module _ (l : Link) (symbols sections : List ℕ) where
   abbrev pub n : ℕ

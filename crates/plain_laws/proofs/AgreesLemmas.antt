@@ -3,7 +3,8 @@
 use Rattle.std.specs.Prelude.{ℕ, ◌≡◌, get_or}
 use Rattle.std.proofs.Common.{ap}
 use Rattle.gc_sections.specs.Run.{Left}
-use Rattle.plain_laws.proofs.Agrees.{Agrees, n}
+use Rattle.plain_laws.specs.Agrees.{Agrees}
+use Rattle.plain_laws.proofs.Agrees.{n}
 
 pub agrees-same : (n : ℕ) (a b : Left) → a ≡ b → Agrees n a b
 agrees-same n a b e = record {

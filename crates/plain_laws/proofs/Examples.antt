@@ -1,32 +1,24 @@
 -- The worked examples of collection, computed from the definition of the plain one; and placeholders, by both.
 -- Assumes nothing.
-use Rattle.std.specs.Prelude.{ℕ, ◌≡◌, refl, List, [], ◌∷◌, ◌++◌, replicate, None, Err}
+use Rattle.std.specs.Prelude.{ℕ, refl, List, [], ◌∷◌, ◌++◌, replicate, Err}
 use Rattle.byte_slices.specs.Bytes.{same}
 use Rattle.link.specs.Bounds.{lesser}
 use Rattle.link.specs.Judge as Link
 use Rattle.symbol_resolution.specs.Decide.{section_cell}
 use Rattle.symbol_resolution.specs.Apply.{set_section_symbol}
 use Rattle.symbols.specs.Remove.{drop_section, remove_row_of}
-use Rattle.sections.specs.Rows.{state_at, is_built}
-use Rattle.symbol.specs.Row as Symbol
+use Rattle.sections.specs.Rows.{is_built}
 use Rattle.gc_sections.specs.Each.{each}
 use Rattle.gc_sections.specs.Roots.{value_lead, lead_of, readable, name_is, rooted, is_root}
 use Rattle.gc_sections.specs.Reach.{save_of, reach_of, add_of, root_symbol, root_section, end_of, relocation, relocations, follow, visit, clear_cell, start_of, roots_of, process_of, walked}
 use Rattle.gc_sections.specs.Sweep.{drop_unreached, dropped_now, purge_symbol, sweep_sections, purge_symbols}
-use Rattle.gc_sections.specs.Run.{Left, judge_cells, judge_of, purge_of, sweep_of, finished, collect_of, run_of}
+use Rattle.gc_sections.specs.Run.{judge_cells, judge_of, purge_of, sweep_of, finished, collect_of, run_of}
 use Rattle.plain_collector.specs.Visit as Plain
 use Rattle.plain_collector.specs.Run as Plain-as-Run
 use Rattle.plain_collector.specs.Run.{plain_of}
 use Rattle.gc_laws.specs.Examples as Collections
-use Rattle.gc_laws.specs.Examples.{Example, counts, null, in_section, section, reserved, lent, states_from, p12, short_marks, two_unbuilt, unreadable}
-
-abbrev pub collected : Example → Left
-collected e = plain_of e.link e.lists e.symbols e.sections None e.work
-
-abbrev pub Right : Example → Type 0
-Right e =
-    ((collected e).answer ≡ e.answer) × (states_from state_at (collected e).sections 0 e.link.sections ≡ e.section_states)
-    × (states_from Symbol.state_at (collected e).symbols 0 e.link.symbols ≡ e.symbol_states)
+use Rattle.gc_laws.specs.Examples.{Example, counts, null, in_section, section, reserved, lent, p12, short_marks, two_unbuilt, unreadable}
+use Rattle.plain_laws.specs.Examples.{Right}
 
 -- marked symbols in placeholders 7 and 3: the lower gives 21
 abbrev pub placeholders : Example

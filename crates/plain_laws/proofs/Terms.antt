@@ -28,7 +28,8 @@ use Rattle.gc_laws.proofs.Exact as First
 use Rattle.gc_laws.proofs.Terms as DemandLaws
 use Rattle.plain_laws.specs.BuiltRows.{how_many, built_rows, FewBuilt}
 use Rattle.plain_laws.proofs.Visits as Second
-use Rattle.plain_laws.proofs.Agrees.{Agrees, finish-same}
+use Rattle.plain_laws.specs.Agrees.{Agrees}
+use Rattle.plain_laws.proofs.Agrees.{finish-same}
 use Rattle.plain_laws.proofs.AgreesLemmas.{agrees-same}
 
 -- ---- "built sections not dropped"

@@ -1,1 +1,3 @@
 pub mod BuiltRows
+pub mod Agrees
+pub mod Examples

@@ -2,6 +2,7 @@
 -- break the link when met inside an object", so not here.
 -- Assumes nothing.
 use Rattle.std.specs.Prelude.{ℕ, ◌/◌, cond, List, [], eqb, ltb, length, Result, Ok, Err}
+use Rattle.cells.specs.Rows.{row_width}
 use Rattle.link.specs.declared.Link.{Link}
 use Rattle.link.specs.declared.Lent.{Lent}
 use Rattle.link.specs.declared.cause.Refusal.{Refusal}
@@ -9,7 +10,7 @@ use Rattle.link.specs.Stage.{Stage}
 use Rattle.link.specs.Bounds.{not_lent, name_rows}
 use Rattle.link.specs.Judge as Link
 use Rattle.link.specs.Counts.{lent_rows}
-use Rattle.elf_object.specs.Rows.{rows_in, is_loaded, row_width}
+use Rattle.elf_object.specs.Rows.{rows_in, is_loaded}
 use Rattle.elf_object.specs.Kinds.{group, symbol_table}
 use Rattle.elf_object.specs.Judge as Elf
 use Rattle.section_groups.specs.Group.{Object, object_of, Step, group_of}
@@ -28,10 +29,6 @@ unfoldable pub check_of : Link → Lent → List ℕ → List ℕ → ℕ → �
 check_of l lent headers entries contents image work n =
     cond (eqb (Link.change_of l lent).number 0) (rows_refusal headers work n (Elf.judge_of headers entries contents image)) (Link.change_of l lent)
 
--- document 01's number and place of the answer; it has no value
-abbrev pub refusal_of : Result Unit Refusal → Refusal
-refusal_of = Link.refusal_in
-
 -- every lent cell, the link, the answer and what it says
 pub record Left : Type 0 where
   pub bytes : List ℕ
@@ -41,7 +38,7 @@ pub record Left : Type 0 where
   pub said : Refusal
 
 abbrev pub left_of : List ℕ → List ℕ → List ℕ → Outcome → Left
-left_of b n w r = record { bytes = b; names = n; work = w; outcome = r; said = refusal_of r.answer }
+left_of b n w r = record { bytes = b; names = n; work = w; outcome = r; said = Link.refusal_in r.answer }
 
 abbrev pub state_of : List ℕ → List ℕ → List ℕ → Link → Group.State
 state_of = Group.state_of

@@ -1,6 +1,7 @@
 -- Document 01, "Groups": 4, 5, 6, 7, then 2; "A signature met before, in this or an earlier object, marks the group's one section as removed".
 -- Assumes nothing.
 use Rattle.std.specs.Prelude.{ℕ, zero, suc, ◌+◌, ◌*◌, ◌≡◌, Bool, true, false, cond, List, eqb, leb, get_or, set, length, Result}
+use Rattle.cells.specs.Rows.{row_width}
 use Rattle.link.specs.declared.Link.{Link}
 use Rattle.link.specs.declared.Interned.{Interned}
 use Rattle.link.specs.declared.cause.Refusal.{Refusal}
@@ -93,7 +94,7 @@ SignatureMeets o n e = looked e.result e.found ≡ signature_of o.headers o.entr
 
 -- the cell of a name's row that has 1 where a group of that signature is loaded
 abbrev pub signature_cell : ℕ → ℕ
-signature_cell id = id * 8 + 4
+signature_cell id = id * row_width + 4
 
 abbrev pub with_signature : List ℕ → ℕ → List ℕ
 with_signature names id = set names (signature_cell id) 1
@@ -130,15 +131,15 @@ mark_group_of work n = cond (eqb (mark_at work n) removed_mark) work (with_mark 
 unfoldable pub mark_removed_of : List ℕ → Bool → ℕ → List ℕ
 mark_removed_of work repeated listed = cond repeated (with_mark work listed removed_mark) work
 
-abbrev pub admitted : Store → List ℕ → Plan → ℕ → ℕ → State
-admitted k work p n listed =
+abbrev pub group_committed : Store → List ℕ → Plan → ℕ → ℕ → State
+group_committed k work p n listed =
     state_of k.bytes (with_signature k.names p.signature.0) (mark_removed_of (mark_group_of work n) p.repeated listed) k.link
 
-unfoldable pub admit_of : State → List ℕ → Plan → ℕ → ℕ → State
-admit_of s x p n listed = admitted (keep_of (store_of s.bytes s.names s.link) p.signature x) s.work p n listed
+unfoldable pub commit_group_of : State → List ℕ → Plan → ℕ → ℕ → State
+commit_group_of s x p n listed = group_committed (keep_of (store_of s.bytes s.names s.link) p.signature x) s.work p n listed
 
 unfoldable pub decided_of : State → List ℕ → ℕ → ℕ → Plan → Step
-decided_of s x n listed p = cond (eqb p.number 0) (go (admit_of s x p n listed)) (stop s p.number n)
+decided_of s x n listed p = cond (eqb p.number 0) (go (commit_group_of s x p n listed)) (stop s p.number n)
 
 unfoldable pub group_named : State → List ℕ → ℕ → ℕ → Step
 group_named s x n listed = decided_of s x n listed (plan_of s.link s.bytes s.names (rows_in s.work) x listed)

@@ -84,7 +84,7 @@ fn mark_group(work: &mut [u64], n: usize)
 impl Grouping<'_> {
     // A group whose signature is found: 2 of the name, and of the mark for the section that it lists, which a repeated one removes; else the
     // signature is issued, and it is noted that it is loaded.
-    #[tactic(auto, unfolding(crate::specs::Group::group_named, crate::specs::Group::decided_of, crate::specs::Group::plan_of, crate::specs::Group::plan_with, crate::specs::Group::mark_refusal, crate::specs::Group::mark_removed_of, crate::specs::Group::admit_of, interner::specs::Names::find_of, interner::specs::Names::keep_of, interner::specs::Names::keep_at))]
+    #[tactic(auto, unfolding(crate::specs::Group::group_named, crate::specs::Group::decided_of, crate::specs::Group::plan_of, crate::specs::Group::plan_with, crate::specs::Group::mark_refusal, crate::specs::Group::mark_removed_of, crate::specs::Group::commit_group_of, interner::specs::Names::find_of, interner::specs::Names::keep_of, interner::specs::Names::keep_at))]
     fn take_named(&mut self, x: &[u8], n: usize, listed: u64) -> Result<(), Refusal>
         ensures loans { same_loans self.old self.new }
         ensures value { step_after self.new result ≡ group_named (state_before self.old) x.now n listed }

@@ -1,7 +1,7 @@
 -- Section rows: "rows in lent slices". A row is reserved for each program and uninitialized section, then built, and maybe dropped.
 -- Assumes nothing.
 use Rattle.std.specs.Prelude.{ℕ, ◌+◌, ◌*◌, Bool, true, false, cond, List, [], ◌∷◌, eqb, ltb, leb, get_or, set, length}
-use Rattle.cells.specs.Rows.{put_row}
+use Rattle.cells.specs.Rows.{put_row, row_width}
 use Rattle.link.specs.declared.Link.{Link}
 use Rattle.link.specs.declared.SectionId.{SectionId}
 use Rattle.link.specs.Bounds.{lesser, section_slots, section_rows}
@@ -16,12 +16,8 @@ pub record Sections : Type 0 where
 abbrev pub sections_of : List ℕ → Link → Sections
 sections_of rows l = record { rows = rows; link = l }
 
--- the cells of a row
-abbrev pub section_width : ℕ
-section_width = 8
-
 abbrev pub field : List ℕ → ℕ → ℕ → ℕ
-field rows i f = get_or rows (i * section_width + f) 0
+field rows i f = get_or rows (i * row_width + f) 0
 
 -- a row's state; 0 is free
 abbrev pub reserved_state : ℕ
@@ -84,7 +80,7 @@ unfoldable pub built_of : List ℕ → SectionId → Section → List ℕ
 built_of rows id s = put_row rows id.0 (built_cells s)
 
 abbrev pub dropped_of : List ℕ → SectionId → List ℕ
-dropped_of rows id = set rows (id.0 * section_width + 0) dropped_state
+dropped_of rows id = set rows (id.0 * row_width + 0) dropped_state
 
 unfoldable pub is_built : List ℕ → ℕ → ℕ → Bool
 is_built rows count i = cond (leb count i) false (cond (eqb (state_at rows i) built_state) true false)

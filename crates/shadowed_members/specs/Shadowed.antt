@@ -8,7 +8,7 @@ use Rattle.cells.specs.Search.{any_from}
 use Rattle.link.specs.declared.SymbolId.{SymbolId}
 use Rattle.link.specs.declared.cause.Refusal.{Refusal}
 use Rattle.link.specs.Judge.{refused}
-use Rattle.symbol.specs.Row.{visibility_code_at}
+use Rattle.symbol.specs.Row.{scope_at}
 use Rattle.symbol_resolution.specs.declared.rows.Holder.{Holder}
 use Rattle.symbol_resolution.specs.declared.rows.Holder.TheVariants.{Unissued, Nobody, Removed, Known}
 use Rattle.symbol_resolution.specs.RowsUndefined.{undefined_row}
@@ -28,7 +28,7 @@ offered_among l n r = cond (ltb r entry_bound) (any_from (λ i. eqb (member_at l
 
 -- "A definition is any value but `Undefined`"; weak by the row's own flag
 unfoldable pub weak_definition : List ℕ → SymbolId → Bool
-weak_definition symbols id = cond (undefined_row symbols id) false (weak_of (visibility_code_at symbols id.0))
+weak_definition symbols id = cond (undefined_row symbols id) false (weak_of (scope_at symbols id.0))
 
 -- a name's row, and whether its member was offered
 unfoldable pub told_row : List ℕ → Bool → SymbolId → Bool

@@ -1,4 +1,4 @@
--- The hidden half of a visibility's code, and how it passes from one row to another in the gABI profile.
+-- The hidden half of a scope, and how it passes from one row to another in the gABI profile.
 -- Assumes nothing.
 use Rattle.std.specs.Prelude.{ℕ, Bool, true, false, cond, eqb}
 use Rattle.symbol.specs.declared.Row.{Row}
@@ -38,11 +38,11 @@ show_code v = cond (eqb v weak) weak (cond (eqb v weak_hidden) weak global)
 unfoldable pub passes : Bool → ℕ → Bool
 passes gabi v = cond gabi (hidden_code v) false
 
-abbrev pub with_visibility : Row → ℕ → Row
-with_visibility r v = record { name = r.name; kind = r.kind; file = r.file; visibility = v; value = r.value; size = r.size }
+abbrev pub with_scope : Row → ℕ → Row
+with_scope r v = record { name = r.name; kind = r.kind; file = r.file; scope = v; value = r.value; size = r.size }
 
 unfoldable pub hide_if : Bool → Row → Row
-hide_if h r = cond h (with_visibility r (hide_code r.visibility)) r
+hide_if h r = cond h (with_scope r (hide_code r.scope)) r
 
 -- "hidden on any accepted add from an object passes to the name's row": from what has code v to row r
 unfoldable pub pass_hidden : Bool → ℕ → Row → Row

@@ -21,7 +21,7 @@ use Rattle.symbol_laws.specs.Standing.{hidden_by}
 use Rattle.symbol_laws.proofs.Standing.{same_by, joined-plain}
 use Rattle.symbol_laws.proofs.Rank.{undefined-not-common}
 use Rattle.symbol_laws.specs.History.{State, Entry, only, rows}
-use Rattle.symbol_laws.proofs.Held.{Inv}
+use Rattle.symbol_laws.specs.Held.{Inv}
 use Rattle.symbol_laws.proofs.Demand.{resolved}
 use Rattle.symbol_laws.specs.Gabi.{Means, AllMean, sym_of_row, syms_of}
 use Rattle.symbol_laws.proofs.Gabi.{means-own, Match, counts, place, first_passes, first-none}

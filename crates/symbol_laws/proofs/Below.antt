@@ -66,7 +66,7 @@ module _ (s : State) (b : Below s) (r : Row) where
       record {
         few = omega (arith, one_more f, f.few);
         held = λ n h z.
-            by-test (eqb r.visibility 0)
+            by-test (eqb r.scope 0)
             (λ v. let y : global_at s.names n ≢ 0 = rw v at z in rw v (omega (arith, one_more f, b.held n h y)))
             (λ v. rw v (other f n h (rw v at z)));
       }

@@ -8,7 +8,7 @@ use Rattle.interner.specs.Names.{room_of, added, keep_of}
 use Rattle.link.specs.declared.Interned.{Interned}
 use Rattle.symbol_resolution.specs.Holder.{global_at}
 use Rattle.symbol_laws.specs.History.{State, store, with_store, Entry, only, Part, issue, put, id_of, part_next}
-use Rattle.symbol_laws.proofs.Held.{Held, Inv}
+use Rattle.symbol_laws.specs.Held.{Held, Inv}
 use Rattle.symbol_laws.proofs.Issue.{FreeRow, linked-new, linked-old, room-free}
 use Rattle.symbol_laws.specs.Below.{Below}
 use Rattle.symbol_laws.proofs.Below.{m, put-below}

@@ -10,7 +10,7 @@ use Rattle.symbols.specs.Remove.{Rows, rows_of, remove_of}
 use Rattle.symbol_laws.specs.History.{State, table, store, with_table, with_store, with_rows, direct, Entry, noted, Part, issue, put, put_of, id_of, part_next, part_notes, run_parts, log_parts, Call, add, intern, remove, upcoming, add_to, call_next, call_number, call_notes, run_calls, log_calls, Removes, RemovesNothing}
 use Rattle.symbol_laws.proofs.History.{run-append, log-append, kept}
 use Rattle.symbol_laws.proofs.Refused.{add-refused, add-accepted, intern-refused, intern-accepted, remove-refused, remove-link}
-use Rattle.symbol_laws.proofs.Held.{Inv}
+use Rattle.symbol_laws.specs.Held.{Inv}
 use Rattle.symbol_laws.proofs.Put.{noted-refused, put_step}
 use Rattle.symbol_laws.proofs.Issue.{issue-step}
 use Rattle.symbol_laws.specs.Calls.{call_parts, history_parts}

@@ -171,7 +171,7 @@ module _ (conversion : List ℕ) (empty : Bool) (e : ElfSymbol) where
 
 -- an accepted add that isn't local
 module _ (t : Table) (gabi : Bool) (conversion : List ℕ) (empty : Bool) where
-  pub from-add : (u : UpcomingSymbol) → number_in (add_row_of t (row_of gabi conversion u empty) None).said ≡ 0 → (row_of gabi conversion u empty).visibility ≢ 0
+  pub from-add : (u : UpcomingSymbol) → number_in (add_row_of t (row_of gabi conversion u empty) None).said ≡ 0 → (row_of gabi conversion u empty).scope ≢ 0
       → FromAdd gabi conversion empty (row_of gabi conversion u empty) u
   unfolding external_row_of elf_row_of type_at value_at visibility_at
   from-add Up.Null z g = absurd (g refl)

@@ -26,7 +26,7 @@ use Rattle.symbol_laws.proofs.Rank.{best-terms, best-counts, count-append, stron
 use Rattle.symbol_laws.proofs.Standing.{rank-after}
 use Rattle.symbol_laws.proofs.View.{decided}
 use Rattle.symbol_laws.specs.History.{State, table, Entry, only, rows, put_of}
-use Rattle.symbol_laws.proofs.Held.{Inv}
+use Rattle.symbol_laws.specs.Held.{Inv}
 use Rattle.symbol_laws.specs.Demand.{Resolved}
 use Rattle.symbol_laws.proofs.Demand.{resolved, holder_known}
 use Rattle.symbol_laws.specs.Gabi.{Means, AllMean}
@@ -39,7 +39,7 @@ put-number s r = added-number (table s) r None
 
 -- a global add of a row that passes, under a name that has a row
 module _ (s : State) (past : List Entry) (inv : Inv s past) (r : Row) (x : Entry) (xs : List Entry) (e : only r.name.0 past ≡ x ∷ xs)
-    (global : r.visibility ≢ 0) (fine : scope_refused r ≡ false) (valued : value_refused r ≡ false) where
+    (global : r.scope ≢ 0) (fine : scope_refused r ≡ false) (valued : value_refused r ≡ false) where
   abbrev old : Row
   old = first_by_rank s.link.gabi x.row (rows xs)
 
@@ -57,7 +57,7 @@ module _ (s : State) (past : List Entry) (inv : Inv s past) (r : Row) (x : Entry
   id = record { 0 = x.id }
 
   meets : Meets r (direct_holder_of s.link s.names s.symbols r.name None) id
-  meets = record { global = ne_eqb r.visibility 0 global; known = holder }
+  meets = record { global = ne_eqb r.scope 0 global; known = holder }
 
   -- neither hidden nor a size enters the rank of the row that the name has
   held-rank : held_rank s.link.gabi s.symbols id ≡ ranked s.link.gabi old

@@ -161,14 +161,14 @@ module _ (to : Conversion) (e : ElfSymbol) (name : Interned) (empty : Bool) (fil
       (λ b. absurd (false≢true (sym (rw (a, b) at p)))))
 
   -- an Elf symbol that isn't local, and whose visibility and value pass
-  pub elf-means : row.visibility ≢ 0 → scope_refused row ≡ false → value_refused row ≡ false → Means row (sym_of e)
+  pub elf-means : row.scope ≢ 0 → scope_refused row ≡ false → value_refused row ≡ false → Means row (sym_of e)
   unfolding elf_row_of
   elf-means z p v =
       let b : Bound (judge_of e.binding e.visibility) = bound-judged z p in
       record { refers = reference-kind; commonly = common-kind v; weakly = b.weak-code; bound = b.one_of }
 
   -- a shared object's definition, which becomes a row without type and value, a common one too
-  pub external-means : (gabi profile : Bool) → eqb e.section 0 ≡ false → (external_row_of gabi name e.binding e.visibility).visibility ≢ 0
+  pub external-means : (gabi profile : Bool) → eqb e.section 0 ≡ false → (external_row_of gabi name e.binding e.visibility).scope ≢ 0
       → scope_refused (external_row_of gabi name e.binding e.visibility) ≡ false → Means (external_row_of gabi name e.binding e.visibility) (shared_entry profile (sym_of e))
   unfolding external_row_of is_reference is_common is_weak is_global
   external-means gabi profile d z p =

@@ -1,42 +1,18 @@
 -- Who holds each name: what holds of every link in which nothing was removed.
 -- Assumes nothing.
-use Rattle.std.specs.Prelude.{ℕ, ◌*◌, ◌≤◌, ◌<◌, ◌≡◌, refl, Bool, true, false, List, [], ◌∷◌, ◌++◌, ◌≢◌, eqb, length}
+use Rattle.std.specs.Prelude.{ℕ, ◌≤◌, ◌≡◌, refl, Bool, true, false, List, [], ◌∷◌, ◌++◌, ◌≢◌, eqb}
 use Rattle.std.proofs.Common.{arith, sym, ap, ◌∙◌}
 use Rattle.cells.specs.Proof.Split.{by-test}
 use Rattle.symbol.specs.declared.Row.{Row}
 use Rattle.symbol.specs.Row.{state_at}
 use Rattle.symbol_resolution.specs.Holder.{global_at}
-use Rattle.symbol_laws.specs.Rank.{strong_definition, count}
 use Rattle.symbol_laws.specs.Standing.{standing, row_after}
 use Rattle.symbol_laws.proofs.Standing as StandingLaws
 use Rattle.symbol_laws.specs.Proof.Rows.{row_at}
 use Rattle.symbol_laws.specs.History.{State, Entry, only, rows}
+use Rattle.symbol_laws.specs.Held.{Holds, Held}
 
 -- ---- who holds a name
-
--- a present row that bears the name
-pub record Holds (s : State) (n id : ℕ) (r : Row) : Type 0 where
-  pub found : global_at s.names n ≡ id
-  pub there : state_at s.symbols id ≡ 1
-  pub content : row_at s.symbols id ≡ r
-  pub named : r.name.0 ≡ n
-  pub above : 1 ≤ id
-  pub below : id < s.link.symbols
-
--- after these accepted adds of its name, in the link's profile
-abbrev pub Held : State → ℕ → List Entry → Type 0
-Held s n [] = global_at s.names n ≡ 0
-Held s n (x ∷ xs) = Holds s n x.id (row_after s.link.gabi x.row (rows xs))
-
-pub record Inv (s : State) (past : List Entry) : Type 0 where
-  pub some : 1 ≤ s.link.symbols
-  pub room : s.link.symbols * 8 ≤ length s.symbols
-  pub few : s.link.symbols ≤ 65535
-  pub names-room : s.link.names * 9 ≤ length s.names
-  pub held_by : (n : ℕ) → n < s.link.names → Held s n (only n past)
-  pub unissued : (n : ℕ) → s.link.names ≤ n → only n past ≡ []
-  -- of a name's strong definitions one is accepted
-  pub once : (n : ℕ) → count strong_definition (rows (only n past)) ≤ 1
 
 -- ---- one more entry
 

@@ -12,7 +12,8 @@ use Rattle.interner.specs.Names.{Store, room_of, linked, added, keep_of}
 use Rattle.interner_laws.proofs.Written.{head-behind, linked_long, row_old, row_new}
 use Rattle.symbol_resolution.specs.Holder.{global_at}
 use Rattle.symbol_laws.specs.History.{State, store, with_store, Entry, only}
-use Rattle.symbol_laws.proofs.Held.{Inv, held_kept}
+use Rattle.symbol_laws.specs.Held.{Inv}
+use Rattle.symbol_laws.proofs.Held.{held_kept}
 
 -- a row that a new table was lent, which still is, and is free
 pub record FreeRow (l : Link) (names : List ℕ) : Type 0 where

@@ -31,7 +31,8 @@ use Rattle.symbol_laws.proofs.View.{Named, Free, Takes, View, refused, kept, ame
 use Rattle.symbol_laws.proofs.Refused.{commit-refused}
 use Rattle.symbol_laws.proofs.BelowLemmas.{inv-below}
 use Rattle.symbol_laws.specs.History.{State, table, with_table, Source, Entry, noted, only, rows, put_of}
-use Rattle.symbol_laws.proofs.Held.{Holds, Held, Inv, only_same, only-other, rows_snoc, after-snoc, held_kept, apart, none-held}
+use Rattle.symbol_laws.specs.Held.{Holds, Held, Inv}
+use Rattle.symbol_laws.proofs.Held.{only_same, only-other, rows_snoc, after-snoc, held_kept, apart, none-held}
 
 -- ---- the name of the add
 
@@ -64,10 +65,10 @@ module _ (s : State) (past : List Entry) (inv : Inv s past) (r : Row) (from : So
 
     left-named : left.name.0 ≡ n
     left-named =
-        by-test (ltb (ranked s.link.gabi now) (ranked s.link.gabi r)) (λ t. rw t (ap (λ (i : Interned). i.0) (pass-rest s.link.gabi now.visibility r).name))
+        by-test (ltb (ranked s.link.gabi now) (ranked s.link.gabi r)) (λ t. rw t (ap (λ (i : Interned). i.0) (pass-rest s.link.gabi now.scope r).name))
         (λ t.
         rw t
-        (ap (λ (i : Interned). i.0) ((pass-rest s.link.gabi r.visibility (joined now r)).name ∙ (joined-rest now r).name) ∙ ap (λ (c : Row). c.name.0) content-now
+        (ap (λ (i : Interned). i.0) ((pass-rest s.link.gabi r.scope (joined now r)).name ∙ (joined-rest now r).name) ∙ ap (λ (c : Row). c.name.0) content-now
         ∙ h.named))
 
   kept-own : (l : List Entry) → Held s n l → at ≢ 0 → left ≡ now → Held s n (l ++ (entry at ∷ []))
@@ -177,16 +178,16 @@ module _ (s : State) (past : List Entry) (inv : Inv s past) (r : Row) (from : So
       other m u i d p (y ∷ ys) h = λ q. apart s m n i y.id d _ u p h (q ∙ h.found)
 
   on-replaced : Named (table s) r → at ≢ 0 → Takes (table s) r
-      → Inv (with_symbols s (set_row s.symbols (record { 0 = at }) (pass_hidden s.link.gabi now.visibility r))) (past ++ (entry at ∷ []))
+      → Inv (with_symbols s (set_row s.symbols (record { 0 = at }) (pass_hidden s.link.gabi now.scope r))) (past ++ (entry at ∷ []))
   on-replaced k z o =
-      on-written (pass_hidden s.link.gabi now.visibility r) (rw o.yielding) (pass-packs s.link.gabi now.visibility r o.packs) k z
+      on-written (pass_hidden s.link.gabi now.scope r) (rw o.yielding) (pass-packs s.link.gabi now.scope r o.packs) k z
       (omega (arith, strong-before (only n past) (inv.held_by n k.issued) z o.yielding, strong-one at))
 
   on-amended : Named (table s) r → at ≢ 0 → yields (table s) r ≡ false → ranked s.link.gabi r ≢ 4
-      → Inv (with_symbols s (set_row s.symbols (record { 0 = at }) (pass_hidden s.link.gabi r.visibility (joined now r)))) (past ++ (entry at ∷ []))
+      → Inv (with_symbols s (set_row s.symbols (record { 0 = at }) (pass_hidden s.link.gabi r.scope (joined now r)))) (past ++ (entry at ∷ []))
   on-amended k z o w =
-      on-written (pass_hidden s.link.gabi r.visibility (joined now r)) (rw o)
-      (pass-packs s.link.gabi r.visibility (joined now r) (joined-packs now r (read-packs s.symbols at))) k z (omega (arith, inv.once n, strong-none at w))
+      on-written (pass_hidden s.link.gabi r.scope (joined now r)) (rw o)
+      (pass-packs s.link.gabi r.scope (joined now r) (joined-packs now r (read-packs s.symbols at))) k z (omega (arith, inv.once n, strong-none at w))
 
   -- a row is appended: no name's row moves
   module _ (f : Free (table s) r) where
@@ -203,7 +204,7 @@ module _ (s : State) (past : List Entry) (inv : Inv s past) (r : Row) (from : So
     -- the name's cell has the new row's id
     note : Named (table s) r → note_name s.names r s.link.symbols ≡ set s.names (n * 8 + 3) s.link.symbols
     unfolding note_name
-    note k = rw (ne_eqb r.visibility 0 k.global)
+    note k = rw (ne_eqb r.scope 0 k.global)
 
     -- demand 3a of the name's first add: its row is the one added
     appended-own : Named (table s) r → Holds grown n s.link.symbols r
@@ -242,7 +243,7 @@ module _ (s : State) (past : List Entry) (inv : Inv s past) (r : Row) (from : So
         (there-kept s.symbols id r i u, row_kept s.symbols id r i u))
         h
 
-    on-local : r.visibility ≡ 0 → Inv grown past
+    on-local : r.scope ≡ 0 → Inv grown past
     unfolding append_of note_name
     on-local v =
         record {
@@ -256,7 +257,7 @@ module _ (s : State) (past : List Entry) (inv : Inv s past) (r : Row) (from : So
         }
       where
         same : note_name s.names r s.link.symbols ≡ s.names
-        same = rw (eq-eqb r.visibility 0 v)
+        same = rw (eq-eqb r.scope 0 v)
 
     on-appended : Named (table s) r → at ≡ 0 → Inv grown (past ++ (entry s.link.symbols ∷ []))
     unfolding append_of note_name
@@ -286,17 +287,17 @@ module _ (s : State) (past : List Entry) (inv : Inv s past) (r : Row) (from : So
 -- ---- the add
 
 module _ (r : Row) (from : Source) where
-  pub noted-local : (a : Said) → r.visibility ≡ 0 → noted r from a ≡ []
+  pub noted-local : (a : Said) → r.scope ≡ 0 → noted r from a ≡ []
   unfolding noted
-  noted-local a v = rw (eq-eqb r.visibility 0 v)
+  noted-local a v = rw (eq-eqb r.scope 0 v)
 
   pub noted-refused : (a : Said) → number_in a ≢ 0 → noted r from a ≡ []
   unfolding noted
-  noted-refused a z = by-test (eqb r.visibility 0) (λ v. rw v) (λ v. rw (v, ne_eqb (number_in a) 0 z))
+  noted-refused a z = by-test (eqb r.scope 0) (λ v. rw v) (λ v. rw (v, ne_eqb (number_in a) 0 z))
 
-  pub noted-global : (id : ℕ) → r.visibility ≢ 0 → noted r from (accepted id) ≡ record { name = r.name.0; id = id; row = r; from = from } ∷ []
+  pub noted-global : (id : ℕ) → r.scope ≢ 0 → noted r from (accepted id) ≡ record { name = r.name.0; id = id; row = r; from = from } ∷ []
   unfolding noted
-  noted-global id v = rw (ne_eqb r.visibility 0 v)
+  noted-global id v = rw (ne_eqb r.scope 0 v)
 
 module _ (s : State) (past : List Entry) (inv : Inv s past) (r : Row) (from : Source) where
   abbrev Good : Left → Type 0
@@ -311,7 +312,7 @@ module _ (s : State) (past : List Entry) (inv : Inv s past) (r : Row) (from : So
       subst (λ (t : Table). Inv (with_table s t) (past ++ noted r from o.said)) (sym e)
       (subst (Inv s) (sym (ap (◌++◌ past) q ∙ append-nil past)) inv)
 
-  logged : (t : Table) (id : ℕ) → r.visibility ≢ 0 → Inv (with_table s t) (past ++ (record { name = r.name.0; id = id; row = r; from = from } ∷ []))
+  logged : (t : Table) (id : ℕ) → r.scope ≢ 0 → Inv (with_table s t) (past ++ (record { name = r.name.0; id = id; row = r; from = from } ∷ []))
       → Inv (with_table s t) (past ++ noted r from (accepted id))
   logged t id v i = subst (λ (l : List Entry). Inv (with_table s t) (past ++ l)) (sym (noted-global r from id v)) i
 

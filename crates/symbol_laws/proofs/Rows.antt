@@ -16,7 +16,7 @@ means symbols id = refl
 
 -- a cell has room for its scope and its type
 pub record Packs (r : Row) : Type 0 where
-  pub scope : r.visibility < 8
+  pub scope : r.scope < 8
   pub type : r.kind < 16
 
 pub read-packs : (l : List ℕ) (i : ℕ) → Packs (row_at l i)
@@ -36,8 +36,8 @@ module _ (l : List ℕ) (id : SymbolId) (r : Row) where
         field-same l id r 5 (omega arith) g,
         field-same l id r 6 (omega arith) g,
         field-same l id r 7 (omega arith) g,
-        scope-back r.visibility r.kind p.scope,
-        type-back r.visibility r.kind p.scope p.type,
+        scope-back r.scope r.kind p.scope,
+        type-back r.scope r.kind p.scope p.type,
       )
 
   pub there-kept : (j : ℕ) → j ≢ id.0 → state_at (set_row l id r) j ≡ state_at l j

@@ -9,7 +9,7 @@ use Rattle.cells.specs.Proof.Split.{by-test}
 use Rattle.link.specs.declared.Interned.{Interned}
 use Rattle.symbol.specs.declared.Row.{Row}
 use Rattle.symbol.specs.Codes.{visibility_at}
-use Rattle.symbol.specs.Hidden.{hidden_code, hide_code, show_code, passes, with_visibility, hide_if, pass_hidden}
+use Rattle.symbol.specs.Hidden.{hidden_code, hide_code, show_code, passes, with_scope, hide_if, pass_hidden}
 use Rattle.symbol.specs.Layout.{refuses_scope}
 use Rattle.symbol_resolution.specs.Decide.{weak_of, reference_rank, rank_of}
 use Rattle.symbol_resolution.specs.Apply.{joined}
@@ -59,21 +59,21 @@ hide-none r = refl
 
 pub hide-own : (r : Row) → hide_if (is_hidden r) r ≡ r
 unfolding hide_if
-hide-own r = by-test (is_hidden r) (λ a. rw a (ap (with_visibility r) (hide-code-own r.visibility a))) (λ a. rw a)
+hide-own r = by-test (is_hidden r) (λ a. rw a (ap (with_scope r) (hide-code-own r.scope a))) (λ a. rw a)
 
 hidden-if : (h : Bool) (r : Row) → is_hidden (hide_if h r) ≡ (h || is_hidden r)
 unfolding hide_if
-hidden-if true r = hidden-code r.visibility
+hidden-if true r = hidden-code r.scope
 hidden-if false r = refl
 
 pub hide-rest : (h : Bool) (r : Row) → SameButHidden (hide_if h r) r
 unfolding hide_if
-hide-rest true r = record { name = refl; kind = refl; file = refl; weakness = weak-code r.visibility; value = refl; size = refl }
+hide-rest true r = record { name = refl; kind = refl; file = refl; weakness = weak-code r.scope; value = refl; size = refl }
 hide-rest false r = record { name = refl; kind = refl; file = refl; weakness = refl; value = refl; size = refl }
 
 rank-if : (gabi h : Bool) (r : Row) → ranked gabi (hide_if h r) ≡ ranked gabi r
 unfolding hide_if rank_of reference_rank
-rank-if gabi true r = rw (weak-code r.visibility)
+rank-if gabi true r = rw (weak-code r.scope)
 rank-if gabi false r = refl
 
 or_assoc : (a b c : Bool) → ((a || b) || c) ≡ (a || (b || c))
@@ -209,7 +209,7 @@ taken false y = hide-own y ∙ sym (hide-none y)
 
 passed : (a h : Bool) (b : Row) → hide_if (a || h) b ≡ hide_if h (hide_if a b)
 unfolding hide_if
-passed true true b = ap (with_visibility b) (sym (hide-code-own (hide_code b.visibility) (hidden-code b.visibility)))
+passed true true b = ap (with_scope b) (sym (hide-code-own (hide_code b.scope) (hidden-code b.scope)))
 passed true false b = refl
 passed false true b = refl
 passed false false b = refl
@@ -233,9 +233,9 @@ after-snoc true c xs y =
     let b : Row = best (ranked true) c xs in
     let j : Row = joined_in (c ∷ xs) b in
     let more : some_hidden ((c ∷ xs) ++ (y ∷ [])) ≡ (a || is_hidden y) = any_append (c ∷ xs) (y ∷ []) ∙ ap (◌||◌ a) (or-none (is_hidden y)) in
-    let old : hidden_code (hide_if a j).visibility ≡ a =
-    code-hides (hide_if a j).visibility ∙ hidden-if a j ∙ ap (◌||◌ a) (hidden-joined (c ∷ xs) b) ∙ any-best (ranked true) c xs in
-    rw (more, best-snoc (ranked true) c xs y, rank-if true a j, rank-joined true (c ∷ xs) b, old, code-hides y.visibility)
+    let old : hidden_code (hide_if a j).scope ≡ a =
+    code-hides (hide_if a j).scope ∙ hidden-if a j ∙ ap (◌||◌ a) (hidden-joined (c ∷ xs) b) ∙ any-best (ranked true) c xs in
+    rw (more, best-snoc (ranked true) c xs y, rank-if true a j, rank-joined true (c ∷ xs) b, old, code-hides y.scope)
     (by-test (ltb (ranked true b) (ranked true y))
     (λ t. rw t (ap (hide_if (a || is_hidden y)) (joined-own (c ∷ xs) y (under true c xs y t)) ∙ taken a y))
     (λ t.
@@ -322,7 +322,7 @@ unfolding weak_of
 library-weak = library-by (λ x k. weak_of x ≡ weak_of k) (λ k. refl) refl refl
 
 -- in the old profile it has the code that it asks for
-pub library-old : (name : Interned) (b v : ℕ) → (external_row_of false name b v).visibility ≡ judge_of b v
+pub library-old : (name : Interned) (b v : ℕ) → (external_row_of false name b v).scope ≡ judge_of b v
 unfolding external_row_of library_code passes
 library-old name b v = refl
 
@@ -334,7 +334,7 @@ hide-small v h = by-test (eqb v 3) (λ a. rw a (omega arith)) (λ a. by-test (eq
 
 hide-packs : (h : Bool) (r : Row) → Packs r → Packs (hide_if h r)
 unfolding hide_if
-hide-packs true r p = record { scope = hide-small r.visibility p.scope; type = p.type }
+hide-packs true r p = record { scope = hide-small r.scope p.scope; type = p.type }
 hide-packs false r p = p
 
 pub pass-packs : (gabi : Bool) (v : ℕ) (r : Row) → Packs r → Packs (pass_hidden gabi v r)
@@ -349,7 +349,7 @@ joined-packs r y p = by-test (common r) (λ c. rw c (by-test (common y) (λ d. r
 pub record Rest (r q : Row) : Type 0 where
   pub name : r.name ≡ q.name
   pub file : r.file ≡ q.file
-  pub scope : r.visibility ≡ q.visibility
+  pub scope : r.scope ≡ q.scope
   pub kind : r.value.kind ≡ q.value.kind
   pub b : r.value.b ≡ q.value.b
 

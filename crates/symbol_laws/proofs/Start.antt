@@ -18,7 +18,7 @@ use Rattle.symbol_resolution.specs.Holder.{global_at}
 use Rattle.symbols.specs.New.{null_row, null_of, new_of}
 use Rattle.symbol_laws.proofs.View.{lesser-second}
 use Rattle.symbol_laws.specs.History.{opened}
-use Rattle.symbol_laws.proofs.Held.{Inv}
+use Rattle.symbol_laws.specs.Held.{Inv}
 use Rattle.symbol_laws.proofs.Issue.{FreeRow, linked-new, room-free}
 
 -- only the empty name, without a row

@@ -18,7 +18,7 @@ use Rattle.symbols.specs.Add.{add_of}
 use Rattle.symbol_laws.specs.Rank.{first_by_rank, joined_in}
 use Rattle.symbol_laws.specs.Proof.Rows.{row_at}
 use Rattle.symbol_laws.specs.History.{State, opened, Entry, only, rows, Part, put_of, run_parts, log_parts, Call, add, intern, call_next, call_number, run_calls, log_calls, Removes, RemovesNothing}
-use Rattle.symbol_laws.proofs.Held.{Inv}
+use Rattle.symbol_laws.specs.Held.{Inv}
 use Rattle.symbol_laws.proofs.Start.{new-inv}
 use Rattle.symbol_laws.proofs.Calls.{call-refused, parts-keep, calls-keep}
 use Rattle.symbol_laws.specs.Hidden.{is_hidden, some_hidden, attribute}
@@ -26,7 +26,8 @@ use Rattle.symbol_laws.specs.Standing.{hidden_by, SameButHidden}
 use Rattle.symbol_laws.proofs.Profile as Profile
 use Rattle.symbol_laws.specs.Demand as Demand
 use Rattle.symbol_laws.proofs.Demand as DemandLaws
-use Rattle.symbol_laws.proofs.Within as Within
+use Rattle.symbol_laws.specs.Within as Within
+use Rattle.symbol_laws.proofs.Within as WithinLaws
 use Rattle.symbol_laws.proofs.BelowLemmas.{inv-below}
 use Rattle.symbol_laws.specs.Writes as Writes
 use Rattle.symbol_laws.proofs.WritesLemmas as WritesLaws
@@ -68,7 +69,7 @@ module _ (key : ℕ) (gabi : Bool) (bytes names symbols sections : List ℕ) (ne
     kept = calls-keep ks start [] quiet (new-inv key gabi bytes names symbols sections new)
 
     within : Within.Within end.link end.names
-    within = Within.calls-within ks start quiet (Within.new-within key gabi bytes names symbols sections new)
+    within = WithinLaws.calls-within ks start quiet (WithinLaws.new-within key gabi bytes names symbols sections new)
 
     -- no call changes the profile
     pub profile : end.link.gabi ≡ gabi
@@ -91,7 +92,7 @@ module _ (key : ℕ) (gabi : Bool) (bytes names symbols sections : List ℕ) (ne
     pub lookup-row : (n : ℕ) (x : Entry) (xs : List Entry) → adds n ≡ x ∷ xs
         → get_global_of end.link end.names end.symbols (record { 0 = n }) ≡ Ok (symbol_of (record { 0 = x.id }) (hidden_by gabi (rows (x ∷ xs)) (joined_in (rows (x ∷ xs)) (first_by_rank gabi x.row (rows xs)))))
     lookup-row n x xs e =
-        Within.lookup-row end _ kept within n x xs e
+        WithinLaws.lookup-row end _ kept within n x xs e
         ∙ ap (λ (g : Bool). Ok (symbol_of (record { 0 = x.id }) (hidden_by g (rows (x ∷ xs)) (joined_in (rows (x ∷ xs)) (first_by_rank g x.row (rows xs)))))) profile
 
     -- a name without accepted global add has no row, issued or not
@@ -99,7 +100,7 @@ module _ (key : ℕ) (gabi : Bool) (bytes names symbols sections : List ℕ) (ne
     no_row n e i = DemandLaws.no_row end _ kept n e i
 
     pub lookup-none : (n : ℕ) → adds n ≡ [] → get_global_of end.link end.names end.symbols (record { 0 = n }) ≡ not_found 23 0
-    lookup-none = Within.lookup-none end _ kept within
+    lookup-none = WithinLaws.lookup-none end _ kept within
 
     -- "Rows past the count are never written": by one more call, accepted or refused, a removal too
     pub past-the-count : (k : Call) → Writes.Untouched end (call_next k end)
@@ -129,7 +130,7 @@ module _ (key : ℕ) (gabi : Bool) (bytes names symbols sections : List ℕ) (ne
     gabi-visible n x xs e g = ap attribute (hidden-3a n x xs e g) ∙ sym (combined-rows (rows (x ∷ xs)))
 
     -- a further add is refused with 17 exactly where the gABI sees a duplicate
-    module _ (r : Row) (x : Entry) (xs : List Entry) (e : adds r.name.0 ≡ x ∷ xs) (global : r.visibility ≢ 0) (passes : scope_refused r ≡ false)
+    module _ (r : Row) (x : Entry) (xs : List Entry) (e : adds r.name.0 ≡ x ∷ xs) (global : r.scope ≢ 0) (passes : scope_refused r ≡ false)
         (valued : value_refused r ≡ false) where
       abbrev own : AllMean (rows (x ∷ xs)) (syms_of (rows (x ∷ xs)))
       own = all-mean-own (rows (x ∷ xs))

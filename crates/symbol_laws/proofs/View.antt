@@ -57,7 +57,7 @@ module _ (t : Table) (r : Row) where
 
   -- a global add under an issued name
   pub record Named : Type 0 where
-    pub global : r.visibility ≢ 0
+    pub global : r.scope ≢ 0
     pub issued : r.name.0 < t.link.names
 
   pub record Free : Type 0 where
@@ -73,18 +73,18 @@ module _ (t : Table) (r : Row) where
   pub data View : Type 0 where
     refused : (n : ℕ) → decided ≡ Refuse n → n ≢ 0 → View
     kept : decided ≡ Keep (record { 0 = held }) → Named → held ≢ 0 → yields ≡ false → ranked t.link.gabi r ≢ 4
-        → pass_hidden t.link.gabi r.visibility (joined (row_at t.symbols held) r) ≡ row_at t.symbols held → View
+        → pass_hidden t.link.gabi r.scope (joined (row_at t.symbols held) r) ≡ row_at t.symbols held → View
     amended : decided ≡ Amend (record { 0 = held }) → Named → held ≢ 0 → yields ≡ false → ranked t.link.gabi r ≢ 4 → View
     replaced : decided ≡ Replace (record { 0 = held }) → Named → held ≢ 0 → Takes → View
     appended : decided ≡ Append → Free → Named → (held ≢ 0 → t.link.symbols ≤ held) → View
-    local : decided ≡ Append → Free → r.visibility ≡ 0 → View
+    local : decided ≡ Append → Free → r.scope ≡ 0 → View
 
   -- an accepted row's scope and type are small
   packs : Passing r → eqb (type_refusal r.kind) 0 ≡ true → Packs r
   unfolding type_refusal
   packs p k =
       record {
-        scope = let h : r.visibility < 5 = scope-low r.visibility p.scope in omega arith;
+        scope = let h : r.scope < 5 = scope-low r.scope p.scope in omega arith;
         type =
             by-test (ltb r.kind 4) (λ a. let h : r.kind < 4 = ltb-true _ _ a in omega arith)
             (λ a. absurd (by-test (eqb r.kind 4) (λ b. false≢true (rw (a, b) at k)) (λ b. false≢true (rw (a, b) at k))));
@@ -181,18 +181,18 @@ module _ (t : Table) (r : Row) where
           joined-apart old r (λ a b. false≢true (sym (rw (three-is old t.link.gabi, three-is r t.link.gabi, a, b) at n)))
 
       shown : (id : SymbolId) → Found id → hides t.link.gabi t.symbols r id ≡ false
-          → pass_hidden t.link.gabi r.visibility (row_at t.symbols held) ≡ row_at t.symbols held
+          → pass_hidden t.link.gabi r.scope (row_at t.symbols held) ≡ row_at t.symbols held
       shown id f m =
           let n : hides t.link.gabi t.symbols r (record { 0 = held }) ≡ false = subst (λ (i : SymbolId). hides t.link.gabi t.symbols r i ≡ false) f.is m in
-          by-test (passes t.link.gabi r.visibility)
+          by-test (passes t.link.gabi r.scope)
           (λ p.
-          by-test (hidden_code (row_at t.symbols held).visibility)
-          (λ h. pass-had t.link.gabi r.visibility _ (sym (code-hides (row_at t.symbols held).visibility) ∙ h))
+          by-test (hidden_code (row_at t.symbols held).scope)
+          (λ h. pass-had t.link.gabi r.scope _ (sym (code-hides (row_at t.symbols held).scope) ∙ h))
           (λ h. absurd (false≢true (sym (rw (p, h) at n)))))
-          (λ p. pass-none t.link.gabi r.visibility _ p)
+          (λ p. pass-none t.link.gabi r.scope _ p)
 
       stays : (id : SymbolId) → Found id → joins (held_rank t.link.gabi t.symbols id) (row_rank r t.link.gabi) ≡ false → hides t.link.gabi t.symbols r id ≡ false
-          → pass_hidden t.link.gabi r.visibility (joined (row_at t.symbols held) r) ≡ row_at t.symbols held
+          → pass_hidden t.link.gabi r.scope (joined (row_at t.symbols held) r) ≡ row_at t.symbols held
       stays id f j m =
           rw (apart id f j)
           (shown id f m)

@@ -8,7 +8,7 @@ use Rattle.cells.specs.Proof.Split.{by-test}
 use Rattle.link.specs.declared.Link.{Link}
 use Rattle.link.specs.declared.Interned.{Interned}
 use Rattle.link.specs.declared.SymbolId.{SymbolId}
-use Rattle.link.specs.Bounds.{not_lent, lesser, name_rows, name_bytes, symbol_rows, section_rows}
+use Rattle.link.specs.Bounds.{not_lent, lesser, name_rows, name_bytes, symbol_rows}
 use Rattle.link.specs.Judge.{none, judge_of, judge_sections, judge_names, judge_lists}
 use Rattle.link.specs.Proof.Ways as Link
 use Rattle.interner.specs.Names.{Store, store_of, room_of, keep_of}
@@ -37,26 +37,18 @@ use Rattle.symbol_laws.specs.Standing.{hidden_by}
 use Rattle.symbol_laws.proofs.Rows.{means}
 use Rattle.symbol_laws.proofs.View.{lesser-first}
 use Rattle.symbol_laws.specs.History.{State, table, store, opened, Entry, only, rows, Part, issue, put, id_of, part_next, run_parts, Call, run_calls, RemovesNothing}
-use Rattle.symbol_laws.proofs.Held.{Inv}
+use Rattle.symbol_laws.specs.Held.{Inv}
 use Rattle.symbol_laws.proofs.Issue.{room-free}
 use Rattle.symbol_laws.specs.Calls.{history_parts}
 use Rattle.symbol_laws.proofs.Calls.{history-run}
 use Rattle.symbol_laws.proofs.Demand.{resolved, holder_known, holder-none}
-
--- the counts that these calls aren't lent anything for, and the rows that the names were lent
-pub record Within (l : Link) (names : List ℕ) : Type 0 where
-  pub bytes-in : l.bytes ≤ 1048576
-  pub sections-in : l.sections ≤ section_rows l.slots
-  pub inputs_in : l.inputs ≤ 4095
-  pub lists-in : l.lists ≤ not_lent
-  pub names_in : l.names ≤ l.chains
-  pub chains-lent : l.chains ≤ name_rows (length names)
+use Rattle.symbol_laws.specs.Within.{Within}
 
 -- ---- kept by every part
 
 noted-long : (names : List ℕ) (r : Row) (id : ℕ) → length (note_name names r id) ≡ length names
 unfolding note_name
-noted-long names r id = by-test (eqb r.visibility 0) (λ a. rw a) (λ a. rw a (length-set names (r.name.0 * 8 + 3) id))
+noted-long names r id = by-test (eqb r.scope 0) (λ a. rw a) (λ a. rw a (length-set names (r.name.0 * 8 + 3) id))
 
 applied-within : (t : Table) (r : Row) (d : Decision) → Within t.link t.names → Within (apply_of t r d).link (apply_of t r d).names
 unfolding append_of

@@ -50,10 +50,10 @@ module _ (t : Table) (r : Row) where
 -- of a present row that stays no cell changes but that of its scope, and of a common that is joined its size and its alignment
 module _ (gabi : Bool) (symbols : List ℕ) (r : Row) (id : SymbolId) (present : state_at symbols id.0 ≡ 1) where
   abbrev amended-row : Row
-  amended-row = pass_hidden gabi r.visibility (joined (row_at symbols id.0) r)
+  amended-row = pass_hidden gabi r.scope (joined (row_at symbols id.0) r)
 
   abbrev passed : SameButHidden amended-row (joined (row_at symbols id.0) r)
-  passed = pass-rest gabi r.visibility (joined (row_at symbols id.0) r)
+  passed = pass-rest gabi r.scope (joined (row_at symbols id.0) r)
 
   abbrev rest : Rest (joined (row_at symbols id.0) r) (row_at symbols id.0)
   rest = joined-rest (row_at symbols id.0) r

@@ -30,7 +30,7 @@ use Rattle.symbol_laws.proofs.View.{Named, Free, View, refused, kept, amended, r
 use Rattle.symbol_laws.proofs.Refused.{commit-refused, add-accepted, intern-accepted}
 use Rattle.symbol_laws.proofs.Calls.{call-refused}
 use Rattle.symbol_laws.specs.History.{State, table, store, with_table, with_store, with_rows, Entry, only, rows, put_of, id_of, Call, add, intern, remove, upcoming, call_next, call_number}
-use Rattle.symbol_laws.proofs.Held.{Holds, Held, Inv}
+use Rattle.symbol_laws.specs.Held.{Holds, Held, Inv}
 use Rattle.symbol_laws.specs.Below.{Below}
 use Rattle.symbol_laws.proofs.Issue.{FreeRow, linked-old, room-free}
 use Rattle.symbol_laws.specs.Standing.{row_after}
@@ -68,18 +68,18 @@ symbol-behind k l s id q h =
 pub section-behind : (k : Link) (l : List ℕ) (r : Row) (id q : ℕ) → q < k.slots * 8 → get_or (note_section k l r id) q 0 ≡ get_or l q 0
 unfolding note_section
 section-behind k l r id q h =
-    by-test (eqb r.visibility 0)
+    by-test (eqb r.scope 0)
     (λ v. by-test (eqb r.value.kind 2) (λ w. rw (v, w) (symbol-behind k l r.value.a id q h)) (λ w. rw (v, w))) (λ v. rw v)
 
-note-low : (l : List ℕ) (r : Row) (id count q : ℕ) → (r.visibility ≢ 0 → r.name.0 < count) → count * 8 ≤ q → get_or (note_name l r id) q 0 ≡ get_or l q 0
+note-low : (l : List ℕ) (r : Row) (id count q : ℕ) → (r.scope ≢ 0 → r.name.0 < count) → count * 8 ≤ q → get_or (note_name l r id) q 0 ≡ get_or l q 0
 unfolding note_name
 note-low l r id count q i h =
-    by-test (eqb r.visibility 0) (λ v. rw v)
+    by-test (eqb r.scope 0) (λ v. rw v)
     (λ v. let k : r.name.0 < count = i (eqb-false _ _ v) in rw v (get_or-set_other l (r.name.0 * 8 + 3) q id 0 (λ e. omega arith)))
 
 module _ (s : State) (b : Below s) where
   module _ (r : Row) where
-    appended-past : Free (table s) r → (r.visibility ≢ 0 → r.name.0 < s.link.names) → Untouched s (with_table s (append_of (table s) r))
+    appended-past : Free (table s) r → (r.scope ≢ 0 → r.name.0 < s.link.names) → Untouched s (with_table s (append_of (table s) r))
     unfolding append_of successor
     appended-past f i =
         let more : successor s.link.symbols ≡ s.link.symbols + 1 = rw (lt-ltb s.link.symbols 0xffffffffffffffff (omega (arith, f.few))) in

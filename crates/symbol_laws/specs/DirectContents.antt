@@ -85,9 +85,9 @@ pub record Labelled (r : Row) (name : Interned) (file : Option Interned) (size :
 
 -- gabi: the profile of the link that it is made on
 pub data FromAdd (gabi : Bool) (conversion : List ℕ) (empty : Bool) (r : Row) : UpcomingSymbol → Type 0 where
-  unknown : (name : Interned) → Labelled r name None 0 → type_at r.kind ≡ Ty.NoType → visibility_at r.visibility ≡ Global false false → value_at r.value ≡ Val.Undefined false → FromAdd gabi conversion empty r (Up.GlobalUnknown name)
-  hidden : (name : Interned) (value : SymbolValue) → Labelled r name None 0 → type_at r.kind ≡ Ty.NoType → visibility_at r.visibility ≡ Global false true → (Fitting value → value_at r.value ≡ value) → is_undefined (value_at r.value) ≡ is_undefined value → is_common_value (value_at r.value) ≡ is_common_value value → FromAdd gabi conversion empty r (Up.GlobalHidden name value)
-  external : (name : Interned) (visibility binding : ℕ) → Admitted (symbol_of binding 0 visibility shn_abs 0) → Labelled r name None 0 → type_at r.kind ≡ Ty.NoType → visibility_at r.visibility ≡ shows (shared_entry gabi (symbol_of binding 0 visibility shn_abs 0)) → value_at r.value ≡ Val.ExternallyDefined
+  unknown : (name : Interned) → Labelled r name None 0 → type_at r.kind ≡ Ty.NoType → visibility_at r.scope ≡ Global false false → value_at r.value ≡ Val.Undefined false → FromAdd gabi conversion empty r (Up.GlobalUnknown name)
+  hidden : (name : Interned) (value : SymbolValue) → Labelled r name None 0 → type_at r.kind ≡ Ty.NoType → visibility_at r.scope ≡ Global false true → (Fitting value → value_at r.value ≡ value) → is_undefined (value_at r.value) ≡ is_undefined value → is_common_value (value_at r.value) ≡ is_common_value value → FromAdd gabi conversion empty r (Up.GlobalHidden name value)
+  external : (name : Interned) (visibility binding : ℕ) → Admitted (symbol_of binding 0 visibility shn_abs 0) → Labelled r name None 0 → type_at r.kind ≡ Ty.NoType → visibility_at r.scope ≡ shows (shared_entry gabi (symbol_of binding 0 visibility shn_abs 0)) → value_at r.value ≡ Val.ExternallyDefined
       → FromAdd gabi conversion empty r (Up.ExternallyDefined name visibility binding)
-  elf : (e : ElfSymbol) (name : Interned) (file : Option Interned) → Admitted (symbol_of e.binding e.kind e.visibility e.section e.value) → Labelled r name file e.size → IsType e.kind (type_at r.kind) → visibility_at r.visibility ≡ Global (eqb e.binding stb_weak) (eqb e.visibility stv_hidden) → ElfValue conversion empty e (value_at r.value)
+  elf : (e : ElfSymbol) (name : Interned) (file : Option Interned) → Admitted (symbol_of e.binding e.kind e.visibility e.section e.value) → Labelled r name file e.size → IsType e.kind (type_at r.kind) → visibility_at r.scope ≡ Global (eqb e.binding stb_weak) (eqb e.visibility stv_hidden) → ElfValue conversion empty e (value_at r.value)
       → FromAdd gabi conversion empty r (Up.Elf e name file)

@@ -13,7 +13,7 @@ hides Local = false
 hides (Global weak hidden) = hidden
 
 abbrev pub is_hidden : Row → Bool
-is_hidden r = hides (visibility_at r.visibility)
+is_hidden r = hides (visibility_at r.scope)
 
 abbrev pub some_hidden : List Row → Bool
 some_hidden [] = false

@@ -59,7 +59,7 @@ pub record Entry : Type 0 where
 
 unfoldable pub noted : Row → Source → Said → List Entry
 noted r from a =
-    cond (eqb r.visibility 0) []
+    cond (eqb r.scope 0) []
     (cond (eqb (number_in a) 0) (record { name = r.name.0; id = value_in a; row = r; from = from } ∷ []) [])
 
 -- the entries of one name, and their rows

@@ -13,3 +13,6 @@ pub mod DirectContents
 pub mod Hidden
 pub mod BindingTable
 pub mod Proof
+pub mod Differences
+pub mod Held
+pub mod Within

@@ -37,14 +37,14 @@ module _ (rank : Row → ℕ) where
 -- ---- the documents' wording
 
 abbrev pub ranked : Bool → Row → ℕ
-ranked gabi r = rank_of gabi r.visibility r.value.kind
+ranked gabi r = rank_of gabi r.scope r.value.kind
 
 -- "A definition is any value but `Undefined`"
 abbrev pub defines : Row → Bool
 defines r = not (eqb r.value.kind 7)
 
 abbrev pub weak : Row → Bool
-weak r = weak_of r.visibility
+weak r = weak_of r.scope
 
 -- 2026-06: a common, whose binding doesn't count
 abbrev pub common : Row → Bool
@@ -96,7 +96,7 @@ sized r s a =
       name = r.name;
       kind = r.kind;
       file = r.file;
-      visibility = r.visibility;
+      scope = r.scope;
       value = record { kind = r.value.kind; a = a; b = r.value.b };
       size = s;
     }

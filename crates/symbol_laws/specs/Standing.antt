@@ -30,7 +30,7 @@ hidden_by true l r = hide_if (some_hidden l) r
 
 -- of row c and add x the one of the greater rank, hidden passed to it from the other; of two commons the first, joined with the other
 abbrev pub standing : Bool → Row → Row → Row
-standing gabi c x = cond (ltb (ranked gabi c) (ranked gabi x)) (pass_hidden gabi c.visibility x) (pass_hidden gabi x.visibility (joined c x))
+standing gabi c x = cond (ltb (ranked gabi c) (ranked gabi x)) (pass_hidden gabi c.scope x) (pass_hidden gabi x.scope (joined c x))
 
 -- and after all accepted adds of a name, c and then xs
 abbrev pub row_after : Bool → Row → List Row → Row

@@ -1,6 +1,7 @@
 -- The decision on a row under a name of which it is told who holds it. Document 01, "Symbols": "Add checks in this order".
 -- Assumes nothing.
 use Rattle.std.specs.Prelude.{ℕ, ◌+◌, ◌*◌, Bool, true, false, cond, ◌&&◌, List, eqb, ltb, leb, length, Result, Ok, Err}
+use Rattle.cells.specs.Rows.{row_width}
 use Rattle.gabi.specs.SymbolTable.{stt_file}
 use Rattle.link.specs.declared.Link.{Link}
 use Rattle.link.specs.declared.cause.Cause.{Cause}
@@ -8,7 +9,7 @@ use Rattle.link.specs.Cause.{number_of}
 use Rattle.link.specs.declared.SymbolId.{SymbolId}
 use Rattle.link.specs.Bounds.{symbol_rows, section_slots}
 use Rattle.symbol.specs.declared.Row.{Row}
-use Rattle.symbol.specs.Row.{visibility_code_at, kind_at, scope_refused, scope_refusal, value_refused, value_refusal}
+use Rattle.symbol.specs.Row.{scope_at, kind_at, scope_refused, scope_refusal, value_refused, value_refusal}
 use Rattle.symbol.specs.Layout.{local, weak, weak_hidden, section_kind, undefined_kind, common_kind}
 use Rattle.symbol.specs.Hidden.{hidden_code, passes}
 use Rattle.symbol_resolution.specs.declared.rows.Holder.{Holder}
@@ -41,7 +42,7 @@ weak_of v = cond (eqb v weak) true (cond (eqb v weak_hidden) true false)
 
 -- a reference: 0; in the gABI profile a strong one 1, so that it "turns a weak undefined row into a strong undefined one" (2026-07)
 unfoldable pub reference_rank : Bool → ℕ → ℕ
-reference_rank gabi visibility = cond gabi (cond (weak_of visibility) 0 1) 0
+reference_rank gabi scope = cond gabi (cond (weak_of scope) 0 1) 0
 
 -- "A definition is any value but `Undefined`": a reference, then a weak definition, a common (2026-06: "a third rank: above undefined, below any
 -- global definition that is no common", whatever its binding), a strong definition
@@ -72,12 +73,12 @@ type_refusal k = cond (ltb k stt_file) 0 (cond (eqb k stt_file) 15 16)
 
 -- the cell for the symbol of section s, in a slice of n: behind the rows that a new table was lent; n where it has none, or where fewer are lent
 unfoldable pub section_cell : Link → ℕ → ℕ → ℕ
-section_cell l n s = cond (ltb (section_slots n) l.slots) n (cond (ltb s l.slots) (l.slots * 8 + s) n)
+section_cell l n s = cond (ltb (section_slots n) l.slots) n (cond (ltb s l.slots) (l.slots * row_width + s) n)
 
 -- a free row; a local section symbol also needs the cell of its section
 unfoldable pub section_room : Link → List ℕ → Row → Bool
 section_room l sections r =
-    cond (eqb r.visibility local)
+    cond (eqb r.scope local)
     (cond (eqb r.value.kind section_kind) (cond (ltb (section_cell l (length sections) r.value.a) (length sections)) true false) true) true
 
 unfoldable pub room_of : Link → List ℕ → List ℕ → Row → Bool
@@ -102,9 +103,9 @@ abbrev pub joins : ℕ → ℕ → Bool
 joins old new = eqb old common_rank && eqb new common_rank
 
 unfoldable pub stays_of : Bool → ℕ → ℕ → ℕ → Row → SymbolId → Decision
-stays_of gabi v old new r id = cond (joins old new) (Amend id) (kept_of gabi v r.visibility id)
+stays_of gabi v old new r id = cond (joins old new) (Amend id) (kept_of gabi v r.scope id)
 
--- a row of visibility v and rank old yields to a greater rank; two strong definitions are 17; else the row stays
+-- a row of scope v and rank old yields to a greater rank; two strong definitions are 17; else the row stays
 unfoldable pub ranked_of : Bool → ℕ → ℕ → ℕ → Row → SymbolId → Decision
 ranked_of gabi v old new r id =
     cond (ltb old new) (replace_of r id) (cond (eqb new strong_rank) (Refuse 17) (stays_of gabi v old new r id))
@@ -113,8 +114,8 @@ ranked_of gabi v old new r id =
 unfoldable pub known_of : Bool → List ℕ → Row → SymbolId → Decision
 known_of gabi symbols r id =
     cond (value_refused r) (Refuse (value_refusal r))
-    (ranked_of gabi (visibility_code_at symbols id.0) (rank_of gabi (visibility_code_at symbols id.0) (kind_at symbols id.0))
-    (rank_of gabi r.visibility r.value.kind) r id)
+    (ranked_of gabi (scope_at symbols id.0) (rank_of gabi (scope_at symbols id.0) (kind_at symbols id.0))
+    (rank_of gabi r.scope r.value.kind) r id)
 
 -- "a name id never issued, or a global or weak name whose row was removed, gives 21"
 abbrev pub global_of : Link → List ℕ → List ℕ → Row → Holder → Decision
@@ -133,7 +134,7 @@ local_of l symbols sections r (Known id) = new_of l symbols sections r
 unfoldable pub decide_of : Link → List ℕ → List ℕ → Row → Holder → Decision
 decide_of l symbols sections r h =
     cond (scope_refused r) (Refuse (scope_refusal r))
-    (cond (eqb r.visibility local) (local_of l symbols sections r h) (global_of l symbols sections r h))
+    (cond (eqb r.scope local) (local_of l symbols sections r h) (global_of l symbols sections r h))
 
 -- document 01's number for each case, and the id that is answered in a table of count rows
 abbrev pub refusal_of : Decision → ℕ

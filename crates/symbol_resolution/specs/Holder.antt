@@ -1,6 +1,7 @@
 -- Who holds a name. A name's row has the id of its global symbol, 0 for none; a removed symbol still holds its name.
 -- Assumes nothing.
 use Rattle.std.specs.Prelude.{ℕ, ◌+◌, ◌*◌, cond, List, eqb, leb, get_or}
+use Rattle.cells.specs.Rows.{row_width}
 use Rattle.link.specs.declared.Link.{Link}
 use Rattle.link.specs.declared.Interned.{Interned}
 use Rattle.symbol.specs.Row.{state_at}
@@ -9,7 +10,7 @@ use Rattle.symbol_resolution.specs.declared.rows.Holder.{Holder}
 use Rattle.symbol_resolution.specs.declared.rows.Holder.TheVariants.{Nobody, Removed, Known}
 
 abbrev pub global_at : List ℕ → ℕ → ℕ
-global_at names name = get_or names (name * 8 + symbol_cell) 0
+global_at names name = get_or names (name * row_width + symbol_cell) 0
 
 -- of count rows; an id past them is of a later state of the link
 unfoldable pub held_by : ℕ → List ℕ → ℕ → Holder

@@ -2,7 +2,7 @@
 -- Assumes nothing.
 use Rattle.std.specs.Prelude.{ℕ, Bool, true, false, cond, List, eqb}
 use Rattle.link.specs.declared.SymbolId.{SymbolId}
-use Rattle.symbol.specs.Row.{visibility_code_at, kind_at}
+use Rattle.symbol.specs.Row.{scope_at, kind_at}
 use Rattle.symbol.specs.Layout.{global, global_hidden, undefined_kind}
 
 abbrev pub undefined_row : List ℕ → SymbolId → Bool
@@ -12,4 +12,4 @@ undefined_row symbols id = eqb (kind_at symbols id.0) undefined_kind
 unfoldable pub strong_undefined : List ℕ → SymbolId → Bool
 strong_undefined symbols id =
     cond (undefined_row symbols id)
-    (cond (eqb (visibility_code_at symbols id.0) global) true (cond (eqb (visibility_code_at symbols id.0) global_hidden) true false)) false
+    (cond (eqb (scope_at symbols id.0) global) true (cond (eqb (scope_at symbols id.0) global_hidden) true false)) false

@@ -15,10 +15,10 @@ use symbol::{Row, SymbolVisibility};
 pub use write::Table;
 
 #[tactic(auto, using(crate::specs::Proof::DecideWays::weak_same))]
-fn is_weak(visibility: u64) -> bool
-    ensures { result ≡ weak_of visibility }
+fn is_weak(scope: u64) -> bool
+    ensures { result ≡ weak_of scope }
 {
-    SymbolVisibility::from(visibility).is_weak()
+    SymbolVisibility::from(scope).is_weak()
 }
 
 // A row yields to an add of a greater rank. In the gABI profile a strong reference stands above a weak one. A common's binding doesn't count.
@@ -33,10 +33,10 @@ enum Rank {
 
 impl Rank {
     #[tactic(auto, unfolding(crate::specs::Decide::rank_of, crate::specs::Decide::reference_rank))]
-    fn of(gabi: bool, visibility: u64, value: u64) -> Rank
-        ensures { rank_number result ≡ rank_of gabi visibility value }
+    fn of(gabi: bool, scope: u64, value: u64) -> Rank
+        ensures { rank_number result ≡ rank_of gabi scope value }
     {
-        match (value, is_weak(visibility)) {
+        match (value, is_weak(scope)) {
             (symbol::KIND_UNDEFINED, false) if gabi => Rank::StrongReference,
             (symbol::KIND_UNDEFINED, _) => Rank::Reference,
             (symbol::KIND_COMMON, _) => Rank::Common,
@@ -66,7 +66,7 @@ fn room(l: Link, symbols: &[u64], sections: &[u64], row: Row) -> bool
 {
     let section = SectionId(row.value.a as usize);
     l.symbols < link::symbol_rows(symbols.len())
-        && (row.visibility != symbol::LOCAL
+        && (row.scope != symbol::LOCAL
             || row.value.kind != symbol::KIND_SECTION
             || section_cell(l, sections.len(), section) < sections.len())
 }
@@ -90,7 +90,7 @@ fn decide_new(l: Link, symbols: &[u64], sections: &[u64], row: Row) -> Result<Re
     }
 }
 
-// A row that stays, by its and the add's visibility.
+// A row that stays, by its and the add's scope.
 #[tactic(auto, using(symbol::specs::Proof::Ways::hidden_same), unfolding(crate::specs::Decide::kept_of))]
 fn keep(gabi: bool, old: u64, new: u64, id: SymbolId) -> Resolution
     ensures { decision_of (Ok result) ≡ kept_of gabi old new id }
@@ -110,7 +110,7 @@ fn stay(gabi: bool, scope: u64, old: Rank, new: Rank, row: Row, id: SymbolId) ->
     if old == Rank::Common && new == Rank::Common {
         Resolution::Amend { id }
     } else {
-        keep(gabi, scope, row.visibility, id)
+        keep(gabi, scope, row.scope, id)
     }
 }
 
@@ -124,7 +124,7 @@ fn decide_known(gabi: bool, symbols: &[u64], row: Row, id: SymbolId) -> Result<R
     if !symbol::is_kind(row.value.kind) {
         return Err(row.value.kind);
     }
-    let new = Rank::of(gabi, row.visibility, row.value.kind);
+    let new = Rank::of(gabi, row.scope, row.value.kind);
     let scope = symbol::scope_at(symbols, id);
     let old = Rank::of(
         gabi,
@@ -195,9 +195,9 @@ pub fn resolve(
     ensures decision { decision_of result ≡ decide_of l symbols.now sections.now row holder }
     ensures number { IfErr result (λ n. n ≢ 0) }
 {
-    if !symbol::is_scope(row.visibility) {
-        Err(row.visibility)
-    } else if row.visibility == symbol::LOCAL {
+    if !symbol::is_scope(row.scope) {
+        Err(row.scope)
+    } else if row.scope == symbol::LOCAL {
         decide_local(l, symbols, sections, row, holder)
     } else {
         decide_named(l, symbols, sections, row, holder)

@@ -81,7 +81,7 @@ pub fn section_cell(l: Link, len: usize, s: SectionId) -> usize
         return len;
     }
     if s.0 < l.slots {
-        return l.slots * 8 + s.0;
+        return l.slots * cells::ROW_CELLS + s.0;
     }
     len
 }

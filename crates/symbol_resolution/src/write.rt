@@ -22,7 +22,7 @@ pub struct Table<'a> {
 fn note_name(names: &mut [u64], row: Row, id: usize)
     ensures { names.new ≡ note_name names.old row id }
 {
-    if row.visibility != symbol::LOCAL {
+    if row.scope != symbol::LOCAL {
         cells::row_put(names, row.name.0, symbol::NAME_SYMBOL, id as u64);
     }
 }
@@ -32,7 +32,7 @@ fn note_name(names: &mut [u64], row: Row, id: usize)
 fn note_section(l: Link, sections: &mut [u64], row: Row, id: usize)
     ensures { sections.new ≡ note_section l sections.old row id }
 {
-    if row.visibility == symbol::LOCAL && row.value.kind == symbol::KIND_SECTION {
+    if row.scope == symbol::LOCAL && row.value.kind == symbol::KIND_SECTION {
         let section = SectionId(row.value.a as usize);
         crate::rows::set_section_symbol(l, sections, section, SymbolId(id));
     }
@@ -68,7 +68,7 @@ fn amend(gabi: bool, symbols: &mut [u64], row: Row, id: SymbolId)
     ensures { symbols.new ≡ amended_in gabi symbols.old row id }
 {
     let joined = join(Row::at(symbols, id), row);
-    joined.pass_hidden(gabi, row.visibility).store(symbols, id);
+    joined.pass_hidden(gabi, row.scope).store(symbols, id);
 }
 
 impl Table<'_> {

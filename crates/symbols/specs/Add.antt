@@ -1,6 +1,7 @@
 -- A direct add. 22; 1; then the decision on the row that the symbol would become; what it writes.
 -- Assumes nothing.
 use Rattle.std.specs.Prelude.{ℕ, ◌+◌, ◌*◌, Bool, true, false, cond, List, eqb, leb, get_or, length, Option, None, Some}
+use Rattle.cells.specs.Rows.{row_width}
 use Rattle.link.specs.declared.Link.{Link}
 use Rattle.link.specs.declared.Lent.{Lent}
 use Rattle.link.specs.declared.Interned.{Interned}
@@ -78,7 +79,7 @@ committed_of t r file d =
 
 -- a name is empty where its length is 0
 abbrev pub empty_at : List ℕ → Interned → Bool
-empty_at names name = eqb (get_or names (name.0 * 8 + length_cell) 0) 0
+empty_at names name = eqb (get_or names (name.0 * row_width + length_cell) 0) 0
 
 unfoldable pub add_row_of : Table → Row → Option Interned → Left
 add_row_of t r file = committed_of t r file (decided_of t r file)

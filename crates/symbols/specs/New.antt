@@ -1,6 +1,7 @@
 -- A new table: the empty name and the null symbol. "Two rows lent: null and one undefined name fit".
 -- Assumes nothing.
 use Rattle.std.specs.Prelude.{ℕ, ◌*◌, ◌-◌, Bool, cond, List, ◌++◌, eqb, length, take, replicate}
+use Rattle.cells.specs.Rows.{row_width}
 use Rattle.link.specs.declared.Link.{Link}
 use Rattle.link.specs.Bounds.{symbol_rows, section_slots}
 use Rattle.link.specs.Judge.{refused}
@@ -18,7 +19,7 @@ use Rattle.link.specs.Counts.{no_rows, with_symbols, with_slots, with_profile}
 use Rattle.symbols.specs.Calls.{said}
 
 abbrev pub null_row : Row
-null_row = record { name = record { 0 = 0 }; kind = stt_notype; file = 0; visibility = local; value = words_are null_kind 0 0; size = 0 }
+null_row = record { name = record { 0 = 0 }; kind = stt_notype; file = 0; scope = local; value = words_are null_kind 0 0; size = 0 }
 
 -- every lent cell, the counts and the answer
 pub record NewLeft : Type 0 where
@@ -39,7 +40,7 @@ one_symbol gabi l slots = with_profile (with_slots (with_symbols l 1) slots) gab
 -- no section has a symbol
 unfoldable pub clear_symbols : List ℕ → List ℕ
 clear_symbols sections =
-    take (section_slots (length sections) * 8) sections ++ replicate (length sections - section_slots (length sections) * 8) 0
+    take (section_slots (length sections) * row_width) sections ++ replicate (length sections - section_slots (length sections) * row_width) 0
 
 -- over the names' store as a new table of names leaves it
 unfoldable pub null_of : Bool → List ℕ → List ℕ → Store → NewLeft

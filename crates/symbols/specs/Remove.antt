@@ -1,6 +1,7 @@
 -- `remove`: "`remove` of any `Section` row drops that entry, and never forgets a global name; of a removed id it is accepted and changes nothing".
 -- Assumes nothing.
 use Rattle.std.specs.Prelude.{ℕ, ◌+◌, ◌*◌, cond, List, eqb, leb, set, length}
+use Rattle.cells.specs.Rows.{row_width}
 use Rattle.link.specs.declared.Link.{Link}
 use Rattle.link.specs.declared.SymbolId.{SymbolId}
 use Rattle.link.specs.Judge.{refused, change_of}
@@ -46,7 +47,7 @@ drop_section l sections kind s = cond (eqb kind section_kind) (set_section_symbo
 unfoldable pub remove_row_of : Link → Rows → SymbolId → Rows
 remove_row_of l x id =
     cond (eqb (state_at x.symbols id.0) removed_state) x
-    (rows_of (set x.symbols (id.0 * 8 + state_cell) removed_state) (drop_section l x.sections (kind_at x.symbols id.0) (field x.symbols id.0 first_cell)))
+    (rows_of (set x.symbols (id.0 * row_width + state_cell) removed_state) (drop_section l x.sections (kind_at x.symbols id.0) (field x.symbols id.0 first_cell)))
 
 -- 22, 1; an id at or past the count: 21
 unfoldable pub remove_of : Link → Rows → SymbolId → RemoveLeft

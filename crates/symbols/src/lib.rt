@@ -52,7 +52,7 @@ fn clear_section_symbols(sections: &mut [u64])
     ensures { sections.new ≡ clear_symbols sections.old }
 {
     let rows = link::section_slots(sections.len());
-    cells::clear_from(sections, rows * 8);
+    cells::clear_from(sections, rows * cells::ROW_CELLS);
 }
 
 // One symbol, and cells for that many sections' symbols.

@@ -126,7 +126,7 @@ pub fn elf_row(c: Conversion, e: ElfSymbol, name: Interned, empty: bool, file: u
         name,
         kind: e.kind,
         file,
-        visibility: scope(judge(e.binding, e.visibility)),
+        scope: scope(judge(e.binding, e.visibility)),
         value: words(value_of(c, e, empty)),
         size: e.size,
     }
@@ -153,7 +153,7 @@ pub fn external_row(gabi: bool, name: Interned, binding: u64, visibility: u64) -
         name,
         kind: symbol::STT_NOTYPE,
         file: 0,
-        visibility: library_code(gabi, scope(judge(binding, visibility))),
+        scope: library_code(gabi, scope(judge(binding, visibility))),
         value: SymbolValue::ExternallyDefined.into(),
         size: 0,
     }
@@ -167,7 +167,7 @@ pub(super) fn local(kind: u64, value: SymbolValue) -> Row
         name: Interned(0),
         kind,
         file: 0,
-        visibility: symbol::LOCAL,
+        scope: symbol::LOCAL,
         value: value.into(),
         size: 0,
     }
@@ -192,7 +192,7 @@ pub(super) fn global(name: Interned, hidden: bool, value: Words) -> Row
         name,
         kind: symbol::STT_NOTYPE,
         file: 0,
-        visibility: SymbolVisibility::Global {
+        scope: SymbolVisibility::Global {
             weak: false,
             hidden,
         }

@@ -21,7 +21,7 @@ use Rattle.symbols.specs.New.{new_of}
 use Rattle.symbols.specs.Lookup.{get_of}
 use Rattle.archive_laws.specs.Examples as Walks
 use Rattle.gc_laws.specs.Examples as Collections
-use Rattle.plain_laws.proofs.Examples as PlainCollections
+use Rattle.plain_laws.specs.Examples as PlainCollections
 use Rattle.worked_examples.specs.Groups as Groups
 use Rattle.symbol_laws.specs.History.{State, with_table, opened, call_next, intern, add_to}
 

@@ -1,2 +1,3 @@
 pub mod Examples
 pub mod Groups
+pub mod Lists

@@ -6,9 +6,10 @@ use native.Mathlib.Omega.{arith}
 use Rattle.std.proofs.Math.Path.{sym}
 use Rattle.std.proofs.Common.{◌∙◌, length-take-le}
 use borrow.Author.Tests.{lt-ltb, le-ltb, ltb-false}
+use Rattle.cells.specs.Rows.{row_width}
 use Rattle.cells.specs.Proof.Split.{by-test}
 use Rattle.cells.specs.Proof.Part.{tail, part-past, part_in, part-all}
-use Rattle.elf_object.specs.Rows.{rows_in, entries_from, row_width}
+use Rattle.elf_object.specs.Rows.{rows_in, entries_from}
 use Rattle.elf_object.specs.Judge.{entry_ok, first_bad, found_below, bad_entry}
 
 -- ---- the loaded symbol table

@@ -11,7 +11,7 @@ use Rattle.link.specs.declared.Link.{Link}
 use Rattle.link.specs.declared.SymbolId.{SymbolId}
 use Rattle.link.specs.Bounds.{symbol_rows}
 use Rattle.symbol.specs.declared.Row.{Row}
-use Rattle.symbol.specs.Row.{visibility_code_at, kind_at, set_row, scope_refused, scope_refusal, value_refused, value_refusal}
+use Rattle.symbol.specs.Row.{scope_at, kind_at, set_row, scope_refused, scope_refusal, value_refused, value_refusal}
 use Rattle.symbol.specs.Hidden.{hidden_code, passes}
 use Rattle.symbol.specs.Layout.{local}
 use Rattle.symbol.specs.Proof.Ways.{refused-scope, refused-value}
@@ -39,10 +39,10 @@ fresh_under is_local (Known id) = is_local
 
 module _ (r : Row) where
   abbrev pub is_local_row : Bool
-  is_local_row = eqb r.visibility local
+  is_local_row = eqb r.scope local
 
   abbrev pub row_rank : Bool → ℕ
-  row_rank gabi = rank_of gabi r.visibility r.value.kind
+  row_rank gabi = rank_of gabi r.scope r.value.kind
 
   -- no refusal stands in the row's scope, and none in its value
   pub record Passing : Type 0 where
@@ -54,11 +54,11 @@ module _ (r : Row) where
     pub known : h ≡ Known id
 
 abbrev pub held_rank : Bool → List ℕ → SymbolId → ℕ
-held_rank gabi symbols id = rank_of gabi (visibility_code_at symbols id.0) (kind_at symbols id.0)
+held_rank gabi symbols id = rank_of gabi (scope_at symbols id.0) (kind_at symbols id.0)
 
 -- the row that stays becomes hidden: the add is, it isn't, and hidden passes
 abbrev pub hides : Bool → List ℕ → Row → SymbolId → Bool
-hides gabi symbols r id = passes gabi r.visibility && not (hidden_code (visibility_code_at symbols id.0))
+hides gabi symbols r id = passes gabi r.scope && not (hidden_code (scope_at symbols id.0))
 
 module _ (l : Link) (symbols sections : List ℕ) (r : Row) where
   abbrev decision : Holder → Decision
@@ -148,15 +148,15 @@ module _ (l : Link) (symbols sections : List ℕ) (r : Row) where
             unfolding known_of ranked_of stays_of kept_of
             known_kept j m =
                 rw (is_known h id meets, w, y, k, j)
-                (by-test (passes l.gabi r.visibility)
-                (λ p. by-test (hidden_code (visibility_code_at symbols id.0)) (λ q. rw (p, q)) (λ q. absurd (false≢true (sym (rw (p, q) at m))))) (λ p. rw p))
+                (by-test (passes l.gabi r.scope)
+                (λ p. by-test (hidden_code (scope_at symbols id.0)) (λ q. rw (p, q)) (λ q. absurd (false≢true (sym (rw (p, q) at m))))) (λ p. rw p))
 
             pub known-amended : joins (held_rank l.gabi symbols id) (row_rank r l.gabi) ≡ false → hides l.gabi symbols r id ≡ true → decision h ≡ Amend id
             unfolding known_of ranked_of stays_of kept_of
             known-amended j m =
                 rw (is_known h id meets, w, y, k, j)
-                (by-test (passes l.gabi r.visibility)
-                (λ p. by-test (hidden_code (visibility_code_at symbols id.0)) (λ q. absurd (false≢true (rw (p, q) at m))) (λ q. rw (p, q)))
+                (by-test (passes l.gabi r.scope)
+                (λ p. by-test (hidden_code (scope_at symbols id.0)) (λ q. absurd (false≢true (rw (p, q) at m))) (λ q. rw (p, q)))
                 (λ p. absurd (false≢true (rw p at m))))
 
   -- ---- all of them

@@ -1,0 +1,18 @@
+-- The words of the statements in proofs/CallPlaces.antt.
+-- Assumes nothing.
+use Prim.Native.Nat.{ℕ}
+use Rattle.std.specs.Prelude.{Bool, not, List, length}
+use Rattle.link.specs.declared.Lent.{Lent}
+use Rattle.archive_index.specs.Rows.{stored_name}
+use Rattle.archive_walk.specs.Look.{removed_name}
+use Rattle.archive_walk.specs.Look as Look
+use Rattle.gc_sections.specs.Run as Collection
+use Rattle.merge_laws.specs.Calls.{Linked}
+
+module _ (index cells : List ℕ) (t : Look.Table) where
+  abbrev pub not_removed : ℕ → Bool
+  not_removed e = not (removed_name t (stored_name index cells e))
+
+abbrev pub collect_lent : Linked → Lent
+collect_lent s =
+    Collection.lent_of (length s.table.bytes) (length s.table.names) (length s.table.symbols) (length s.table.sections) (length s.lists)

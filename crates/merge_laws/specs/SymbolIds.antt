@@ -1,0 +1,16 @@
+-- The words of the statements in proofs/SymbolIds.antt.
+-- Assumes nothing.
+use Rattle.std.specs.Prelude.{ℕ}
+use Rattle.strings.specs.Lookup.{Looked}
+use Rattle.elf_object.specs.Rows.{field, name_in}
+use Rattle.merge_symbols.specs.Plan.{Planned}
+use Rattle.merge_symbols.specs.Plan.{input_of, planned_of}
+use Rattle.merge_symbols.specs.Stage as Symbols
+use Rattle.merge_symbols.specs.Stage.{Object, view}
+
+-- the name of symbol i, and what is planned for it
+abbrev pub name_of : Object → ℕ → Looked
+name_of o i = name_in o.headers o.image o.symbol_names (field o.entries i 0)
+
+abbrev pub plan_of : Object → Symbols.State → ℕ → Planned
+plan_of o s i = planned_of (view s) (input_of o.entries o.work) (name_of o i).name i s.stage.file

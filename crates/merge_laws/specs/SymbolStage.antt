@@ -1,0 +1,12 @@
+-- The words of the statements in proofs/SymbolStage.antt.
+-- Assumes nothing.
+use Rattle.std.specs.Prelude.{ℕ}
+use Rattle.merge_symbols.specs.Stage as Symbols
+use Rattle.symbol_laws.specs.History.{State}
+
+-- the table, without what the stage keeps for itself
+abbrev pub table_in : Symbols.State → State
+table_in s = record { bytes = s.bytes; names = s.names; symbols = s.symbols; sections = s.sections; link = s.stage.link }
+
+abbrev pub number_of : Symbols.State → ℕ
+number_of s = s.stage.number
