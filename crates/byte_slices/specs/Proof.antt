@@ -1,1 +1,3 @@
+pub mod Copies
 pub mod Ways
+pub mod Words

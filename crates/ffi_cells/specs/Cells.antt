@@ -46,11 +46,30 @@ symbol_out out s = row_out out s.id (symbol_row s)
 
 -- ---- a symbol that is to be added: nine cells, the variant and its fields
 
+-- the variants' numbers; 0 is the null symbol
+abbrev pub unknown_variant : ℕ
+unknown_variant = 1
+
+abbrev pub hidden_variant : ℕ
+hidden_variant = 2
+
+abbrev pub section_variant : ℕ
+section_variant = 3
+
+abbrev pub external_variant : ℕ
+external_variant = 4
+
+abbrev pub elf_variant : ℕ
+elf_variant = 5
+
+abbrev pub variant_of : List ℕ → ℕ
+variant_of item = get_or item 0 0
+
 -- an unknown variant, or an unknown kind of value, is no symbol
 unfoldable pub is_item : List ℕ → Bool
 is_item item =
     cond (ltb (length item) 9) false
-    (cond (ltb 5 (get_or item 0 0)) false (cond (eqb (get_or item 0 0) 2) (cond (ltb common_kind (get_or item 2 0)) false true) true))
+    (cond (ltb elf_variant (variant_of item)) false (cond (eqb (variant_of item) hidden_variant) (cond (ltb common_kind (get_or item 2 0)) false true) true))
 
 unfoldable pub name_in : List ℕ → ℕ → Interned
 name_in item i = record { 0 = get_or item i 0 }
@@ -71,8 +90,8 @@ elf_in item =
 
 unfoldable pub item_in : List ℕ → UpcomingSymbol
 item_in item =
-    cond (eqb (get_or item 0 0) 1) (GlobalUnknown (name_in item 1))
-    (cond (eqb (get_or item 0 0) 2) (GlobalHidden (name_in item 1) (value_at (words_in item)))
-    (cond (eqb (get_or item 0 0) 3) (Section (record { 0 = get_or item 1 0 }))
-    (cond (eqb (get_or item 0 0) 4) (ExternallyDefined (name_in item 1) (get_or item 2 0) (get_or item 3 0))
-    (cond (eqb (get_or item 0 0) 5) (Elf (elf_in item) (name_in item 6) (file_at (get_or item 7 0))) Null))))
+    cond (eqb (variant_of item) unknown_variant) (GlobalUnknown (name_in item 1))
+    (cond (eqb (variant_of item) hidden_variant) (GlobalHidden (name_in item 1) (value_at (words_in item)))
+    (cond (eqb (variant_of item) section_variant) (Section (record { 0 = get_or item 1 0 }))
+    (cond (eqb (variant_of item) external_variant) (ExternallyDefined (name_in item 1) (get_or item 2 0) (get_or item 3 0))
+    (cond (eqb (variant_of item) elf_variant) (Elf (elf_in item) (name_in item 6) (file_at (get_or item 7 0))) Null))))

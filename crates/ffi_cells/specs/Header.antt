@@ -66,10 +66,6 @@ unfoldable pub counts_in : List ℕ → Link → List ℕ
 counts_in h l =
     put_row h 0 (l.names ∷ l.bytes ∷ l.symbols ∷ l.sections ∷ l.inputs ∷ l.lists ∷ l.chains ∷ l.slots ∷ [])
 
--- cells 0 and 1 alone
-unfoldable pub names_in : List ℕ → Link → List ℕ
-names_in h l = set (set h 0 l.names) 1 l.bytes
-
 -- cell 16
 unfoldable pub profile_in : List ℕ → Link → List ℕ
 profile_in h l = set h 16 (flag_of l.gabi)
@@ -90,10 +86,16 @@ told number header = record { number = number; header = header }
 unfoldable pub tell_of : List ℕ → Link → Reply → Told
 tell_of h l r = told r.number (header_of h l r)
 
--- a call that changes no count but those of names
-unfoldable pub tell_names_of : List ℕ → Link → Reply → Told
-tell_names_of h l r = told r.number (reply_in (profile_in (names_in h l) l) (flag_of l.broken) l.key r)
-
 -- a call that doesn't change a link: cells 8, 15 and 16 keep their numbers
 unfoldable pub answer_of : List ℕ → Reply → Told
 answer_of h r = told r.number (reply_in h (get_or h 8 0) (get_or h 15 0) r)
+
+-- ---- what is written where the other cells hold it already
+
+-- cells 9 to 14
+abbrev pub answer_in : List ℕ → Reply → List ℕ
+answer_in h r = set (set (set (set (set (set h 9 r.number) 10 r.place) 11 r.first) 12 r.second) 13 r.third) 14 r.fourth
+
+-- cells 16 and 8 as a link's, and the answer
+abbrev pub settled : List ℕ → Reply → List ℕ
+settled h r = answer_in (set (set h 16 (flag_of (is_set (get_or h 16 0)))) 8 (flag_of (is_set (get_or h 8 0)))) r

@@ -1,7 +1,8 @@
 // A link and an answer in the cells of a header, for the calls from another language. Cells 0 to 8 hold the link (names, bytes, symbols, sections,
 // inputs, lists, chains, slots, broken), 15 its key and 16 its profile, 9 the number of the refusal, 10 its place, 11 to 14 the values of the answer.
 ghost use Rattle.std.specs.Prelude.{◌≡◌};
-ghost use Rattle.ffi_cells.specs.Header.{is_set, flag_of, link_in, result_of, refusal_of, refused_of, reply_in, counts_in, profile_in, told, tell_of, names_in, tell_names_of, answer_of};
+ghost use Rattle.ffi_cells.specs.Header.{is_set, flag_of, link_in, result_of, refusal_of, refused_of, reply_in, counts_in, profile_in, told, tell_of, answer_of, answer_in, settled};
+ghost use Rattle.link.specs.Counts.{with_names, with_symbols};
 
 use link::{Link, Refusal};
 
@@ -11,7 +12,26 @@ pub const HEADER_CELLS: usize = 24;
 // A header of fewer cells: refusal 1, which nothing can be written for.
 pub const SHORT: u64 = 1;
 
+const NAMES: usize = 0;
+
+const BYTES: usize = 1;
+
+const SYMBOLS: usize = 2;
+
+const SECTIONS: usize = 3;
+
+const INPUTS: usize = 4;
+
+const LISTS: usize = 5;
+
+const CHAINS: usize = 6;
+
+const SLOTS: usize = 7;
+
 const BROKEN: usize = 8;
+
+// The answer: number, place, four values.
+const NUMBER: usize = 9;
 
 const KEY: usize = 15;
 
@@ -54,42 +74,37 @@ pub fn link_in(header: &[u64]) -> Link
     ensures { result ≡ link_in header.now }
 {
     Link {
-        names: cells::get(header, 0) as usize,
-        bytes: cells::get(header, 1) as usize,
-        symbols: cells::get(header, 2) as usize,
-        sections: cells::get(header, 3) as usize,
-        inputs: cells::get(header, 4) as usize,
-        lists: cells::get(header, 5) as usize,
-        chains: cells::get(header, 6) as usize,
-        slots: cells::get(header, 7) as usize,
+        names: cells::get(header, NAMES) as usize,
+        bytes: cells::get(header, BYTES) as usize,
+        symbols: cells::get(header, SYMBOLS) as usize,
+        sections: cells::get(header, SECTIONS) as usize,
+        inputs: cells::get(header, INPUTS) as usize,
+        lists: cells::get(header, LISTS) as usize,
+        chains: cells::get(header, CHAINS) as usize,
+        slots: cells::get(header, SLOTS) as usize,
         key: cells::get(header, KEY) as usize,
         gabi: is_set(cells::get(header, PROFILE)),
         broken: is_set(cells::get(header, BROKEN)),
     }
 }
 
-// Cells 8 and 15, and the answer.
-#[tactic(auto, unfolding(crate::specs::Header::reply_in))]
-fn put_reply(header: &mut [u64], broken: u64, key: u64, r: Reply)
-    ensures { header.new ≡ reply_in header.old broken key r }
+// The answer: its six cells.
+fn put_answer(header: &mut [u64], r: Reply)
+    ensures { header.new ≡ answer_in header.old r }
 {
-    cells::row_store(
-        header,
-        1,
-        [
-            broken, r.number, r.place, r.first, r.second, r.third, r.fourth, key,
-        ],
-    );
+    cells::put(header, NUMBER, r.number);
+    cells::put(header, NUMBER + 1, r.place);
+    cells::put(header, NUMBER + 2, r.first);
+    cells::put(header, NUMBER + 3, r.second);
+    cells::put(header, NUMBER + 4, r.third);
+    cells::put(header, NUMBER + 5, r.fourth);
 }
 
 // The answer of a call that doesn't change a link: its cells stay.
-#[tactic(auto, unfolding(crate::specs::Header::answer_of))]
 pub fn answer(header: &mut [u64], r: Reply) -> u64
     ensures { told result header.new ≡ answer_of header.old r }
 {
-    let broken = cells::get(header, BROKEN);
-    let key = cells::get(header, KEY);
-    put_reply(header, broken, key, r);
+    put_answer(header, r);
     r.number
 }
 
@@ -113,12 +128,18 @@ fn put_counts(header: &mut [u64], l: Link)
     );
 }
 
-#[tactic(auto, unfolding(crate::specs::Header::names_in))]
-fn put_names(header: &mut [u64], l: Link)
-    ensures { header.new ≡ names_in header.old l }
+// Cells 8 and 15, and the answer.
+#[tactic(auto, unfolding(crate::specs::Header::reply_in))]
+fn put_reply(header: &mut [u64], broken: u64, key: u64, r: Reply)
+    ensures { header.new ≡ reply_in header.old broken key r }
 {
-    cells::put(header, 0, l.names as u64);
-    cells::put(header, 1, l.bytes as u64);
+    cells::row_store(
+        header,
+        1,
+        [
+            broken, r.number, r.place, r.first, r.second, r.third, r.fourth, key,
+        ],
+    );
 }
 
 // Behind the counts: the profile, cells 8 and 15, and the answer.
@@ -140,13 +161,33 @@ pub fn tell(header: &mut [u64], l: Link, r: Reply) -> u64
     r.number
 }
 
-// The same of a call that changes no count but those of names: the other counts are in their cells already.
-#[tactic(auto, unfolding(crate::specs::Header::tell_names_of))]
-pub fn tell_names(header: &mut [u64], l: Link, r: Reply) -> u64
-    ensures { told result header.new ≡ tell_names_of header.old l r }
+// The answer; and of the link's cells the two flags, as `tell` writes them of the link in the header: 0 or 1.
+fn settle(header: &mut [u64], r: Reply)
+    ensures { header.new ≡ settled header.old r }
 {
-    put_names(header, l);
-    put_rest(header, l, r);
+    let profile = is_set(cells::get(header, PROFILE));
+    let broken = is_set(cells::get(header, BROKEN));
+    cells::put(header, PROFILE, flag(profile));
+    cells::put(header, BROKEN, flag(broken));
+    put_answer(header, r);
+}
+
+// What `tell` writes of the link in the header with these counts of names: what else it holds is in its cells already, but for the flags.
+pub fn tell_names(header: &mut [u64], names: usize, bytes: usize, r: Reply) -> u64
+    ensures { told result header.new ≡ tell_of header.old (with_names (link_in header.old) names bytes) r }
+{
+    cells::put(header, NAMES, names as u64);
+    cells::put(header, BYTES, bytes as u64);
+    settle(header, r);
+    r.number
+}
+
+// The same of the count of symbols.
+pub fn tell_symbols(header: &mut [u64], symbols: usize, r: Reply) -> u64
+    ensures { told result header.new ≡ tell_of header.old (with_symbols (link_in header.old) symbols) r }
+{
+    cells::put(header, SYMBOLS, symbols as u64);
+    settle(header, r);
     r.number
 }
 

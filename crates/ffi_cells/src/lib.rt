@@ -1,14 +1,14 @@
 // A symbol that was found, and one that is to be added, in lent cells, for the calls from another language.
 #![tactic(auto)]
 
-ghost use Rattle.std.specs.Prelude.{◌≡◌};
-ghost use Rattle.ffi_cells.specs.Cells.{symbol_row, row_out, symbol_out, is_item, name_in, words_in, elf_in, item_in};
+ghost use Rattle.std.specs.Prelude.{◌≡◌, ◌≢◌};
+ghost use Rattle.ffi_cells.specs.Cells.{elf_variant, variant_of, symbol_row, row_out, symbol_out, is_item, name_in, words_in, elf_in, item_in};
 
 mod header;
 
 pub use header::{
     HEADER_CELLS, Reply, SHORT, answer, flag, is_set, link_in, refusal, refused, result, tell,
-    tell_names,
+    tell_names, tell_symbols,
 };
 use link::{Interned, SectionId, SymbolId};
 use symbol::{Row, Symbol, Words};
@@ -81,8 +81,10 @@ pub fn is_item(item: &[u64]) -> bool
 {
     item.len() >= 9
         && match cells::get(item, 0) {
+            // First, since nearly all are objects' symbols.
+            ELF => true,
             GLOBAL_HIDDEN => cells::get(item, 2) <= symbol::KIND_COMMON,
-            variant => variant <= ELF,
+            variant => variant < ELF,
         }
 }
 
@@ -116,8 +118,12 @@ fn name_in(item: &[u64], i: usize) -> Interned
     Interned(cells::get(item, i) as usize)
 }
 
+// A symbol of another variant than an object's.
+// Never inlined: nearly all are objects' symbols, and this one's cases would push their values to the stack.
+#[inline(never)]
 #[tactic(auto, unfolding(crate::specs::Cells::item_in))]
-pub fn item_in(item: &[u64]) -> UpcomingSymbol
+fn other_item(item: &[u64]) -> UpcomingSymbol
+    requires { variant_of item.now ≢ elf_variant }
     ensures { result ≡ item_in item.now }
 {
     match cells::get(item, 0) {
@@ -136,11 +142,20 @@ pub fn item_in(item: &[u64]) -> UpcomingSymbol
             visibility: cells::get(item, 2),
             binding: cells::get(item, 3),
         },
-        ELF => UpcomingSymbol::Elf {
-            elf: elf_in(item),
-            name: name_in(item, 6),
-            file: symbol::file_at(cells::get(item, 7)),
-        },
         _ => UpcomingSymbol::Null,
+    }
+}
+
+#[tactic(auto, unfolding(crate::specs::Cells::item_in))]
+pub fn item_in(item: &[u64]) -> UpcomingSymbol
+    ensures { result ≡ item_in item.now }
+{
+    if cells::get(item, 0) != ELF {
+        return other_item(item);
+    }
+    UpcomingSymbol::Elf {
+        elf: elf_in(item),
+        name: name_in(item, 6),
+        file: symbol::file_at(cells::get(item, 7)),
     }
 }

@@ -39,7 +39,7 @@ pub fn intern(header: &mut [u64], bytes: &mut [u8], names: &mut [u64], name: &[u
         cells: names,
     };
     let answer = lent.intern(name);
-    ffi_cells::tell_names(header, lent.link, interned(answer))
+    ffi_cells::tell_names(header, lent.link.names, lent.link.bytes, interned(answer))
 }
 
 // Where a name starts in so many bytes, whatever its row holds.

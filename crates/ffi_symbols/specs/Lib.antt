@@ -2,3 +2,4 @@ pub mod Calls
 pub mod Contract
 pub mod LookupCalls
 pub mod LookupContract
+pub mod Proof

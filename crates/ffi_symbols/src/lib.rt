@@ -81,7 +81,7 @@ pub fn new(
     }
 }
 
-#[tactic(auto, unfolding(crate::specs::Calls::add_known))]
+#[tactic(auto, using(crate::specs::Proof::Told::add_told), unfolding(crate::specs::Calls::add_known))]
 fn add_known(
     header: &mut [u64],
     names: &mut [u64],
@@ -100,7 +100,7 @@ fn add_known(
         sections,
     };
     let answer = symbols::add(&mut table, conversion, u);
-    ffi_cells::tell(header, table.link, added(answer))
+    ffi_cells::tell_symbols(header, table.link.symbols, added(answer))
 }
 
 // The value is the symbol's id.

@@ -1,15 +1,14 @@
 -- Interning changes no count of a link but those of names, so that the others may stay in the header's cells.
 -- Assumes nothing.
 use Rattle.std.specs.Prelude.{ℕ, ◌≡◌, refl, List, eqb, ltb, length}
-use Rattle.std.proofs.Common.{sym, subst}
+use Rattle.std.proofs.Common.{sym, ap}
 use Rattle.link.specs.declared.Link.{Link}
 use Rattle.link.specs.declared.Interned.{Interned}
 use Rattle.link.specs.Counts.{with_names}
 use Rattle.link.specs.Judge.{change_of}
 use Rattle.interner.specs.Names.{Store, store_of, find_of, fits_of, room_of, added, keep_of}
 use Rattle.interner.specs.Calls.{Left, lent, issue_of, intern_of}
-use Rattle.ffi_cells.specs.Header.{link_in, saying, tell_of, tell_names_of}
-use Rattle.ffi_cells.specs.Proof.Ways.{names_told}
+use Rattle.ffi_cells.specs.Header.{link_in, saying, tell_of}
 use Rattle.ffi_names.specs.Proof.Laws.{pick}
 
 -- the counts, those of names apart
@@ -33,7 +32,7 @@ module _ (s : Store) (x : List ℕ) where
       pick (λ (w : Left). Same s.link w.store.link) (eqb (change_of s.link (lent s)).number 0) _ _
       (λ e. issue-same (record { 0 = find_of s.bytes s.names s.link x })) (λ e. refl)
 
-pub intern_told : (h b n x : List ℕ) → let w = intern_of (store_of b n (link_in h)) x in tell_names_of h w.store.link (saying w.said) ≡ tell_of h w.store.link (saying w.said)
-intern_told h b n x =
-    let w = intern_of (store_of b n (link_in h)) x in
-    subst (λ (l : Link). tell_names_of h l (saying w.said) ≡ tell_of h l (saying w.said)) (sym (intern-same (store_of b n (link_in h)) x)) (names_told h w.store.link.names w.store.link.bytes (saying w.said))
+pub intern_told : (h b n x : List ℕ)
+    → let w = intern_of (store_of b n (link_in h)) x in
+    tell_of h (with_names (link_in h) w.store.link.names w.store.link.bytes) (saying w.said) ≡ tell_of h w.store.link (saying w.said)
+intern_told h b n x = let w = intern_of (store_of b n (link_in h)) x in ap (λ (l : Link). tell_of h l (saying w.said)) (sym (intern-same (store_of b n (link_in h)) x))
