@@ -1,4 +1,4 @@
--- Theorems over specs/Answers.antt.
+-- Every answer of a call for the next member is right (specs/Answers.antt).
 -- Assumes nothing.
 use Rattle.archive_walk.specs.declared.Offer.TheVariants.{Done, Member}
 use Rattle.std.specs.Prelude.{ℕ, ◌+◌, ◌≡◌, Bool, cond, List, eqb, ltb, Ok}

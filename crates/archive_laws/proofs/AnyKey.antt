@@ -21,10 +21,11 @@ use Rattle.archive_walk.specs.Look.{Table, judge_table, tied_name}
 use Rattle.archive_walk.specs.Names.{chained, chain_at, headed_of, noted_of, required_of}
 use Rattle.archive_walk.specs.Walk.{begun_number, fresh_walk, no_walk, begun_of, start_of, Step, step_of, step_moved, refused_move, handed_out, ended, offer_of, Queue, queue_of, marked, enqueue, tie_of, tie_all, removed_of, passed, make_of, search_of, pass_of, walk_fits, go_of, next_of}
 use Rattle.archive_laws.proofs.Chains.{any_same}
-use Rattle.archive_laws.specs.OtherKey.{with_key, Rekeyed, SameMarks}
+use Rattle.archive_laws.specs.OtherKey.{with_key, Rekeyed}
+use Rattle.archive_laws.specs.OtherKey as OtherKey
 use Rattle.archive_laws.specs.Runs.{Run, begun_run, step_run, history, start_run}
 use Rattle.archive_laws.specs.Walked.{asks}
-use Rattle.archive_laws.proofs.Terms.{walked}
+use Rattle.archive_laws.proofs.AcceptedStart.{walked}
 
 -- alike but for the cells of the chains: an entry's link and the head of a chain
 pub record Alike (l m : List ℕ) : Type 0 where
@@ -249,14 +250,8 @@ module _ (s : List ℕ) where
 
   -- ---- from a start on
 
-  -- what two runs have in common
-  pub record Agree (r r' : Run) : Type 0 where
-    pub offers : r'.offers ≡ r.offers
-    pub passes : r'.walk.passes ≡ r.walk.passes
-    pub done : r'.walk.done ≡ r.walk.done
-    -- the next answer, over any table
-    pub answer : (t : Table) → (next_of s r'.cells r'.walk t).moved.offer ≡ (next_of s r.cells r.walk t).moved.offer
-    pub mark : SameMarks r.cells r'.cells
+  abbrev Agree : Run → Run → Type 0
+  Agree = OtherKey.Agree s
 
   agree-runs : (key : ℕ) (r r' : Run) → Runs key r r' → Agree r r'
   agree-runs key r r' e = record {

@@ -1,4 +1,4 @@
--- Theorems over specs/Chains.antt.
+-- The chains of required names are linked as they have to be after a start and after each pass (Linked, specs/ChainsWords.antt), so that a search finds who bears a name.
 -- Assumes nothing.
 use Prim.Native.Nat.{ℕ, zero, suc, ◌+◌, ◌*◌, ◌-◌, ◌/◌, ◌%◌, ◌<◌, ◌≤◌}
 use Rattle.std.proofs.Common.{not-suc-le-zero, mod-lt, arith, ap, ◌∙◌, get_or-set_same}

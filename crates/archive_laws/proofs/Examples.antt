@@ -1,4 +1,4 @@
--- Theorems over specs/Examples.antt.
+-- The rows of specs/Examples.antt, computed.
 -- Assumes nothing.
 use Rattle.std.specs.Prelude.{refl, true, [], ◌∷◌}
 use Rattle.gabi.specs.StringTable.{before_zero, ended, name_at}

@@ -1,4 +1,4 @@
--- The reading of an index is right: of the bytes of any list of entries (the System V format, gabi/specs/Archive_index.antt), whatever stands behind them, the
+-- The reading of an index is right: of the bytes of any list of entries (the System V format, gabi/specs/ArchiveIndex.antt), whatever stands behind them, the
 -- count, each offset and each name are the list's, and opening them is refused for too many entries or too few rows alone.
 -- Assumes nothing.
 use Prim.Native.Nat.{ℕ, suc, ◌+◌, ◌*◌, ◌/◌, ◌%◌, ◌<◌, ◌≤◌}
@@ -15,6 +15,7 @@ use Rattle.gabi.specs.StringTable.{before_zero, ended, name_at}
 use Rattle.gabi.specs.ArchiveIndex.{Entry, word, offsets, names, index_bytes, NoZero, AllFit}
 use Rattle.archive_index.specs.Open.{offsets_in, refused_as, open_rows_of, open_names_of, open_entries_of, open_of}
 use Rattle.archive_index.specs.Index.{word_at, count_of, offset_of, after_of, names_at, place_of, name_of, cut_of}
+use Rattle.archive_laws.specs.StartRead.{bytes_of}
 
 -- ---- numbers
 
@@ -113,10 +114,6 @@ module _ (s rest : List ℕ) (c : ℕ) where
 all-fit-left : (a b : List Entry) → AllFit (a ++ b) → AllFit a
 all-fit-left [] b f = tt
 all-fit-left (e ∷ a) b (o, z, f) = (o, z, all-fit-left a b f)
-
--- the bytes of a list of entries, with whatever stands behind them
-abbrev pub bytes_of : List Entry → List ℕ → List ℕ
-bytes_of es rest = index_bytes es ++ rest
 
 module _ (es : List Entry) (rest : List ℕ) where
   abbrev bytes : List ℕ

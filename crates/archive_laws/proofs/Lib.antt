@@ -1,6 +1,7 @@
 pub mod Again
 pub mod Depth
 pub mod Terms
+pub mod AcceptedStart
 pub mod PassList
 pub mod AnyKey
 pub mod Chains

@@ -19,10 +19,8 @@ use Rattle.archive_laws.proofs.RoundLaws.{Kept, Did, still, sent, halted, made, 
 use Rattle.archive_laws.specs.Runs.{queue_list, view_by, views_by, Run, step_run, history, start_run, seen}
 use Rattle.archive_laws.proofs.Pass.{queue-length}
 use Rattle.archive_laws.specs.ByKey.{tied_in, queue_in, Walked}
-use Rattle.archive_laws.proofs.Terms.{walked}
+use Rattle.archive_laws.proofs.AcceptedStart.{walked}
 use Rattle.archive_laws.specs.PassList.{is_in, without, first_seen, keys_from, keys_of, tied_members, offered, IsOver, Over}
-
--- ---- words on lists of members, each by its key
 
 -- ---- laws of these words
 

@@ -1,4 +1,4 @@
--- Theorems over specs/RoundLaws.antt.
+-- What a round of the definition does (Did), and what holds after any (Kept): the bound on passes, and that a pass queues what it has to (Newly).
 -- Assumes nothing.
 use Prim.Native.Nat.{ℕ, zero, suc, ◌+◌, ◌<◌, ◌≤◌}
 use Rattle.std.proofs.Common.{not-suc-le-zero, sym, ap, ◌∙◌, ltb-true, ltb-false}

@@ -1,6 +1,6 @@
--- Theorems over specs/StartRead.antt.
+-- The call `start` on the bytes of any list of entries: its answer, its walk and its rows, from the reading of these bytes (Format.antt).
 -- Assumes nothing.
-use Rattle.std.specs.Prelude.{ℕ, ◌/◌, ◌<◌, refl, true, ◌≢◌, eqb, ltb}
+use Rattle.std.specs.Prelude.{ℕ, ◌/◌, ◌<◌, refl, ◌≢◌, ltb}
 use Rattle.std.proofs.Common.{arith, ◌∙◌}
 use Rattle.std.proofs.Math.Path.{◌≡◌, ap}
 use Rattle.std.proofs.Math.Bool.{false}
@@ -8,18 +8,17 @@ use mathlib.Core.List.{List, [], ◌∷◌, ◌++◌}
 use Rattle.std.proofs.Math.ListN.{length, length-append}
 use Rattle.cells.specs.Proof.Split.{by-test}
 use Rattle.gabi.specs.ArchiveIndex.{Entry, AllFit}
-use Rattle.archive_index.specs.Rows.{required_at, member_at, pass_at, stored_name, no_heads}
-use Rattle.archive_index.specs.Index.{count_of, name_of, offset_of}
+use Rattle.archive_index.specs.Rows.{no_heads}
+use Rattle.archive_index.specs.Index.{count_of, name_of}
 use Rattle.archive_index.specs.Open.{open_rows_of}
 use Rattle.archive_walk.specs.declared.Walk.{Walk}
 use Rattle.archive_walk.specs.Walk.{Start, begun_number, begun_said, fresh_walk, begun_of, start_of}
-use Rattle.archive_laws.specs.Counts.{First}
-use Rattle.archive_laws.proofs.Format.{bytes_of, count-read, offset_read, name-read, start-read}
+use Rattle.archive_laws.proofs.Format.{count-read, offset_read, name-read, start-read}
 use Rattle.archive_laws.specs.Runs.{queue_list, start_run, history}
 use Rattle.archive_laws.specs.Members as Members
 use Rattle.archive_laws.specs.Rounds.{among}
-use Rattle.archive_laws.proofs.Terms.{walk_fine}
-use Rattle.archive_laws.specs.StartRead.{start_said}
+use Rattle.archive_laws.proofs.AcceptedStart.{walk_fine}
+use Rattle.archive_laws.specs.StartRead.{bytes_of, start_said, StartRow}
 
 -- ---- the answer
 
@@ -71,15 +70,7 @@ module _ (a b : List Entry) (e : Entry) (rest : List ℕ) (many : length (a ++ e
   abbrev k : ℕ
   k = length a
 
-  -- its name, its member's offset, and the first entry of that member; nothing is required or queued
-  pub record StartRow : Type 0 where
-    pub name : stored_name index left k ≡ e.name
-    pub offset : offset_of index k ≡ e.offset
-    pub member : First (offset_of index) k (member_at left k)
-    pub unrequired : required_at left k ≡ 0
-    pub unqueued : eqb (pass_at left (member_at left k)) 0 ≡ true
-
-  pub start-row : StartRow
+  pub start-row : StartRow index left k e
   unfolding start_run history start_of begun_of queue_list Members.among open_rows_of
   start-row =
       let c : count_of index ≡ length all = count-read all rest many in

@@ -1,152 +1,152 @@
--- The theorem on whole walks over an archive: its start makes rows by offsets and names of the index (Entries.antt), so that KeyedWalk.antt is about it.
+-- What is shown of archives, statements only, each proved by citing the file where its proof stands: that an index is read as its format says, what walks over
+-- it offer and require, whatever table each of their calls is lent, and that the key of the hash shows in no answer.
 -- Assumes nothing.
-use Rattle.std.specs.Prelude.{ℕ, ◌*◌, ◌/◌, ◌+◌, ◌<◌, ◌≤◌, ◌≡◌, Bool, true, false, cond, List, eqb, ltb, get_or, length, Ok, Err}
-use Rattle.std.proofs.Common.{arith, ◌∙◌}
-use Rattle.std.proofs.Math.Path.{refl}
-use borrow.Author.Tests.{eqb-true, eq-eqb, ltb-false}
-use Rattle.link.specs.Bounds.{lesser}
-use Rattle.archive_index.specs.Open.{Opened}
+use Rattle.std.specs.Prelude.{ℕ, ◌+◌, ◌*◌, ◌/◌, ◌<◌, ◌≤◌, ◌≡◌, ◌≢◌, true, false, ◌&&◌, List, ◌∷◌, ◌++◌, get_or, length}
+use Rattle.gabi.specs.ArchiveIndex.{Entry, AllFit}
 use Rattle.archive_index.specs.Index.{count_of, offset_of, names_at, name_of, cut_of}
-use Rattle.archive_index.specs.Rows.{required_at, pass_at, member_at, rows_of, no_heads}
-use Rattle.archive_index.specs.Open.{Left, left, opened_as, refused_as, offsets_in, open_rows_of, open_names_of, open_entries_of, open_of}
-use Rattle.archive_walk.specs.Walk.{Started}
-use Rattle.archive_walk.specs.Look.{Table}
-use Rattle.archive_walk.specs.Walk.{begun_number, fresh_walk, no_walk, begun_of, start_of}
-use Rattle.archive_laws.specs.Members.{among, none, fresh}
-use Rattle.archive_laws.specs.Counts.{no_one}
-use Rattle.archive_laws.specs.Runs.{queue_list, Run, begun_run, history, start_run, seen}
-use Rattle.archive_laws.specs.Pass.{Rows, Sound, Low}
-use Rattle.archive_laws.proofs.Chains.{none-linked, heads-field, heads-length}
-use Rattle.archive_laws.proofs.Entries.{rows-entered}
-use Rattle.archive_laws.specs.Steps.{Fine}
-use Rattle.archive_laws.proofs.KeyedWalk.{fine-after, walked_by}
+use Rattle.archive_index.specs.Rows.{descend, enter_all}
+use Rattle.archive_walk.specs.declared.Walk.{Walk}
+use Rattle.archive_walk.specs.Look.{Table, undefined_name, tied_name}
+use Rattle.archive_walk.specs.Names.{required_of}
+use Rattle.archive_walk.specs.Walk.{Start, begun_number, begun_said, fresh_walk, start_of, next_of}
+use Rattle.archive_laws.specs.Members.{fresh}
+use Rattle.archive_laws.specs.Runs.{Run, step_run, history, start_run, seen}
+use Rattle.archive_laws.specs.ByKey as ByKey
+use Rattle.archive_laws.specs.ByKey.{tied_in}
 use Rattle.archive_laws.specs.Walked.{Walked}
+use Rattle.archive_laws.specs.StartRead.{bytes_of, start_said, StartRow}
+use Rattle.archive_laws.specs.Pass.{Rows}
+use Rattle.archive_laws.specs.Steps.{Fine}
+use Rattle.archive_laws.specs.PassList.{without, first_seen, keys_from, keys_of, tied_members, offered, IsOver, Over}
+use Rattle.archive_laws.specs.Profiles.{strong_name}
+use Rattle.archive_laws.specs.OtherKey.{Agree}
+use Rattle.archive_laws.proofs.Format as Format
+use Rattle.archive_laws.proofs.StartRead as StartRead
+use Rattle.archive_laws.proofs.Depth as Depth
+use Rattle.archive_laws.proofs.AcceptedStart as AcceptedStart
+use Rattle.archive_laws.proofs.KeyedWalk as KeyedWalk
+use Rattle.archive_laws.proofs.PassList as PassList
+use Rattle.archive_laws.proofs.Again as Again
+use Rattle.archive_laws.proofs.Profiles as Profiles
+use Rattle.archive_laws.proofs.AnyKey as AnyKey
 
--- ---- the start
+-- ---- an index: the bytes that the System V format has for a list of entries (gabi/specs/ArchiveIndex.antt), with anything behind them
 
--- an index that is not refused
-pub record Accepted (s l : List ℕ) (x : Left) : Type 0 where
-  pub names : count_of s ≤ cut_of s (names_at (count_of s)) (count_of s) 0
-  pub rows : count_of s ≤ length l / 8
-  pub made : x ≡ left (rows_of s (count_of s) (names_at (count_of s)) l) (opened_as (count_of s) 0 0)
+module _ (es : List Entry) (rest : List ℕ) where
+  abbrev bytes : List ℕ
+  bytes = bytes_of es rest
 
-pub accepted : (s l : List ℕ) → (open_of s l).opened.refusal.number ≡ 0 → Accepted s l (open_of s l)
-unfolding open_of open_entries_of open_names_of open_rows_of
-accepted s l =
-    go (eqb (length s) 0) (ltb (length s) 4) (ltb (offsets_in (length s)) (count_of s)) (ltb 65535 (count_of s)) (ltb cut (count_of s)) (ltb (length l / 8) (count_of s)) refl refl
-  where
-    cut : ℕ
-    cut = cut_of s (names_at (count_of s)) (count_of s) 0
+  pub count-read : length es < 4294967296 → count_of bytes ≡ length es
+  count-read = Format.count-read es rest
 
-    rest : Left
-    rest = left (rows_of s (count_of s) (names_at (count_of s)) l) (opened_as (count_of s) 0 0)
+-- the entry e behind those of a
+module _ (a b : List Entry) (e : Entry) (rest : List ℕ) (fit : AllFit (a ++ e ∷ b)) where
+  abbrev all : List Entry
+  all = a ++ e ∷ b
 
-    go : (a b d e f g : Bool) → ltb cut (count_of s) ≡ f → ltb (length l / 8) (count_of s) ≡ g
-        → (cond a (refused_as l 20 0) (cond b (refused_as l 1 0)
-        (cond d (refused_as l 1 (lesser 65535 (offsets_in (length s)))) (cond e (refused_as l 1 65535) (cond f (refused_as l 1 cut) (cond g (refused_as l 2 0) rest)))))).opened.refusal.number ≡ 0
-        → Accepted s l (cond a (refused_as l 20 0) (cond b (refused_as l 1 0)
-        (cond d (refused_as l 1 (lesser 65535 (offsets_in (length s)))) (cond e (refused_as l 1 65535) (cond f (refused_as l 1 cut) (cond g (refused_as l 2 0) rest))))))
-    go true b d e f g ef eg z = absurd (omega arith)
-    go false true d e f g ef eg z = absurd (omega arith)
-    go false false true e f g ef eg z = absurd (omega arith)
-    go false false false true f g ef eg z = absurd (omega arith)
-    go false false false false true g ef eg z = absurd (omega arith)
-    go false false false false false true ef eg z = absurd (omega arith)
-    go false false false false false false ef eg z =
-        record { names = ltb-false cut (count_of s) ef; rows = ltb-false (length l / 8) (count_of s) eg; made = refl }
+  pub offset_read : offset_of (bytes_of all rest) (length a) ≡ e.offset
+  offset_read = Format.offset_read a b e rest fit
 
--- the cells, and the run that such a start gives
-abbrev pub fresh_cells : List ℕ → List ℕ → List ℕ
-fresh_cells s l = no_heads (count_of s) (rows_of s (count_of s) (names_at (count_of s)) l)
+  pub name-read : name_of (bytes_of all rest) (length all) (length a) ≡ e.name
+  name-read = Format.name-read a b e rest fit
 
-abbrev pub fresh_run : ℕ → List ℕ → List ℕ → Run
-fresh_run key s l = begun_run (fresh_cells s l) (fresh_walk key (count_of s) (length s))
+-- ---- the call `start` on these bytes
 
-opened-number : (key n : ℕ) (o : Opened) → begun_number (begun_of key n o).begun ≡ 0 → o.refusal.number ≡ 0
-unfolding begun_of
-opened-number key n o = go (eqb o.refusal.number 0) refl
-  where
-    go : (b : Bool) → eqb o.refusal.number 0 ≡ b
-        → begun_number (cond {A = Started} b (record { walk = fresh_walk key o.entries n; begun = Ok o.entries }) (record { walk = no_walk; begun = Err o.refusal })).begun ≡ 0
-        → o.refusal.number ≡ 0
-    go true e z = eqb-true o.refusal.number 0 e
-    go false e z = z
+module _ (es : List Entry) (rest : List ℕ) (many : length es < 4294967296) (fit : AllFit es) (key : ℕ) (cells : List ℕ) where
+  abbrev started : Start
+  started = start_of key (bytes_of es rest) cells
 
-started : (key : ℕ) (s l : List ℕ) (x : Left) → x ≡ open_of s l → Accepted s l x → start_run key s l ≡ fresh_run key s l
-unfolding start_run start_of begun_of
-started key s l x e a = rw (← e, a.made)
+  pub start-answer : begun_said started.started.begun ≡ start_said (length es) (length cells / 8)
+  start-answer = StartRead.start-answer es rest many fit key cells
 
-started-number : (key : ℕ) (s l : List ℕ) → begun_number (start_of key s l).started.begun ≡ 0 → begun_number (begun_of key (length s) (open_of s l).opened).begun ≡ 0
-unfolding start_of
-started-number key s l z = z
+  -- a refused one leaves every cell
+  pub start_left : begun_number started.started.begun ≢ 0 → started.cells ≡ cells
+  start_left = StartRead.start_left es rest many fit key cells
 
-module _ (key : ℕ) (s l : List ℕ) where
-  abbrev c : ℕ
-  c = count_of s
+  -- else the walk is at its beginning: no pass, nothing queued, nothing offered
+  pub start-walk : begun_number started.started.begun ≡ 0 → started.started.walk ≡ fresh_walk key (length es) (length (bytes_of es rest))
+  start-walk = StartRead.start-walk es rest many fit key cells
 
-  abbrev rows : List ℕ
-  rows = rows_of s c (names_at c) l
+-- and each entry has its row
+module _ (a b : List Entry) (e : Entry) (rest : List ℕ) (many : length (a ++ e ∷ b) < 4294967296) (fit : AllFit (a ++ e ∷ b)) (key : ℕ) (cells : List ℕ) where
+  abbrev index : List ℕ
+  index = bytes_of (a ++ e ∷ b) rest
 
-  module _ (a : Accepted s l (open_of s l)) where
-    fresh-field : (j g : ℕ) → g < 8 → (g ≡ 3 → ⊥) → get_or (fresh_cells s l) (j * 8 + g) 0 ≡ get_or rows (j * 8 + g) 0
-    fresh-field = heads-field key s c c rows
+  pub start-row : begun_number (start_of key index cells).started.begun ≡ 0 → StartRow index (start_of key index cells).cells (length a) e
+  start-row = StartRead.start-row a b e rest many fit key cells
 
-    -- no name is required before a pass
-    pub fresh_unmarked : (j : ℕ) → j < c → required_at (fresh_cells s l) j ≡ 0
-    fresh_unmarked j h = fresh-field j 0 (omega arith) (λ z. omega arith) ∙ (rows-entered s c l (omega (arith, a.rows)) a.names).unmarked j h
+-- ---- whole walks: a start that isn't refused, then any calls, each over any table
 
-    fresh-rows : Rows key s (offset_of s) (name_of s c) c (fresh_cells s l)
-    fresh-rows =
-        let y = rows-entered s c l (omega (arith, a.rows)) a.names in
-        record {
-          room = omega (arith, heads-length key s c c rows, y.room);
-          name = λ k h. rw (fresh-field k 4 (omega arith) (λ z. omega arith), fresh-field k 5 (omega arith) (λ z. omega arith)) (y.name k h);
-          member = λ k h. rw (fresh-field k 1 (omega arith) (λ z. omega arith)) (y.member k h);
-          linked = none-linked key s c rows y.room y.unmarked;
-        }
+module _ (key : ℕ) (s l : List ℕ) (begun : begun_number (start_of key s l).started.begun ≡ 0) where
+  -- "at most m + 1 passes, each pass offers exactly the members not yet offered that the index ties to a name undefined at its start", and more (Walked)
+  pub walked : (ts : List Table) → Walked s (count_of s) ts (history s ts (start_run key s l))
+  walked = AcceptedStart.walked key s l begun
 
-    unqueued : (k : ℕ) → k < c → pass_at (fresh_cells s l) (member_at (fresh_cells s l) k) ≡ 0
-    unqueued k h =
-        let y = rows-entered s c l (omega (arith, a.rows)) a.names in
-        let r : ℕ = member_at (fresh_cells s l) k in
-        fresh-field r 6 (omega arith) (λ z. omega arith) ∙ y.unqueued r (omega (arith, (fresh-rows.member k h).low))
+  -- the call over t makes a pass, those over us none, and then the pass is over
+  module _ (ts : List Table) (t : Table) (us : List Table) where
+    abbrev run_before : Run
+    run_before = history s ts (start_run key s l)
 
-    fresh-sound : Sound key s (offset_of s) (name_of s c) c (fresh_cells s l) 0
-    unfolding queue_list among
-    fresh-sound = record {
-      rows = fresh-rows;
-      marks = record { mark = λ k h. eq-eqb (pass_at (fresh_cells s l) (member_at (fresh_cells s l) k)) 0 (unqueued k h); once = none; below = no_one; unmarked = λ k h e. fresh_unmarked k h };
-    }
+    abbrev run_after : Run
+    run_after = history s us (step_run s t run_before)
 
-    fresh-low : Low key s (offset_of s) (name_of s c) c 0 (fresh_cells s l)
-    fresh-low j h = omega (arith, unqueued j h)
+    -- then it offered, behind what was offered before, the members that entries tie to a name that ties in t, first-seen, those not offered before
+    pub pass-offers : (step_run s t run_before).walk.passes ≡ run_before.walk.passes + 1 → run_after.walk.passes ≡ (step_run s t run_before).walk.passes → Over key s l begun run_after
+        → offered s run_after ≡ offered s run_before ++ without (offered s run_before) (first_seen (tied_members s t))
+    pass-offers = PassList.pass-offers key s l begun ts t us
 
-  -- a start that is not refused
-  module _ (z : begun_number (start_of key s l).started.begun ≡ 0) where
-    accepted-start : Accepted s l (open_of s l)
-    accepted-start = accepted s l (opened-number key (length s) (open_of s l).opened (started-number key s l z))
+-- of whatever the entries are the entries of: entry k's member is known by the key `keys k`, its name is `named k`
+module _ (s : List ℕ) (keys : ℕ → ℕ) (named : ℕ → List ℕ) (c : ℕ) where
+  -- from any run at its beginning whose rows say so
+  pub walked_by : (key : ℕ) (start : Run) → Fine key s keys named c start → seen start ≡ fresh → (ts : List Table) → ByKey.Walked s keys named c ts (history s ts start)
+  walked_by key = KeyedWalk.walked_by key s keys named c
 
-    begin : start_run key s l ≡ fresh_run key s l
-    begin = started key s l (open_of s l) refl accepted-start
+  -- from any run on of which `Walked` holds
+  module _ (start : Run) (promised : (ts : List Table) → ByKey.Walked s keys named c ts (history s ts start)) (ts : List Table) (t : Table) (us : List Table) where
+    abbrev before : Run
+    before = history s ts start
 
-    fresh-begins : seen (fresh_run key s l) ≡ fresh
-    unfolding queue_list
-    fresh-begins = refl
+    abbrev after : Run
+    after = history s us (step_run s t before)
 
-    -- its run is at its beginning, and its rows go by the index's offsets and names
-    pub start-begins : seen (start_run key s l) ≡ fresh
-    start-begins = rw begin fresh-begins
+    pub pass-keys : (step_run s t before).walk.passes ≡ before.walk.passes + 1 → after.walk.passes ≡ (step_run s t before).walk.passes → IsOver s after
+        → keys_of keys after.offers ≡ keys_of keys before.offers ++ without (keys_of keys before.offers) (first_seen (keys_from keys (tied_in named t) c 0))
+    pass-keys = PassList.pass-keys s keys named c start promised ts t us
 
-    pub start_fine : Fine key s (offset_of s) (name_of s c) c (start_run key s l)
-    unfolding queue_list
-    start_fine =
-        rw begin
-        (record { keyed = refl; entries = refl; whole = omega arith; sound = fresh-sound accepted-start; low = fresh-low accepted-start; sent = refl })
+  -- a walk of an earlier call used again, or one with any counts: the rows keep names, members and chains
+  pub again : (key : ℕ) (l : List ℕ) (w : Walk) (t : Table) → w.key ≡ key → w.entries ≡ c → Rows key s keys named c l → Rows key s keys named c (next_of s l w t).cells
+  again key = Again.again key s keys named c
 
-    -- then any calls, each over any table: index, cells and counts of the walk are as they were at the start
-    module _ (ts : List Table) where
-      pub walk_fine : Fine key s (offset_of s) (name_of s c) c (history s ts (start_run key s l))
-      walk_fine = fine-after key s (offset_of s) (name_of s c) c (start_run key s l) start_fine start-begins ts
+-- ---- the names that tie a member, by the profile of the table's link: undefined; "undefined and strong"
 
-      pub walked : Walked s c ts (history s ts (start_run key s l))
-      walked = walked_by key s (offset_of s) (name_of s c) c (start_run key s l) start_fine start-begins ts
+module _ (t : Table) (x : List ℕ) where
+  pub tied-old : t.link.gabi ≡ false → tied_name t x ≡ undefined_name t x
+  tied-old = Profiles.tied-old t x
+
+  pub tied-gabi : t.link.gabi ≡ true → tied_name t x ≡ undefined_name t x && strong_name t x
+  tied-gabi = Profiles.tied-gabi t x
+
+-- ---- for the time that a start takes: the search for an entry's member
+
+-- an index whose names are whole: in the rows of its first k entries the search for an offset is at its end after 33 of them, however the offsets are chosen
+pub shallow : (s : List ℕ) (c : ℕ) (l : List ℕ) → c * 8 ≤ length l → c ≤ cut_of s (names_at c) c 0 → ((i : ℕ) → get_or s i 0 < 256) → (k : ℕ) → 0 < k → k ≤ c
+    → (o d n : ℕ) → o < 0x100000000 → 33 ≤ n
+    → descend s (enter_all s k 0 (names_at c) l) o d 0 o n ≡ descend s (enter_all s k 0 (names_at c) l) o d 0 o 33
+shallow = Depth.shallow
+
+-- ---- walks under two keys of the hash, over the same index, cells and tables
+
+module _ (s : List ℕ) (key key' : ℕ) (l : List ℕ) where
+  -- the start's answer and its cells don't show the key
+  pub start-any-key : ((start_of key' s l).cells ≡ (start_of key s l).cells) × ((start_of key' s l).started.begun ≡ (start_of key s l).started.begun)
+  start-any-key = AnyKey.start-any-key s key key' l
+
+  -- nor does an answer after any calls over any tables: members, passes, refusals, the marks of required names
+  pub any-key : (ts : List Table) → Agree s (history s ts (start_run key s l)) (history s ts (start_run key' s l))
+  any-key = AnyKey.any-key s key key' l
+
+  -- nor does admission: under either key the same names are required of an entry's member
+  pub required-any-key : begun_number (start_of key s l).started.begun ≡ 0 → (ts : List Table) (e : ℕ) → e < count_of s → (x : List ℕ)
+      → required_of s (history s ts (start_run key' s l)).cells (history s ts (start_run key' s l)).walk e x
+      ≡ required_of s (history s ts (start_run key s l)).cells (history s ts (start_run key s l)).walk e x
+  required-any-key = AnyKey.required-any-key s key key' l

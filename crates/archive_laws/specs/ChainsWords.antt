@@ -1,4 +1,4 @@
--- The words of the statements in proofs/Chains.antt.
+-- What holds of the chains of required names in a walk's cells: who is in them, and that a search along one finds whoever bears a name.
 -- Assumes nothing.
 use Prim.Native.Nat.{ℕ, ◌<◌, ◌≤◌}
 use Rattle.std.specs.Prelude.{◌≡◌, List}

@@ -1,4 +1,4 @@
--- The words of the statements in proofs/Counts.antt.
+-- The first entry of an entry's member, and lists of entries below a number.
 -- Assumes nothing.
 use Prim.Native.Nat.{ℕ, ◌<◌, ◌≤◌}
 use Rattle.std.specs.Prelude.{◌≡◌}

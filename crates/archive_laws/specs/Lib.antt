@@ -5,6 +5,7 @@ pub mod Chains
 pub mod Runs
 pub mod ByKey
 pub mod Walked
+pub mod AcceptedStart
 pub mod StartRead
 pub mod Answers
 pub mod Examples

@@ -1,4 +1,4 @@
--- The words of the statements in proofs/Pass.antt.
+-- Rows of a walk that are sound: they say what the entries' keys and names are, and their marks which members are queued.
 -- Assumes nothing.
 use Prim.Native.Nat.{ℕ, ◌*◌, ◌<◌, ◌≤◌}
 use Rattle.std.specs.Prelude.{◌≡◌, not, eqb}

@@ -1,4 +1,4 @@
--- The words of the statements in proofs/PassList.antt.
+-- What a pass offers, as lists of members, each by its key: the words of demand 3b as one equation.
 -- Assumes nothing.
 use Prim.Native.Nat.{ℕ, zero, suc, ◌+◌}
 use Rattle.std.specs.Prelude.{◌≡◌, Bool, ◌⊎◌, eqb}

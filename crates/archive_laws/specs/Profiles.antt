@@ -1,4 +1,4 @@
--- The words of the statements in proofs/Profiles.antt.
+-- Names whose row is strong: in the gABI profile only these tie a member.
 -- Assumes nothing.
 use Rattle.std.specs.Prelude.{ℕ, Bool, ◌||◌, List, eqb}
 use Rattle.std.proofs.Math.Bool.{false}

@@ -1,10 +1,16 @@
--- The call `start` on the bytes of any list of entries (Format.antt): what it answers, and the rows that it leaves, by that list.
+-- An index by its list of entries: its bytes, what the call `start` answers on them, and the row that it leaves for an entry.
 -- Assumes nothing.
-use Rattle.std.specs.Prelude.{ℕ, cond, ltb}
-use mathlib.Core.List.{List, [], ◌∷◌}
+use Rattle.std.specs.Prelude.{ℕ, ◌≡◌, true, cond, eqb, ltb}
+use mathlib.Core.List.{List, [], ◌∷◌, ◌++◌}
+use Rattle.gabi.specs.ArchiveIndex.{Entry, index_bytes}
 use Rattle.link.specs.Said.{SaidWith}
+use Rattle.archive_index.specs.Rows.{required_at, member_at, pass_at, stored_name}
+use Rattle.archive_index.specs.Index.{offset_of}
+use Rattle.archive_laws.specs.Counts.{First}
 
--- ---- the words
+-- the bytes of a list of entries, with whatever stands behind them
+abbrev pub bytes_of : List Entry → List ℕ → List ℕ
+bytes_of es rest = index_bytes es ++ rest
 
 -- an answer by its number, its place and its values
 abbrev said : ℕ → ℕ → List ℕ → SaidWith ℕ
@@ -13,3 +19,11 @@ said number place values = record { number = number; place = place; values = val
 -- n entries, and so many rows lent: "index entries to 65,535" (1), "Fewer cells lent than entries give 2 at the start"; else how many entries there are
 abbrev pub start_said : ℕ → ℕ → SaidWith ℕ
 start_said n lent = cond (ltb 65535 n) (said 1 65535 []) (cond (ltb lent n) (said 2 0 []) (said 0 0 (n ∷ [])))
+
+-- row k of the cells left says of entry e its name, its member's offset, and the first entry of that member; nothing is required or queued
+pub record StartRow (index left : List ℕ) (k : ℕ) (e : Entry) : Type 0 where
+  pub name : stored_name index left k ≡ e.name
+  pub offset : offset_of index k ≡ e.offset
+  pub member : First (offset_of index) k (member_at left k)
+  pub unrequired : required_at left k ≡ 0
+  pub unqueued : eqb (pass_at left (member_at left k)) 0 ≡ true

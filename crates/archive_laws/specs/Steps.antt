@@ -1,4 +1,4 @@
--- The words of the statements in proofs/Steps.antt.
+-- A run whose cells, counts and answers fit the entries' keys and names.
 -- Assumes nothing.
 use Rattle.std.specs.Prelude.{ℕ, ◌≤◌, ◌≡◌, length}
 use mathlib.Core.List.{List}

@@ -15,7 +15,7 @@ pub use table::Table;
 
 // The key of the chains of names; entries and length of the index at the start; passes made; members queued since the start, and how many of them
 // were offered. A walk is plain data: one of an earlier call can be used again, or one that nobody started. Every call with it ends, and touches no row
-// that isn't lent; with one of the same start the rows keep their members, names and chains (archive_laws, Again).
+// that isn't lent; with one of the same start the rows keep their members, names and chains (`again`, archive_laws).
 #[derive(Clone, Copy)]
 pub struct Walk {
     pub key: usize,

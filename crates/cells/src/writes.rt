@@ -1,10 +1,10 @@
 // A whole row written at once, and cells cleared from a place on.
 ghost use Rattle.std.specs.Prelude.{◌≡◌, ◌≤◌, ◌+◌, ◌++◌, ◌*◌, ◌-◌, length, replicate, take};
-ghost use Rattle.cells.specs.Rows.{put_row};
+ghost use Rattle.cells.specs.Rows.{row_width, put_row};
 
 // All eight cells of a row that is there.
 fn store_whole(cells: &mut [u64], i: usize, row: [u64; crate::ROW_CELLS])
-    requires { i * 8 + 8 ≤ length cells.old }
+    requires { i * row_width + row_width ≤ length cells.old }
     ensures { cells.new ≡ put_row cells.old i row }
 {
     for (f, &v) in row.iter().enumerate() {

@@ -17,11 +17,7 @@ use Rattle.elf_file.specs.Check.{is_object, headers_fit, excluded, entry_size, e
 use Rattle.elf_laws.specs.Back.{joined}
 use Rattle.elf_laws.specs.Writer.{Section, placed, headers_of, bodies, start, file_of}
 use Rattle.elf_laws.proofs.Writer.{shoff-back, count-back, header_read, table-long}
-use Rattle.elf_laws.specs.Trip.{Fit}
-
--- a section whose bytes are whole entries: it would pass as a file of its own
-abbrev pub Whole : Section → Type 0
-Whole x = section_ok (length x.bytes) (placed x 0) ≡ true
+use Rattle.elf_laws.specs.Trip.{Fit, Whole}
 
 whole-placed : (x : Section) (at len : ℕ) → at + length x.bytes ≤ len → Whole x → section_ok len (placed x at) ≡ true
 unfolding section_ok excluded

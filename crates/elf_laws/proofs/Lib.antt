@@ -1,7 +1,6 @@
 pub mod NameWays
 pub mod Names
 pub mod Terms
-pub mod Examples
 pub mod Tables
 pub mod Ranges
 pub mod Trip

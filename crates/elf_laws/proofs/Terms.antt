@@ -1,6 +1,7 @@
--- Request 2026-01: the reader answers exactly the rows of the file, or refuses and leaves everything.
+-- Request 2026-01: the reader answers exactly the rows of the file, or refuses and leaves everything; its rows are in range, those of a written file its
+-- sections' own; cases. The longer proofs stand in the other files.
 -- Assumes nothing.
-use Rattle.std.specs.Prelude.{ℕ, ◌+◌, ◌*◌, ◌<◌, ◌≤◌, ◌≡◌, List, ◌++◌, eqb, leb, take, Result}
+use Rattle.std.specs.Prelude.{ℕ, ◌+◌, ◌*◌, ◌<◌, ◌≤◌, ◌≡◌, true, List, [], ◌∷◌, ◌++◌, eqb, leb, get_or, take, Result}
 use native.Mathlib.Omega.{arith}
 use Rattle.std.proofs.Common.{zero-add, sym, ◌∙◌, append_assoc, take_at, drop_at}
 use Rattle.std.proofs.Math.Path.{refl, ap}
@@ -9,14 +10,30 @@ use Rattle.std.proofs.Math.Seq.{sets-eq}
 use borrow.Author.Tests.{eq-eqb, ne_eqb, eqb-true, le-leb, lt-leb, leb-true, leb-false}
 use Rattle.cells.specs.Proof.Split.{by-test}
 use Rattle.byte_slices.specs.Proof.Ways.{apart}
-use Rattle.gabi.specs.File.{section_count, header_table, name_section}
-use Rattle.elf_file.specs.Check.{file_refusal}
-use Rattle.elf_file.specs.Rows.{entry_count, content_count, room_of, names_of}
+use Rattle.byte_slices.specs.Bytes.{same}
+use Rattle.gabi.specs.StringTable.{before_zero, ended, name_at}
+use Rattle.gabi.specs.File.{word_at, half_at, xword_at, section_count, header_table, name_section, r_sym}
+use Rattle.link.specs.Judge.{refused}
+use Rattle.elf_object.specs.Rows.{name_in}
+use Rattle.elf_object.specs.Judge.{first_bad, header_ok}
+use Rattle.elf_file.specs.File.{header_of, header_at}
+use Rattle.elf_file.specs.Check.{is_object, headers_fit, excluded, entry_size, entries_ok, section_ok, table_ok, bad_table, file_refusal}
+use Rattle.elf_file.specs.Rows.{entries_in, contents_in, entry_count, content_count, room_of, kind_of, named_kind, names_of, comdat_of, flags_of, first_row_of, count_of, header_row_of}
 use Rattle.link.specs.declared.cause.Refusal.{Refusal}
 use Rattle.elf_file.specs.declared.reading.Written.{Written}
 use Rattle.elf_file.specs.Contract.{Exit, ReadMeets}
 use Rattle.elf_file.specs.Read.{written_of, Done, done, read_as, roomed_of, read_of}
-use Rattle.elf_laws.specs.Object.{headers_from, all_symbols_from, all_elements_from, rows_of, cells_of, laid}
+use Rattle.elf_laws.specs.Object.{headers_from, symbols_from, all_symbols_from, elements_from, all_elements_from, rows_of, cells_of, laid}
+use Rattle.elf_laws.specs.Back.{le8, joined}
+use Rattle.elf_laws.specs.Tables.{Symbol, symbol_entries, symbol_rows, Relocation, rel_entries, rela_entries, symbols_of, Member, group_bytes, member_numbers}
+use Rattle.elf_laws.specs.Writer.{Section, file_of}
+use Rattle.elf_laws.specs.Trip.{Fit, Whole, no_section, own_rows}
+use Rattle.elf_laws.specs.Examples.{numbered, files, file_answers, file_refusals, tables, tables_judged, tables_pass, header_rows, rows_read, rows_wanted, frame_header_kind, kinds_of, types}
+use Rattle.elf_laws.proofs.Names as Names
+use Rattle.elf_laws.proofs.Ranges as Ranges
+use Rattle.elf_laws.proofs.Tables as Tables
+use Rattle.elf_laws.proofs.Accepted as Accepted
+use Rattle.elf_laws.proofs.Trip as Trip
 use Rattle.elf_laws.proofs.Written.{all-written, length-headers, length-all-symbols, length-all-elements}
 
 -- ---- the regions
@@ -139,3 +156,74 @@ module _ (file l : List ℕ) where
         length-all-symbols file table 0 n,
         length-all-elements file table 0 n,
       )
+
+module _ (file : List ℕ) where
+  -- the names by which kind 11 is told are those that a merge of the rows looks up
+  pub names-agree : (o : ℕ) → (name_in (rows_of file).headers file (rows_of file).section_names o).name
+      ≡ name_at (names_of file (header_table file) (name_section file) (section_count file)) o
+  names-agree = Names.names-agree file
+
+  -- of a file that isn't refused every header row below 65,280 is in range, as a merge judges it
+  pub file-in-range : (j : ℕ) → (file_refusal file).number ≡ 0 → j < section_count file → j < 65280
+      → header_ok (rows_of file).headers (entry_count (header_table file) 0 (section_count file)) (content_count (header_table file) 0 (section_count file))
+      (length file)
+      j
+      ≡ true
+  file-in-range = Ranges.file-in-range file
+
+-- ---- tables, entry by entry: what a writer put into them is had back, of relocations their symbols
+
+pub symbols-back : (xs : List Symbol) → symbols_from (joined (symbol_entries xs)) 0 (length xs) ≡ symbol_rows xs
+symbols-back = Tables.symbols-back
+
+pub rels-back : (xs : List Relocation) → elements_from 9 (joined (rel_entries xs)) 0 (length xs) ≡ symbols_of xs
+rels-back = Tables.rels-back
+
+pub relas-back : (xs : List Relocation) → elements_from 4 (joined (rela_entries xs)) 0 (length xs) ≡ symbols_of xs
+relas-back = Tables.relas-back
+
+pub members-back : (flags : ℕ) (xs : List Member) → elements_from 17 (group_bytes flags xs) 0 (length xs) ≡ member_numbers xs
+members-back = Tables.members-back
+
+-- ---- a file that is written from sections
+
+module _ (s : ℕ) (xs : List Section) (some : length xs ≡ 0 → ⊥) (few : length xs < 0x10000) (fit : Fit xs) where
+  -- it isn't refused, if each section's bytes are whole entries: so what is said of files that are read is said of some
+  pub written-accepted : ((x : Section) (i : ℕ) → i < length xs → Whole (get_or xs i x)) → file_refusal (file_of s xs) ≡ refused 0 0
+  written-accepted whole = Accepted.written-accepted s xs some few fit whole no_section
+
+  -- its rows are its sections' own rows
+  pub written-rows : s < 0xffff → rows_of (file_of s xs) ≡ own_rows s xs
+  written-rows = Trip.written-rows s xs some few fit
+
+-- ---- cases
+
+pub files-answered : file_answers files ≡ file_refusals files
+unfolding file_refusal is_object word_at half_at xword_at section_count headers_fit bad_table first_bad table_ok section_ok header_at header_of header_table excluded entry_size
+files-answered = refl
+
+pub numbers-in-header-0 : (section_count numbered ≡ 3) × (name_section numbered ≡ 2)
+unfolding word_at half_at xword_at section_count name_section
+numbers-in-header-0 = (refl, refl)
+
+pub tables-right : tables_judged tables ≡ tables_pass tables
+unfolding section_ok excluded entry_size entries_ok
+tables-right = refl
+
+pub rows-right : rows_read header_rows ≡ rows_wanted header_rows
+unfolding header_row_of named_kind kind_of flags_of comdat_of first_row_of count_of entries_in contents_in excluded word_at
+rows-right = refl
+
+pub kinds-of-types :
+    kinds_of types ≡ 0 ∷ 1 ∷ 3 ∷ 4 ∷ 6 ∷ 8 ∷ 12 ∷ 14 ∷ 2 ∷ 5 ∷ 13 ∷ 10 ∷ 13 ∷ 13 ∷ 1 ∷ 1 ∷ 1 ∷ 7 ∷ 13 ∷ 13 ∷ 9 ∷ 13 ∷ []
+unfolding kind_of
+kinds-of-types = refl
+
+-- of that name a section of type 1 is of kind 11, one of type 14 isn't
+pub frame-header : (frame_header_kind 1 ≡ 11) × (frame_header_kind 14 ≡ 1)
+unfolding named_kind kind_of same name_at ended before_zero
+frame-header = (refl, refl)
+
+pub relocation-symbol : r_sym (le8 0 (le8 0x0000000500000002 [])) ≡ 5
+unfolding r_sym xword_at word_at
+relocation-symbol = refl

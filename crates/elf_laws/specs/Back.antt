@@ -1,4 +1,4 @@
--- A writer's entries are read back: the first half of `rows_of (file_of ..)`, entry by entry. Without it "a file read" might be read from no file at all.
+-- The bytes of a header, of a symbol and of fields of 2, 4 and 8 bytes, as a writer puts them into a file; entries of one size, one after the other.
 -- Assumes nothing.
 use Rattle.std.specs.Prelude.{ℕ, ◌+◌, ◌*◌, ◌/◌, ◌%◌, ◌<◌, ◌≡◌, List, [], ◌∷◌, ◌++◌, length}
 use Rattle.elf_file.specs.declared.Header.{Header}

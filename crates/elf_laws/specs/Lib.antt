@@ -3,3 +3,4 @@ pub mod Back
 pub mod Writer
 pub mod Tables
 pub mod Trip
+pub mod Examples

@@ -1,4 +1,4 @@
--- The words of the statements in proofs/Tables.antt.
+-- Tables that a writer may put into a file, of symbols, relocations and a group's members: their bytes, and what is had back of them.
 -- Assumes nothing.
 use Rattle.std.specs.Prelude.{ℕ, ◌+◌, ◌*◌, ◌<◌, refl, List, [], ◌∷◌, ◌++◌}
 use Rattle.elf_laws.specs.Back.{le4, le8, Sized, symbol_bytes}

@@ -1,13 +1,13 @@
--- The words of the statements in proofs/Trip.antt.
+-- The rows that the sections of a written file have of their own: of the file there is nothing in them but where its string tables lie.
 -- Assumes nothing.
 use Prim.Native.Nat.{ℕ, ◌+◌, ◌*◌, ◌/◌, ◌%◌, ◌<◌}
-use Rattle.std.specs.Prelude.{cond, eqb, ltb, get_or, take}
+use Rattle.std.specs.Prelude.{◌≡◌, true, cond, eqb, ltb, get_or, take}
 use mathlib.Core.List.{List, [], ◌∷◌, ◌++◌}
 use Rattle.std.proofs.Math.ListN.{length}
 use Rattle.merge_stages.specs.Stages.{Object, object_of}
 use Rattle.elf_file.specs.declared.Header.{Header}
 use Rattle.gabi.specs.File.{sht_strtab, sht_group, is_comdat}
-use Rattle.elf_file.specs.Check.{excluded}
+use Rattle.elf_file.specs.Check.{excluded, section_ok}
 use Rattle.elf_file.specs.Rows.{entries_in, contents_in, named_kind, strings_number, first_row_of, count_of, header_row_of}
 use Rattle.elf_laws.specs.Object.{symbols_from, elements_from}
 use Rattle.elf_laws.specs.Back.{Fields}
@@ -33,6 +33,10 @@ places at (x ∷ xs) = placed x at ∷ places (at + length x.bytes) xs
 -- every section's numbers fit their fields
 abbrev pub Fit : List Section → Type 0
 Fit xs = (x : Section) (i : ℕ) → i < length xs → Fields (placed (get_or xs i x) (start xs + length (bodies (take i xs))))
+
+-- a section whose bytes are whole entries: it would pass as a file of its own
+abbrev pub Whole : Section → Type 0
+Whole x = section_ok (length x.bytes) (placed x 0) ≡ true
 
 -- a section's names, if it is a string table that is loaded
 unfoldable pub own_strings : Section → List ℕ

@@ -1,4 +1,4 @@
--- A file written from sections is read back: their number, each header, each section's bytes. The rows of a file are made of nothing else.
+-- A file that is written from sections: ELF header, headers, and the sections' bytes one after the other.
 -- Assumes nothing.
 use Rattle.std.specs.Prelude.{ℕ, ◌+◌, ◌*◌, refl, List, [], ◌∷◌, ◌++◌, length}
 use Rattle.elf_file.specs.declared.Header.{Header}

@@ -11,7 +11,6 @@ use Rattle.archive_walk.specs.declared.Walk.{Walk}
 use Rattle.archive_walk.specs.Names.{required_of}
 use Rattle.elf_object.specs.Judge.{judge_of}
 use Rattle.object_requirement.specs.Matches.{matches_of}
-use Rattle.extraction_laws.specs.Some.{some}
 use Rattle.extraction_laws.proofs.Some.{some_same}
 use Rattle.extraction_laws.proofs.Member.{object-admits}
 use Rattle.extraction_laws.specs.MemberWords.{symbols_of}

@@ -1,4 +1,4 @@
--- Laws of the definitions of Member.antt.
+-- Admission looks at the symbols that specs/Member.antt lists, table by table.
 -- Assumes nothing.
 use Prim.Native.Nat.{ℕ, zero, suc, ◌+◌}
 use Rattle.std.specs.Prelude.{◌≡◌, Bool, not, ◌&&◌, ◌||◌, eqb}

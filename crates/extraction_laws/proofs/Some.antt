@@ -1,4 +1,4 @@
--- Laws of the definitions of Some.antt.
+-- Laws of `some`, and of the truth values that tests are made of.
 -- Assumes nothing.
 use Rattle.std.specs.Prelude.{◌≡◌, refl, Bool, true, false, cond, ◌&&◌, ◌||◌, List, [], ◌∷◌, ◌++◌}
 use Rattle.std.proofs.Common.{sym, ap, ◌∙◌}

@@ -1,26 +1,35 @@
--- The statement: over every walk, of the members that weren't offered before, what a pass chooses and admission lets in is what the gABI
+-- Extraction against the gABI. Over every walk, of the members that weren't offered before, what a pass chooses and admission lets in is what the gABI
 -- extracts for the names undefined at the pass's start, but for the two known places; in the gABI's profile (document 02, 2026-02), for the names
--- undefined and strong, without them.
+-- undefined and strong, without them. Then what admission answers for any object and any walk, and the known places' smallest inputs.
 -- Assumes nothing.
-use Rattle.std.specs.Prelude.{ℕ, ◌+◌, ◌<◌, ◌≡◌, refl, Bool, true, false, ◌&&◌, ◌||◌, List}
+use Rattle.std.specs.Prelude.{ℕ, ◌+◌, ◌/◌, ◌<◌, ◌≤◌, ◌≡◌, refl, Bool, true, false, ◌&&◌, ◌||◌, List, length}
 use Rattle.std.proofs.Common.{sym, ap, ◌∙◌}
 use Rattle.gabi.specs.StringTable as Strings
 use Rattle.gabi.specs.Archive.{Named, extracts}
+use Rattle.link.specs.declared.Link.{Link}
 use Rattle.archive_index.specs.Index.{count_of, offset_of, name_of}
+use Rattle.archive_walk.specs.declared.Walk.{Walk}
 use Rattle.archive_walk.specs.Look.{Table, undefined_name, tied_name}
 use Rattle.archive_walk.specs.Names.{required_of}
 use Rattle.archive_walk.specs.Walk.{begun_number, start_of}
 use Rattle.archive_laws.specs.Profiles.{strong_name}
-use Rattle.archive_laws.proofs.Profiles.{tied-old, tied-gabi}
 use Rattle.archive_laws.specs.Rounds.{among}
 use Rattle.archive_laws.specs.Runs.{Run, step_run, history, start_run}
 use Rattle.archive_laws.specs.Walked.{in_index, queue_in, Pass}
-use Rattle.archive_laws.proofs.Terms.{walked}
-use Rattle.object_requirement.specs.Matches.{has_global_symbol}
+use Rattle.archive_laws.proofs.Terms.{tied-old, tied-gabi, walked}
+use Rattle.elf_object.specs.Judge.{judge_of}
+use Rattle.object_requirement.specs.Matches.{has_global_symbol, matches_of}
 use Rattle.extraction_laws.specs.Member.{member_of}
+use Rattle.extraction_laws.specs.MemberWords.{symbols_of}
+use Rattle.extraction_laws.specs.Admission.{bears_one, defines_one}
+use Rattle.extraction_laws.specs.Answer.{says}
+use Rattle.extraction_laws.specs.Differences.{All, cases}
 use Rattle.extraction_laws.specs.Taken.{lists, taken_in, taken, weak_offers}
 use Rattle.extraction_laws.proofs.Taken.{taken-either, extracts-is, takes-as-gabi, gabi-extracts, taken-same}
 use Rattle.extraction_laws.proofs.Chosen as Chosen
+use Rattle.extraction_laws.proofs.MemberWords as MemberWords
+use Rattle.extraction_laws.proofs.Admission as Admission
+use Rattle.extraction_laws.proofs.Differences as Differences
 
 or_swap : (a b c : Bool) → (a || b) || c ≡ (a || c) || b
 or_swap true b c = refl
@@ -99,3 +108,32 @@ module _ (key : ℕ) (s l : List ℕ) (start : begun_number (start_of key s l).s
       -- where just the gABI's wanted names are undefined and strong it is what the gABI extracts: neither known place is met
       pub exactly-gabi : (wanted : List (List ℕ)) → ((x : List ℕ) → lists member x ≡ true → strongly x ≡ Strings.among x wanted) → chosen_in true ≡ extracts member wanted
       exactly-gabi wanted agree = chosen-strongly ∙ gabi-extracts member strongly wanted agree
+
+-- ---- admission, for any object, any walk and any entry of its index, also one that lies
+
+-- the symbols that admission looks at are, in document 01's words, those of every symbol table, dynamic ones too, excluded or not, each with its name where
+-- that isn't missing
+pub member_is : (headers entries file : List ℕ) → member_of headers entries file ≡ symbols_of headers entries file
+member_is = MemberWords.member_is
+
+-- the object's fields are in range, the walk's index and rows are lent, and entry e is one of its index
+module _ (link : Link) (headers entries contents file s l : List ℕ) (w : Walk) (e : ℕ)
+    (ranged : (judge_of headers entries (length contents) (length file)).number ≡ 0) (index : w.length ≤ length s) (rows : w.entries ≤ length l / 8)
+    (entry : e < w.entries) where
+  -- the old profile: "some symbol of binding 1, defined or not, bears a required name"
+  pub admits-references : link.gabi ≡ false → matches_of link headers entries contents file s l w e ≡ says (bears_one (required_of s l w e) (symbols_of headers entries file))
+  admits-references = Admission.admits-references link headers entries contents file s l w e ranged index rows entry
+
+  -- the gABI's: "a weak or global definition, and nothing else, admits one"
+  pub admits-definitions : link.gabi ≡ true → matches_of link headers entries contents file s l w e ≡ says (defines_one (required_of s l w e) (symbols_of headers entries file))
+  admits-definitions = Admission.admits-definitions link headers entries contents file s l w e ranged index rows entry
+
+  -- so where just these names are required: what the gABI extracts for them
+  pub admits-extracted : link.gabi ≡ true → (names : List (List ℕ)) → ((x : List ℕ) → required_of s l w e x ≡ Strings.among x names)
+      → matches_of link headers entries contents file s l w e ≡ says (extracts (symbols_of headers entries file) names)
+  admits-extracted = Admission.admits-extracted link headers entries contents file s l w e ranged index rows entry
+
+-- ---- "Known places where gABI differs", those of archives, and the same inputs in the gABI's profile
+
+pub differences : All cases
+differences = Differences.differences

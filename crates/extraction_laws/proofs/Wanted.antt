@@ -14,7 +14,7 @@ use Rattle.symbol.specs.declared.Row.{Row}
 use Rattle.symbol_resolution.specs.Holder.{global_at, held_by, holder_of}
 use Rattle.symbols.specs.New.{new_of}
 use Rattle.symbol_laws.specs.Rank.{weak}
-use Rattle.symbol_laws.specs.Proof.Rows.{row_at}
+use Rattle.symbol.specs.Row.{row_at}
 use Rattle.symbol_laws.specs.History.{State, Entry, rows, Call, RemovesNothing}
 use Rattle.symbol_laws.specs.Demand.{Resolved}
 use Rattle.symbol_laws.specs.Gabi.{AllMean}

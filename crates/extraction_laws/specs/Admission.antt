@@ -1,4 +1,4 @@
--- The words of the statements in proofs/Admission.antt.
+-- Whether an object has a symbol that admits it, by profile.
 -- Assumes nothing.
 use Rattle.std.specs.Prelude.{ℕ, Bool, ◌&&◌, List}
 use Rattle.gabi.specs.SymbolTable.{is_global}

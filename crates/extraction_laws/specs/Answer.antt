@@ -1,4 +1,4 @@
--- The words of the statements in proofs/Answer.antt.
+-- The answer of admission, and in the old profile what it is beside the gABI's extraction.
 -- Assumes nothing.
 use Rattle.link.specs.declared.cause.Refusal.{Refusal}
 use Rattle.std.specs.Prelude.{ℕ, Bool, true, false, not, ◌&&◌, ◌||◌, Result, Ok}

@@ -9,7 +9,7 @@ use Rattle.gabi.specs.Archive.{wants, extracts}
 use Rattle.link.specs.Counts.{no_names, with_names, with_symbols, with_profile}
 use Rattle.upcoming_symbol.specs.declared.Conversion.TheVariants as To
 use Rattle.upcoming_symbol.specs.Upcoming.{elf_row_of}
-use Rattle.symbol_laws.specs.Proof.Rows.{row_at}
+use Rattle.symbol.specs.Row.{row_at}
 use Rattle.symbol_laws.specs.Gabi.{sym_of}
 use Rattle.symbol_laws.specs.Differences.{elf}
 use Rattle.archive_walk.specs.Look.{Table, table_of}
@@ -109,6 +109,12 @@ reference_admits_not = case_of (strongly true) 1 (b ∷ []) 1 0 false offered (O
 
 abbrev pub local_admits_not : Case
 local_admits_not = case_of (strongly true) 1 (b ∷ []) 0 1 false offered (Ok false)
+
+abbrev pub cases : List Case
+cases =
+    agreeing false ∷ weak_reference ∷ weak_definition ∷ member_refers
+    -- the gABI's profile
+    ∷ agreeing true ∷ weak_ties_none ∷ weak_admits ∷ reference_admits_not ∷ local_admits_not ∷ []
 
 pub data All : List Case → Type 0 where
   none : All []

@@ -1,4 +1,4 @@
--- The words of the statements in proofs/MemberWords.antt.
+-- An archive member's symbols in document 01's words: those of every symbol table, each with its name where that isn't missing.
 -- Assumes nothing.
 use Rattle.std.specs.Prelude.{ℕ, zero, suc, ◌+◌, Bool, cond, ◌&&◌, ◌||◌, List, [], ◌∷◌, ◌++◌}
 use Rattle.gabi.specs.StringTable.{has_name, name_at}

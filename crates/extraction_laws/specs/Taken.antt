@@ -1,4 +1,4 @@
--- The words of the statements in proofs/Taken.antt.
+-- What an index lists for a member, and which members a walk over such an index takes.
 -- Assumes nothing.
 use Rattle.std.specs.Prelude.{ℕ, Bool, cond, ◌&&◌}
 use Rattle.std.proofs.Math.Bool.{false}

@@ -1,4 +1,4 @@
--- The words of the statements in proofs/Wanted.antt.
+-- Names that have weak references only.
 -- Assumes nothing.
 use Rattle.std.specs.Prelude.{Bool, true, false, List}
 use Rattle.gabi.specs.SymbolTable.{Sym}

@@ -1,16 +1,26 @@
--- "that its contract admits no second outcome" (document 01, acceptance a), of the exported calls: what a caller in another language sees of one is the
--- number that it returns, its header and every cell lent to be written. The contracts are the predicates that stand in the `ensures` of `hidvorn`; two
--- exits that meet one are equal.
+-- The statements about the exported calls. "That its contract admits no second outcome" (document 01, acceptance a): what a caller in another language
+-- sees of one is the number that it returns, its header and every cell lent to be written; the contracts are the predicates that stand in the `ensures` of
+-- `hidvorn`, and two exits that meet one are equal. Then, what a call replies is what it says.
 -- Assumes nothing.
+use Rattle.archive_walk.specs.declared.Offer.{Offer}
+use Rattle.link.specs.declared.Link.{Link}
 use Rattle.link.specs.declared.SymbolId.{SymbolId}
-use Rattle.std.specs.Prelude.{ℕ, ◌≡◌, List, Option}
+use Rattle.link.specs.declared.cause.Refusal.{Refusal}
+use Rattle.symbol.specs.declared.Symbol.{Symbol}
+use Rattle.std.specs.Prelude.{ℕ, ◌≡◌, Bool, false, List, ◌≢◌, Option, Result}
 use Rattle.std.proofs.Common.{sym, ap, ◌∙◌}
-use denote.Triple.Both.{Both}
+use Rattle.byte_slices.specs.Bytes.{part}
+use Rattle.interner.specs.Names.{store_of}
+use Rattle.interner.specs.Calls.{Resolved, resolve_of}
+use Rattle.symbols.specs.Lookup as Said
+use Rattle.archive_walk.specs.Walk.{begun_said, offer_said}
+use Rattle.object_requirement.specs.Matches as Matches
 use Rattle.section_groups.specs.Group as Group
 use Rattle.merge_stages.specs.Stages as Stages
 use Rattle.shared_objects.specs.Load.{Input}
 use Rattle.gc_sections.specs.Run.{Lists}
-use Rattle.ffi_cells.specs.Header.{Told, told}
+use Rattle.ffi_cells.specs.declared.header.Reply.{Reply}
+use Rattle.ffi_cells.specs.Header.{is_short, link_in, refusal_of, Told, told, tell_of, answer_of}
 use Rattle.ffi_cells.specs.Contract.{ToldExit}
 use Rattle.ffi_names.specs.Calls as NamesCalls
 use Rattle.ffi_names.specs.Contract as Names
@@ -30,6 +40,9 @@ use Rattle.ffi_archive.specs.Calls as ArchiveCalls
 use Rattle.ffi_archive.specs.Contract as Archive
 use Rattle.ffi_collect.specs.Calls as CollectCalls
 use Rattle.ffi_collect.specs.Contract as Collect
+use Rattle.ffi_laws.specs.Exits.{MergeExit, merge_rows, FileExit, file_lent, LoadExit, load_rows}
+use Rattle.ffi_laws.specs.Replies.{Holds, Replies, offer_cells, some_id, symbols_out}
+use Rattle.ffi_laws.proofs.Replies as RepliesLaws
 
 -- ---- calls that write the header alone
 
@@ -91,14 +104,7 @@ module _ (h out : List ℕ) (x y : Lookup.FoundExit) where
 pub group-one-outcome : (h : List ℕ) (o : Group.Object) (bytes names work : List ℕ) (n : ℕ) (x y : Merge.GroupExit) → Merge.GroupMeets h o bytes names work n x → Merge.GroupMeets h o bytes names work n y → x ≡ y
 group-one-outcome h o bytes names work n x y e f = ap {B = Merge.GroupExit} (λ (o : MergeCalls.GroupLeft). record { number = o.told.number; header = o.told.header; bytes = o.bytes; names = o.names; work = o.work }) (e ∙ sym f)
 
--- merge_elf: the number and the header, and the rows
-pub record MergeExit : Type 0 where
-  pub told : ToldExit
-  pub rows : MergeCalls.Rows
-
-abbrev pub merge_rows : MergeCalls.Rows → MergeExit → Both MergeCalls.Rows MergeCalls.Rows
-merge_rows c e = record { entry = c; exit = e.rows }
-
+-- merge_elf
 pub merge-one-outcome : (h : List ℕ) (o : Stages.Object) (c : MergeCalls.Rows) (x y : MergeExit) → Merge.MergeMeets h o (merge_rows c x) x.told → Merge.MergeMeets h o (merge_rows c y) y.told → x ≡ y
 merge-one-outcome h o c x y e f = ap {B = MergeExit} (λ (o : MergeCalls.MergeLeft). record { told = record { number = o.told.number; header = o.told.header }; rows = o.rows }) (e ∙ sym f)
 
@@ -106,24 +112,10 @@ merge-one-outcome h o c x y e f = ap {B = MergeExit} (λ (o : MergeCalls.MergeLe
 pub read-one-outcome : (a file rows : List ℕ) (x y : File.ReadExit) → File.ReadMeets a file rows x → File.ReadMeets a file rows y → x ≡ y
 read-one-outcome a file rows x y e f = ap {B = File.ReadExit} (λ (o : FileCalls.ReadLeft). record { number = o.number; answer = o.answer; rows = o.rows }) (e ∙ sym f)
 
-pub record FileExit : Type 0 where
-  pub told : ToldExit
-  pub lent : FileCalls.Lent
-
-abbrev pub file_lent : FileCalls.Lent → FileExit → Both FileCalls.Lent FileCalls.Lent
-file_lent c e = record { entry = c; exit = e.lent }
-
 pub file-one-outcome : (h file : List ℕ) (c : FileCalls.Lent) (x y : FileExit) → File.FileMeets h file (file_lent c x) x.told → File.FileMeets h file (file_lent c y) y.told → x ≡ y
 file-one-outcome h file c x y e f = ap {B = FileExit} (λ (o : FileCalls.FileLeft). record { told = record { number = o.told.number; header = o.told.header }; lent = o.lent }) (e ∙ sym f)
 
 -- load_shared_object
-pub record LoadExit : Type 0 where
-  pub told : ToldExit
-  pub rows : LoadCalls.Rows
-
-abbrev pub load_rows : LoadCalls.Rows → LoadExit → Both LoadCalls.Rows LoadCalls.Rows
-load_rows c e = record { entry = c; exit = e.rows }
-
 pub load-one-outcome : (h : List ℕ) (o : Input) (c : LoadCalls.Rows) (x y : LoadExit) → Load.LoadMeets h o (load_rows c x) x.told → Load.LoadMeets h o (load_rows c y) y.told → x ≡ y
 load-one-outcome h o c x y e f = ap {B = LoadExit} (λ (o : LoadCalls.LoadLeft). record { told = record { number = o.told.number; header = o.told.header }; rows = o.rows }) (e ∙ sym f)
 
@@ -152,3 +144,48 @@ run-one-outcome h c symbols sections entry work x y e f = ap {B = Collect.RunExi
 pub plain-one-outcome : (h : List ℕ) (c : Lists) (symbols sections : List ℕ) (entry : Option SymbolId) (work : List ℕ) (x y : Collect.RunExit) → Collect.PlainMeets h c symbols sections entry work x
     → Collect.PlainMeets h c symbols sections entry work y → x ≡ y
 plain-one-outcome h c symbols sections entry work x y e f = ap {B = Collect.RunExit} (λ (o : CollectCalls.RunLeft). record { number = o.told.number; header = o.told.header; symbols = o.symbols; sections = o.sections; work = o.work }) (e ∙ sym f)
+
+-- ---- a call replies what it says: number, place and values, told case by case
+
+pub found-reply : (h out : List ℕ) (f : Result Symbol Refusal)
+    → LookupCalls.found_of h out f ≡ LookupCalls.found_left (answer_of h (refusal_of (Said.said f).number (Said.said f).place)) (symbols_out out (Said.said f).values)
+found-reply = RepliesLaws.found-reply
+
+pub section-symbol-reply : (x : Option SymbolId)
+    → Replies (LookupCalls.section_symbol_reply x) (Said.section_symbol_said x).number (Said.section_symbol_said x).place (some_id (Said.section_symbol_said x).values)
+section-symbol-reply = RepliesLaws.section-symbol-reply
+
+pub begun-reply : (x : Result ℕ Refusal) → Replies (ArchiveCalls.begun_reply x) (begun_said x).number (begun_said x).place (begun_said x).values
+begun-reply = RepliesLaws.begun-reply
+
+pub offer-reply : (x : Result Offer Refusal) → Replies (ArchiveCalls.offered_reply x) (offer_said x).number (offer_said x).place (offer_cells (offer_said x).values)
+offer-reply = RepliesLaws.offer-reply
+
+pub admission-reply : (x : Result Bool Refusal) → Replies (ArchiveCalls.admitted_reply x) (Matches.said x).number (Matches.said x).place (Matches.said x).values
+admission-reply = RepliesLaws.admission-reply
+
+-- `resolve`: number and place; the part of the lent bytes that the reply tells is the name
+module _ (b n : List ℕ) (id : ℕ) (l : Link) where
+  abbrev answer : Resolved
+  answer = resolve_of (store_of b n l) (record { 0 = id })
+
+  abbrev reply : Reply
+  reply = NamesCalls.resolve_reply b n id answer
+
+  pub resolve-refusal : (reply.number ≡ answer.refusal.number) × (answer.refusal.number ≢ 0 → reply.place ≡ answer.refusal.place)
+  resolve-refusal = RepliesLaws.resolve-refusal b n id l
+
+  pub resolve-reply : answer.refusal.number ≡ 0 → part b reply.first reply.second ≡ answer.name
+  resolve-reply = RepliesLaws.resolve-reply b n id l
+
+-- ---- the reply stands in the header: of a call that doesn't change a link, and of one that does, whose link is read there again
+
+module _ (h : List ℕ) (long : is_short h ≡ false) (r : Reply) where
+  pub answer-held : Holds (answer_of h r).header r
+  answer-held = RepliesLaws.answer-held h long r
+
+  pub tell-held : (l : Link) → Holds (tell_of h l r).header r
+  tell-held = RepliesLaws.tell-held h long r
+
+  pub tell-link : (l : Link) → link_in (tell_of h l r).header ≡ l
+  tell-link = RepliesLaws.tell-link h long r

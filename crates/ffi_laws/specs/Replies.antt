@@ -1,5 +1,6 @@
--- An exported call replies what the call itself says: number, place and values of the answer, by the definitions that the promises have. Names, symbols,
--- groups, merges, loads and collections are replied by what they say (`saying`, `refusedOf`, `collectedReply`), a list of adds by number, place and position (`replyOf`, ffi_list/specs/Calls.antt); here the others, whose answers are told case by case.
+-- What an exported call replies, by what the call itself says: number, place and values of the answer, by the definitions that the promises have. Names,
+-- symbols, groups, merges, loads and collections are replied by what they say (`saying`, `refused_of`, `collected_reply`), a list of adds by number, place
+-- and position (`reply_of`, ffi_list/specs/Calls.antt); here the others, whose answers are told case by case.
 -- Assumes nothing.
 use Rattle.std.specs.Prelude.{ℕ, List, [], ◌∷◌, get_or}
 use Rattle.std.proofs.Math.Path.{◌≡◌}

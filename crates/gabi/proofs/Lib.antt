@@ -4,3 +4,5 @@ pub mod Archive
 pub mod Groups
 pub mod Visibility
 pub mod StringTableLaws
+pub mod Examples
+pub mod FileExamples

@@ -22,6 +22,7 @@ use Rattle.gc_sections.specs.Roots.{symbol_id, section_id, lead_of, is_root}
 use Rattle.gc_sections.specs.Reach.{Walk, save_of, reach_lead, add_of, root_symbol, root_section, entry_of, end_of, relocation, relocations, follow, visit, clear_cell, start_of, roots_of, process_of, walked}
 use Rattle.gc_sections.specs.Run.{Lists}
 use Rattle.gc_laws.specs.Reached.{Names, Reached, marked, entered, root, step}
+use Rattle.gc_laws.specs.Found as Found
 use Rattle.gc_laws.proofs.Own.{built-own, own-built, leads-own, own-leads, root-own, own_root}
 use Rattle.gc_laws.proofs.Marks.{marks-le, marks-none, cleared, length-cleared}
 use Rattle.gc_laws.proofs.Walk.{Good, Ext, Seen, Steps, none, ext_refl, ext_trans, ext-seen, save-step, reach_step, each-steps, built-below}
@@ -247,10 +248,8 @@ module _ (l : Link) (x : Lists) (symbols sections : List ℕ) (entry : Option Sy
       nobody : (id : SectionId) → None ≡ Some id → ⊥
       nobody id e = let z : ◌≡◌ {A = ℕ} 0 1 = cc in omega arith
 
-  -- what is marked or noted is reached, and all that is reached is marked or noted
-  pub record Exact (s : Walk) : Type 0 where
-    pub good : Good sections n R s
-    pub all : (y : ℕ) → R y → Seen sections n s y
+  abbrev pub Exact : Walk → Type 0
+  Exact = Found.Exact l x symbols sections entry
 
   module _ (work : List ℕ) (enough : n + n ≤ length work) where
     abbrev s₁ : Walk

@@ -1,25 +1,30 @@
--- Theorems over specs/Terms.antt.
+-- The statements about collections: what a call keeps and removes, where it is refused, what a refused one leaves, what its walk finds.
 -- Assumes nothing.
 use Rattle.link.specs.declared.SymbolId.{SymbolId}
-use Rattle.std.specs.Prelude.{ℕ, ◌+◌, ◌*◌, ◌/◌, ◌<◌, ◌≤◌, ◌≡◌, true, false, List, eqb, ltb, get_or, Option, Some, Ok, Err}
+use Rattle.std.specs.Prelude.{ℕ, ◌+◌, ◌/◌, ◌≤◌, ◌≡◌, true, false, List, ◌≢◌, eqb, ltb, length, Option, Some, Ok, Err}
 use Rattle.std.proofs.Common.{arith, sym, ◌∙◌, eqb-true}
 use Rattle.std.proofs.Math.Path.{ap}
 use Rattle.cells.specs.Proof.Split.{by-test}
 use Rattle.byte_slices.specs.Proof.Ways.{pick, apart}
 use Rattle.link.specs.declared.Link.{Link}
 use Rattle.link.specs.declared.Lent.{Lent}
+use Rattle.link.specs.declared.cause.Refusal.{Refusal}
 use Rattle.link.specs.Judge.{refused, change_of}
 use Rattle.link.specs.Proof.Passed.{judge-gives}
-use Rattle.symbol.specs.Row as Symbol
-use Rattle.symbol.specs.Layout.{removed_state}
-use Rattle.sections.specs.Rows.{field, state_at, is_built, dropped_state}
+use Rattle.sections.specs.Rows.{is_built}
 use Rattle.gc_sections.specs.Roots.{symbol_id, section_id, lead_of}
+use Rattle.gc_sections.specs.Reach.{walked}
 use Rattle.gc_sections.specs.Run.{Left, Lists, number_of, judge_cells, judge_of, judged, run_of, dropped}
-use Rattle.gc_laws.specs.Reached.{Built, Leads, Reached}
+use Rattle.gc_laws.specs.Reached.{Reached}
 use Rattle.gc_laws.proofs.Own.{built-own, own-built, leads-own, own-leads}
 use Rattle.gc_laws.proofs.Collected as C
-use Rattle.gc_laws.specs.Terms.{Head}
-use Rattle.gc_laws.specs.Terms as Base
+use Rattle.gc_laws.proofs.Exact as Walked
+use Rattle.gc_laws.specs.Found as Found
+use Rattle.gc_laws.specs.Collected as Collected
+
+-- 21 is never an answer of the head
+abbrev Head : Refusal → Type 0
+Head q = q.number ≡ 21 → ⊥
 
 change-head : (l : Link) (n : Lent) → Head (change_of l n)
 unfolding change_of
@@ -44,9 +49,8 @@ module _ (l : Link) (x : Lists) (symbols sections : List ℕ) (entry : Option Sy
   abbrev R : ℕ → Type 0
   R = Reached l x symbols sections entry
 
-  -- 22, 1 and the work cells refuse nothing
   abbrev Passed : Type 0
-  Passed = (judged l x symbols sections work).number ≡ 0
+  Passed = Collected.Passed l x symbols sections entry work
 
   -- what is refused at the head has the head's answer
   pub head : (P : Type 0) → (Passed → P) → (r.answer ≡ Err (judged l x symbols sections work) → P) → P
@@ -59,12 +63,11 @@ module _ (l : Link) (x : Lists) (symbols sections : List ℕ) (entry : Option Sy
   pub refused-passed : (k : ℕ) → r.answer ≡ Err (refused 21 k) → Passed
   refused-passed k e = head Passed (λ p. p) (λ q. absurd (judge-head l _ _ _ (ap number_of (sym q ∙ e))))
 
-  -- built before the call, and after it; each in its own words
   abbrev pub Before : ℕ → Type 0
-  Before = Built l x symbols sections
+  Before = Collected.Before l x symbols sections entry work
 
   abbrev pub After : ℕ → Type 0
-  After = Built l x r.symbols r.sections
+  After = Collected.After l x symbols sections entry work
 
   unbuilt : (y : ℕ) → (Before y → ⊥) → is_built sections n y ≡ false
   unbuilt y ne = by-test (is_built sections n y) (λ t. absurd (ne (built-own l x symbols sections y t))) (λ t. t)
@@ -77,13 +80,10 @@ module _ (l : Link) (x : Lists) (symbols sections : List ℕ) (entry : Option Sy
       by-test (is_built sections n y) (λ t. t)
       (λ t. let f = C.unbuilt-refused l x symbols sections entry work (accepted-passed a b e) y q t in absurd (C.differ a b (refused 21 f.0) (sym e ∙ f.1)))
 
-  -- not refused: a section is there after the call exactly if it is reached, and it was there before
-  pub record Kept : Type 0 where
-    pub reached : (y : ℕ) → After y → R y
-    pub kept : (y : ℕ) → R y → After y
-    pub built : (y : ℕ) → R y → Before y
-    pub dropped : (y : ℕ) → Before y → (R y → ⊥) → state_at r.sections y ≡ dropped_state
+  abbrev pub Kept : Type 0
+  Kept = Collected.Kept l x symbols sections entry work
 
+  -- not refused: a section is there after the call exactly if it is reached, and it was there before
   pub keeps : (a b : ℕ) → r.answer ≡ Ok (dropped a b) → Kept
   keeps a b e =
       let ok = accepted-passed a b e in
@@ -95,26 +95,11 @@ module _ (l : Link) (x : Lists) (symbols sections : List ℕ) (entry : Option Sy
         dropped = λ y q. C.unreached-dropped l x symbols sections entry work ok whole y (own-built l x symbols sections y q);
       }
 
-  -- symbol i lies in section y
   abbrev pub Lies : ℕ → ℕ → Type 0
-  Lies = Leads l x symbols sections
+  Lies = Collected.Lies l x symbols sections entry work
 
-  -- the cell of section y's symbol, behind the section rows that a new table was lent
-  abbrev pub cell_of : ℕ → ℕ
-  cell_of y = l.slots * 8 + y
-
-  abbrev IsSection : ℕ → Type 0
-  IsSection = Base.IsSection l x symbols sections entry work
-
-  -- not refused: "their symbols' rows with them", and no other cell of a row
-  pub record Removed : Type 0 where
-    pub removed : (i y : ℕ) → Lies i y → Before y → (R y → ⊥) → Symbol.state_at r.symbols i ≡ removed_state
-    pub stays : (i f : ℕ) → f < 8 → (f ≡ 0 → (y : ℕ) → Lies i y → Before y → R y) → Symbol.field r.symbols i f ≡ Symbol.field symbols i f
-    pub section_stays : (y f : ℕ) → y < l.slots → f < 8 → (f ≡ 0 → Before y → R y) → field r.sections y f ≡ field sections y f
-    -- "`remove` of any `Section` row drops that entry": a section's symbol goes with each removed `Section` row of it, and no other cell changes
-    pub entry_dropped : (i y : ℕ) → Lies i y → IsSection i → Before y → (R y → ⊥) → get_or r.sections (cell_of y) 0 ≡ 0
-    pub entry_stays : (y : ℕ) → ((i : ℕ) → Lies i y → IsSection i → Before y → R y) → get_or r.sections (cell_of y) 0 ≡ get_or sections (cell_of y) 0
-    pub entry_falls : (y : ℕ) → get_or r.sections (cell_of y) 0 ≤ get_or sections (cell_of y) 0
+  abbrev pub Removed : Type 0
+  Removed = Collected.Removed l x symbols sections entry work
 
   abbrev own : (y : ℕ) → is_built sections n y ≡ true → Before y
   own = built-own l x symbols sections
@@ -128,6 +113,7 @@ module _ (l : Link) (x : Lists) (symbols sections : List ℕ) (entry : Option Sy
   abbrev of_lead : (i y : ℕ) → Lies i y → lead_of symbols l.symbols (symbol_id i) ≡ Some (section_id y)
   of_lead = own-leads l x symbols sections
 
+  -- not refused: "their symbols' rows with them", and no other cell of a row
   pub removes : (a b : ℕ) → r.answer ≡ Ok (dropped a b) → Removed
   removes a b e =
       let ok = accepted-passed a b e in
@@ -141,12 +127,10 @@ module _ (l : Link) (x : Lists) (symbols sections : List ℕ) (entry : Option Sy
         entry_falls = C.section-symbol-falls l x symbols sections entry work ok whole;
       }
 
-  -- refused with 21: the place is the lowest section that is reached but not built
-  pub record Lowest (k : ℕ) : Type 0 where
-    pub reached : R k
-    pub unbuilt : Before k → ⊥
-    pub least : (y : ℕ) → R y → (Before y → ⊥) → k ≤ y
+  abbrev pub Lowest : ℕ → Type 0
+  Lowest = Collected.Lowest l x symbols sections entry work
 
+  -- refused with 21: the place is the lowest section that is reached but not built
   pub refuses : (k : ℕ) → r.answer ≡ Err (refused 21 k) → Lowest k
   refuses k e =
       let f = C.refused-lowest l x symbols sections entry work (refused-passed k e) k e in
@@ -159,3 +143,16 @@ module _ (l : Link) (x : Lists) (symbols sections : List ℕ) (entry : Option Sy
   pub accepts : Passed → ((y : ℕ) → R y → Before y) → (a b : ℕ) × (r.answer ≡ Ok (dropped a b))
   unfolding C.result
   accepts ok whole = (_, _, ap (λ (t : Left). t.answer) (C.run-result l x symbols sections entry work ok (λ y q. of_own y (whole y q))))
+
+  -- ---- "leaves behind what that table says": every call leaves the link, a refused one every row
+
+  pub link_stays : r.link ≡ l
+  link_stays = C.link_stays l x symbols sections entry work
+
+  pub refused-leaves : number_of r.answer ≢ 0 → (r.symbols ≡ symbols) × (r.sections ≡ sections)
+  refused-leaves = C.refused-leaves l x symbols sections entry work
+
+  -- ---- what the walk of a call marks or notes is reached, and all that is reached is marked or noted
+
+  pub exact : n + n ≤ length work → Found.Exact l x symbols sections entry (walked l x.bytes x.names symbols sections x.lists x.marks entry work)
+  exact = Walked.exact l x symbols sections entry work

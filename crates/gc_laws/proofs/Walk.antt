@@ -16,7 +16,8 @@ use Rattle.sections.specs.Rows.{is_built}
 use Rattle.gc_sections.specs.Each.{each}
 use Rattle.gc_sections.specs.Roots.{section_id}
 use Rattle.gc_sections.specs.Reach.{Walk, walk_of, visitor_of, queue, save_of, lower_of, reach_of}
-use Rattle.gc_laws.specs.Marks.{marks}
+use Rattle.gc_laws.specs.Found as Found
+use Rattle.gc_laws.specs.Found.{Marked, Low}
 use Rattle.gc_laws.proofs.Marks.{marks-past, marks-more, marks-lt}
 
 pub built-below : (sections : List ℕ) (n y : ℕ) → is_built sections n y ≡ true → y < n
@@ -55,28 +56,15 @@ module _ (id : SectionId) where
 
 -- ---- what every walk keeps. P: what it is to be reached.
 
-abbrev pub Marked : Walk → ℕ → Type 0
-Marked s y = get_or s.work y 0 ≡ 1
-
--- a section that isn't built, y or a lower one, was noted
-abbrev pub Low : Walk → ℕ → Type 0
-Low s y = (id : SectionId) × (s.visitor.unbuilt ≡ Some id) × (id.0 ≤ y)
-
 module _ (sections : List ℕ) (n : ℕ) where
   abbrev Built : ℕ → Type 0
-  Built y = is_built sections n y ≡ true
+  Built = Found.Built sections n
 
   abbrev Unready : ℕ → Type 0
-  Unready y = is_built sections n y ≡ false
+  Unready = Found.Unready sections n
 
-  pub record Good (P : ℕ → Type 0) (s : Walk) : Type 0 where
-    pub room : n + n ≤ length s.work
-    pub count : marks n s.work ≡ s.visitor.queued
-    pub bit : (y : ℕ) → y < n → (get_or s.work y 0 ≡ 0) ⊎ (Marked s y)
-    pub sound : (y : ℕ) → y < n → Marked s y → P y × Built y
-    pub listed : (y : ℕ) → y < n → Marked s y → (k : ℕ) × (k < s.visitor.queued) × (get_or s.work (n + k) 0 ≡ y)
-    pub queued : (k : ℕ) → k < s.visitor.queued → (get_or s.work (n + k) 0 < n) × Marked s (get_or s.work (n + k) 0)
-    pub lowest : (id : SectionId) → s.visitor.unbuilt ≡ Some id → P id.0 × Unready id.0
+  abbrev pub Good : (ℕ → Type 0) → Walk → Type 0
+  Good = Found.Good sections n
 
   -- a later walk
   pub record Ext (s t : Walk) : Type 0 where
@@ -97,10 +85,8 @@ module _ (sections : List ℕ) (n : ℕ) where
         lower = λ y m. b.lower y (a.lower y m);
       }
 
-  -- y was met: it is marked if it is built, else noted
-  pub record Seen (s : Walk) (y : ℕ) : Type 0 where
-    pub mark : Built y → Marked s y
-    pub low : Unready y → Low s y
+  abbrev pub Seen : Walk → ℕ → Type 0
+  Seen = Found.Seen sections n
 
   pub ext-seen : {s t : Walk} {y : ℕ} → Ext s t → Seen s y → Seen t y
   ext-seen {y = y} e m = record { mark = λ b. e.mono y (built-below sections n y b) (m.mark b); low = λ u. e.lower y (m.low u) }

@@ -1,5 +1,6 @@
 pub mod Reached
 pub mod Marks
-pub mod Terms
+pub mod Found
+pub mod Collected
 pub mod Examples
 pub mod Proof

@@ -1,5 +1,5 @@
 -- What the interner promises, over every history of interns, refused ones among them.
--- `Good`, `Untouched`, `Stays` and `Alike` are defined in Good.antt, a history (`after`) in Interns.antt; the proofs are in the files cited.
+-- `Good`, `Untouched`, `Stays` and `Alike` are defined in specs/Good.antt, a history (`after`) in specs/Interns.antt; the proofs are in the files cited.
 -- Assumes nothing.
 use Rattle.std.specs.Prelude.{ℕ, ◌<◌, ◌≡◌, ◌↔◌, true, false, List, [], length}
 use Rattle.link.specs.declared.Interned.{Interned}

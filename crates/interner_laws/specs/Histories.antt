@@ -1,4 +1,4 @@
--- Histories of calls, over any state: what each call keeps, any history keeps; and an id stands for ever for what it was issued for.
+-- What the ids of a state stand for, and that they go on standing for it in a later one; over any state.
 -- Assumes nothing.
 use Rattle.std.specs.Prelude.{ℕ, ◌<◌, ◌≤◌, ◌≡◌}
 

@@ -1,4 +1,4 @@
--- The words of the statements in proofs/Histories.antt.
+-- What a history of calls leaves.
 -- Assumes nothing.
 use mathlib.Core.List.{List, [], ◌∷◌}
 

@@ -1,4 +1,4 @@
--- The words of the statements in proofs/Interns.antt.
+-- An intern: the id that the name has or gets, whether it is accepted and with which id; what a history of interns leaves.
 -- Assumes nothing.
 use Rattle.std.specs.Prelude.{ℕ, ◌≡◌, List}
 use Rattle.link.specs.declared.Interned.{Interned}

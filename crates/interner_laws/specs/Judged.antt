@@ -1,4 +1,4 @@
--- The words of the statements in proofs/Judged.antt.
+-- A link whose other counts are within what a call on names takes for granted.
 -- Assumes nothing.
 use Rattle.std.specs.Prelude.{◌≤◌}
 use Rattle.interner.specs.Names.{Store}

@@ -1,2 +1,2 @@
-// Theorems on names, in specs/: no functions.
+// Theorems on names, in proofs/Terms.antt: no functions.
 #![tactic(auto)]

@@ -1,4 +1,4 @@
--- The words of the statements in proofs/SectionNames.antt.
+-- Each built section has a name within the names' rows.
 -- Assumes nothing.
 use Rattle.std.specs.Prelude.{ℕ, ◌+◌, ◌*◌, ◌<◌, ◌≤◌, ◌≡◌, List, length}
 use Rattle.link.specs.declared.Link.{Link}

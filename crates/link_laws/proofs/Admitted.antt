@@ -10,7 +10,7 @@ use Rattle.archive_walk.specs.Walk.{begun_number, start_of}
 use Rattle.archive_laws.specs.Rounds.{among}
 use Rattle.archive_laws.specs.Runs.{Run, step_run, history, start_run}
 use Rattle.archive_laws.specs.Walked.{in_index, queue_in}
-use Rattle.archive_laws.proofs.Terms.{start_fine, start-begins}
+use Rattle.archive_laws.proofs.AcceptedStart.{start_fine, start-begins}
 use Rattle.elf_object.specs.Judge.{judge_of}
 use Rattle.symbol_laws.specs.Rank.{first_by_rank}
 use Rattle.symbol_laws.specs.History.{Entry, only, rows}

@@ -14,7 +14,7 @@ use Rattle.archive_index.specs.Open.{open_of}
 use Rattle.archive_walk.specs.Look.{Table}
 use Rattle.archive_walk.specs.Walk.{begun_number, begun_of, start_of}
 use Rattle.archive_laws.specs.Runs.{Run, history, start_run}
-use Rattle.archive_laws.proofs.Terms.{walk_fine}
+use Rattle.archive_laws.proofs.AcceptedStart.{walk_fine}
 use Rattle.link.specs.Bounds.{not_lent}
 use Rattle.symbol_laws.specs.History.{State}
 use Rattle.link_laws.specs.Rules.{Rule, ◌gives◌at◌, first_refusal, each, lent_rows, count_rules}

@@ -1,4 +1,4 @@
--- Theorems over specs/CallContracts.antt.
+-- Two exits that meet a call's contract are equal; and what an exit that meets it is in the terms of the call's definition.
 -- Assumes nothing.
 use Rattle.std.specs.Prelude.{ℕ, ◌≡◌, Bool, List}
 use Rattle.std.proofs.Common.{sym, ap, ◌∙◌}
@@ -39,7 +39,7 @@ use Rattle.add_list.specs.AddList.{ListLeft}
 use Rattle.add_list.specs.Listed.{Listed}
 use Rattle.link_laws.specs.CallContracts.{Exit, FileExit, LoadExit, Meets, MergeExit, add_exit, collect_exit, exit_of_list, group_exit, intern_exit, load_exit, merge_exit, new_exit, remove_exit, seen}
 
--- so all that is proved of `callLeft` is proved of every exit that meets the contract
+-- so all that is proved of `call_left` is proved of every exit that meets the contract
 pub meets-left : (k : Call) (s : Linked) (e : Exit k) → Meets k s e → seen k e ≡ call_left k s
 meets-left (intern x) s e h = h
 meets-left (reads (Read.resolve id)) s e h = h

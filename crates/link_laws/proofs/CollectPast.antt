@@ -26,18 +26,11 @@ use Rattle.symbol_laws.specs.History as History
 use Rattle.symbol_laws.specs.History.{State, with_rows}
 use Rattle.symbol_laws.proofs.WritesLemmas as WritesLaws
 use Rattle.merge_laws.specs.Past.{TablePast}
+use Rattle.link_laws.specs.CollectPast.{Past}
 
 -- ---- a collection
 
 module _ (l : Link) (symbols sections : List ℕ) where
-  -- the counts are the link's; rows past them stand as they stood
-  pub record Past (r : Left) : Type 0 where
-    pub link : r.link ≡ l
-    pub symbols-past : (q : ℕ) → l.symbols * 8 ≤ q → get_or r.symbols q 0 ≡ get_or symbols q 0
-    pub sections-past : (q : ℕ) → l.sections * 8 ≤ q → q < l.slots * 8 → get_or r.sections q 0 ≡ get_or sections q 0
-    pub symbols-long : length r.symbols ≡ length symbols
-    pub sections-long : length r.sections ≡ length sections
-
   swept-long : (work : List ℕ) → length (sweep_sections l.sections sections work).sections ≡ length sections
   swept-long work =
       ap (λ (s : Swept). length s.sections) (swept-is l.sections sections work)
@@ -75,7 +68,7 @@ module _ (l : Link) (symbols sections : List ℕ) where
         ap (λ (s : Purged). length s.rows.sections) (purged-is l work symbols rows room)
         ∙ length-painted (freed (dropped_now work l.sections) symbols l.symbols cells) (symbol_cell symbols cells) 0 l.symbols 0 rows
 
-  sweep-past : l.slots ≤ section_slots (length sections) → (work : List ℕ) → Past (sweep_of l symbols sections work)
+  sweep-past : l.slots ≤ section_slots (length sections) → (work : List ℕ) → Past l symbols sections (sweep_of l symbols sections work)
   unfolding sweep_of purge_of
   sweep-past room work =
       let s : Swept = sweep_sections l.sections sections work in
@@ -92,13 +85,13 @@ module _ (l : Link) (symbols sections : List ℕ) where
     abbrev w : Walk
     w = walked l x.bytes x.names symbols sections x.lists x.marks entry work
 
-    pub run_past : Past (run_of l x symbols sections entry work)
+    pub run_past : Past l symbols sections (run_of l x symbols sections entry work)
     unfolding run_of collect_of finished
     run_past =
-        pick Past (eqb (judged l x symbols sections work).number 0) _ _ (λ t. go (slots-fit l x symbols sections work (eqb-true _ _ t)) w.visitor.unbuilt)
+        pick (Past l symbols sections) (eqb (judged l x symbols sections work).number 0) _ _ (λ t. go (slots-fit l x symbols sections work (eqb-true _ _ t)) w.visitor.unbuilt)
         (λ t. record { link = refl; symbols-past = λ q h. refl; sections-past = λ q h k. refl; symbols-long = refl; sections-long = refl })
       where
-        go : l.slots ≤ section_slots (length sections) → (u : Option SectionId) → Past (finish_of l symbols sections w.work u)
+        go : l.slots ≤ section_slots (length sections) → (u : Option SectionId) → Past l symbols sections (finish_of l symbols sections w.work u)
         go room None = sweep-past room w.work
         go room (Some id) = record { link = refl; symbols-past = λ q h. refl; sections-past = λ q h k. refl; symbols-long = refl; sections-long = refl }
 

@@ -15,7 +15,7 @@ use Rattle.merge_elf.specs.Merge.{merge_of}
 use Rattle.shared_objects.specs.Stages.{Links}
 use Rattle.shared_objects.specs.Load as Shared
 use Rattle.shared_objects.specs.Load.{load_of}
-use Rattle.load_laws.proofs.NeedTerms as Unneeded
+use Rattle.load_laws.proofs.Unneeded as Unneeded
 use Rattle.merge_laws.specs.Stops as Stops
 use Rattle.merge_laws.specs.ByNumber as ByNumber
 use Rattle.merge_laws.proofs.ByNumber as ByNumberLaws

@@ -18,7 +18,7 @@ use Rattle.link_laws.proofs.Growth.{marked-grown}
 use Rattle.link_laws.specs.Rules.{first_refusal, some_holds}
 use Rattle.link_laws.proofs.Rules.{none-holds}
 use Rattle.link_laws.specs.CallRules.{rules}
-use Rattle.link_laws.proofs.ExactTerms.{call-exactly, rules-numbered}
+use Rattle.link_laws.proofs.CallExactly.{call-exactly, rules-numbered}
 use Rattle.link_laws.specs.ExactLinks.{on}
 
 -- some signatures were met

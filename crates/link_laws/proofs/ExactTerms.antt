@@ -1,8 +1,10 @@
--- "The answer to every call is a result or, exactly where document 01's rules in their order give it, one of the refusals", after any calls.
--- CallRules.antt has the rules.
+-- "The answer to every call is a result or, exactly where document 01's rules in their order give it, one of the refusals": the statements of number and place.
+-- specs/CallRules.antt has each call's rules, one list in the documents' order. First every call after any calls, and a walk's by the index' own names; then any call
+-- where lists grow and other cells are lent; then `Symbols::new`; then, over any link, a file, a list of adds, the plain collection.
 -- Assumes nothing.
-use Rattle.std.specs.Prelude.{ℕ, ◌/◌, ◌≡◌, refl, Bool, true, not, List, [], eqb, length}
+use Rattle.std.specs.Prelude.{ℕ, ◌≡◌, Bool, not, List, [], ◌++◌, eqb, Option}
 use Rattle.std.proofs.Common.{ap, ◌∙◌}
+use Rattle.link.specs.declared.SymbolId.{SymbolId}
 use Rattle.link.specs.declared.cause.Refusal.{Refusal}
 use Rattle.link.specs.Said.{number_in}
 use Rattle.symbols.specs.New.{new_of}
@@ -10,80 +12,33 @@ use Rattle.archive_walk.specs.Look.{Table}
 use Rattle.archive_walk.specs.Walk.{begun_number, start_of}
 use Rattle.archive_laws.specs.Runs.{Run, history, start_run}
 use Rattle.symbol_laws.specs.History.{opened}
+use Rattle.merge_file.specs.MergeFile.{file_head_of}
 use Rattle.merge_laws.specs.Marked.{Marked}
 use Rattle.merge_laws.proofs.MarkedLemmas.{new-marked}
-use Rattle.merge_laws.specs.Calls.{Linked, linked, all_in}
-use Rattle.link_laws.specs.Read as Read
-use Rattle.link_laws.specs.Calls.{Call, intern, add, remove, add_group, merge, merge_file, load, archive_next, collect, plain_collect, library_in, call_refusal, call_number, run_calls, reads, add_list}
-use Rattle.elf_laws.specs.Object as ElfFile
+use Rattle.merge_laws.specs.Calls.{Linked, linked}
+use Rattle.add_list.specs.AddList.{items_of}
+use Rattle.link_laws.specs.Calls.{Call, archive_next, plain_collect, refusal_by, call_refusal, call_number, run_calls, add_list}
 use Rattle.link_laws.specs.Kept.{signatures}
 use Rattle.link_laws.proofs.Kept.{calls-marked}
-use Rattle.link_laws.specs.Rules.{first_refusal, numbered, some_holds}
-use Rattle.link_laws.proofs.Rules.{numbered-both, none-holds}
-use Rattle.link_laws.specs.GroupRules.{alone, group_head, own_group_rules}
+use Rattle.link_laws.specs.Growth.{Turn}
+use Rattle.link_laws.specs.ExactLinks as ExactLinks
+use Rattle.link_laws.proofs.ExactLinks as ExactLinksLaws
+use Rattle.link_laws.specs.Rules.{first_refusal, some_holds}
+use Rattle.link_laws.proofs.Rules.{none-holds}
 use Rattle.link_laws.specs.CallRules.{rules}
-use Rattle.link_laws.proofs.Exactly.{get-exactly, global-exactly, remove-exactly, resolve-exactly}
-use Rattle.link_laws.proofs.InternExactly.{intern-exactly}
-use Rattle.link_laws.proofs.AddExactly.{add-exactly}
-use Rattle.link_laws.proofs.GroupExactly as GroupExactly
-use Rattle.link_laws.proofs.GroupExactly.{add-group-exactly}
-use Rattle.link_laws.proofs.MergeWhole.{merge-exactly, merge-numbered}
-use Rattle.link_laws.specs.MergeRules.{merge_rules}
-use Rattle.link_laws.specs.FileRules.{file_rules}
-use Rattle.link_laws.proofs.FileExactly.{file-exactly, file-numbered}
-use Rattle.link_laws.proofs.LoadWhole.{load-exactly, load-numbered}
+use Rattle.link_laws.proofs.CallExactly.{call-exactly, rules-numbered}
 use Rattle.link_laws.specs.ArchiveRules.{indexed_rules}
 use Rattle.link_laws.proofs.ArchiveIndexed.{next-indexed}
-use Rattle.link_laws.proofs.ArchiveExactly.{start-exactly, start-numbered, next-exactly, next-numbered, shadowed-exactly, matches-exactly, matches-numbered}
-use Rattle.link_laws.proofs.CollectExactly.{collect-exactly}
-use Rattle.link_laws.proofs.PlainExactly.{plain-exactly}
-use Rattle.link_laws.proofs.ListExactly.{list-exactly, list-numbered}
-use Rattle.add_list.specs.AddList.{items_of}
+use Rattle.link_laws.specs.NewRules.{new_rules}
+use Rattle.link_laws.proofs.NewExactly as NewExactly
+use Rattle.link_laws.specs.FileRules.{file_rules}
+use Rattle.link_laws.proofs.FileExactly as FileExactly
+use Rattle.link_laws.specs.ListRules.{list_head, list_rules}
+use Rattle.link_laws.proofs.ListExactly as ListExactly
+use Rattle.link_laws.specs.CollectRules.{plain_rules}
+use Rattle.link_laws.proofs.PlainExactly as PlainExactly
 
--- over a link whose names are as every link has them
-pub call-exactly : (k : Call) (s : Linked) (met : List (List ℕ)) → Marked s.table met → call_refusal k s ≡ first_refusal (rules k s)
-call-exactly (intern x) s met m = intern-exactly x s m.good.chained
-call-exactly (reads (Read.resolve id)) s met m = resolve-exactly s id
-call-exactly (add conversion u) s met m = add-exactly conversion u s
-call-exactly (add_list conversion adds ids) s met m = list-exactly conversion adds ids s
-call-exactly (remove id) s met m = remove-exactly s id
-call-exactly (reads (Read.get id)) s met m = get-exactly s id
-call-exactly (reads (Read.get_global name)) s met m = global-exactly s name
-call-exactly (reads (Read.section_symbol id)) s met m = refl
-call-exactly (add_group o work n) s met m = add-group-exactly o work n s m.good.chained
-call-exactly (merge o work ids) s met m = merge-exactly o (all_in s work ids) met m
-call-exactly (merge_file file cells work ids) s met m = file-exactly file cells work ids s met m
-call-exactly (load o marks) s met m = load-exactly o (library_in s marks) m.good
-call-exactly (reads (Read.archive_start key index cells)) s met m = start-exactly key index cells s
-call-exactly (reads (Read.archive_next index cells w)) s met m = next-exactly index cells w s m.good.chained
-call-exactly (reads (Read.archive_shadowed index rows w cells)) s met m = shadowed-exactly index rows w cells s
-call-exactly (reads (Read.matches headers entries contents file index cells w e)) s met m = matches-exactly headers entries contents file index cells w e s
-call-exactly (collect marks entry work) s met m = collect-exactly marks entry work s
-call-exactly (plain_collect marks entry work) s met m = plain-exactly marks entry work s
-
--- no rule has the number of a result
-pub rules-numbered : (k : Call) (s : Linked) → numbered (rules k s) ≡ true
-rules-numbered (intern x) s = refl
-rules-numbered (reads (Read.resolve id)) s = refl
-rules-numbered (add conversion u) s = refl
-rules-numbered (add_list conversion adds ids) s = list-numbered conversion (items_of adds) s.table
-rules-numbered (remove id) s = refl
-rules-numbered (reads (Read.get id)) s = refl
-rules-numbered (reads (Read.get_global name)) s = refl
-rules-numbered (reads (Read.section_symbol id)) s = refl
-rules-numbered (add_group o work n) s =
-    numbered-both (group_head o n s.table (length work / 8)) (own_group_rules (alone o) n s.table (length work / 8)) (GroupExactly.head-numbered o work n s) refl
-rules-numbered (merge o work ids) s = merge-numbered o (all_in s work ids)
-rules-numbered (merge_file file cells work ids) s =
-    numbered-both (file_rules s.table.link.broken file (length cells)) (merge_rules (ElfFile.rows_of file) (all_in s work ids))
-    (file-numbered s.table.link.broken file (length cells)) (merge-numbered (ElfFile.rows_of file) (all_in s work ids))
-rules-numbered (load o marks) s = load-numbered o (library_in s marks)
-rules-numbered (reads (Read.archive_start key index cells)) s = start-numbered index cells
-rules-numbered (reads (Read.archive_next index cells w)) s = next-numbered index cells w s.table
-rules-numbered (reads (Read.archive_shadowed index rows w cells)) s = refl
-rules-numbered (reads (Read.matches headers entries contents file index cells w e)) s = matches-numbered headers entries contents file index cells w e
-rules-numbered (collect marks entry work) s = refl
-rules-numbered (plain_collect marks entry work) s = refl
+-- ---- any call, after a new table and any calls, those that remove too
 
 module _ (key : ℕ) (gabi : Bool) (bytes names symbols sections inputs lists : List ℕ) (new : number_in (new_of key gabi bytes names symbols sections).said ≡ 0) (ks : List Call) where
   abbrev pub start : Linked
@@ -111,3 +66,43 @@ module _ (key : ℕ) (gabi : Bool) (bytes names symbols sections inputs lists : 
 
     pub exactly-next : call_refusal (archive_next index walk.cells walk.walk) on ≡ first_refusal (indexed_rules index walk.cells walk.walk on.table)
     exactly-next = exactly (archive_next index walk.cells walk.walk) ∙ ap first_refusal (next-indexed walk_key index cells begun ts on.table)
+
+-- ---- the same where lists grew before calls, and where other cells are lent for symbols, sections, inputs and lists than the link's: there the rules of 1 for
+-- counts above what is lent arise
+
+module _ (key : ℕ) (gabi : Bool) (bytes names symbols sections inputs lists : List ℕ) (new : number_in (new_of key gabi bytes names symbols sections).said ≡ 0) (ts : List Turn)
+    (symbols' sections' inputs' lists' : List ℕ) (k : Call) where
+  abbrev lent_any : Linked
+  lent_any = ExactLinks.on key gabi bytes names symbols sections inputs lists new ts symbols' sections' inputs' lists'
+
+  pub exactly-any : call_refusal k lent_any ≡ first_refusal (rules k lent_any)
+  exactly-any = ExactLinksLaws.exactly-any key gabi bytes names symbols sections inputs lists new ts symbols' sections' inputs' lists' k
+
+  pub accepted-any : eqb (call_number k lent_any) 0 ≡ not (some_holds (rules k lent_any))
+  accepted-any = ExactLinksLaws.accepted-any key gabi bytes names symbols sections inputs lists new ts symbols' sections' inputs' lists' k
+
+-- ---- `Symbols::new`
+
+pub new-exactly : (key : ℕ) (gabi : Bool) (bytes names symbols sections : List ℕ) → refusal_by (new_of key gabi bytes names symbols sections).said ≡ first_refusal (new_rules names symbols)
+new-exactly = NewExactly.new-exactly
+
+-- a table just where none holds
+pub new-accepted : (key : ℕ) (gabi : Bool) (bytes names symbols sections : List ℕ)
+    → eqb (number_in (new_of key gabi bytes names symbols sections).said) 0 ≡ not (some_holds (new_rules names symbols))
+new-accepted = NewExactly.new-accepted
+
+-- ---- over any link: the file of a merge (2026-01), a list of adds (2026-05), the plain collection (2026-12)
+
+-- "26, [..] right after 22; 27, after 26, [..]; then 2, place 0"; the rules of the merge of its rows follow (`exactly`)
+pub head-exactly : (broken : Bool) (file : List ℕ) (cells : ℕ) → file_head_of broken file cells ≡ first_refusal (file_rules broken file cells)
+head-exactly = FileExactly.head-exactly
+
+-- "A broken link gives 22 to any list, then fewer cells than adds give 2", then each add's own rules, over what the adds before it left
+pub list-exactly : (conversion adds ids : List ℕ) (s : Linked)
+    → call_refusal (add_list conversion adds ids) s ≡ first_refusal (list_head s.table adds ids ++ list_rules conversion (items_of adds) s.table)
+list-exactly = ListExactly.list-exactly
+
+-- "30, more such sections than that, after 1, place 0"
+pub plain-exactly : (marks : List ℕ) (entry : Option SymbolId) (work : List ℕ) (s : Linked)
+    → call_refusal (plain_collect marks entry work) s ≡ first_refusal (plain_rules s.table s.lists marks entry work)
+plain-exactly = PlainExactly.plain-exactly

@@ -32,7 +32,7 @@ use Rattle.merge_symbols.specs.Stage as Symbols
 use Rattle.merge_stages.specs.Stages as Stages
 use Rattle.symbol_laws.specs.ObjectWords.{entries_in, entry}
 use Rattle.symbol_laws.proofs.View.{Free, View, refused, kept, amended, replaced, appended, local, view, decided}
-use Rattle.symbol_laws.specs.Proof.Rows.{row_at}
+use Rattle.symbol.specs.Row.{row_at}
 use Rattle.symbol_laws.proofs.Rows.{stored_row}
 use Rattle.symbol_laws.proofs.Within as Within
 use Rattle.symbol_laws.specs.History.{State, table, store, issue, put, put_of, id_of, part_next, object}

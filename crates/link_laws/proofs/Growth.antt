@@ -12,7 +12,7 @@ use Rattle.interner_laws.specs.Good.{Chained, count, cell, used, name, next, hea
 use Rattle.interner_laws.proofs.Written.{head-within, head-cell-same}
 use Rattle.interner_laws.proofs.Find.{found, find-known}
 use Rattle.symbol.specs.Row.{field}
-use Rattle.symbol_laws.specs.Proof.Rows.{row_at}
+use Rattle.symbol.specs.Row.{row_at}
 use Rattle.symbol_laws.proofs.View.{lesser-first, lesser-second}
 use Rattle.symbol_laws.specs.History.{State, Entry, store, only, run, log}
 use Rattle.symbol_laws.specs.Held.{Held, Inv}

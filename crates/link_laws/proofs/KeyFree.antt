@@ -23,7 +23,7 @@ use Rattle.gc_sections.specs.Run as Collection
 use Rattle.symbol_laws.specs.History.{table, store, with_table, with_store, with_rows, opened}
 use Rattle.merge_laws.specs.Calls.{Linked, linked, all_in, link_in}
 use Rattle.load_laws.specs.Whole as Loads
-use Rattle.key_laws.specs.Rekeyed.{keyed, Rekeyed}
+use Rattle.key_laws.specs.Rekeyed.{Rekeyed}
 use Rattle.key_laws.proofs.Tables.{intern-moved, resolve_same, add-moved, remove-keyed, remove-link, get-keyed, global-same, section-symbol-keyed}
 use Rattle.key_laws.specs.SectionNames.{Named}
 use Rattle.key_laws.proofs.ReadsLemmas.{next-same, shadowed-same, matches-same, collect-same, collect-link}
@@ -33,7 +33,7 @@ use Rattle.key_laws.proofs.Load.{load_moved}
 use Rattle.key_laws.proofs.SectionCalls.{intern-named, add-named, remove-named, group-named, merge-named, load-named, collect-named}
 use Rattle.key_laws.proofs.NewTables.{new-said, new-moved, new-named}
 use Rattle.link_laws.specs.Read as Read
-use Rattle.link_laws.specs.Calls.{Call, intern, add, remove, add_group, merge, merge_file, load, archive_next, archive_shadowed, matches, collect, plain_collect, call_left, refusal_in, refusal_by, call_refusal, call_next, run_calls, group_in, library_in, lists_in, view_in, is_read, reads, add_list}
+use Rattle.link_laws.specs.Calls.{Call, intern, add, remove, add_group, merge, merge_file, load, archive_next, archive_shadowed, matches, collect, plain_collect, call_left, refusal_in, refusal_by, call_next, run_calls, group_in, library_in, lists_in, view_in, is_read, reads, add_list}
 use Rattle.link_laws.proofs.PlainCalls.{plain-link}
 use Rattle.key_laws.proofs.PlainReads.{plain-same, plain-named}
 use Rattle.elf_laws.specs.Object as ElfFile
@@ -44,18 +44,9 @@ use Rattle.symbol_resolution.specs.Apply.{Table}
 use Rattle.link.specs.Judge.{refused, none}
 use Rattle.std.proofs.Math.Dec.{eqb}
 use Rattle.symbols.specs.Add.{add_of}
-use Rattle.link_laws.specs.KeyFree.{link_under, Alike, answer_in, call_answer, SameAnswers}
-
--- ---- two links
-
--- ---- what the caller is told
+use Rattle.link_laws.specs.KeyFree.{link_under, Alike, answer_in, Same, SameAnswers}
 
 -- ---- one call
-
-pub record Same (key : ℕ) (k : Call) (s t : Linked) : Type 0 where
-  pub answer : call_answer k t ≡ call_answer k s
-  pub refusal : call_refusal k t ≡ call_refusal k s
-  pub next : Alike key (call_next k s) (call_next k t)
 
 module _ (key : ℕ) (s : Linked) (n : List ℕ) (e : Rekeyed key (store s.table) n) (h : Named s.table.link s.table.sections) where
   add-under : (conversion : List ℕ) (u : UpcomingSymbol) → Same key (add conversion u) s (link_under key n s)

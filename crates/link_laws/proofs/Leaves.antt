@@ -28,7 +28,7 @@ use Rattle.merge_laws.proofs.ByNumber as ByNumber
 use Rattle.merge_laws.proofs.Refusals.{group-left}
 use Rattle.merge_laws.specs.Calls.{Linked, linked, all_in, link_in}
 use Rattle.load_laws.specs.Whole as Loads
-use Rattle.load_laws.proofs.NeedTerms as Unneeded
+use Rattle.load_laws.proofs.Unneeded as Unneeded
 use Rattle.link_laws.specs.Calls.{Call, intern, add, remove, add_group, merge, merge_file, load, collect, plain_collect, group_in, library_in, lists_in, call_left, call_number, call_next, reads, add_list, earlier}
 use Rattle.link_laws.proofs.PlainCalls.{Compared, alike, many, compared, many-next}
 use Rattle.link_laws.proofs.Idle.{drops-nothing, refused-drops}

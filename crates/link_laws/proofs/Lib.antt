@@ -3,6 +3,7 @@ pub mod GroupAlone
 pub mod ListExactly
 pub mod Ties
 pub mod Removal
+pub mod CallExactly
 pub mod ExactTerms
 pub mod Terms
 pub mod CallDuplicates
@@ -40,7 +41,7 @@ pub mod CollectExactly
 pub mod EntryNames
 pub mod Elements
 pub mod CallPlaces
-pub mod Witness
+pub mod WorkedLinks
 pub mod CutShort
 pub mod KeyFree
 pub mod CallSteps

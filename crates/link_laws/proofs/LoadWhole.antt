@@ -26,7 +26,7 @@ use Rattle.shared_objects.specs.SymbolsLoad.{symbol_of}
 use Rattle.shared_objects.specs.declared.Outcome.{Outcome}
 use Rattle.shared_objects.specs.Stages.{Links, library_row_of}
 use Rattle.shared_objects.specs.Load.{Input, All, Left, said_of, want_of, ended_as, links_in, wanted_of, library_named, head_in, name_of, load_of}
-use Rattle.load_laws.proofs.NeedTerms.{head-marks}
+use Rattle.load_laws.proofs.Unneeded.{head-marks}
 use Rattle.load_laws.specs.Names.{state_store}
 use Rattle.load_laws.specs.LoadSteps.{list_first, lists_in}
 use Rattle.load_laws.specs.Stops.{first, added, recorded, end, fits}

@@ -35,7 +35,7 @@ use Rattle.gc_laws.proofs.Paint.{set-falls}
 use Rattle.symbol_laws.proofs.View.{Named, Free, View, refused, kept, amended, replaced, appended, local, view, decided, held}
 use Rattle.symbol_laws.proofs.ContentWords.{decided-passes}
 use Rattle.symbol_laws.proofs.Refused.{commit-refused, remove-link}
-use Rattle.symbol_laws.specs.Proof.Rows.{row_at}
+use Rattle.symbol.specs.Row.{row_at}
 use Rattle.symbol_laws.proofs.Rows.{stored_there, stored_row, there-kept, row_kept, Packs, read-packs}
 use Rattle.symbol_laws.specs.Held.{Inv}
 use Rattle.symbol_laws.proofs.Issue.{FreeRow, linked-new, linked-old, room-free}

@@ -17,7 +17,7 @@ use Rattle.symbols.specs.New.{null_of, new_of}
 use Rattle.link_laws.specs.Calls.{refusal_by}
 use Rattle.link_laws.specs.Rules.{first_refusal, some_holds}
 use Rattle.link_laws.proofs.Rules.{none-holds}
-use Rattle.link_laws.specs.NewExactly.{new_rules}
+use Rattle.link_laws.specs.NewRules.{new_rules}
 
 below_one : (n : ℕ) → ltb n 1 ≡ eqb n 0
 below_one n =

@@ -1,7 +1,8 @@
--- The terms of acceptance on one page: statements only, each proved by citing a theorem. Terms.antt has more of them, by place and number.
+-- The terms of acceptance on one page: statements only, each proved by citing a theorem. Terms.antt has more of them, by place and number, and ExactTerms.antt of the
+-- rules.
 --
--- The words, besides the calls themselves (Calls.antt: `Call`, `callLeft` what a call leaves and answers, `callRefusal` its number and place, `callNext`
--- the link after it, `runCalls` the link after a list of them):
+-- The words stand in specs/, in the files named here. Besides the calls themselves (Calls.antt: `Call`, `call_left` what a call leaves and answers, `call_refusal` its
+-- number and place, `call_next` the link after it, `run_calls` the link after a list of them):
 --   s0            the link that an accepted Symbols::new left
 --   end           run_calls ks s0, after calls ks that remove nothing (RemovesNothing)
 --   lookup b s    what get_global answers for the bytes b: a row, or a refusal (Words.antt, as the next three)
@@ -11,16 +12,16 @@
 --   strong b s    lookup b s is a row that is global and not weak
 --   ties b s      undefined b s, in the gABI profile undefined b s && strong b s
 --   tied i s      the members of the entries of index i whose name ties in s, by their offsets, in the index' order
---   offered i w   the members that the walk w offered, by their offsets, in order; first_seen and without (PassList.antt) on such lists
+--   offered i w   the members that the walk w offered, by their offsets, in order; first_seen and without (archive_laws/specs/PassList.antt) on such lists
 --   m             the number of members that an index names
 --   Before, After a section is built before a collection, after it; Reached (gc_laws/specs/Reached.antt) what relocations reach from the roots
 --   NeededIn      what makes a library needed, by lookups and by the libraries that were loaded (NeededIn.antt)
---   Exit, Meets   what a caller sees of a call, and the call's contract (Contracts.antt)
+--   Exit, Meets   what a caller sees of a call, and the call's contract (CallContracts.antt)
 --   earlier k s   s; of a list of adds, the link after those of its adds that were accepted (Calls.antt)
 --   Premises      types 0 to 3, no commons, and what else a list of adds has to be (order_laws/specs/Premises.antt)
 --   AnyOrder      every arrangement of the list is accepted, with the same content of each name with a strong definition (order_laws/specs/Order.antt)
---   told i q s k  entry k of index i, by its name's lookup in s and by whether the members offered by the entries q have its own (specs/Shadowed.antt)
--- Witness.antt has a history that meets the premises.
+--   told i q s k  entry k of index i, by its name's lookup in s and by whether the members offered by the entries q have its own (Shadowed.antt)
+-- WorkedLinks.antt has a history that meets the premises, and other worked links.
 -- Assumes nothing.
 use Rattle.shared_objects.specs.declared.Load.TheVariants.{NotNeeded}
 use Rattle.gc_sections.specs.Run.{dropped}
@@ -44,13 +45,13 @@ use Rattle.archive_walk.specs.Look.{Table}
 use Rattle.archive_laws.specs.Runs.{Run, history, start_run}
 use Rattle.archive_laws.specs.PassList.{is_in, without, first_seen, offered, Over}
 use Rattle.archive_laws.proofs.PassList.{among_in}
-use Rattle.gc_laws.proofs.Terms as CollectionLaws
+use Rattle.gc_laws.specs.Collected as Collected
 use Rattle.gc_laws.specs.Reached as Roots
 use Rattle.merge_stages.specs.Stages as Stages
 use Rattle.symbol_laws.specs.Rank.{first_by_rank, joined_in}
 use Rattle.symbol_laws.specs.Hidden.{is_hidden, some_hidden}
 use Rattle.symbol_laws.specs.Standing.{SameButHidden, hidden_by}
-use Rattle.symbol_laws.specs.Proof.Rows.{row_at}
+use Rattle.symbol.specs.Row.{row_at}
 use Rattle.symbol_laws.specs.ObjectWords.{sections_in, program, loaded_as}
 use Rattle.symbol_laws.specs.Agreement as Agreement
 use Rattle.symbol_laws.specs.History.{Entry, opened, rows}
@@ -81,7 +82,7 @@ use Rattle.link_laws.specs.Rules as Rules
 use Rattle.link_laws.specs.CallRules.{rules}
 use Rattle.link_laws.proofs.ExactTerms as ExactTerms
 use Rattle.link_laws.specs.ExactLinks.{lent_as}
-use Rattle.link_laws.specs.NewExactly.{new_rules}
+use Rattle.link_laws.specs.NewRules.{new_rules}
 use Rattle.link_laws.specs.BuiltSections.{SparesAll}
 use Rattle.link_laws.specs.ObjectSections as ObjectSections
 use Rattle.link_laws.specs.ObjectSections.{section_id}
@@ -100,21 +101,21 @@ module _ (key : ℕ) (gabi : Bool) (bytes names symbols sections inputs lists : 
   on = ExactTerms.on key gabi bytes names symbols sections inputs lists new ks
 
   pub exactly : call_refusal k on ≡ Rules.first_refusal (rules k on)
-  exactly = Terms.exactly key gabi bytes names symbols sections inputs lists new ks k
+  exactly = ExactTerms.exactly key gabi bytes names symbols sections inputs lists new ks k
 
   pub accepted : eqb (call_number k on) 0 ≡ not (Rules.some_holds (rules k on))
-  accepted = Terms.accepted key gabi bytes names symbols sections inputs lists new ks k
+  accepted = ExactTerms.accepted key gabi bytes names symbols sections inputs lists new ks k
 
 -- the same where lists grew before calls (Turn, Growth.antt), and any cells are lent at the end for symbols, sections, inputs and lists (lent_as, ExactLinks.antt)
 pub exactly-any : (key : ℕ) (gabi : Bool) (bytes names symbols sections inputs lists : List ℕ) → number_in (new_of key gabi bytes names symbols sections).said ≡ 0 → (ts : List Turn)
     (symbols' sections' inputs' lists' : List ℕ) (k : Call)
     → let on = lent_as (run_turns ts (linked (opened (new_of key gabi bytes names symbols sections)) inputs lists)) symbols' sections' inputs' lists' in
     call_refusal k on ≡ Rules.first_refusal (rules k on)
-exactly-any = Terms.exactly-any
+exactly-any = ExactTerms.exactly-any
 
 -- and of `Symbols::new` itself, for any lists
 pub new-exactly : (key : ℕ) (gabi : Bool) (bytes names symbols sections : List ℕ) → refusal_by (new_of key gabi bytes names symbols sections).said ≡ Rules.first_refusal (new_rules names symbols)
-new-exactly = Terms.new-exactly
+new-exactly = ExactTerms.new-exactly
 
 -- "and leaves behind what that table says": a refused call leaves everything of the link (a list of adds, with the adds before the refused one); a merge or a
 -- load what its elements before left, and a broken link
@@ -310,10 +311,10 @@ module _ (key : ℕ) (gabi : Bool) (bytes names symbols sections inputs lists : 
 
     module _ (marks : List ℕ) (entry : Option SymbolId) (work : List ℕ) where
       abbrev pub Before : ℕ → Type 0
-      Before = CollectionLaws.Before end.table.link (lists_in end marks) end.table.symbols end.table.sections entry work
+      Before = Collected.Before end.table.link (lists_in end marks) end.table.symbols end.table.sections entry work
 
       abbrev pub After : ℕ → Type 0
-      After = CollectionLaws.After end.table.link (lists_in end marks) end.table.symbols end.table.sections entry work
+      After = Collected.After end.table.link (lists_in end marks) end.table.symbols end.table.sections entry work
 
       abbrev pub Reached : ℕ → Type 0
       Reached = Roots.Reached end.table.link (lists_in end marks) end.table.symbols end.table.sections entry

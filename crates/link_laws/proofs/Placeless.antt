@@ -40,7 +40,7 @@ use Rattle.merge_elf.specs.Merge as Merge
 use Rattle.merge_elf.specs.Merge.{work_refusal, rows_refusal, check_of, head_in}
 use Rattle.shared_objects.specs.Head as Head
 use Rattle.shared_objects.specs.Load as Shared
-use Rattle.load_laws.proofs.NeedTerms as Unneeded
+use Rattle.load_laws.proofs.Unneeded as Unneeded
 use Rattle.gc_sections.specs.Reach as Reach
 use Rattle.gc_sections.specs.Run as Collection
 use Rattle.gc_sections.specs.Run.{judge_cells, judged, purge_of, sweep_of, finish_of, finished, collect_of, run_of}

@@ -34,7 +34,7 @@ use Rattle.symbols.specs.New.{null_row, clear_symbols, null_of, new_of}
 use Rattle.gc_laws.proofs.Terms as CollectionLaws
 use Rattle.gc_laws.specs.Reached as Roots
 use Rattle.symbol_laws.proofs.Refused.{remove-link}
-use Rattle.symbol_laws.specs.Proof.Rows.{row_at}
+use Rattle.symbol.specs.Row.{row_at}
 use Rattle.symbol_laws.proofs.Rows.{stored_row}
 use Rattle.symbol_laws.proofs.View.{lesser-second}
 use Rattle.symbol_laws.specs.History.{State, opened}

@@ -35,7 +35,8 @@ use Rattle.archive_laws.proofs.Counts.{first_one, once-members, cnt-le}
 use Rattle.archive_laws.proofs.RoundLaws.{Kept, kept_fresh}
 use Rattle.archive_laws.proofs.Pass.{queue-length}
 use Rattle.archive_laws.specs.Runs.{queue_list, views_by, Run, history, start_run, seen}
-use Rattle.archive_laws.proofs.Terms.{walk_fine, walked}
+use Rattle.archive_laws.proofs.AcceptedStart.{walk_fine}
+use Rattle.archive_laws.proofs.Terms.{walked}
 use Rattle.archive_laws.specs.Steps.{Fine}
 use Rattle.shadowed_members.specs.Shadowed as Shadowed
 use Rattle.shadowed_members.specs.Shadowed.{offered_among, weak_definition, told_row, told_holder, told_name, told_at, those, listed, told_of, fits_index, shadowed_of}

@@ -1,11 +1,12 @@
--- The terms of acceptance, over links of all calls. Calls.antt says what the calls are, and what each leaves and answers; Table.antt has document
--- 01's numbers; the proofs stand in the other files.
+-- The terms of acceptance, over links of all calls, but for number and place by the rules, which ExactTerms.antt has. specs/Calls.antt says what the calls are, and what
+-- each leaves and answers; specs/Table.antt has document 01's numbers. Over any link: what is answered and left, one outcome, the key of the hash, a group added by
+-- itself, what a walk passed by. Then worked links. Then links that began with a new table: after any calls, where lists grow, and after calls that remove nothing.
 -- Assumes nothing.
 use Rattle.shared_objects.specs.declared.Load.TheVariants.{NotNeeded, Loaded}
 use Rattle.gc_sections.specs.Run.{dropped}
 use Rattle.link.specs.declared.cause.Refusal.{Refusal}
 use Rattle.gc_sections.specs.declared.Dropped.{Dropped}
-use Rattle.std.specs.Prelude.{ℕ, suc, ◌+◌, ◌/◌, ◌<◌, ◌≤◌, ◌≡◌, Bool, true, false, cond, not, ◌||◌, List, [], ◌∷◌, ◌++◌, ◌≢◌, ◌↔◌, eqb, get_or, length, Option, Result, None, Some, Ok, Err}
+use Rattle.std.specs.Prelude.{ℕ, suc, ◌+◌, ◌*◌, ◌/◌, ◌<◌, ◌≤◌, ◌≡◌, Bool, true, false, cond, not, ◌||◌, List, [], ◌∷◌, ◌++◌, ◌≢◌, ◌↔◌, get_or, length, Option, Result, None, Some, Ok, Err}
 use Rattle.std.proofs.Common.{arith, sym, ap, ◌∙◌, subst, append-nil, eq-eqb, ne_eqb}
 use Rattle.gabi.specs.StringTable as Strings
 use Rattle.gabi.specs.SymbolTable.{Sym, stv_default, stv_hidden}
@@ -19,9 +20,13 @@ use Rattle.link.specs.declared.SectionId.{SectionId}
 use Rattle.link.specs.Bounds.{not_lent}
 use Rattle.link.specs.Judge.{refused, change_of}
 use Rattle.link.specs.Said.{number_in}
+use Rattle.interner.specs.Calls as Names
 use Rattle.interner.specs.Calls.{resolved}
+use Rattle.interner.specs.Contract as Interning
+use Rattle.interner.specs.Contract.{NewNamesMeets}
 use Rattle.interner_laws.specs.Good.{find}
 use Rattle.interner_laws.specs.Interns.{Accepted, id}
+use Rattle.symbol.specs.declared.Symbol.{Symbol}
 use Rattle.symbol.specs.declared.Row.{Row}
 use Rattle.symbol.specs.Row.{symbol_at, scope_refused, value_refused}
 use Rattle.symbol.specs.RowLaws.{symbol_of}
@@ -31,8 +36,10 @@ use Rattle.upcoming_symbol.specs.Upcoming.{name_of}
 use Rattle.symbol_resolution.specs.Holder.{global_at}
 use Rattle.symbols.specs.New.{new_of}
 use Rattle.symbols.specs.Add.{file_of, file_issued}
+use Rattle.symbols.specs.Calls as Symbols
+use Rattle.symbols.specs.Lookup as Lookup
 use Rattle.symbols.specs.Lookup.{not_found}
-use Rattle.elf_object.specs.Rows.{rows_in, is_loaded, elf_at}
+use Rattle.elf_object.specs.Rows.{rows_in, is_loaded, elf_at, comdat_at, count_at}
 use Rattle.elf_object.specs.Judge as Elf
 use Rattle.sections.specs.Rows.{state_at}
 use Rattle.merge_sections.specs.Reserve.{class_of}
@@ -44,25 +51,30 @@ use Rattle.merge_elf.specs.Merge as Merge
 use Rattle.shared_objects.specs.Load as Shared
 use Rattle.shared_objects.specs.Need.{input_kind_at}
 use Rattle.load_laws.specs.Needed.{library_kind, Needed}
-use Rattle.load_laws.proofs.NeedTerms as Unneeded
+use Rattle.load_laws.proofs.Unneeded as Unneeded
 use Rattle.archive_index.specs.Index.{count_of, offset_of}
 use Rattle.archive_index.specs.Index as Index
+use Rattle.archive_walk.specs.declared.Offer.{Offer}
 use Rattle.archive_walk.specs.declared.Walk.{Walk}
+use Rattle.archive_walk.specs.Walk as Archive
+use Rattle.object_requirement.specs.Matches as Matches
 use Rattle.archive_walk.specs.Look.{Table, undefined_name, tied_name}
 use Rattle.archive_walk.specs.Names.{required_of}
 use Rattle.archive_laws.proofs.Profiles.{tied-old}
 use Rattle.archive_laws.specs.Rounds.{among, members}
+use Rattle.archive_laws.specs.Steps.{Fine}
 use Rattle.archive_laws.specs.Runs.{Run, history, start_run}
 use Rattle.archive_laws.specs.Walked.{in_index, queue_in, Walked}
 use Rattle.archive_laws.proofs.Terms.{walked}
 use Rattle.archive_laws.specs.PassList.{Over, offered, without, first_seen, tied_members}
+use Rattle.gc_laws.specs.Collected as Collected
 use Rattle.gc_laws.proofs.Terms as CollectionLaws
 use Rattle.gc_laws.specs.Reached as Roots
 use Rattle.symbol_laws.specs.ContentWords.{shared_entry}
 use Rattle.symbol_laws.proofs.Standing.{hidden-joined}
 use Rattle.symbol_laws.specs.Demand.{HeldBy}
-use Rattle.symbol_laws.specs.Rank.{ranked, FirstOfGreatestRank, first_by_rank, joined_in}
-use Rattle.symbol_laws.specs.Proof.Rows.{row_at}
+use Rattle.symbol_laws.specs.Rank.{ranked, first_by_rank, joined_in}
+use Rattle.symbol.specs.Row.{row_at}
 use Rattle.symbol_laws.specs.History.{opened, Entry, only, rows, store, upcoming, table}
 use Rattle.symbol_laws.proofs.Start.{new-inv}
 use Rattle.symbol_laws.specs.Held.{Inv}
@@ -121,19 +133,12 @@ use Rattle.load_laws.proofs.SymbolDuplicates as InLoadLaws
 use Rattle.plain_laws.specs.Agrees.{Agrees}
 use Rattle.plain_laws.proofs.Terms as Plain
 use Rattle.plain_laws.specs.BuiltRows.{built_rows}
-use Rattle.link_laws.specs.Calls.{Call, intern, resolve, add, remove, get, get_global, section_symbol, add_group, merge, merge_file, load, archive_start, archive_next, archive_shadowed, matches, collect, plain_collect, view_in, group_in, library_in, lists_in, call_left, refusal_by, call_refusal, call_number, call_next, call_notes, run_calls, log_calls, Removes, RemovesNothing, file_head, add_list, earlier}
+use Rattle.link_laws.specs.Calls.{Call, intern, resolve, add, remove, get, get_global, section_symbol, add_group, merge, merge_file, load, archive_start, archive_next, archive_shadowed, matches, collect, plain_collect, view_in, group_in, library_in, lists_in, call_left, call_refusal, call_number, call_next, call_notes, run_calls, log_calls, Removes, RemovesNothing, file_head, add_list, earlier}
 use Rattle.link_laws.proofs.FileCall as FileCall
 use Rattle.elf_laws.specs.Object as ElfFile
 use Rattle.elf_laws.specs.Object.{laid}
 use Rattle.merge_file.specs.MergeFile.{file_left, unread}
 use Rattle.link_laws.specs.Table.{call_numbers}
-use Rattle.link_laws.specs.Rules as Rules
-use Rattle.link_laws.specs.CallRules.{rules}
-use Rattle.link_laws.proofs.ExactTerms as ExactTerms
-use Rattle.link_laws.specs.ExactLinks as ExactLinks
-use Rattle.link_laws.proofs.ExactLinks as ExactLinksLaws
-use Rattle.link_laws.proofs.NewExactly as NewExactly
-use Rattle.link_laws.specs.NewExactly.{new_rules}
 use Rattle.link_laws.proofs.Numbers as Numbers
 use Rattle.link_laws.proofs.Leaves as LeavesLaws
 use Rattle.link_laws.specs.Leaves.{by_elements}
@@ -164,12 +169,13 @@ use Rattle.link_laws.specs.RowPlaces.{library_lent}
 use Rattle.link_laws.specs.CutShort as CutShort
 use Rattle.link_laws.proofs.CutShort as CutShortLaws
 use Rattle.link_laws.proofs.CallContracts as ContractsLaws
-use Rattle.link_laws.specs.CallContracts.{Exit, Meets}
+use Rattle.link_laws.specs.CallContracts.{Exit, Meets, seen}
+use Rattle.link_laws.proofs.OneOutcome as OneOutcome
 use Rattle.symbols.specs.Contract.{NewExit, NewMeets}
 use Rattle.strings.specs.Contract.{StringExit, StringMeets, EndedMeets}
-use Rattle.section_groups.specs.Contract.{FilterMeets}
+use Rattle.section_groups.specs.Contract.{FilterMeets, SectionAfterMeets}
 use Rattle.link_laws.proofs.KeyFree as KeyFree
-use Rattle.link_laws.specs.KeyFree.{Alike, SameAnswers}
+use Rattle.link_laws.specs.KeyFree.{Alike, Same, SameAnswers}
 use Rattle.link_laws.proofs.Idle as Idle
 use Rattle.link_laws.proofs.CallPast as CallPast
 use Rattle.link_laws.specs.Lists as Lists
@@ -198,8 +204,10 @@ use Rattle.link_laws.proofs.Walks as WalksLaws
 use Rattle.link_laws.specs.Walks.{next_in, with_walk, walk_after, tables_at, joined}
 use Rattle.link_laws.specs.WalkIn as WalkIn
 use Rattle.link_laws.proofs.WalkIn as WalkInLaws
-use Rattle.link_laws.specs.Shadowed.{knows, strongly_defined, told, Settled, those_below, Tells}
+use Rattle.link_laws.specs.Shadowed.{knows, strongly_defined, told_by, told, Settled, those_below, Tells}
 use Rattle.link_laws.proofs.Shadowed as ShadowedLaws
+use Rattle.link_laws.specs.WorkedLinks.{WorkedLinks}
+use Rattle.link_laws.proofs.WorkedLinks as Worked
 use Rattle.merge_laws.specs.Origin.{from_objects}
 use Rattle.merge_laws.proofs.Origin.{hidden-objects, only-shown}
 use Rattle.link_laws.proofs.Profile.{call-profile, calls-profile, calls-shown, turns-profile, turns-shown}
@@ -286,7 +294,7 @@ remove-place = CallPlaces.remove-place
 
 -- "the section's for collection": the lowest that is reached but not built
 pub collect-section-place : (marks : List ℕ) (entry : Option SymbolId) (work : List ℕ) (s : Linked) → call_number (collect marks entry work) s ≡ 21
-    → CollectionLaws.Lowest s.table.link (lists_in s marks) s.table.symbols s.table.sections entry work (call_refusal (collect marks entry work) s).place
+    → Collected.Lowest s.table.link (lists_in s marks) s.table.symbols s.table.sections entry work (call_refusal (collect marks entry work) s).place
 collect-section-place = CallPlaces.collect-section-place
 
 -- "the entry's position for a pass": of the walk's entries the first whose name's row was removed
@@ -469,40 +477,7 @@ broken-only = Placeless.broken-only
 pub broken-stays : (ks : List Call) (s : Linked) → s.table.link.broken ≡ true → run_calls ks s ≡ s
 broken-stays = Starred.broken-stays
 
--- which of them, exactly: CallRules.antt has each call's rules in document 01's order. Of a new table after any calls, those that remove too: number and
--- place are those of the first rule that holds, and it is a result just where none does
-module _ (key : ℕ) (gabi : Bool) (bytes names symbols sections inputs lists : List ℕ) (new : number_in (new_of key gabi bytes names symbols sections).said ≡ 0) (ks : List Call) (k : Call) where
-  abbrev after-calls : Linked
-  after-calls = ExactTerms.on key gabi bytes names symbols sections inputs lists new ks
-
-  pub exactly : call_refusal k after-calls ≡ Rules.first_refusal (rules k after-calls)
-  exactly = ExactTerms.exactly key gabi bytes names symbols sections inputs lists new ks k
-
-  pub accepted : eqb (call_number k after-calls) 0 ≡ not (Rules.some_holds (rules k after-calls))
-  accepted = ExactTerms.accepted key gabi bytes names symbols sections inputs lists new ks k
-
--- and of a walk that a start began, by the index' own names: ExactTerms.exactly-next
-
--- the same where lists grew before calls, and where other cells are lent for symbols, sections, inputs and lists than the link's: there the rules of 1 for counts above
--- what is lent arise
-module _ (key : ℕ) (gabi : Bool) (bytes names symbols sections inputs lists : List ℕ) (new : number_in (new_of key gabi bytes names symbols sections).said ≡ 0) (ts : List Turn)
-    (symbols' sections' inputs' lists' : List ℕ) (k : Call) where
-  abbrev lent_any : Linked
-  lent_any = ExactLinks.on key gabi bytes names symbols sections inputs lists new ts symbols' sections' inputs' lists'
-
-  pub exactly-any : call_refusal k lent_any ≡ Rules.first_refusal (rules k lent_any)
-  exactly-any = ExactLinksLaws.exactly-any key gabi bytes names symbols sections inputs lists new ts symbols' sections' inputs' lists' k
-
-  pub accepted-any : eqb (call_number k lent_any) 0 ≡ not (Rules.some_holds (rules k lent_any))
-  accepted-any = ExactLinksLaws.accepted-any key gabi bytes names symbols sections inputs lists new ts symbols' sections' inputs' lists' k
-
--- `Symbols::new`
-pub new-exactly : (key : ℕ) (gabi : Bool) (bytes names symbols sections : List ℕ) → refusal_by (new_of key gabi bytes names symbols sections).said ≡ Rules.first_refusal (new_rules names symbols)
-new-exactly = NewExactly.new-exactly
-
-pub new-accepted : (key : ℕ) (gabi : Bool) (bytes names symbols sections : List ℕ)
-    → eqb (number_in (new_of key gabi bytes names symbols sections).said) 0 ≡ not (Rules.some_holds (new_rules names symbols))
-new-accepted = NewExactly.new-accepted
+-- which of them, exactly: ExactTerms.antt
 
 -- ---- a. "A public call's result and every lent cell after it, refusal or not, follow from its inputs alone"
 
@@ -515,6 +490,10 @@ pub new-one-outcome : (key : ℕ) (gabi : Bool) (bytes names symbols sections : 
     → x ≡ y
 new-one-outcome = ContractsLaws.new-one-outcome
 
+-- of the names of a new table, which are part of it
+pub new-names-one-outcome : (key : ℕ) (bytes names : List ℕ) (x y : Interning.Exit) → NewNamesMeets key bytes names x → NewNamesMeets key bytes names y → x ≡ y
+new-names-one-outcome = ContractsLaws.new-names-one-outcome
+
 pub string-one-outcome : (table : List ℕ) (offset : ℕ) (x y : StringExit) → StringMeets table offset x → StringMeets table offset y → x ≡ y
 string-one-outcome = ContractsLaws.string-one-outcome
 
@@ -524,10 +503,44 @@ ended-one-outcome = ContractsLaws.ended-one-outcome
 pub filter-one-outcome : (work entries : List ℕ) (x y : ℕ) → FilterMeets work entries x → FilterMeets work entries y → x ≡ y
 filter-one-outcome = ContractsLaws.filter-one-outcome
 
+pub section-after-one-outcome : (work : List ℕ) (section x y : ℕ) → SectionAfterMeets work section x → SectionAfterMeets work section y → x ≡ y
+section-after-one-outcome = ContractsLaws.section-after-one-outcome
+
+-- so all that is proved of `call_left`, the call's definition, is proved of every exit that meets the contract
+pub meets-left : (k : Call) (s : Linked) (e : Exit k) → Meets k s e → seen k e ≡ call_left k s
+meets-left = ContractsLaws.meets-left
+
+-- where a contract or a definition names what an answer says (number, place and values, in document 01's terms), that is the whole answer: of interns; of new tables, adds
+-- and removes; of lookups; of a section's symbol; of a walk's start; of a call for the next member; of admission
+pub names-answer : (a b : Result Interned Refusal) → Names.said a ≡ Names.said b → a ≡ b
+names-answer = OneOutcome.names-answer
+
+pub symbols-answer : (a b : Result SymbolId Refusal) → Symbols.said a ≡ Symbols.said b → a ≡ b
+symbols-answer = OneOutcome.symbols-answer
+
+pub found-answer : (a b : Result Symbol Refusal) → Lookup.said a ≡ Lookup.said b → a ≡ b
+found-answer = OneOutcome.found-answer
+
+pub section-symbol-answer : (a b : Option SymbolId) → Lookup.section_symbol_said a ≡ Lookup.section_symbol_said b → a ≡ b
+section-symbol-answer = OneOutcome.section-symbol-answer
+
+pub begun-answer : (a b : Result ℕ Refusal) → Archive.begun_said a ≡ Archive.begun_said b → a ≡ b
+begun-answer = OneOutcome.begun-answer
+
+pub offer-answer : (a b : Result Offer Refusal) → Archive.offer_said a ≡ Archive.offer_said b → a ≡ b
+offer-answer = OneOutcome.offer-answer
+
+pub admission-answer : (a b : Result Bool Refusal) → Matches.said a ≡ Matches.said b → a ≡ b
+admission-answer = OneOutcome.admission-answer
+
 -- ---- "Ids, symbol rows and answers don't depend on" the key of the hash
 
--- the same calls, those that remove too, on new tables of the same lent lists under two keys: the same answers, with every value and every cell lent
--- beside the link's own; and links that differ at most in the key, the heads of the hash chains and the chains' links
+-- one call on two links that are alike but for the key: the same answer, with every value and every cell lent beside the link's own, and links that are alike
+pub call_same : (key : ℕ) (k : Call) (s t : Linked) → Alike key s t → Same key k s t
+call_same = KeyFree.call_same
+
+-- the same calls, those that remove too, on new tables of the same lent lists under two keys: the same answers; and links that differ at most in the key, the
+-- heads of the hash chains and the chains' links
 module _ (key other : ℕ) (gabi : Bool) (bytes names symbols sections inputs lists : List ℕ) where
   abbrev pub start_under : ℕ → Linked
   start_under k = linked (opened (new_of k gabi bytes names symbols sections)) inputs lists
@@ -538,6 +551,26 @@ module _ (key other : ℕ) (gabi : Bool) (bytes names symbols sections inputs li
   pub keys-alike : number_in (new_of key gabi bytes names symbols sections).said ≡ 0 → (ks : List Call)
       → SameAnswers ks (start_under key) (start_under other) × Alike other (run_calls ks (start_under key)) (run_calls ks (start_under other))
   keys-alike = KeyFree.keys-alike key other gabi bytes names symbols sections inputs lists
+
+-- ---- a group that is added by itself, and what a walk over an archive passed by: over any link
+
+-- "signature symbol missing": one that lists one section, in an object whose symbol table is excluded or isn't of kind 3
+pub alone-unloaded : (o : Group.Object) (work : List ℕ) (n : ℕ) (s : Linked) → (AddGroup.head_in o (group_in s.table work) n).number ≡ 0 → comdat_at o.headers n ≢ 0
+    → count_at o.headers n ≡ 1 → is_loaded o.headers o.table 3 ≡ false → call_refusal (add_group o work n) s ≡ refused 6 n
+alone-unloaded o work n s = GroupAloneLaws.alone-unloaded o s.table work n
+
+-- by entries and a member's key, of whatever they are the entries of: of a run whose rows say so (Fine), and a link whose rows are lent
+pub tells-them : (walk_key : ℕ) (index : List ℕ) (keys : ℕ → ℕ) (named : ℕ → List ℕ) (c : ℕ) (r : Run) → Fine walk_key index keys named c r → c ≤ 65535
+    → r.walk.offered ≤ r.walk.queued → (s : Linked) → s.table.link.symbols ≤ 65535 → s.table.link.symbols * 8 ≤ length s.table.symbols
+    → Within.Within s.table.link s.table.names → (cells : List ℕ) → call_number (archive_shadowed index r.cells r.walk cells) s ≡ 0
+    → Tells (those_below (told_by keys named r.offers s) c) cells (call_left (archive_shadowed index r.cells r.walk cells) s)
+tells-them walk_key index keys named c r fine few going s counted room =
+    ShadowedLaws.tells-them walk_key index keys named c r fine few going s (record { few = counted; room = room })
+
+-- ---- worked links: what follows is not said of nothing. A list of them, each computed, in both profiles
+
+pub worked-links : (gabi : Bool) → WorkedLinks gabi
+worked-links = Worked.worked-links
 
 -- ---- "Let a link be a new table"
 
@@ -684,7 +717,7 @@ module _ (key : ℕ) (gabi : Bool) (bytes names symbols sections inputs lists : 
 
       module _ (y : SectionId) (marks : List ℕ) (entry : Option SymbolId) (work : List ℕ) (a b : ℕ) (ok : (call_left (collect marks entry work) after).answer ≡ Ok (dropped a b)) where
         abbrev pub StoodBefore : Type 0
-        StoodBefore = CollectionLaws.Before after.table.link (lists_in after marks) after.table.symbols after.table.sections entry work y.0
+        StoodBefore = Collected.Before after.table.link (lists_in after marks) after.table.symbols after.table.sections entry work y.0
 
         abbrev pub IsReached : Type 0
         IsReached = Roots.Reached after.table.link (lists_in after marks) after.table.symbols after.table.sections entry y.0
@@ -1377,17 +1410,17 @@ module _ (key : ℕ) (gabi : Bool) (bytes names symbols sections inputs lists : 
       answer = (call_left (collect marks entry work) end).answer
 
       pub demand-3c : (a b : ℕ) → answer ≡ Ok (dropped a b)
-          → CollectionLaws.Kept end.table.link (lists_in end marks) end.table.symbols end.table.sections entry work
+          → Collected.Kept end.table.link (lists_in end marks) end.table.symbols end.table.sections entry work
       demand-3c = CollectionLaws.keeps end.table.link (lists_in end marks) end.table.symbols end.table.sections entry work
 
       -- "Dropped sections go by ascending id, their symbols' rows with them"
       pub removes : (a b : ℕ) → answer ≡ Ok (dropped a b)
-          → CollectionLaws.Removed end.table.link (lists_in end marks) end.table.symbols end.table.sections entry work
+          → Collected.Removed end.table.link (lists_in end marks) end.table.symbols end.table.sections entry work
       removes = CollectionLaws.removes end.table.link (lists_in end marks) end.table.symbols end.table.sections entry work
 
       -- "Of sections reached but not built, the lowest gives 21"
       pub refuses : (k : ℕ) → answer ≡ Err (refused 21 k)
-          → CollectionLaws.Lowest end.table.link (lists_in end marks) end.table.symbols end.table.sections entry work k
+          → Collected.Lowest end.table.link (lists_in end marks) end.table.symbols end.table.sections entry work k
       refuses = CollectionLaws.refuses end.table.link (lists_in end marks) end.table.symbols end.table.sections entry work
 
       -- request 2026-12: the plain collection keeps "the same sections and rows as the first, or refuses with the same number and place"

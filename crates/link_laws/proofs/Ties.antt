@@ -24,7 +24,7 @@ use Rattle.symbol_laws.proofs.Standing.{joined-stays}
 use Rattle.symbol_laws.specs.Rank.{weak, first_by_rank, joined_in}
 use Rattle.symbol_laws.specs.Hidden.{some_hidden}
 use Rattle.symbol_laws.specs.Standing.{hidden_by}
-use Rattle.symbol_laws.specs.Proof.Rows.{row_at}
+use Rattle.symbol.specs.Row.{row_at}
 use Rattle.symbol_laws.specs.History.{State, store, Entry, only, rows}
 use Rattle.symbol_laws.specs.Held.{Inv}
 use Rattle.symbol_laws.specs.Demand.{Resolved}

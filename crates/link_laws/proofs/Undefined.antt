@@ -12,7 +12,7 @@ use Rattle.interner_laws.specs.Good.{find}
 use Rattle.archive_walk.specs.Look.{is_undefined, name_holder, undefined_name}
 use Rattle.symbol_laws.proofs.Standing.{joined-stays}
 use Rattle.symbol_laws.specs.Rank.{first_by_rank}
-use Rattle.symbol_laws.specs.Proof.Rows.{row_at}
+use Rattle.symbol.specs.Row.{row_at}
 use Rattle.symbol_laws.specs.History.{State, store, Entry, only, rows}
 use Rattle.symbol_laws.specs.Held.{Inv}
 use Rattle.symbol_laws.proofs.Demand.{content-apart, resolved, holder_known, holder-none}

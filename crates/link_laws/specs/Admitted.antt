@@ -1,4 +1,4 @@
--- The words of the statements in proofs/Admitted.antt.
+-- What admission (`matches`) answers about an object that is taken for the member of an entry of a walk.
 -- Assumes nothing.
 use Rattle.link.specs.declared.cause.Refusal.{Refusal}
 use Rattle.std.specs.Prelude.{ℕ, Bool, List, Result}

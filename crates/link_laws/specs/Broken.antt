@@ -1,4 +1,4 @@
--- The words of the statements in proofs/Broken.antt.
+-- Which calls are changing ones, which give 22 on a broken link: all but those that only read.
 -- Assumes nothing.
 use Rattle.std.specs.Prelude.{Bool, true, false}
 use Rattle.link_laws.specs.Calls.{Call, intern, add, remove, add_group, merge, merge_file, load, collect, plain_collect, reads, add_list}

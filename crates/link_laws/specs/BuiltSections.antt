@@ -1,4 +1,4 @@
--- The words of the statements in proofs/BuiltSections.antt.
+-- A built section as a link's row has it, and which calls let it stand: all but a collection that doesn't reach it.
 -- Assumes nothing.
 use Rattle.link.specs.declared.SymbolId.{SymbolId}
 use Rattle.std.specs.Prelude.{ℕ, ◌≡◌, List, [], ◌∷◌, Option, Ok}

@@ -1,4 +1,4 @@
--- The words of the statements in proofs/CallDuplicates.antt.
+-- 17 against the gABI: where its resolution sees a duplicate in a further row, and which rows may be refused so at all.
 -- Assumes nothing.
 use Rattle.std.specs.Prelude.{◌≡◌, false, List, [], ◌∷◌, ◌++◌, ◌≢◌}
 use Rattle.gabi.specs.Resolution.{duplicate, resolve}

@@ -1,4 +1,4 @@
--- The words of the statements in proofs/CallPlaces.antt.
+-- For the place of 21 in a pass: which entries of an index have a name whose row wasn't removed. For that of 1 in a collection: what it is lent.
 -- Assumes nothing.
 use Prim.Native.Nat.{ℕ}
 use Rattle.std.specs.Prelude.{Bool, not, List, length}

@@ -1,4 +1,5 @@
--- The words of the statements in proofs/CallSteps.antt.
+-- What a call makes of a link's table, as a list of steps: a name issued, a row added, a signature marked, section rows and counts written. Lookups, walks, removes
+-- and collections make none.
 -- Assumes nothing.
 use Prim.Native.Nat.{ℕ}
 use Rattle.std.specs.Prelude.{cond, List, [], ◌∷◌, eqb}

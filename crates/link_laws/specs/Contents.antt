@@ -1,4 +1,4 @@
--- The words of the statements in proofs/Contents.antt.
+-- From which entry a row of a history's log is: a symbol of an object that a merge took, of a library that was loaded, or a direct add, alone or in a list.
 -- Assumes nothing.
 use Rattle.std.specs.Prelude.{ℕ, ◌≡◌, true, List, [], ◌∷◌, ◌++◌}
 use Rattle.symbol.specs.declared.Row.{Row}

@@ -1,4 +1,5 @@
--- The words of the statements in proofs/CutShort.antt.
+-- Where the index of an archive is cut short: the place of 1. An index "of 1 to 3 bytes gives 1 at 0, a longer one at the first entry whose offset, else whose
+-- name, is cut short".
 -- Assumes nothing.
 use Prim.Native.Nat.{ℕ, ◌+◌, ◌*◌, ◌<◌}
 use Rattle.std.specs.Prelude.{◌≡◌, Bool, cond, List, ltb, leb}

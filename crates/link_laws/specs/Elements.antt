@@ -1,4 +1,5 @@
--- The words of the statements in proofs/Elements.antt.
+-- What a refused merge or load leaves: at its head all; at an element what the elements before it left, for some numbers with that element's name issued, and the link
+-- broken. Document 01's refusal table, "Left as it was", over the elements of merge_laws and load_laws.
 -- Assumes nothing.
 use Rattle.std.specs.Prelude.{ℕ, ◌≡◌, true, List}
 use Rattle.strings.specs.Lookup.{Looked}

@@ -1,4 +1,4 @@
--- The words of the statements in proofs/EntryNames.antt.
+-- Which name the entry of a row bears: a symbol of an object or a library by the bytes of its string, a direct add by the id that it was given.
 -- Assumes nothing.
 use Rattle.std.specs.Prelude.{ℕ, ◌≡◌, true, List, [], ◌∷◌, ◌++◌}
 use Rattle.gabi.specs.StringTable.{has_name, name_at}

@@ -1,4 +1,5 @@
--- The words of the statements in proofs/ExactLinks.antt.
+-- Links whose counts may be above what a call is lent: after a history in which lists grow, other cells stand in the place of the link's own for symbols, sections,
+-- inputs and lists.
 -- Assumes nothing.
 use Rattle.std.specs.Prelude.{ℕ, ◌≡◌, Bool, List}
 use Rattle.link.specs.Said.{number_in}

@@ -1,4 +1,4 @@
--- The words of the statements in proofs/Extraction.antt.
+-- Which members a pass of a walk and admission take together, to be held against what the gABI extracts.
 -- Assumes nothing.
 use Rattle.std.specs.Prelude.{ℕ, Bool, ◌&&◌, List}
 use Rattle.archive_walk.specs.Names.{required_of}

@@ -1,4 +1,4 @@
--- The words of the statements in proofs/FirstRow.antt.
+-- "The first such row": the first of several that isn't right, and of an object's rows the first section, else the first symbol, with a field out of range. The place of 1.
 -- Assumes nothing.
 use Prim.Native.Nat.{ℕ, ◌<◌}
 use Rattle.std.specs.Prelude.{◌≡◌, Bool, true, false, List}

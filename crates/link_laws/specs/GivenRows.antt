@@ -1,4 +1,4 @@
--- The words of the statements in proofs/GivenRows.antt.
+-- For what the ids stand that a merge gave an object's symbols, in any later link: id 0, a local symbol's own row, or the row that its name has.
 -- Assumes nothing.
 use Rattle.std.specs.Prelude.{ℕ, ◌<◌, ◌≡◌, Bool, true, ◌≢◌, Ok}
 use mathlib.Core.List.{List, [], ◌∷◌}
@@ -10,7 +10,7 @@ use Rattle.symbol.specs.Row.{symbol_at}
 use Rattle.symbols.specs.Lookup.{not_found}
 use Rattle.merge_stages.specs.Stages as Stages
 use Rattle.symbol_laws.specs.ObjectWords.{entry}
-use Rattle.symbol_laws.specs.Proof.Rows.{row_at}
+use Rattle.symbol.specs.Row.{row_at}
 use Rattle.symbol_laws.specs.History.{store}
 use Rattle.merge_laws.specs.MergeWords as Words
 use Rattle.merge_laws.specs.FileNames.{IsFile}

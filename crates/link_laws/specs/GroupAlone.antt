@@ -1,4 +1,4 @@
--- The words of the statements in proofs/GroupAlone.antt.
+-- The signature of a group that is added by itself, and the section that it lists.
 -- Assumes nothing.
 use Rattle.std.specs.Prelude.{ℕ, List, get_or}
 use Rattle.elf_object.specs.Rows.{first_at}

@@ -1,4 +1,4 @@
--- The words of the statements in proofs/Growth.antt.
+-- Histories whose lists grow, as the Rust crate lends them: before each call cells may be put behind any list of the link.
 -- Assumes nothing.
 use Rattle.std.specs.Prelude.{ℕ, ◌+◌, ◌≤◌, List, [], ◌∷◌, ◌++◌, length}
 use Rattle.link.specs.Bounds.{not_lent}

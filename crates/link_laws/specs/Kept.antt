@@ -1,4 +1,4 @@
--- The words of the statements in proofs/Kept.antt.
+-- Which group signatures a history met, in order; and what holds of a link from which nothing was removed.
 -- Assumes nothing.
 use Rattle.std.specs.Prelude.{ℕ, ◌≤◌, Bool, true, false, List, [], ◌∷◌, ◌++◌, length}
 use Rattle.link.specs.Bounds.{not_lent}
@@ -10,9 +10,11 @@ use Rattle.merge_laws.specs.Calls.{Linked}
 use Rattle.link_laws.specs.Calls.{Call, intern, add, remove, add_group, merge, merge_file, load, collect, plain_collect, call_next, reads, add_list}
 use Rattle.link_laws.specs.CallSteps.{call_steps}
 
+-- the names that a call's steps mark: the signatures of its groups, in order, met before or not
 abbrev pub call_marks : Call → Linked → List (List ℕ)
 call_marks k s = marks_of (call_steps k s) s.table
 
+-- and those of a history, in order
 abbrev pub signatures : List Call → Linked → List (List ℕ)
 signatures [] s = []
 signatures (k ∷ ks) s = call_marks k s ++ signatures ks (call_next k s)

@@ -1,4 +1,4 @@
--- The words of the statements in proofs/KeyFree.antt.
+-- Links that are the same but for the key of the hash and its chains, and answers that are the same on both: all that a caller sees of a call beside the names' rows.
 -- Assumes nothing.
 use Rattle.std.specs.Prelude.{ℕ, ◌≡◌}
 use mathlib.Core.List.{List, [], ◌∷◌}
@@ -55,6 +55,12 @@ answer_in (plain_collect marks entry work) o = (o.work, o.said)
 
 abbrev pub call_answer : (k : Call) → Linked → AnswerBy k
 call_answer k s = answer_in k (call_left k s)
+
+-- one call on both links: it answers the same, and leaves them alike
+pub record Same (key : ℕ) (k : Call) (s t : Linked) : Type 0 where
+  pub answer : call_answer k t ≡ call_answer k s
+  pub refusal : call_refusal k t ≡ call_refusal k s
+  pub next : Alike key (call_next k s) (call_next k t)
 
 -- every answer of a history is the same on both links
 abbrev pub SameAnswers : List Call → Linked → Linked → Type 0

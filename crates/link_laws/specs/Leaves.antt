@@ -1,11 +1,9 @@
--- What a refusal leaves of the link: document 01's refusal table, "Left as it was".
+-- Which calls go element by element, so that a refused one may leave what its earlier elements left: document 01's refusal table, "Left as it was".
 -- Assumes nothing.
 use Rattle.std.specs.Prelude.{Bool, true, false}
 use Rattle.link_laws.specs.Calls.{Call, intern, add, remove, add_group, merge, merge_file, load, collect, plain_collect, reads, add_list}
 
--- ---- calls that don't go through an object or a library
-
--- one element after the other: these leave "that call's earlier elements"
+-- those of an object or a library, which leave "that call's earlier elements"
 abbrev pub by_elements : Call → Bool
 by_elements (intern x) = false
 by_elements (reads k) = false

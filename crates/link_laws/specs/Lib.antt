@@ -29,6 +29,7 @@ pub mod BuiltSections
 pub mod CallDuplicates
 pub mod CallPlaces
 pub mod CallSteps
+pub mod CollectPast
 pub mod Contents
 pub mod CutShort
 pub mod Elements
@@ -43,7 +44,7 @@ pub mod Kept
 pub mod KeyFree
 pub mod Libraries
 pub mod NeededIn
-pub mod NewExactly
+pub mod NewRules
 pub mod NewTable
 pub mod ObjectSections
 pub mod OneByOne
@@ -52,3 +53,4 @@ pub mod RowPlaces
 pub mod Starred
 pub mod Undefined
 pub mod WalkIn
+pub mod WorkedLinks

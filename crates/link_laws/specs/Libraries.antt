@@ -1,4 +1,4 @@
--- The words of the statements in proofs/Libraries.antt.
+-- What a link remembers of a library that was loaded, after later calls: its row of ids, and the names for which they stand.
 -- Assumes nothing.
 use Rattle.std.specs.Prelude.{ℕ, ◌<◌, ◌≡◌, length}
 use Rattle.interner_laws.specs.Good.{Issued, name}

@@ -1,4 +1,4 @@
--- A library's input row comes from a load that was answered "loaded", and from no other call.
+-- A load of a history that was answered "loaded", by the input row that it took.
 -- Assumes nothing.
 use Rattle.shared_objects.specs.declared.Load.TheVariants.{Loaded}
 use Rattle.std.specs.Prelude.{ℕ, ◌≡◌, List, ◌∷◌, ◌++◌, Ok}

@@ -1,4 +1,4 @@
--- Inputs and lists: no call writes any that was counted before it, nor any past the counts that it leaves.
+-- That inputs and lists are left: none is written that was counted before, nor any past the counts afterwards.
 -- Assumes nothing.
 use Rattle.merge_laws.specs.Lists.{Listed}
 use Rattle.merge_laws.specs.Calls.{Linked}

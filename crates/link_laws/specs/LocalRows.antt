@@ -6,7 +6,7 @@ use Rattle.symbol.specs.declared.Row.{Row}
 use Rattle.symbol.specs.Row.{state_at, scope_at}
 use Rattle.symbol_resolution.specs.Holder.{global_at}
 use Rattle.symbols.specs.Lookup.{section_symbol_at}
-use Rattle.symbol_laws.specs.Proof.Rows.{row_at}
+use Rattle.symbol.specs.Row.{row_at}
 use Rattle.symbol_laws.specs.History.{State}
 
 -- ---- the words

@@ -1,4 +1,4 @@
--- The words of the statements in proofs/NeededIn.antt.
+-- When as-needed loads a library, told without a cell of the link: by what a lookup answers, and by the libraries that were loaded before.
 -- Assumes nothing.
 use Prim.Native.Nat.{ℕ, ◌<◌}
 use Rattle.std.specs.Prelude.{◌≡◌, true, List, get_or, length, Ok}

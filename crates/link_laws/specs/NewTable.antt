@@ -1,4 +1,4 @@
--- The words of the statements in proofs/NewTable.antt.
+-- What a refused `Symbols::new` leaves: every lent cell, and a link without rows.
 -- Assumes nothing.
 use Rattle.std.specs.Prelude.{ℕ, Bool, List}
 use Rattle.link.specs.Judge.{refused}

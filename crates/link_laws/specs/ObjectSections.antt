@@ -1,4 +1,4 @@
--- The words of the statements in proofs/ObjectSections.antt.
+-- What a merge built, in the object's own words: the row of its section n in a later link, and which sections that row's relocations lead to.
 -- Assumes nothing.
 use Rattle.std.specs.Prelude.{ℕ, ◌+◌, ◌≤◌, List, length}
 use Rattle.gabi.specs.StringTable.{name_at}

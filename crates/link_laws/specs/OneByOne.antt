@@ -1,4 +1,4 @@
--- The words of the statements in proofs/OneByOne.antt.
+-- A list of adds as its adds one by one, up to the first that is refused: the calls, what they answer, and what the list is to be equal to (2026-05).
 -- Assumes nothing.
 use Rattle.std.specs.Prelude.{ℕ, ◌+◌, ◌≡◌, cond, eqb, set, length}
 use mathlib.Core.List.{List, [], ◌∷◌}

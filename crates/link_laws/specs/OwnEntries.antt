@@ -1,4 +1,4 @@
--- The words of the statements in proofs/OwnEntries.antt.
+-- The gABI symbols that the inputs' own entries are: of an object, a library or a direct add from which a row of a history's log is.
 -- Assumes nothing.
 use Prim.Native.Nat.{ℕ}
 use Rattle.std.specs.Prelude.{Bool, cond, ◌&&◌, ltb}

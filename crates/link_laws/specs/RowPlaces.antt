@@ -1,4 +1,4 @@
--- The words of the statements in proofs/RowPlaces.antt.
+-- The first bad row of what a call is lent, the place of 1: of an object; of a group, or that its section is none; of a library: symbols, soname, dependencies.
 -- Assumes nothing.
 use Rattle.std.specs.Prelude.{ℕ, ◌<◌, ◌≡◌, true, false, length}
 use Rattle.link.specs.declared.Lent.{Lent}

@@ -1,4 +1,4 @@
--- Section rows: those that the new table was lent are lent, over every history. (That no more are counted is part of Within.)
+-- That the section rows a link was made with are lent. (That no more are counted is part of symbol_laws' Within.)
 -- Assumes nothing.
 use Rattle.std.specs.Prelude.{◌≤◌, length}
 use Rattle.link.specs.Bounds.{section_slots}

@@ -1,4 +1,4 @@
--- The words of the statements in proofs/Starred.antt.
+-- What a merge or a load is refused with before its first element: there it leaves the link as it was.
 -- Assumes nothing.
 use Rattle.std.specs.Prelude.{cond}
 use Rattle.link.specs.declared.cause.Refusal.{Refusal}

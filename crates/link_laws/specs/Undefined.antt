@@ -1,4 +1,4 @@
--- The words of the statements in proofs/Undefined.antt.
+-- Names by the symbols accepted under them, in the gABI's terms: which rows are undefined, and names with weak references only.
 -- Assumes nothing.
 use Rattle.std.specs.Prelude.{ℕ, Bool, false, List, [], ◌∷◌, eqb}
 use Rattle.gabi.specs.SymbolTable.{Sym}

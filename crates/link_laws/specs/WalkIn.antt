@@ -1,4 +1,4 @@
--- The words of the statements in proofs/WalkIn.antt.
+-- One pass of a walk within a history: the run before the call that makes the pass, the link at that call, the run after it, and the run when the pass is over.
 -- Assumes nothing.
 use Rattle.std.specs.Prelude.{ℕ, ◌≡◌, List}
 use Rattle.archive_walk.specs.Walk.{begun_number, start_of}

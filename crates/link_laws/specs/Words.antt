@@ -1,4 +1,4 @@
--- The words of the page (Page.antt), and what ties them to the definitions behind the calls.
+-- Names by their bytes, as the page has them (proofs/Page.antt): what a lookup answers for one, its accepted adds, and which names tie members of an archive.
 -- Assumes nothing.
 use Rattle.link.specs.declared.cause.Refusal.{Refusal}
 use Rattle.symbol.specs.declared.Symbol.{Symbol}

@@ -2,11 +2,10 @@ pub mod LibraryContents
 pub mod Own
 pub mod Stops
 pub mod Terms
-pub mod NeedTerms
+pub mod Unneeded
 pub mod SymbolDuplicates
 pub mod Grown
 pub mod Whole
-pub mod EmptyStrings
 pub mod Refusals
 pub mod Exact
 pub mod LibraryRow

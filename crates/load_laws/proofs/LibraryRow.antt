@@ -19,12 +19,11 @@ use Rattle.link.specs.Bounds.{lesser, input_rows}
 use Rattle.link.specs.Judge.{going_of, judge_sections, judge_names, judge_lists, after_symbols, after_sections, judge_of, change_of}
 use Rattle.link.specs.Counts.{more_inputs}
 use Rattle.interner.specs.Names.{Store, store_of, fits_of}
-use Rattle.interner_laws.specs.Good.{Good, Issued, count, name}
+use Rattle.interner_laws.specs.Good.{Good, count, name}
 use Rattle.interner_laws.proofs.Histories.{issued-stays}
 use Rattle.interner_laws.proofs.Terms.{keeps-good, keeps-names, keeps-issued}
 use Rattle.elf_object.specs.Rows.{rows_in, field}
 use Rattle.shared_objects.specs.Head.{check_of}
-use Rattle.shared_objects.specs.Need.{input_kind_at, dependencies_at, undefined_at}
 use Rattle.shared_objects.specs.Record.{Recorded, recorded_of, dependencies_of}
 use Rattle.shared_objects.specs.SymbolsLoad.{State, state_of, symbols_of}
 use Rattle.shared_objects.specs.declared.Outcome.{Outcome}
@@ -36,7 +35,7 @@ use Rattle.load_laws.proofs.Recorded.{keep-lists, dependencies-grown, symbols-gr
 use Rattle.load_laws.specs.Names.{Kept, Each, record_store, state_store, undefined_names, dependency_names}
 use Rattle.load_laws.proofs.LawsNames.{kept-both, relinked, each-stays, symbols-names, dependencies-names}
 use Rattle.load_laws.proofs.Counted.{keep-inputs, dependencies-count, symbols-count}
-use Rattle.load_laws.specs.LibraryRow.{x, self, named, start, loaded, middle, undefineds, dependencies}
+use Rattle.load_laws.specs.LibraryRow.{x, self, named, start, loaded, middle, undefineds, dependencies, LibraryRow, LibraryNames}
 
 -- ---- what the head lets through has its lists
 
@@ -164,19 +163,6 @@ module _ (o : Input) (a : All) where
   abbrev k : ℕ
   k = a.link.inputs
 
-  -- what it leaves
-  pub record LibraryRow : Type 0 where
-    pub kind : input_kind_at after.inputs k ≡ 2
-    pub name : field after.inputs k 1 ≡ self o a
-    pub lacks : undefined_at after.inputs after.lists k ≡ undefineds o a
-    pub needs : dependencies_at after.inputs after.lists k ≡ dependencies o a
-    -- both lie below the count of the lists
-    pub lacks-in : field after.inputs k 4 + field after.inputs k 5 ≤ after.link.lists
-    pub needs-in : field after.inputs k 2 + field after.inputs k 3 ≤ after.link.lists
-    pub counted : after.link.inputs ≡ k + 1
-    pub earlier-rows : (j f : ℕ) → j < k → f < 8 → field after.inputs j f ≡ field a.inputs j f
-    pub earlier-lists : take a.link.lists after.lists ≡ take a.link.lists a.lists
-
   module _ (fit : length a.lists ≤ most) (e : (load_of o a).answer ≡ Ok Loaded) where
     abbrev head-zero : (head_in o a).number ≡ 0
     head-zero = (load-done e).passed
@@ -259,7 +245,7 @@ module _ (o : Input) (a : All) where
     cell : (f : ℕ) → f < 8 → field after.inputs k f ≡ get_or cells f 0
     cell f h = ap (λ (l : List ℕ). field l k f) after-inputs ∙ row_same a.inputs k cells f refl h room
 
-    pub library-row : LibraryRow
+    pub library-row : LibraryRow o a
     library-row =
         record {
           kind = cell 0 (omega arith);
@@ -287,13 +273,6 @@ module _ (o : Input) (a : All) where
 
     abbrev store : Store
     store = store_of after.bytes after.names after.link
-
-    -- every id stands for its name: the library's own, those of its undefined names of binding 1, those of its dependencies
-    pub record LibraryNames : Type 0 where
-      pub kept : Kept before store
-      pub own : Issued store (self o a) (x o a)
-      pub lacked : Each store (undefineds o a) (undefined_names o.entries o.image (rows_in o.entries) 0)
-      pub listed : Each store (dependencies o a) (dependency_names o.image o.needs (length o.needs) 0)
 
     module _ (g : Good before) where
       own-kept : Kept before (named o a)
@@ -327,7 +306,7 @@ module _ (o : Input) (a : All) where
       after-own : Kept (named o a) store
       after-own = kept-both (named o a) (state_store (loaded o a)) store symbols-kept.0 after-symbols
 
-      pub library-names : LibraryNames
+      pub library-names : LibraryNames o a
       library-names =
           record {
             kept = kept-both before (named o a) store own-kept after-own;

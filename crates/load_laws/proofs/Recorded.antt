@@ -1,4 +1,4 @@
--- Laws of the definitions of Recorded.antt.
+-- The names that a load records, one by one; specs/LawsRecorded.antt has the words.
 -- Assumes nothing.
 use Prim.Native.Nat.{ℕ, zero, suc, ◌+◌, ◌<◌, ◌≤◌}
 use Rattle.std.proofs.Common.{arith, ap, ◌∙◌, eqb-true, ltb-true, lt-ltb}

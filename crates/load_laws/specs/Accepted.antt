@@ -1,4 +1,4 @@
--- The words of the statements in proofs/Accepted.antt.
+-- The rows of the symbols that a library defines, local ones aside, in order.
 -- Assumes nothing.
 use Rattle.std.specs.Prelude.{ℕ, zero, suc, cond, eqb}
 use mathlib.Core.List.{List, [], ◌++◌}

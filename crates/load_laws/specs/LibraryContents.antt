@@ -1,4 +1,4 @@
--- The words of the statements in proofs/LibraryContents.antt.
+-- A row that is that of a symbol of a shared object: it has what the symbol's entry says.
 -- Assumes nothing.
 use Rattle.std.specs.Prelude.{ℕ, ◌<◌, true, ◌≢◌, None}
 use Rattle.std.proofs.Math.Path.{◌≡◌}

@@ -1,4 +1,4 @@
--- The words of the statements in proofs/Own.antt.
+-- Which values are undefined, and which visibilities are strong.
 -- Assumes nothing.
 use Rattle.std.specs.Prelude.{Bool, false}
 use Rattle.std.proofs.Math.Bool.{true}

@@ -1,4 +1,4 @@
--- The words of the statements in proofs/Stops.antt.
+-- The elements of a load, in order, what stands before each, and what a refusal at one leaves.
 -- Assumes nothing.
 use Rattle.std.specs.Prelude.{ℕ, ◌<◌, ◌≡◌, Bool, true, List, [], ◌∷◌, get_or, length}
 use Rattle.strings.specs.Lookup.{Looked, looked, look_up}

@@ -1,6 +1,6 @@
--- The words of the statements in proofs/SymbolDuplicates.antt.
+-- A load at a symbol of the library: the accepted adds before it, the row that it would become, its refusal with 17.
 -- Assumes nothing.
-use Prim.Native.Nat.{ℕ, ◌+◌, ◌<◌}
+use Prim.Native.Nat.{ℕ, ◌<◌}
 use Rattle.std.proofs.Math.Path.{◌≡◌}
 use Rattle.std.specs.Prelude.{true, eqb}
 use Rattle.std.proofs.Math.Bool.{false}

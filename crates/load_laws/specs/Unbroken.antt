@@ -1,4 +1,4 @@
--- The words of the statements in proofs/Unbroken.antt.
+-- What a library that is loaded leaves.
 -- Assumes nothing.
 use Rattle.shared_objects.specs.declared.Load.TheVariants.{Loaded}
 use Rattle.std.specs.Prelude.{◌≡◌, false, Ok}

@@ -1,4 +1,4 @@
--- The words of the statements in proofs/Whole.antt.
+-- The table among the cells that a load is lent.
 -- Assumes nothing.
 use Prim.Native.Nat.{ℕ}
 use Rattle.shared_objects.specs.SymbolsLoad.{State}

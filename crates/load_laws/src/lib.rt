@@ -1,2 +1,2 @@
-// Theorems about the definitions of a load of a shared object: specs/Terms.antt has the statements.
+// Theorems about the definitions of a load of a shared object: proofs/Terms.antt has the statements.
 #![tactic(auto)]

@@ -42,7 +42,7 @@ use Rattle.merge_laws.specs.SymbolIds.{name_of, plan_of}
 use Rattle.merge_laws.specs.Whole.{table_in}
 use Rattle.merge_laws.specs.Stops.{reserved, object, prepared, grouped, marked, symbol_reader, added, groups_to, symbols_to, number, end}
 use Rattle.merge_laws.proofs.Stops.{sections-stop, sections-pass, filtered, filter-stop, filter-pass, symbols-stop}
-use Rattle.merge_laws.specs.FirstKept.{reader, signature, steps_to, met_to}
+use Rattle.merge_laws.specs.FirstKept.{reader, steps_to, met_to}
 use Rattle.merge_laws.proofs.FirstKept.{to-marked, marks-to, section-marks, other-marks}
 use Rattle.merge_laws.proofs.Discarded.{groups-pass, merge-passes}
 use Rattle.merge_laws.specs.Accepted.{signatures_to, symbol_rows}

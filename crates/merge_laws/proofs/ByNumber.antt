@@ -20,7 +20,7 @@ use Rattle.merge_symbols.specs.Plan.{place_of}
 use Rattle.merge_symbols.specs.Stage as Symbols
 use Rattle.merge_build.specs.Build as Build
 use Rattle.merge_build.specs.Finish.{after_build}
-use Rattle.merge_stages.specs.Stages.{All, all_of, Object, stop, put_symbols, group_object, after_groups, after_sections}
+use Rattle.merge_stages.specs.Stages.{All, Object, stop, put_symbols, group_object, after_groups, after_sections}
 use Rattle.merge_elf.specs.Merge.{leave, work_refusal, rows_refusal, check_of, head_in, lent, ended_as, merge_of, finished_of}
 use Rattle.merge_laws.proofs.Placed.{from-beside}
 use Rattle.merge_laws.proofs.Issue.{keep-symbols}

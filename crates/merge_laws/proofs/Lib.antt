@@ -18,7 +18,6 @@ pub mod Duplicates
 pub mod Refusals
 pub mod BuiltNames
 pub mod Lists
-pub mod Differences
 pub mod Issue
 pub mod FirstKept
 pub mod Discarded

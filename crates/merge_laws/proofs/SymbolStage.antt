@@ -16,7 +16,7 @@ use Rattle.merge_symbols.specs.Plan.{Planned}
 use Rattle.merge_symbols.specs.Plan.{Input, is_first, defines_of, filtered_at, rule_of, judged_of, rowed_of, read_of, planned_of}
 use Rattle.merge_symbols.specs.Stage.{accept_row, kept_of, commit_of, view, symbol_named}
 use Rattle.merge_symbols.specs.Stage as Symbols
-use Rattle.symbol_laws.specs.History.{State, table, with_store, issue, object, part_next}
+use Rattle.symbol_laws.specs.History.{table, with_store, issue, object, part_next}
 use Rattle.merge_laws.specs.Steps.{Makes}
 use Rattle.merge_laws.proofs.Committed.{Fair, same, committed, committed-makes}
 use Rattle.merge_laws.specs.MergeSteps.{adds_of, adds, planned_steps, named_steps}

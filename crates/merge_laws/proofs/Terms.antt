@@ -1,8 +1,8 @@
--- The statements about merges. Their proofs stand in the other files.
+-- The statements about merges. The longer proofs stand in the other files.
 -- Assumes nothing.
-use Rattle.std.specs.Prelude.{ℕ, suc, ◌<◌, ◌≤◌, ◌≡◌, Bool, true, false, not, List, [], ◌∷◌, ◌++◌, ◌≢◌, set, length, Ok, Err}
-use Rattle.std.proofs.Common.{ap, ◌∙◌, subst}
-use Rattle.gabi.specs.SymbolTable.{Sym}
+use Rattle.std.specs.Prelude.{ℕ, suc, ◌<◌, ◌≤◌, ◌≡◌, refl, Bool, true, false, not, List, [], ◌∷◌, ◌++◌, ◌≢◌, set, length, Ok, Err}
+use Rattle.std.proofs.Common.{ap, ◌∙◌, subst, eq-eqb}
+use Rattle.gabi.specs.SymbolTable.{Sym, is_local}
 use Rattle.gabi.specs.Resolution.{resolve}
 use Rattle.gabi.specs.Groups as Gabi
 use Rattle.gabi.specs.Groups.{stays, gone, unsaid, after_discard}
@@ -15,19 +15,20 @@ use Rattle.symbol.specs.RowLaws.{symbol_of}
 use Rattle.symbol.specs.Codes.{successor}
 use Rattle.link.specs.Bounds.{not_lent}
 use Rattle.elf_object.specs.Rows.{rows_in, field, elf_at, is_loaded}
+use Rattle.elf_object.specs.Judge.{first_bad}
 use Rattle.sections.specs.Rows.{state_at}
 use Rattle.merge_sections.specs.Reserve.{class_of}
 use Rattle.section_groups.specs.Group.{mark_group_of, mark_removed_of, group_section_of}
-use Rattle.section_groups.specs.Filter.{symbol_ok}
+use Rattle.section_groups.specs.Filter.{section_after, symbol_ok, filter_of}
 use Rattle.merge_symbols.specs.Plan.{input_of, filtered_at}
 use Rattle.merge_symbols.specs.Stage as Symbols
-use Rattle.merge_stages.specs.Stages.{All, Object}
+use Rattle.merge_stages.specs.Stages.{All, Object, table_of, stop, filtered_of, filter_stage}
 use Rattle.merge_elf.specs.Merge.{leave, head_in, merge_of}
 use Rattle.symbol_laws.specs.Rank.{first_by_rank, joined_in}
 use Rattle.symbol_laws.specs.History.{opened, Entry, only, rows, issue, put_of, part_next}
 use Rattle.symbol_laws.specs.Held.{Inv}
 use Rattle.symbol_laws.proofs.Start.{new-inv}
-use Rattle.symbol_laws.specs.Proof.Rows.{row_at}
+use Rattle.symbol.specs.Row.{row_at}
 use Rattle.symbol_laws.specs.Standing.{hidden_by}
 use Rattle.symbol_laws.proofs.Profile.{new-profile}
 use Rattle.symbol_laws.specs.Demand as Demand
@@ -76,6 +77,9 @@ use Rattle.merge_laws.proofs.Past as PastLaws
 use Rattle.merge_laws.specs.Lists as Lists
 use Rattle.merge_laws.proofs.Lists as ListsLaws
 use Rattle.merge_laws.specs.Table.{one_of, section_causes, early_causes}
+use Rattle.merge_laws.specs.Differences.{removed, one_local}
+use Rattle.merge_laws.specs.Unsupported.{answers, cases, numbers}
+use Rattle.merge_laws.proofs.Unsupported as Unsupported
 
 -- ---- demand 3a
 
@@ -89,7 +93,7 @@ pub merge-log : (o : Object) (a : All) → rows (log_steps (merge_steps o a) (ta
 merge-log o a = log-rows (merge_steps o a) (table_in a) (merge-makes o a).accepted
 
 -- and of an accepted merge these are, in order, the rows of all symbols that are added and aren't local, each as it is planned on what the symbols
--- before it left (symbol_rows, AcceptedLaws.antt): no add is left out
+-- before it left (`symbol_rows`, specs/Accepted.antt): no add is left out
 pub merge-log-whole : (o : Object) (a : All) → (merge_of o a).said.number ≡ 0
     → rows (log_steps (merge_steps o a) (table_in a)) ≡ Accepted.symbol_rows o a (rows_in (Stages.object o a).entries)
 merge-log-whole o a ok = merge-log o a ∙ AcceptedLaws.merge-rows o a ok
@@ -263,6 +267,24 @@ module _ (work entries : List ℕ) (i : ℕ) where
       → (symbol_ok work entries i ≡ true) × (after_discard (removed_in work (field entries i 4)) (sym_of (elf_at entries i)) ≡ unsaid)
   filter-unsaid = FirstKept.filter-unsaid work entries i
 
-  -- "the first local gives 8", where the gABI discards it (Differences.antt has the smallest input)
+  -- "the first local gives 8", where the gABI discards it (`local-refused` has the smallest input)
   pub filter-differs : symbol_ok work entries i ≡ false → after_discard (removed_in work (field entries i 4)) (sym_of (elf_at entries i)) ≡ gone
   filter-differs = FirstKept.filter-differs work entries i
+
+-- ---- "Known places where gABI differs": "a local in a dropped group is an error", with its smallest input
+
+-- the gABI discards the symbol
+pub local-discarded : after_discard (removed_in removed 1) (sym_of (elf_at one_local 0)) ≡ gone
+unfolding after_discard is_local
+local-discarded = refl
+
+-- a merge is refused with 8, at that symbol
+pub local-refused : (a : All) → a.stage.number ≡ 0 → a.work ≡ removed → filter_stage (table_of [] one_local [] [] 0 0) a ≡ stop a 8 0
+unfolding filter_stage filtered_of filter_of first_bad symbol_ok section_after
+local-refused a z w = rw (eq-eqb a.stage.number 0 z, w)
+
+-- ---- what the gABI allows or reserves, and a merge refuses
+
+-- every case is answered with its number
+pub unsupported : answers cases ≡ numbers cases
+unsupported = Unsupported.unsupported

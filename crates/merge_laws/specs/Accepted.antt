@@ -1,4 +1,4 @@
--- The words of the statements in proofs/Accepted.antt.
+-- Of an object the signatures of its groups, and the rows of its symbols that are added and not local, in order.
 -- Assumes nothing.
 use Rattle.std.specs.Prelude.{ℕ, zero, suc, cond}
 use mathlib.Core.List.{List, [], ◌++◌}

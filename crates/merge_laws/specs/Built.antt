@@ -1,4 +1,4 @@
--- The words of the statements in proofs/Built.antt.
+-- The bytes of an object's section of section names.
 -- Assumes nothing.
 use Prim.Native.Nat.{ℕ}
 use mathlib.Core.List.{List}

@@ -1,4 +1,4 @@
--- The words of the statements in proofs/BuiltNames.antt.
+-- Which id a merge gives a symbol of its object.
 -- Assumes nothing.
 use Rattle.std.specs.Prelude.{ℕ, ◌<◌, ◌≡◌, true}
 use mathlib.Core.List.{List, [], ◌∷◌}

@@ -1,6 +1,6 @@
--- The words of the statements in proofs/BuiltRow.antt.
+-- A section row that is built, and the symbols that it names.
 -- Assumes nothing.
-use Prim.Native.Nat.{ℕ, ◌+◌, ◌-◌, ◌<◌, ◌≤◌}
+use Prim.Native.Nat.{ℕ, ◌+◌, ◌<◌, ◌≤◌}
 use Rattle.std.proofs.Math.Path.{◌≡◌}
 use mathlib.Core.List.{List}
 use Rattle.byte_slices.specs.Bytes.{part}

@@ -1,7 +1,6 @@
--- The words of the statements in proofs/ByNumber.antt.
+-- What a merge leaves: refused at its head, refused at an element, by the refusal's number, or accepted.
 -- Assumes nothing.
 use Rattle.std.specs.Prelude.{ℕ, ◌*◌, ◌<◌, ◌≡◌, true, false, List, [], ◌∷◌, drop, length, Ok, Err}
-use Rattle.link.specs.declared.Link.{Link}
 use Rattle.link.specs.declared.Interned.{Interned}
 use Rattle.link.specs.Judge as Link
 use Rattle.strings.specs.Lookup.{Looked, looked}

@@ -1,4 +1,4 @@
--- The words of the statements in proofs/Discarded.antt.
+-- A section of an object that is discarded: nothing is built from it, and no symbol is defined there.
 -- Assumes nothing.
 use Prim.Native.Nat.{ℕ, ◌<◌}
 use Rattle.std.specs.Prelude.{◌≡◌}

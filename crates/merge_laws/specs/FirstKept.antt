@@ -1,4 +1,4 @@
--- The words of the statements in proofs/FirstKept.antt.
+-- The groups of an object: their signatures, the section that each lists, the signatures met before one.
 -- Assumes nothing.
 use Rattle.std.specs.Prelude.{ℕ, Bool, cond, List, ◌++◌, ltb, get_or}
 use Rattle.std.proofs.Math.Bool.{false}

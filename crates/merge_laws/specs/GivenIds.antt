@@ -1,4 +1,4 @@
--- The words of the statements in proofs/GivenIds.antt.
+-- The id that a symbol's add is answered, and which symbol is the null one.
 -- Assumes nothing.
 use Prim.Native.Nat.{ℕ}
 use Rattle.std.specs.Prelude.{Bool, eqb, length}

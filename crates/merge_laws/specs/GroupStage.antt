@@ -1,4 +1,4 @@
--- The words of the statements in proofs/GroupStage.antt.
+-- The number of the refusal that the group stage has met, or 0.
 -- Assumes nothing.
 use Rattle.std.specs.Prelude.{ℕ}
 use Rattle.section_groups.specs.Group as Group

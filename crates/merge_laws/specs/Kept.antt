@@ -1,11 +1,9 @@
--- What holds of every table in which nothing was removed, kept by every step.
+-- The rows that steps add and that aren't local.
 -- Assumes nothing.
 use Rattle.std.specs.Prelude.{cond, List, [], ◌∷◌, ◌++◌, eqb}
 use Rattle.symbol.specs.declared.Row.{Row}
 use Rattle.symbol_laws.specs.History.{Part, issue, put}
 use Rattle.merge_laws.specs.Steps.{Step, part, mark, others}
-
--- ---- the log of accepted steps has every row that they add and that isn't local
 
 abbrev pub global_rows : Row → List Row
 global_rows r = cond (eqb r.scope 0) [] (r ∷ [])

@@ -1,5 +1,6 @@
 pub mod Table
 pub mod Unsupported
+pub mod Differences
 pub mod Steps
 pub mod MergeSteps
 pub mod Calls

@@ -1,6 +1,6 @@
--- The words of the statements in proofs/Lists.antt.
+-- Inputs and lists of two links, one after the other: what is counted before stands as it stood, and what isn't counted after.
 -- Assumes nothing.
-use Prim.Native.Nat.{ℕ, ◌-◌, ◌*◌, ◌<◌, ◌≤◌}
+use Prim.Native.Nat.{ℕ, ◌*◌, ◌<◌, ◌≤◌}
 use Rattle.std.specs.Prelude.{◌≡◌, get_or, length}
 use mathlib.Core.List.{List}
 use Rattle.link.specs.declared.Link.{Link}

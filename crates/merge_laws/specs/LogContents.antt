@@ -1,4 +1,4 @@
--- The words of the statements in proofs/LogContents.antt.
+-- A row that is that of a symbol of the object of a merge: it has what the symbol's entry says, and its file.
 -- Assumes nothing.
 use Rattle.std.specs.Prelude.{ℕ, ◌<◌}
 use mathlib.Core.List.{List}

@@ -1,6 +1,6 @@
--- The words of the statements in proofs/Lookups.antt.
+-- A link whose counts are within their bounds, but for the count of the lists.
 -- Assumes nothing.
-use Rattle.std.specs.Prelude.{ℕ, ◌-◌, ◌≤◌, List, length}
+use Rattle.std.specs.Prelude.{ℕ, ◌≤◌, List, length}
 use Rattle.link.specs.declared.Link.{Link}
 use Rattle.link.specs.Bounds.{name_rows}
 use Rattle.symbol_laws.specs.History.{State}

@@ -1,4 +1,4 @@
--- The words of the statements in proofs/ObjectContents.antt.
+-- What an object's symbol says, in document 01's words: type, weak and hidden, and the value through the object's own sections and groups.
 -- Assumes nothing.
 use Prim.Native.Nat.{ℕ, ◌+◌, ◌^◌, ◌<◌}
 use Rattle.std.proofs.Math.Path.{◌≡◌}

@@ -1,4 +1,4 @@
--- The words of the statements in proofs/Placed.antt.
+-- The row that was reserved for a section of an object.
 -- Assumes nothing.
 use Prim.Native.Nat.{ℕ}
 use Rattle.std.specs.Prelude.{List}

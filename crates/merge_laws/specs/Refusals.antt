@@ -1,4 +1,4 @@
--- The words of the statements in proofs/Refusals.antt.
+-- What the string tables of an object say of the names of its symbols and sections.
 -- Assumes nothing.
 use Prim.Native.Nat.{ℕ}
 use Rattle.strings.specs.Lookup.{Looked}

@@ -1,10 +1,9 @@
--- The words of the statements in proofs/Seen.antt.
+-- Names issued and rows added alone, without the other steps of a merge, and what is the same after them.
 -- Assumes nothing.
-use Prim.Native.Nat.{ℕ, ◌+◌, ◌*◌, ◌-◌, ◌<◌, ◌≤◌}
+use Prim.Native.Nat.{ℕ, ◌+◌, ◌*◌, ◌<◌, ◌≤◌}
 use Rattle.std.specs.Prelude.{◌≡◌, ◌≢◌}
 use mathlib.Core.List.{List, [], ◌∷◌}
 use Rattle.std.proofs.Math.ListN.{get_or, drop, length}
-use Rattle.link.specs.Said.{accepted}
 use Rattle.symbol_laws.specs.History.{State, Part, part_next, run_parts, log_parts}
 use Rattle.merge_laws.specs.Steps.{Step, mark, others, PartGoes, log_steps}
 use Rattle.merge_laws.specs.Steps as Steps

@@ -1,6 +1,6 @@
 -- What calls write of the table, one step after the other.
 -- Assumes nothing.
-use Rattle.std.specs.Prelude.{ℕ, ◌+◌, ◌*◌, ◌<◌, ◌≤◌, ◌≡◌, List, [], ◌∷◌, ◌++◌, true, get_or, set, take, drop, length}
+use Rattle.std.specs.Prelude.{ℕ, ◌*◌, ◌<◌, ◌≤◌, ◌≡◌, List, [], ◌∷◌, ◌++◌, true, get_or, take, drop, length}
 use Rattle.cells.specs.Rows.{row_width}
 use Rattle.link.specs.Said.{number_in}
 use Rattle.link.specs.declared.Link.{Link}

@@ -1,4 +1,4 @@
--- The words of the statements in proofs/Stops.antt.
+-- The stages of a merge, in order, and what stands before each of their elements.
 -- Assumes nothing.
 use Rattle.std.specs.Prelude.{ℕ}
 use Rattle.merge_sections.specs.Reserve as Reserve

@@ -1,6 +1,6 @@
--- The words of the statements in proofs/SymbolDuplicates.antt.
+-- A merge at a symbol of the object: the accepted adds before it, the row that it would become, its refusal with 17.
 -- Assumes nothing.
-use Prim.Native.Nat.{ℕ, ◌+◌, ◌<◌, ◌≤◌}
+use Prim.Native.Nat.{ℕ, ◌<◌, ◌≤◌}
 use Rattle.std.proofs.Math.Path.{◌≡◌}
 use Rattle.std.specs.Prelude.{true}
 use mathlib.Core.List.{List, [], ◌∷◌, ◌++◌}
@@ -21,7 +21,7 @@ use Rattle.merge_laws.specs.MergeSteps.{adds, symbol_steps, groups_steps, symbol
 use Rattle.merge_laws.specs.SymbolStage.{number_of}
 use Rattle.merge_laws.specs.SymbolIds.{name_of, plan_of}
 use Rattle.merge_laws.specs.Whole.{table_in}
-use Rattle.merge_laws.specs.Stops.{reserved, object, prepared, grouped, marked, symbol_reader, added, symbols_to}
+use Rattle.merge_laws.specs.Stops.{reserved, object, prepared, grouped, marked, symbol_reader, symbols_to}
 
 abbrev pub input : Symbols.Object → Input
 input o = input_of o.entries o.work

@@ -1,4 +1,4 @@
--- The words of the statements in proofs/SymbolIds.antt.
+-- The name of an object's symbol, and what is planned for it.
 -- Assumes nothing.
 use Rattle.std.specs.Prelude.{ℕ}
 use Rattle.strings.specs.Lookup.{Looked}

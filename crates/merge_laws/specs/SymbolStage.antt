@@ -1,4 +1,4 @@
--- The words of the statements in proofs/SymbolStage.antt.
+-- The table among the cells that the symbol stage is lent, and the number of the refusal that it has met, or 0.
 -- Assumes nothing.
 use Rattle.std.specs.Prelude.{ℕ}
 use Rattle.merge_symbols.specs.Stage as Symbols

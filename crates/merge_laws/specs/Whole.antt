@@ -1,4 +1,4 @@
--- A merge is its steps.
+-- The table among the cells of each stage of a merge, and what passing its head gives.
 -- Assumes nothing.
 use Rattle.std.specs.Prelude.{ℕ, ◌/◌, ◌≤◌, false, List, length}
 use Rattle.std.proofs.Math.Path.{◌≡◌}

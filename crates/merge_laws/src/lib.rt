@@ -1,2 +1,2 @@
-// Theorems about the definitions of a merge: specs/Terms.antt has the statements.
+// Theorems about the definitions of a merge: proofs/Terms.antt has the statements.
 #![tactic(auto)]

@@ -20,7 +20,7 @@ use Rattle.symbol_laws.specs.Rank.{ranked, best, count, strong_definition}
 use Rattle.symbol_laws.proofs.Rank.{rank-strong, rank_most, best-counts}
 use Rattle.symbol_laws.specs.Standing.{row_after}
 use Rattle.symbol_laws.proofs.Standing.{rank-after}
-use Rattle.symbol_laws.specs.Proof.Rows.{row_at}
+use Rattle.symbol.specs.Row.{row_at}
 use Rattle.symbol_laws.specs.History.{State, Entry, only, rows}
 use Rattle.symbol_laws.specs.Held.{Holds, Held, Inv}
 use Rattle.symbol_laws.proofs.Demand.{holder_known, holder-none}

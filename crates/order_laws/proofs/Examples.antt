@@ -1,4 +1,4 @@
--- Theorems over specs/Examples.antt.
+-- The rows of specs/Examples.antt, computed, and their lists against the premises.
 -- Assumes nothing.
 use Rattle.std.specs.Prelude.{ℕ, ◌≤◌, ◌<◌, ◌≡◌, refl, Bool, List, [], ◌∷◌, eqb, length, None, replicate}
 use Rattle.std.specs.List.{All as AllOf}
@@ -12,7 +12,7 @@ use Rattle.upcoming_symbol.specs.declared.ElfSymbol.{ElfSymbol}
 use Rattle.order_laws.specs.Premises.{EntryPasses, Passes, SectionPasses, shown, converted, undefined, RowsEnough, Premises, OneStrong}
 use Rattle.order_laws.specs.Order.{AnyOrder}
 use Rattle.order_laws.proofs.Run.{Among}
-use Rattle.order_laws.proofs.Terms as Terms
+use Rattle.order_laws.proofs.Order.{ordered}
 use Rattle.cells.specs.Rows.{put_row}
 use Rattle.byte_slices.specs.Bytes.{word_at, same, copied}
 use Rattle.link.specs.Bounds.{lesser}
@@ -109,7 +109,7 @@ module _ (profile : Bool) where
   pub sheet-order : AnyOrder (start profile) sections (replicate {A = ℕ} 4 7) profile sheet
   unfolding start
   sheet-order =
-      Terms.any-order 0 profile (replicate {A = ℕ} 16 0) (replicate {A = ℕ} 27 0) (replicate {A = ℕ} 24 0) (replicate {A = ℕ} 90 0) (new-accepted profile) (mute ∷ clear ∷ []) sections sheet
+      ordered 0 profile (replicate {A = ℕ} 16 0) (replicate {A = ℕ} 27 0) (replicate {A = ℕ} 24 0) (replicate {A = ℕ} 90 0) (new-accepted profile) (mute ∷ clear ∷ []) sections sheet
       (replicate {A = ℕ} 4 7) sheet-premises (omega arith)
 
 -- ---- two strong definitions of a name don't

@@ -1,5 +1,5 @@
 pub mod Terms
-pub mod Examples
+mod Examples
 mod Entries
 mod Named
 mod Accepted

@@ -20,7 +20,8 @@ use Rattle.symbol_laws.specs.History.{State}
 abbrev pub TypeInRange : ElfSymbol → Type 0
 TypeInRange e = e.kind ≤ stt_section
 
--- "no commons": a premise of its own, whether or not a common passes
+-- "no commons": section 0xfff2. A premise of its own: a common passes (2026-06), so that "sections that pass" alone would let it in, and the commons of a name are
+-- joined by order, the first keeping its content. SectionPasses doesn't have section 0xfff2 either
 abbrev pub NoCommon : ElfSymbol → Type 0
 NoCommon e = e.section ≢ shn_common
 

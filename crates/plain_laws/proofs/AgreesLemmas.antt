@@ -1,4 +1,4 @@
--- Laws of the definitions of Agrees.antt.
+-- Outcomes that are equal agree.
 -- Assumes nothing.
 use Rattle.std.specs.Prelude.{ℕ, ◌≡◌, get_or}
 use Rattle.std.proofs.Common.{ap}

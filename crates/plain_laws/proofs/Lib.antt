@@ -1,4 +1,5 @@
 pub mod Terms
+pub mod Compared
 pub mod Examples
 pub mod Visits
 pub mod Agrees

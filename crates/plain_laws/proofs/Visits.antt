@@ -19,6 +19,8 @@ use Rattle.gc_sections.specs.Reach.{lower_of, end_of, clear_cell}
 use Rattle.gc_sections.specs.Run.{Lists}
 use Rattle.plain_collector.specs.Visit.{Visited, visited_of, unvisited, target_of, enter, enter_lead, visit_of, visited, marked_lead, root_lead, entry_lead, root_symbol, root_section, reached_of}
 use Rattle.plain_collector.specs.Proof.Depth.{built-below, built-falls, relocation_to, follow, visit-is}
+use Rattle.plain_laws.specs.Visits as Base
+use Rattle.plain_laws.specs.Visits.{Marked, Low}
 use Rattle.gc_laws.specs.Reached.{Names, Reached, marked, entered, root, step}
 use Rattle.gc_laws.proofs.Own.{built-own, own-built, leads-own, own-leads, root-own, own_root}
 use Rattle.gc_laws.proofs.Marks.{cleared, length-cleared}
@@ -44,20 +46,10 @@ module _ (l : Link) (x : Lists) (symbols sections : List ℕ) (entry : Option Sy
   abbrev Lies : ℕ → ℕ → Type 0
   Lies i y = lead_of symbols l.symbols (symbol_id i) ≡ Some (section_id y)
 
-  abbrev Marked : Visited → ℕ → Type 0
-  Marked s y = get_or s.work y 0 ≡ 1
-
-  -- a section that isn't built, y or a lower one, was noted
-  abbrev Low : Visited → ℕ → Type 0
-  Low s y = (id : SectionId) × (s.unbuilt ≡ Some id) × (id.0 ≤ y)
-
   -- ---- what every visit keeps
 
-  pub record Good (s : Visited) : Type 0 where
-    pub room : n ≤ length s.work
-    pub bit : (y : ℕ) → y < n → (get_or s.work y 0 ≡ 0) ⊎ (Marked s y)
-    pub sound : (y : ℕ) → y < n → Marked s y → R y × Built y
-    pub lowest : (id : SectionId) → s.unbuilt ≡ Some id → R id.0 × Unready id.0
+  abbrev Good : Visited → Type 0
+  Good = Base.Good l x symbols sections entry
 
   record Ext (s t : Visited) : Type 0 where
     mono : (y : ℕ) → y < n → Marked s y → Marked t y
@@ -66,10 +58,8 @@ module _ (l : Link) (x : Lists) (symbols sections : List ℕ) (entry : Option Sy
   ext_trans : {s t u : Visited} → Ext s t → Ext t u → Ext s u
   ext_trans a b = record { mono = λ y h m. b.mono y h (a.mono y h m); lower = λ y m. b.lower y (a.lower y m) }
 
-  -- y was met: it is marked if it is built, else noted
-  pub record Seen (s : Visited) (y : ℕ) : Type 0 where
-    pub mark : Built y → Marked s y
-    pub low : Unready y → Low s y
+  abbrev Seen : Visited → ℕ → Type 0
+  Seen = Base.Seen l x symbols sections entry
 
   ext-seen : {s t : Visited} {y : ℕ} → Ext s t → Seen s y → Seen t y
   ext-seen {y = y} e m = record { mark = λ b. e.mono y (built-below sections n y b) (m.mark b); low = λ u. e.lower y (m.low u) }
@@ -318,9 +308,8 @@ module _ (l : Link) (x : Lists) (symbols sections : List ℕ) (entry : Option Sy
 
   -- ---- the whole
 
-  pub record Exact (s : Visited) : Type 0 where
-    pub good : Good s
-    pub all : (y : ℕ) → R y → Seen s y
+  abbrev Exact : Visited → Type 0
+  Exact = Base.Exact l x symbols sections entry
 
   module _ (work : List ℕ) (enough : n ≤ length work) where
     abbrev s₀ : Visited

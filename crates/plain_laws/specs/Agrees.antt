@@ -1,4 +1,4 @@
--- The words of the statements in proofs/Agrees.antt.
+-- What the outcomes of two collections have in common.
 -- Assumes nothing.
 use Rattle.std.specs.Prelude.{ℕ, ◌<◌, ◌≡◌, get_or}
 use Rattle.gc_sections.specs.Run.{Left}

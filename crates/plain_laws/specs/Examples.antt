@@ -1,4 +1,4 @@
--- The words of the statements in proofs/Examples.antt.
+-- A worked example of a collection, by the second collector.
 -- Assumes nothing.
 use Rattle.std.specs.Prelude.{◌≡◌, None}
 use Rattle.sections.specs.Rows.{state_at}

@@ -1,3 +1,4 @@
 pub mod BuiltRows
 pub mod Agrees
+pub mod Visits
 pub mod Examples

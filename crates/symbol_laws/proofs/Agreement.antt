@@ -16,7 +16,7 @@ use Rattle.symbol.specs.declared.Row.{Row}
 use Rattle.symbol.specs.declared.Words.{Words}
 use Rattle.symbol_laws.specs.Rank.{defines, weak, plain, strong_definition, weak_definition, strong_reference, weak_reference, first, reference_of, first_by_rank, count, joined_in}
 use Rattle.symbol_laws.specs.Rank as Rank
-use Rattle.symbol_laws.specs.Proof.Rows.{row_at}
+use Rattle.symbol.specs.Row.{row_at}
 use Rattle.symbol_laws.specs.Standing.{hidden_by}
 use Rattle.symbol_laws.proofs.Standing.{same_by, joined-plain}
 use Rattle.symbol_laws.proofs.Rank.{undefined-not-common}

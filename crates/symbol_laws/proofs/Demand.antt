@@ -13,7 +13,7 @@ use Rattle.symbol_laws.proofs.Rank.{best-first, best-terms}
 use Rattle.symbol_laws.specs.Hidden.{is_hidden, some_hidden}
 use Rattle.symbol_laws.specs.Standing.{hidden_by, row_after, SameButHidden}
 use Rattle.symbol_laws.proofs.Standing.{hidden-by, same_by}
-use Rattle.symbol_laws.specs.Proof.Rows.{row_at}
+use Rattle.symbol.specs.Row.{row_at}
 use Rattle.symbol_laws.specs.History.{State, Entry, only, rows}
 use Rattle.symbol_laws.specs.Held.{Holds, Held, Inv}
 use Rattle.symbol_laws.specs.Demand.{Resolved, HeldBy}

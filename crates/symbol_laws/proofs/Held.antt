@@ -8,7 +8,7 @@ use Rattle.symbol.specs.Row.{state_at}
 use Rattle.symbol_resolution.specs.Holder.{global_at}
 use Rattle.symbol_laws.specs.Standing.{standing, row_after}
 use Rattle.symbol_laws.proofs.Standing as StandingLaws
-use Rattle.symbol_laws.specs.Proof.Rows.{row_at}
+use Rattle.symbol.specs.Row.{row_at}
 use Rattle.symbol_laws.specs.History.{State, Entry, only, rows}
 use Rattle.symbol_laws.specs.Held.{Holds, Held}
 

@@ -9,7 +9,6 @@ pub mod BindingTable
 pub mod Writes
 pub mod Standing
 pub mod Below
-pub mod Differences
 pub mod Demand
 pub mod DirectContents
 pub mod Alignment

@@ -25,7 +25,7 @@ use Rattle.symbol_laws.specs.Rank.{ranked, best, strong_definition, count}
 use Rattle.symbol_laws.proofs.Rank.{count-append, strong-rank, rank_most, best-low}
 use Rattle.symbol_laws.specs.Standing.{standing, row_after}
 use Rattle.symbol_laws.proofs.Standing.{after_first, rank-after, pass-rest, pass-packs, joined-packs, joined-rest}
-use Rattle.symbol_laws.specs.Proof.Rows.{row_at}
+use Rattle.symbol.specs.Row.{row_at}
 use Rattle.symbol_laws.proofs.Rows.{Packs, read-packs, stored_there, stored_row, there-kept, row_kept}
 use Rattle.symbol_laws.proofs.View.{Named, Free, Takes, View, refused, kept, amended, replaced, appended, local, view, decided, yields}
 use Rattle.symbol_laws.proofs.Refused.{commit-refused}

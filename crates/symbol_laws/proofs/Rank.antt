@@ -72,10 +72,8 @@ module _ (rank : Row → ℕ) where
   best-snoc c [] y = refl
   best-snoc c (x ∷ xs) y = best-snoc (cond (ltb (rank c) (rank x)) x c) xs y
 
-  -- in words: the first row of rank k, else of the rank below, and so on; of no rank above 0 the first row
-  abbrev pub highest : ℕ → Row → List Row → Row
-  highest zero c xs = c
-  highest (suc k) c xs = first (λ x. eqb (rank x) (suc k)) (c ∷ xs) (highest k c xs)
+  abbrev highest : ℕ → Row → List Row → Row
+  highest = Base.highest rank
 
   module _ (c : Row) (xs : List Row) where
     -- before a row of rank 0 there is none

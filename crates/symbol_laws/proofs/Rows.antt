@@ -1,4 +1,4 @@
--- Theorems over specs/Proof/Rows.antt.
+-- A symbol's row read whole, and after a row was stored.
 -- Assumes nothing.
 use Rattle.std.specs.Prelude.{ℕ, ◌+◌, ◌*◌, ◌≤◌, ◌<◌, ◌≡◌, refl, List, ◌≢◌, length}
 use Rattle.std.proofs.Common.{arith}

@@ -1,8 +1,8 @@
 -- Theorems over specs/Standing.antt.
 -- Assumes nothing.
 use Rattle.std.specs.Prelude.{ℕ, ◌<◌, ◌≡◌, refl, Bool, cond, ◌||◌, List, [], ◌∷◌, ◌++◌, eqb, ltb, max}
-use Rattle.std.proofs.Common.{arith, sym, ap, ◌∙◌, subst, ltb-true, eq-eqb, eqb-true}
-use Rattle.std.proofs.Math.Nat.{max-zero, zero-max, max_comm}
+use Rattle.std.proofs.Common.{arith, sym, ap, ◌∙◌, subst, ltb-true, eqb-true}
+use Rattle.std.proofs.Math.Nat.{max-zero, zero-max}
 use Rattle.std.proofs.Math.Bool.{true, false}
 use Rattle.std.proofs.lemmas.Bool.{false≢true}
 use Rattle.cells.specs.Proof.Split.{by-test}

@@ -1,28 +1,42 @@
--- The statements of the terms of acceptance about the symbol table. Their proofs stand in the other files.
+-- The statements about the symbol table: the terms of acceptance, document 02's requests, the known places where gABI differs. The longer proofs stand
+-- in the other files.
 -- Assumes nothing.
-use Rattle.std.specs.Prelude.{ℕ, ◌<◌, ◌≡◌, Bool, true, false, List, [], ◌∷◌, ◌++◌, ◌≢◌, Ok}
+use Rattle.std.specs.Prelude.{ℕ, ◌^◌, ◌<◌, ◌≤◌, ◌≡◌, refl, Bool, true, false, List, [], ◌∷◌, ◌++◌, ◌≢◌, Ok}
+use Rattle.std.specs.Int.{is_power_of_two}
 use Rattle.std.proofs.Common.{sym, ap, ◌∙◌, subst}
 use Rattle.link.specs.Said.{number_in, value_in}
-use Rattle.gabi.specs.SymbolTable.{Sym}
-use Rattle.gabi.specs.Visibility.{combined}
-use Rattle.gabi.specs.Resolution.{duplicate, resolve}
+use Rattle.link.specs.declared.Interned.{Interned}
+use Rattle.gabi.specs.SymbolTable.{Sym, stv_hidden, is_global, is_weak, is_reference, is_definition, is_common}
+use Rattle.gabi.specs.Visibility.{rank, combine, combined}
+use Rattle.gabi.specs.Resolution as Gabi
+use Rattle.gabi.specs.Resolution.{duplicate, unresolved, is_global_definition, is_common_definition, is_weak_definition, is_global_reference, has, resolve}
 use Rattle.symbol.specs.RowLaws.{symbol_of}
 use Rattle.symbol.specs.declared.Row.{Row}
+use Rattle.symbol.specs.declared.SymbolVisibility.TheVariants.{Global}
+use Rattle.symbol.specs.declared.SymbolValue.TheVariants.{Undefined}
+use Rattle.symbol.specs.Codes.{visibility_at, value_at}
+use Rattle.symbol.specs.Hidden.{hidden_code, hide_code, passes, hide_if}
 use Rattle.symbol.specs.Row.{field, scope_refused, value_refused}
 use Rattle.symbol_resolution.specs.Holder.{global_at}
+use Rattle.symbol_resolution.specs.Decision.{Refuse, Replace}
+use Rattle.symbol_resolution.specs.Decide.{weak_of, rank_of, type_refusal, replace_of, ranked_of}
 use Rattle.symbol_resolution.specs.Apply.{Table}
 use Rattle.symbols.specs.New.{new_of}
 use Rattle.symbols.specs.Lookup.{not_found, get_global_of}
 use Rattle.upcoming_symbol.specs.declared.UpcomingSymbol.{UpcomingSymbol}
+use Rattle.upcoming_symbol.specs.Judge.{shown_of, hidden_of, judge_of}
+use Rattle.upcoming_symbol.specs.Upcoming.{in_section, converted_of, undefined_of, value_of, elf_row_of, library_code, external_row_of}
 use Rattle.symbols.specs.Add.{add_of}
-use Rattle.symbol_laws.specs.Rank.{first_by_rank, joined_in}
-use Rattle.symbol_laws.specs.Proof.Rows.{row_at}
+use Rattle.symbol_laws.specs.Rank.{ranked, best, highest, first_by_rank, joined_in}
+use Rattle.symbol_laws.proofs.Rank as RankLaws
+use Rattle.symbol.specs.Row.{row_at}
 use Rattle.symbol_laws.specs.History.{State, opened, Entry, only, rows, Part, put_of, run_parts, log_parts, Call, add, intern, call_next, call_number, run_calls, log_calls, Removes, RemovesNothing}
 use Rattle.symbol_laws.specs.Held.{Inv}
 use Rattle.symbol_laws.proofs.Start.{new-inv}
 use Rattle.symbol_laws.proofs.Calls.{call-refused, parts-keep, calls-keep}
 use Rattle.symbol_laws.specs.Hidden.{is_hidden, some_hidden, attribute}
 use Rattle.symbol_laws.specs.Standing.{hidden_by, SameButHidden}
+use Rattle.symbol_laws.proofs.Standing as StandingLaws
 use Rattle.symbol_laws.proofs.Profile as Profile
 use Rattle.symbol_laws.specs.Demand as Demand
 use Rattle.symbol_laws.proofs.Demand as DemandLaws
@@ -31,11 +45,16 @@ use Rattle.symbol_laws.proofs.Within as WithinLaws
 use Rattle.symbol_laws.proofs.BelowLemmas.{inv-below}
 use Rattle.symbol_laws.specs.Writes as Writes
 use Rattle.symbol_laws.proofs.WritesLemmas as WritesLaws
-use Rattle.symbol_laws.specs.Gabi.{Means, AllMean, sym_of_row, syms_of}
+use Rattle.symbol_laws.specs.Gabi.{Means, AllMean, sym_of_row, syms_of, sym_of}
 use Rattle.symbol_laws.proofs.Gabi.{combined-rows, means-own, all-mean-own}
 use Rattle.symbol_laws.specs.Agreement as Agreement
 use Rattle.symbol_laws.proofs.Agreement as AgreementLaws
 use Rattle.symbol_laws.proofs.Duplicate as Duplicate
+use Rattle.symbol_laws.specs.BindingTable.{entry, formula}
+use Rattle.symbol_laws.proofs.BindingTable as BindingTable
+use Rattle.symbol_laws.specs.DirectContents.{IsAlignment}
+use Rattle.symbol_laws.proofs.Alignment as Alignment
+use Rattle.symbol_laws.specs.Differences.{elf, row, library_row, second}
 
 -- of the calls only a removal removes, so adds and interns of every kind may stand in a sequence that removes nothing
 pub add-removes-nothing : (conversion : List ℕ) (u : UpcomingSymbol) (s : State) → Removes (add conversion u) s → ⊥
@@ -149,6 +168,14 @@ module _ (key : ℕ) (gabi : Bool) (bytes names symbols sections : List ℕ) (ne
         pub refused-duplicate-any : number_in (put_of end r).said ≡ 17 → resolve ((s ∷ ss) ++ (g ∷ [])) ≡ duplicate
         refused-duplicate-any = Duplicate.refused-duplicate end _ kept r x xs e global passes valued s ss m g mine
 
+-- for any rank of rows: the first row of the greatest rank is the first of rank k, else of the rank below, and so on, if no rank is above k
+pub best-highest : (rank : Row → ℕ) (c : Row) (xs : List Row) (k : ℕ) → rank (best rank c xs) ≤ k → best rank c xs ≡ highest rank k c xs
+best-highest = RankLaws.best-highest
+
+-- so of the ranks that rows have in each profile it is the documents' wording
+pub best-terms : (gabi : Bool) (c : Row) (xs : List Row) → best (ranked gabi) c xs ≡ first_by_rank gabi c xs
+best-terms = RankLaws.best-terms
+
 -- "leaves behind what that table says": every refusal of these calls leaves all
 pub refusals-leave-all : (k : Call) (s : State) → call_number k s ≢ 0 → call_next k s ≡ s
 refusals-leave-all = call-refused
@@ -157,3 +184,66 @@ refusals-leave-all = call-refused
 pub one-row : (t : Table) (conversion : List ℕ) (u : UpcomingSymbol) (j f : ℕ) → f < 8 → j ≢ value_in (add_of t conversion u).said
     → field (add_of t conversion u).table.symbols j f ≡ field t.symbols j f
 one-row = WritesLaws.add-one-row
+
+-- ---- requests
+
+-- 2026-02: "Adds from shared objects hide no row, not even one they hold"
+pub library-shown : (name : Interned) (b v : ℕ) → is_hidden (external_row_of true name b v) ≡ false
+library-shown = StandingLaws.library-shown
+
+-- 2026-03: "Every pair of codes judges as before": what the contract of every add cites, `judge_of`, is the old table's entry
+pub judged-before : (b v : ℕ) → b < 16 → v < 4 → judge_of b v ≡ entry b v
+judged-before = BindingTable.judged-before
+
+-- and the request's formula
+pub judged-by-formula : (b v : ℕ) → b < 16 → v < 4 → judge_of b v ≡ formula b v
+judged-by-formula = BindingTable.judged-by-formula
+
+-- 2026-06: "alignment zero or no power of two": of the numbers of 64 bits the test is passed by 2 ^ k for each k up to 63, and by no other
+pub power-alignment : (a : ℕ) → a < 2 ^ 64 → is_power_of_two a ≡ true → IsAlignment a
+power-alignment = Alignment.power-alignment
+
+pub alignment-power : (a : ℕ) → IsAlignment a → is_power_of_two a ≡ true
+alignment-power = Alignment.alignment-power
+
+-- ---- "Known places where gABI differs": those of the symbol table, each with its smallest input
+
+-- "a strong reference after a weak one leaves the row weak": unresolved by the gABI, zero in the table, and weak
+pub weak-reference-stays :
+    (resolve (sym_of (elf 2 0 0) ∷ sym_of (elf 1 0 0) ∷ []) ≡ unresolved)
+    × (value_at (first_by_rank false (row (elf 2 0 0)) (row (elf 1 0 0) ∷ [])).value ≡ Undefined true)
+    × (visibility_at (first_by_rank false (row (elf 2 0 0)) (row (elf 1 0 0) ∷ [])).scope ≡ Global true false)
+unfolding resolve has Gabi.count is_global_definition is_common_definition is_weak_definition is_global_reference is_global is_weak is_reference is_definition is_common visibility_at value_at weak_of shown_of hidden_of judge_of in_section converted_of undefined_of value_of elf_row_of
+weak-reference-stays = (refl, refl, refl)
+
+-- in the gABI profile it turns the row strong (2026-07)
+pub strong-reference-taken :
+    (value_at (first_by_rank true (row (elf 2 0 0)) (row (elf 1 0 0) ∷ [])).value ≡ Undefined false)
+    × (visibility_at (first_by_rank true (row (elf 2 0 0)) (row (elf 1 0 0) ∷ [])).scope ≡ Global false false)
+unfolding visibility_at value_at weak_of shown_of hidden_of judge_of in_section converted_of undefined_of value_of elf_row_of
+strong-reference-taken = (refl, refl)
+
+-- "hidden isn't passed on to another holder": a hidden weak definition, then a strong one that isn't
+pub hidden-not-passed-on :
+    (combined (sym_of (elf 2 2 1) ∷ sym_of (elf 1 0 1) ∷ []) ≡ stv_hidden)
+    × (visibility_at (first_by_rank false (row (elf 2 2 1)) (row (elf 1 0 1) ∷ [])).scope ≡ Global false false)
+unfolding combined combine rank visibility_at weak_of shown_of hidden_of judge_of in_section converted_of undefined_of value_of elf_row_of
+hidden-not-passed-on = (refl, refl)
+
+-- in the gABI profile it is
+pub hidden-passed-on :
+    visibility_at (hidden_by true (row (elf 2 2 1) ∷ row (elf 1 0 1) ∷ []) (first_by_rank true (row (elf 2 2 1)) (row (elf 1 0 1) ∷ []))).scope ≡ Global false true
+unfolding visibility_at weak_of shown_of hidden_of judge_of in_section converted_of undefined_of value_of elf_row_of hidden_code hide_code hide_if
+hidden-passed-on = refl
+
+-- ---- a shared object's definition is a definition of the link
+
+-- beside an object's strong definition 17, in either order; an object's weak one it replaces. The gABI's chapters on dynamic linking, which gabi doesn't
+-- have, see no error, and find the object's in both
+pub library-defines :
+    (second (row (elf 1 0 1)) (library_row 1) ≡ Refuse 17)
+    × (second (library_row 1) (row (elf 1 0 1)) ≡ Refuse 17)
+    × (second (row (elf 2 0 1)) (library_row 1) ≡ Replace (record { 0 = 1 }))
+    × (first_by_rank false (row (elf 2 0 1)) (library_row 1 ∷ []) ≡ library_row 1)
+unfolding weak_of rank_of type_refusal replace_of ranked_of shown_of hidden_of judge_of in_section converted_of undefined_of value_of elf_row_of passes library_code external_row_of
+library-defines = (refl, refl, refl, refl)

@@ -25,7 +25,7 @@ use Rattle.symbol_laws.specs.Rank.{ranked}
 use Rattle.symbol_laws.proofs.Standing.{code-hides, pass-none, pass-had}
 use Rattle.symbol_laws.proofs.Rank.{three-is}
 use Rattle.symbol_laws.proofs.Rows.{Packs}
-use Rattle.symbol_laws.specs.Proof.Rows.{row_at}
+use Rattle.symbol.specs.Row.{row_at}
 
 pub lesser-first : (a b : ℕ) → lesser a b ≤ a
 unfolding lesser

@@ -5,7 +5,6 @@ use Rattle.std.proofs.Common.{arith, ap, ◌∙◌, length-set}
 use Rattle.std.proofs.lemmas.Bool.{false≢true}
 use borrow.Author.Tests.{eq-eqb, ne_eqb, ltb-false, eqb-false, lt-leb, le-leb}
 use Rattle.cells.specs.Proof.Split.{by-test}
-use Rattle.link.specs.declared.Link.{Link}
 use Rattle.link.specs.declared.Interned.{Interned}
 use Rattle.link.specs.declared.SymbolId.{SymbolId}
 use Rattle.link.specs.Bounds.{not_lent, lesser, name_rows, name_bytes, symbol_rows}

@@ -1,7 +1,7 @@
 -- What a symbol's entry says of the row that it becomes, in document 01's words: type, weak and hidden, value. Words for statements, and what accepted rows
 -- have of them.
 -- Assumes nothing.
-use Rattle.std.specs.Prelude.{ℕ, suc, ◌-◌, ◌^◌, ◌<◌, ◌≤◌, ◌≡◌, Bool, true, false, cond, not, ℤ, pos, negsuc, eqb}
+use Rattle.std.specs.Prelude.{ℕ, suc, ◌-◌, ◌^◌, ◌<◌, ◌≤◌, ◌≡◌, Bool, cond, not, ℤ, pos, negsuc, eqb}
 use Rattle.gabi.specs.SymbolTable.{Sym, stb_global, stb_weak, stt_notype, stt_object, stt_func, stt_section, stt_file, stv_default, stv_hidden, shn_abs, shn_common}
 use Rattle.symbol.specs.declared.SymbolType.{SymbolType}
 use Rattle.symbol.specs.declared.SymbolType.TheVariants as Ty

@@ -6,7 +6,7 @@ use Rattle.symbol.specs.Row.{state_at}
 use Rattle.symbol_resolution.specs.Holder.{global_at}
 use Rattle.symbol_laws.specs.Rank.{ranked, FirstOfGreatestRank, first_by_rank, joined_in}
 use Rattle.symbol_laws.specs.Standing.{hidden_by}
-use Rattle.symbol_laws.specs.Proof.Rows.{row_at}
+use Rattle.symbol.specs.Row.{row_at}
 use Rattle.symbol_laws.specs.History.{State, Entry, rows}
 
 -- a row holds the name of rows l: it is the first of the greatest rank, and if that is common all commons are joined in it

@@ -1,4 +1,5 @@
--- The words of the statements in proofs/Held.antt.
+-- What holds of every table in which nothing was removed, given its accepted adds: the row of each name, counts within what is lent, and of each name one
+-- strong definition at most.
 -- Assumes nothing.
 use Rattle.std.specs.Prelude.{ℕ, ◌*◌, ◌≤◌, ◌<◌, ◌≡◌, List, [], ◌∷◌, length}
 use Rattle.symbol.specs.declared.Row.{Row}
@@ -6,7 +7,7 @@ use Rattle.symbol.specs.Row.{state_at}
 use Rattle.symbol_resolution.specs.Holder.{global_at}
 use Rattle.symbol_laws.specs.Rank.{strong_definition, count}
 use Rattle.symbol_laws.specs.Standing.{row_after}
-use Rattle.symbol_laws.specs.Proof.Rows.{row_at}
+use Rattle.symbol.specs.Row.{row_at}
 use Rattle.symbol_laws.specs.History.{State, Entry, only, rows}
 
 -- a present row that bears the name

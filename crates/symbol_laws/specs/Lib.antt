@@ -12,7 +12,6 @@ pub mod ContentWords
 pub mod DirectContents
 pub mod Hidden
 pub mod BindingTable
-pub mod Proof
 pub mod Differences
 pub mod Held
 pub mod Within

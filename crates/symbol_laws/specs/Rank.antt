@@ -1,6 +1,6 @@
 -- The first row of the greatest rank, for any rank, the documents' wording of it in each profile, and the commons of a name joined.
 -- Assumes nothing.
-use Rattle.std.specs.Prelude.{ℕ, suc, ◌<◌, ◌≤◌, ◌≡◌, Bool, cond, not, ◌&&◌, List, [], ◌∷◌, ◌++◌, eqb, ltb, max}
+use Rattle.std.specs.Prelude.{ℕ, zero, suc, ◌<◌, ◌≤◌, ◌≡◌, Bool, cond, not, ◌&&◌, List, [], ◌∷◌, ◌++◌, eqb, ltb, max}
 use Rattle.std.proofs.Math.Bool.{true, false}
 use Rattle.symbol.specs.declared.Row.{Row}
 use Rattle.symbol_resolution.specs.Decide.{weak_of, rank_of}
@@ -26,6 +26,11 @@ module _ (rank : Row → ℕ) where
   abbrev pub best : Row → List Row → Row
   best c [] = c
   best c (x ∷ xs) = best (cond (ltb (rank c) (rank x)) x c) xs
+
+  -- in words: the first row of rank k, else of the rank below, and so on; of no rank above 0 the first row
+  abbrev pub highest : ℕ → Row → List Row → Row
+  highest zero c xs = c
+  highest (suc k) c xs = first (λ x. eqb (rank x) (suc k)) (c ∷ xs) (highest k c xs)
 
   pub record FirstOfGreatestRank (l : List Row) (r : Row) : Type 0 where
     pub before : List Row

@@ -1,9 +1,8 @@
--- The words of the statements in proofs/Within.antt.
+-- Counts of a link that direct calls take for granted, that of symbols apart: with these, and lent rows for all symbols, a lookup is never refused with 1.
 -- Assumes nothing.
-use Rattle.std.specs.Prelude.{ℕ, ◌-◌, ◌≤◌, List, length}
+use Rattle.std.specs.Prelude.{ℕ, ◌≤◌, List, length}
 use Rattle.link.specs.declared.Link.{Link}
 use Rattle.link.specs.Bounds.{not_lent, name_rows, section_rows}
-use Rattle.link.specs.Proof.Ways as Link
 
 -- the counts that these calls aren't lent anything for, and the rows that the names were lent
 pub record Within (l : Link) (names : List ℕ) : Type 0 where

@@ -1,2 +1,2 @@
-// Theorems about the symbol table's definitions: specs/Terms.antt has the statements.
+// Theorems about the symbol table's definitions: proofs/Terms.antt has the statements.
 #![tactic(auto)]

@@ -63,9 +63,9 @@ rank_number By.Common = common_rank
 rank_number By.StrongDefinition = strong_rank
 
 unfoldable pub rank_of : Bool → ℕ → ℕ → ℕ
-rank_of gabi visibility value =
-    cond (eqb value undefined_kind) (reference_rank gabi visibility)
-    (cond (eqb value common_kind) common_rank (cond (weak_of visibility) weak_rank strong_rank))
+rank_of gabi scope value =
+    cond (eqb value undefined_kind) (reference_rank gabi scope)
+    (cond (eqb value common_kind) common_rank (cond (weak_of scope) weak_rank strong_rank))
 
 -- "type 4 in add" (15), above (16)
 unfoldable pub type_refusal : ℕ → ℕ

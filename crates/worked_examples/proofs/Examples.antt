@@ -1,4 +1,4 @@
--- Theorems over specs/Examples.antt.
+-- The rows of specs/Examples.antt, computed; those of groups in Groups.antt, those of walks and collections in the crates of their laws.
 -- Assumes nothing.
 use Rattle.std.specs.Prelude.{refl}
 use Rattle.cells.specs.Rows.{put_row}

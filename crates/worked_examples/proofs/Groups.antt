@@ -1,4 +1,4 @@
--- Laws of the definitions of Groups.antt.
+-- The rows of specs/Groups.antt, computed.
 -- Assumes nothing.
 use Rattle.std.specs.Prelude.{refl}
 use Rattle.link.specs.Bounds.{lesser}

@@ -1,3 +1,4 @@
+pub mod Terms
 pub mod Lists
 pub mod Examples
 pub mod Groups

@@ -1,4 +1,4 @@
--- Request 2026-05, lists of adds: rows of one list, and one theorem over it, in both profiles.
+-- The rows of specs/Lists.antt, computed.
 -- Assumes nothing.
 use Rattle.std.specs.Prelude.{refl}
 use Rattle.cells.specs.Rows.{put_row}
@@ -24,7 +24,7 @@ use Rattle.symbols.specs.New.{clear_symbols, null_of, new_of}
 use Rattle.symbols.specs.Add.{judge_add_of, issued_of, direct_holder_of, place_of, decided_of, committed_of, add_row_of, add_of}
 use Rattle.symbols.specs.Lookup.{found_at, get_of}
 use Rattle.add_list.specs.AddList.{items_from, items_of, turn_of, adds_of, add_list_of}
-use Rattle.worked_examples.specs.Examples.{start, old, sections}
+use Rattle.worked_examples.specs.Examples.{start}
 use Rattle.worked_examples.specs.Lists.{Right, cases, All}
 
 pub lists : All Right cases

@@ -1,4 +1,4 @@
--- Document 01, "Marked for proof", with the add sheet and the example of "Bounds": rows of one list, and one theorem over it. Groups, and the
+-- Document 01, "Marked for proof", with the add sheet and the example of "Bounds": rows of one list. Groups, and the
 -- crates of the laws of walks and collections, say what their rows mean.
 -- Assumes nothing.
 use Rattle.link.specs.declared.cause.Refusal.{Refusal}

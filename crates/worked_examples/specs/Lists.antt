@@ -1,4 +1,4 @@
--- The words of the statements in proofs/Lists.antt.
+-- Request 2026-05, lists of adds: rows of one list, each for both profiles.
 -- Assumes nothing.
 use Rattle.std.specs.Prelude.{ℕ, ◌≡◌, Bool, List, [], ◌∷◌}
 use Rattle.link.specs.Judge.{refused, none}

@@ -1,2 +1,2 @@
-// The worked examples of document 01, proved from the definitions: specs/Examples.antt.
+// The worked examples of document 01, proved from the definitions: the rows in specs/, the theorems in proofs/Terms.antt.
 #![tactic(auto)]

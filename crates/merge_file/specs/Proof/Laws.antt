@@ -10,9 +10,9 @@ use Rattle.merge_elf.specs.Merge.{merge_of}
 use Rattle.elf_file.specs.Check.{file_refusal}
 use Rattle.elf_laws.specs.Object.{rows_of, cells_of, laid}
 use Rattle.elf_laws.specs.Writer.{Section, file_of}
-use Rattle.elf_laws.specs.Trip.{Fit, own_rows}
+use Rattle.elf_laws.specs.Trip.{Fit, Whole, own_rows}
 use Rattle.elf_laws.proofs.Trip.{written-rows}
-use Rattle.elf_laws.proofs.Accepted.{Whole, written-accepted}
+use Rattle.elf_laws.proofs.Accepted.{written-accepted}
 use Rattle.merge_file.specs.MergeFile.{file_left, unread, file_head_of, merge_file_of}
 
 module _ (image rows : List ℕ) (a : All) where

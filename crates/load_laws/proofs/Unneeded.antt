@@ -1,5 +1,4 @@
--- "Under as-needed, an unneeded library answers "not needed" and changes nothing"; no other library is answered so. A refusal of the head (22, 1,
--- 25, too few marks) leaves all, and one after it breaks the link.
+-- How a load ends, by its head and its need: refused at the head, "not needed", loaded, or refused after the head.
 -- Assumes nothing.
 use Rattle.shared_objects.specs.declared.Load.{Load}
 use Rattle.shared_objects.specs.declared.Load.TheVariants.{NotNeeded, Loaded}

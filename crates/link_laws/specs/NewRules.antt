@@ -1,4 +1,4 @@
--- The words of the statements in proofs/NewExactly.antt.
+-- Document 01's rules for `Symbols::new`.
 -- Assumes nothing.
 use Rattle.std.specs.Prelude.{ℕ, ◌/◌, List, [], ◌∷◌, ltb, length}
 use Rattle.link_laws.specs.Rules.{Rule, ◌gives◌at◌}

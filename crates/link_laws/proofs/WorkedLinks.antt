@@ -1,31 +1,11 @@
--- A history with every call in it, but the merge of a file and a list of adds, which are the merge of its rows and its adds one by one, that meets the
--- premises of the page, by computation: its links, answers and walk are not empty. Beside it what the page says of one more call: as-needed, refused merges and loads, removals; and a history whose lists grow.
+-- The worked links of specs/WorkedLinks.antt, by computation.
 -- Assumes nothing.
-use Rattle.shared_objects.specs.declared.Load.TheVariants.{NotNeeded, Loaded}
-use Rattle.gc_sections.specs.Run.{dropped}
-use Rattle.std.specs.Prelude.{ℕ, ◌≡◌, refl, Bool, true, false, List, [], ◌∷◌, ◌++◌, get_or, length, replicate, None, Some, Ok}
+use Rattle.std.specs.Prelude.{refl, Bool, true, false}
 use Rattle.std.proofs.Common.{arith}
-use Rattle.link.specs.Said.{number_in}
-use Rattle.link.specs.declared.SymbolId.{SymbolId}
-use Rattle.link.specs.declared.SectionId.{SectionId}
-use Rattle.link.specs.Judge.{refused}
-use Rattle.symbols.specs.New.{new_of}
-use Rattle.symbols.specs.Lookup.{not_found}
-use Rattle.upcoming_symbol.specs.declared.UpcomingSymbol.TheVariants.{GlobalUnknown, ExternallyDefined, Section}
 use Rattle.section_groups.specs.Group as Group
 use Rattle.merge_stages.specs.Stages as Stages
 use Rattle.shared_objects.specs.Load as Shared
 use Rattle.archive_walk.specs.Walk as Archive
-use Rattle.symbol_laws.specs.History.{opened}
-use Rattle.merge_laws.specs.Calls.{Linked, linked}
-use Rattle.link_laws.specs.Calls.{Call, intern, resolve, add, remove, get, get_global, section_symbol, add_group, merge, load, archive_start, archive_next, archive_shadowed, matches, collect, plain_collect, view_in, library_in, call_left, call_refusal, call_number, call_next, run_calls, RemovesNothing}
-use Rattle.archive_laws.specs.PassList.{offered}
-use Rattle.link_laws.specs.Walks.{next_in}
-use Rattle.link_laws.specs.Kept.{signatures}
-use Rattle.link_laws.specs.Growth.{Growth, Turn, log_turns, Quiet}
-use Rattle.link_laws.specs.Words.{lookup, adds, tied}
-use Rattle.symbol_laws.specs.ObjectWords.{sections_in, program, loaded_as}
-use Rattle.merge_laws.specs.MergeWords.{named_by, is_removed}
 use Rattle.gabi.specs.Archive as Gabi-as-Archive
 use Rattle.gabi.specs.Groups as Gabi-as-Groups
 use Rattle.gabi.specs.Resolution as Gabi-as-Resolution
@@ -96,204 +76,11 @@ use Rattle.merge_laws.specs.MergeSteps as MergeLaws-as-MergeSteps
 use Rattle.load_laws.specs.LoadSteps as LoadLaws-as-LoadSteps
 use Rattle.merge_laws.specs.MergeWords as MergeLaws-as-MergeWords
 use Rattle.symbol_laws.specs.ObjectWords as SymbolLaws-as-ObjectWords
+use Rattle.link_laws.specs.WorkedLinks.{WorkedLinks}
 
--- ---- what is lent
-
-abbrev zeros : ℕ → List ℕ
-zeros n = replicate {A = ℕ} n 0
-
--- the hash's key
-abbrev pub key : ℕ
-key = 7
-
-abbrev pub bytes : List ℕ
-bytes = zeros 16
-
--- six rows and their heads
-abbrev pub names : List ℕ
-names = zeros 54
-
-abbrev pub symbols : List ℕ
-symbols = zeros 48
-
-abbrev pub sections : List ℕ
-sections = zeros 18
-
-abbrev pub inputs : List ℕ
-inputs = zeros 24
-
-abbrev pub lists : List ℕ
-lists = zeros 4
-
--- ---- an object: a program section `.t`, in which `f` is defined, with a relocation that names `f`; a group that lists it
-
--- a section's row: kind, name, flags (4 read, 8 COMDAT), link, info, first, count
-abbrev section : ℕ → ℕ → ℕ → ℕ → ℕ → ℕ → ℕ → List ℕ
-section kind name flags link info first count = kind ∷ name ∷ flags ∷ link ∷ info ∷ first ∷ count ∷ 0 ∷ []
-
--- `\0f\0.t\0`
-abbrev file : List ℕ
-file = 0 ∷ 102 ∷ 0 ∷ 46 ∷ 116 ∷ 0 ∷ []
-
--- the null symbol, and `f`: global, a function, in section 1
-abbrev entries : List ℕ
-entries = zeros 8 ++ (1 ∷ 1 ∷ 2 ∷ 0 ∷ 1 ∷ 0 ∷ 0 ∷ 0 ∷ [])
-
-abbrev headers : List ℕ
-headers = section 0 0 0 0 0 0 0 ++ (section 1 3 4 0 0 0 0 ++ (section 3 0 0 3 0 0 2 ++ (section 4 0 0 0 0 0 6 ++ section 6 0 0 2 1 0 1)))
-
-abbrev pub object : Stages.Object
-object = Stages.object_of headers entries (1 ∷ []) file 3
-
-abbrev pub grouped : Group.Object
-grouped =
-    Group.object_of (section 0 0 0 0 0 0 0 ++ (section 7 0 8 2 1 0 1 ++ (section 3 0 0 3 0 0 2 ++ (section 4 0 0 0 0 0 6 ++ section 1 3 4 0 0 0 0)))) entries (4 ∷ []) file 2
-
--- a library `l` that defines `g`: `\0g\0l\0`
-abbrev pub library : Shared.Input
-library = Shared.input_as (1 ∷ 1 ∷ 2 ∷ 0 ∷ 1 ∷ 0 ∷ 0 ∷ 0 ∷ []) (0 ∷ 103 ∷ 0 ∷ 108 ∷ 0 ∷ []) [] [] false true 3 false
-
--- an index of one member, at 8, with the name `f`
-abbrev pub index : List ℕ
-index = 0 ∷ 0 ∷ 0 ∷ 1 ∷ 0 ∷ 0 ∷ 0 ∷ 8 ∷ 102 ∷ 0 ∷ []
-
-abbrev pub begun : Archive.Start
-begun = Archive.start_of 0 index (zeros 8)
-
--- ---- the history, in either profile: `f` is interned, added as undefined and looked up; the index offers its member for it, which is admitted and merged; then the rest
-
-abbrev pub s0 : Bool → Linked
-s0 gabi = linked (opened (new_of key gabi bytes names symbols sections)) inputs lists
-
--- until a walk over the index begins
-abbrev pub front : List Call
-front =
-    intern (102 ∷ []) ∷ resolve (record { 0 = 1 }) ∷ add [] (GlobalUnknown (record { 0 = 1 })) ∷ get (record { 0 = 1 }) ∷ get_global (record { 0 = 1 })
-    ∷ archive_start 0 index (zeros 8) ∷ []
-
--- its first call
-abbrev pub taken : Bool → Archive.Step
-taken gabi = Archive.next_of index begun.cells begun.started.walk (view_in (run_calls front (s0 gabi)).table)
-
-abbrev pub middle : Bool → List Call
-middle gabi =
-    archive_next index begun.cells begun.started.walk ∷ matches headers entries (1 ∷ []) file index (taken gabi).cells (taken gabi).moved.walk 0
-    ∷ archive_shadowed index (taken gabi).cells (taken gabi).moved.walk (zeros 1) ∷ []
-
-abbrev pub back : Bool → List Call
-back gabi =
-    middle gabi
-    ++ (merge object (zeros 40) (zeros 2) ∷ section_symbol (record { 0 = 0 }) ∷ add_group grouped (zeros 40) 1 ∷ load library (zeros 6) ∷ remove (record { 0 = 9 })
-    ∷ collect (1 ∷ 1 ∷ 1 ∷ []) None (zeros 2) ∷ plain_collect (1 ∷ 1 ∷ 1 ∷ []) None (zeros 2) ∷ [])
-
-abbrev pub ks : Bool → List Call
-ks gabi = front ++ back gabi
-
-abbrev pub end : Bool → Linked
-end gabi = run_calls (ks gabi) (s0 gabi)
-
--- ---- what the page says of one more call: as-needed loads, refused merges and loads, removals
-
--- as-needed: `wanted` defines `f`, which is undefined when the walk begins; `needless` defines `h`, which nobody asks for
-abbrev pub wanted : Shared.Input
-wanted = Shared.input_as (1 ∷ 1 ∷ 2 ∷ 0 ∷ 1 ∷ 0 ∷ 0 ∷ 0 ∷ []) (0 ∷ 102 ∷ 0 ∷ 108 ∷ 0 ∷ []) [] [] false true 3 true
-
-abbrev pub needless : Shared.Input
-needless = Shared.input_as (1 ∷ 1 ∷ 2 ∷ 0 ∷ 1 ∷ 0 ∷ 0 ∷ 0 ∷ []) (0 ∷ 104 ∷ 0 ∷ 109 ∷ 0 ∷ []) [] [] false true 3 true
-
--- `f`'s row, section 0, and a local `Section` row of it that is added at the end
-abbrev pub f : SymbolId
-f = record { 0 = 1 }
-
-abbrev pub part : SectionId
-part = record { 0 = 0 }
-
-abbrev pub marked : Bool → Linked
-marked gabi = call_next (add [] (Section part)) (end gabi)
-
--- the link that the object is merged into
-abbrev pub unmerged : Bool → Linked
-unmerged gabi = run_calls (front ++ middle gabi) (s0 gabi)
-
--- ---- what the walk passes by: `f` is defined before it begins, weakly (2) or strongly (1), or it stays undefined though its member is offered
-
-abbrev pub defined : ℕ → Bool → Linked
-defined binding gabi = run_calls (intern (102 ∷ []) ∷ add [] (ExternallyDefined (record { 0 = 1 }) 0 binding) ∷ []) (s0 gabi)
-
--- the walk after one call over that link, and what it passed by
-abbrev pub passing : Linked → ArchiveLaws-as-Runs.Run
-passing s = next_in index (ArchiveLaws-as-Runs.start_run 0 index (zeros 8)) s
-
-abbrev pub told : Linked → ShadowedMembers-as-Shadowed.Left
-told s = call_left (archive_shadowed index (passing s).cells (passing s).walk (9 ∷ [])) s
-
--- ---- lists that grow: a table without bytes for names, which gets them before `f` is interned
-
-abbrev pub tight : Bool → Linked
-tight gabi = linked (opened (new_of key gabi [] names symbols sections)) inputs lists
-
-abbrev pub more : Growth
-more = record { bytes = zeros 4; names = zeros 9; symbols = zeros 8; sections = zeros 9; inputs = zeros 8; lists = zeros 1 }
-
-abbrev pub none : Growth
-none = record { bytes = []; names = []; symbols = []; sections = []; inputs = []; lists = [] }
-
-abbrev pub turns : List Turn
-turns =
-    record { growth = more; call = intern (102 ∷ []) } ∷ record { growth = none; call = add [] (GlobalUnknown (record { 0 = 1 })) } ∷ []
-
--- the numbers that the calls answer: all are accepted, but the remove of a symbol that there isn't
-abbrev pub numbers : List Call → Linked → List ℕ
-numbers [] s = []
-numbers (k ∷ ls) s = call_number k s ∷ numbers ls (call_next k s)
-
-pub record Meets (gabi : Bool) : Type 0 where
-  pub new : number_in (new_of key gabi bytes names symbols sections).said ≡ 0
-  pub answers : numbers (ks gabi) (s0 gabi) ≡ 0 ∷ 0 ∷ 0 ∷ 0 ∷ 0 ∷ 0 ∷ 0 ∷ 0 ∷ 0 ∷ 0 ∷ 0 ∷ 0 ∷ 0 ∷ 21 ∷ 0 ∷ 0 ∷ []
-  pub quiet : RemovesNothing (ks gabi) (s0 gabi)
-  -- `f` has accepted adds, the direct one and the object's; `g` the library's; another name none
-  pub twice : length (adds (102 ∷ []) (ks gabi) (s0 gabi)) ≡ 2
-  pub once : length (adds (103 ∷ []) (ks gabi) (s0 gabi)) ≡ 1
-  pub never : adds (104 ∷ []) (ks gabi) (s0 gabi) ≡ []
-  -- the index ties its member to `f`, which is undefined when the walk begins; the pass offers it, and is over
-  pub ties : tied index (run_calls front (s0 gabi)) ≡ 8 ∷ []
-  pub pass : (taken gabi).moved.walk.passes ≡ 1
-  pub offers : offered index (next_in index (ArchiveLaws-as-Runs.start_run 0 index (zeros 8)) (run_calls front (s0 gabi))) ≡ 8 ∷ []
-  pub over : (next_in index (next_in index (ArchiveLaws-as-Runs.start_run 0 index (zeros 8)) (run_calls front (s0 gabi))) (run_calls (ks gabi) (s0 gabi))).walk.done ≡ true
-  -- weakly defined: no member is offered, the walk is over, and the entry is told; strongly: nothing is; undefined though offered: it is told
-  pub shadows : ((passing (defined 2 gabi)).offers ≡ []) × ((passing (defined 2 gabi)).walk.done ≡ true) × (told (defined 2 gabi) ≡ ShadowedMembers-as-Shadowed.left (0 ∷ []) (Ok 1))
-  pub strong-untold : ((passing (defined 1 gabi)).walk.done ≡ true) × (told (defined 1 gabi) ≡ ShadowedMembers-as-Shadowed.left (9 ∷ []) (Ok 0))
-  pub lacks : ((passing (run_calls front (s0 gabi))).offers ≡ 0 ∷ []) × (told (run_calls front (s0 gabi)) ≡ ShadowedMembers-as-Shadowed.left (0 ∷ []) (Ok 1))
-  -- the library is loaded, and the collection drops nothing, since `f` is marked
-  pub loaded : (run_calls (ks gabi) (s0 gabi)).table.link.inputs ≡ 2
-  pub kept : (call_left (collect (1 ∷ 1 ∷ 1 ∷ []) None (zeros 2)) (run_calls (ks gabi) (s0 gabi))).answer ≡ Ok (dropped 0 0)
-  -- as-needed: needed and loaded, and not needed
-  pub wants : (call_left (load wanted (zeros 6)) (run_calls front (s0 gabi))).answer ≡ Ok Loaded
-  pub needs-not : ((Shared.head_in needless (library_in (end gabi) (zeros 6))).number ≡ 0) × ((call_left (load needless (zeros 6)) (end gabi)).answer ≡ Ok NotNeeded)
-  -- the same object and the same library once more: `f` and `g` would be defined twice
-  pub merged-twice : (call_refusal (merge object (zeros 40) (zeros 2)) (end gabi) ≡ refused 17 1) × ((call_next (merge object (zeros 40) (zeros 2)) (end gabi)).table.link.broken ≡ true)
-  pub loaded-twice : (call_refusal (load library (zeros 6)) (end gabi) ≡ refused 17 0) × ((call_next (load library (zeros 6)) (end gabi)).table.link.broken ≡ true)
-  -- `f`'s row is removed: 21 for its id and its name
-  pub removes : call_number (remove f) (end gabi) ≡ 0
-  pub removed : (call_left (get f) (call_next (remove f) (end gabi)) ≡ not_found 21 1) × (lookup (102 ∷ []) (call_next (remove f) (end gabi)) ≡ not_found 21 1)
-  -- a collection without marks drops the object's section, and `f` with it
-  pub drops : (call_left (collect (zeros 3) None (zeros 2)) (end gabi)).answer ≡ Ok (dropped 1 1)
-  -- the section's symbol: none, then its local `Section` row, then none again
-  pub section : (call_left (section_symbol part) (end gabi) ≡ None) × (call_left (section_symbol part) (marked gabi) ≡ Some (record { 0 = 3 }))
-  pub section-gone : (call_number (remove (record { 0 = 3 })) (marked gabi) ≡ 0) × (call_left (section_symbol part) (call_next (remove (record { 0 = 3 })) (marked gabi)) ≡ None)
-  -- the object's section is a program section that no repeated group lists; its relocation names symbol 1, which was given id 1
-  pub program-section : (loaded_as headers 1 program ≡ true) × (is_removed headers entries (1 ∷ []) file (signatures (front ++ middle gabi) (s0 gabi)) (sections_in headers) 1 ≡ false)
-  pub names-symbol : named_by headers (1 ∷ []) 1 (sections_in headers) ≡ 1 ∷ []
-  pub gives : get_or (call_left (merge object (zeros 40) (zeros 2)) (unmerged gabi)).cells.ids 1 0 ≡ 2
-  -- without growth `f` has no bytes; with it, it is interned and added
-  pub opens : number_in (new_of key gabi [] names symbols sections).said ≡ 0
-  pub short : call_number (intern (102 ∷ [])) (tight gabi) ≡ 2
-  pub grows : length (log_turns turns (tight gabi)) ≡ 1
-  pub calm : Quiet turns (tight gabi)
-
-pub witness : (gabi : Bool) → Meets gabi
+pub worked-links : (gabi : Bool) → WorkedLinks gabi
 unfolding AddGroup-as-AddGroup.table_in Gabi-as-Archive.is_unresolved Gabi-as-Archive.wants Gabi-as-Archive.offers Gabi-as-Archive.extracts Gabi-as-Groups.kept Gabi-as-Groups.undefine Gabi-as-Groups.after_discard Gabi-as-Resolution.is_global_definition Gabi-as-Resolution.is_weak_definition Gabi-as-Resolution.is_common_definition Gabi-as-Resolution.is_global_reference Gabi-as-Resolution.count Gabi-as-Resolution.has Gabi-as-Resolution.first Gabi-as-Resolution.resolve Gabi-as-StringTable.before_zero Gabi-as-StringTable.has_name Gabi-as-StringTable.name_at Gabi-as-StringTable.ended Gabi-as-StringTable.same_name Gabi-as-StringTable.among Gabi-as-SymbolTable.is_local Gabi-as-SymbolTable.is_global Gabi-as-SymbolTable.is_weak Gabi-as-SymbolTable.is_reference Gabi-as-SymbolTable.is_definition Gabi-as-SymbolTable.is_common Gabi-as-Visibility.rank Gabi-as-Visibility.combine Gabi-as-Visibility.combined Cells-as-Rows.put_row ByteSlices-as-Bytes.word_at ByteSlices-as-Bytes.same ByteSlices-as-Bytes.copied Link-as-Bounds.lesser Link-as-Judge.judge_sections Link-as-Judge.judge_names Link-as-Judge.judge_lists Link-as-Judge.after_symbols Link-as-Judge.after_sections Link-as-Judge.judge_of Link-as-Judge.change_of KeyedHash-as-Keyed.folded KeyedHash-as-Keyed.mixed KeyedHash-as-Keyed.hash_from KeyedHash-as-Keyed.point_of KeyedHash-as-Keyed.hash_of Interner-as-Calls.issue_of Interner-as-Calls.intern_of Interner-as-Calls.clear_heads Interner-as-Calls.new_of Interner-as-Calls.resolve_of Interner-as-Hash.spread Interner-as-Hash.head_cell Interner-as-Names.chase Interner-as-Names.seek_of Interner-as-Names.find_from Interner-as-Names.find_of Interner-as-Names.room_of Interner-as-Names.fits_of Interner-as-Names.linked Interner-as-Names.keep_at Interner-as-Names.keep_of Symbol-as-Codes.type_at Symbol-as-Codes.successor Symbol-as-Codes.file_at Symbol-as-Codes.visibility_at Symbol-as-Codes.value_at Symbol-as-Offset.offset_of Symbol-as-Offset.word_of Symbol-as-Row.symbol_at Symbol-as-Row.set_row Symbol-as-Layout.scope_and_type Symbol-as-Layout.scope_in Symbol-as-Layout.type_in UpcomingSymbol-as-Judge.section_in_range UpcomingSymbol-as-Judge.elf_in_range UpcomingSymbol-as-Judge.external_in_range UpcomingSymbol-as-Judge.shown_of UpcomingSymbol-as-Judge.hidden_of UpcomingSymbol-as-Judge.judge_of UpcomingSymbol-as-Upcoming.in_section UpcomingSymbol-as-Upcoming.conversion_from UpcomingSymbol-as-Upcoming.converted_of UpcomingSymbol-as-Upcoming.undefined_of UpcomingSymbol-as-Upcoming.value_of UpcomingSymbol-as-Upcoming.elf_row_of UpcomingSymbol-as-Upcoming.external_row_of SymbolRows-as-Apply.note_name SymbolRows-as-Apply.set_section_symbol SymbolRows-as-Apply.note_section SymbolRows-as-Apply.append_of SymbolRows-as-Apply.apply_of SymbolRows-as-Decide.weak_of SymbolRows-as-Decide.reference_rank SymbolRows-as-Decide.rank_of SymbolRows-as-Decide.type_refusal SymbolRows-as-Decide.section_cell SymbolRows-as-Decide.section_room SymbolRows-as-Decide.room_of SymbolRows-as-Decide.new_of SymbolRows-as-Decide.replace_of SymbolRows-as-Decide.ranked_of SymbolRows-as-Decide.known_of SymbolRows-as-Decide.decide_of SymbolRows-as-Holder.held_by SymbolRows-as-Holder.holder_of Symbols-as-Add.judge_add_of Symbols-as-Add.issued_of Symbols-as-Add.direct_holder_of Symbols-as-Add.place_of Symbols-as-Add.decided_of Symbols-as-Add.committed_of Symbols-as-Add.add_row_of Symbols-as-Add.add_of Symbols-as-Lookup.found_at Symbols-as-Lookup.get_of Symbols-as-Lookup.get_global_of Symbols-as-Lookup.section_symbol_of Symbols-as-New.clear_symbols Symbols-as-New.null_of Symbols-as-New.new_of Symbols-as-Remove.drop_section Symbols-as-Remove.remove_row_of Symbols-as-Remove.remove_of Sections-as-Rows.room_of Sections-as-Rows.reserve_of Sections-as-Rows.built_of Sections-as-Rows.is_built ArchiveIndex-as-Index.count_of ArchiveIndex-as-Index.offset_of ArchiveIndex-as-Index.after_of ArchiveIndex-as-Index.place_of ArchiveIndex-as-Index.name_of ArchiveIndex-as-Index.cut_of ArchiveIndex-as-Open.open_rows_of ArchiveIndex-as-Open.open_names_of ArchiveIndex-as-Open.open_entries_of ArchiveIndex-as-Open.open_of ArchiveIndex-as-Rows.descend ArchiveIndex-as-Rows.spot_of ArchiveIndex-as-Rows.enter_of ArchiveIndex-as-Rows.enter_all ArchiveIndex-as-Rows.rows_of ArchiveIndex-as-Rows.no_heads ArchiveWalk-as-Look.judge_table ArchiveWalk-as-Look.name_holder ArchiveWalk-as-Look.removed_name ArchiveWalk-as-Look.undefined_name ArchiveWalk-as-Names.name_chain ArchiveWalk-as-Names.along ArchiveWalk-as-Names.bears_of ArchiveWalk-as-Names.required_of Archive.begun_of Archive.start_of Archive.offer_of Archive.marked Archive.enqueue Archive.tie_of Archive.tie_all Archive.removed_of Archive.make_of Archive.search_of Archive.pass_of Archive.walk_fits Archive.go_of Archive.next_of ElfObject-as-Judge.range_ok ElfObject-as-Judge.contents_ok ElfObject-as-Judge.header_ok ElfObject-as-Judge.entry_ok ElfObject-as-Judge.first_bad ElfObject-as-Judge.bad_header ElfObject-as-Judge.bad_entry ElfObject-as-Judge.judge_of ElfObject-as-Rows.is_excluded ElfObject-as-Rows.is_loaded ElfObject-as-Rows.name_in ElfObject-as-Rows.section_of ElfObject-as-Rows.entries_from ElfObject-as-Rows.table_entries LibraryLists-as-Record.record_fits LibraryLists-as-Record.keep_name LibraryLists-as-Record.record_as LibraryLists-as-Record.record_of LibraryLists-as-Record.dependency_of LibraryLists-as-Record.dependencies_from LibraryLists-as-Record.dependencies_of LibraryHead-as-Head.dependencies_ok LibraryHead-as-Head.bad_need LibraryHead-as-Head.soname_missing LibraryHead-as-Head.rows_of LibraryHead-as-Head.unnamed_of LibraryHead-as-Head.marks_short LibraryHead-as-Head.name_refusal LibraryHead-as-Head.after_rows LibraryHead-as-Head.check_of LibraryNeed-as-Lists.has_id Cells-as-Search.any_from LibraryNeed-as-Need.library_name LibraryNeed-as-Need.depends_on LibraryNeed-as-Need.mark_names LibraryNeed-as-Need.mark_library LibraryNeed-as-Need.mark_from LibraryNeed-as-Need.mark_all LibraryNeed-as-Need.provides LibraryNeed-as-Need.clear_named LibraryNeed-as-Need.clear_mark LibraryNeed-as-Need.clear_from LibraryNeed-as-Need.clear_all LibraryNeed-as-Need.wanted_in LibraryNeed-as-Need.name_wanted LibraryNeed-as-Need.symbol_wanted LibraryNeed-as-Need.some_wanted LibraryNeed-as-Need.marked_of LibraryNeed-as-Need.need_of ObjectRequirement-as-Matches.is_section ObjectRequirement-as-Matches.name_anywhere ObjectRequirement-as-Matches.is_required ObjectRequirement-as-Matches.bears_required ObjectRequirement-as-Matches.in_table ObjectRequirement-as-Matches.is_table ObjectRequirement-as-Matches.in_section ObjectRequirement-as-Matches.has_global_symbol ObjectRequirement-as-Matches.offered_in ObjectRequirement-as-Matches.matches_of MergeSections-as-Notes.each_from MergeSections-as-Notes.is_table MergeSections-as-Notes.note_table_of MergeSections-as-Notes.note_tables_of MergeSections-as-Notes.clear_one_of MergeSections-as-Notes.clear_all_of MergeSections-as-Reserve.kind_class MergeSections-as-Reserve.class_of MergeSections-as-Reserve.reserve_number MergeSections-as-Reserve.conversion_of MergeSections-as-Reserve.table_after MergeSections-as-Reserve.note_of MergeSections-as-Reserve.take_row_of MergeSections-as-Reserve.reserve_class_of MergeSections-as-Reserve.reserve_one_of MergeSections-as-Reserve.reserve_from MergeSections-as-Reserve.reserve_all_of SectionGroups-as-Filter.section_after SectionGroups-as-Filter.symbol_ok SectionGroups-as-Filter.filter_of Group.shape_of Group.signature_of Group.repeated_of Group.mark_refusal Group.plan_with Group.plan_of Group.mark_group_of Group.mark_removed_of Group.commit_group_of Group.decided_of Group.group_named Group.signed_of Group.shaped_of Group.group_of Group.group_section_of Group.groups_from Group.groups_of GcSections-as-Each.each GcSections-as-Reach.save_of GcSections-as-Reach.reach_of GcSections-as-Reach.add_of GcSections-as-Reach.root_symbol GcSections-as-Reach.root_section GcSections-as-Reach.end_of GcSections-as-Reach.relocation GcSections-as-Reach.relocations GcSections-as-Reach.follow GcSections-as-Reach.visit GcSections-as-Reach.clear_cell GcSections-as-Reach.start_of GcSections-as-Reach.roots_of GcSections-as-Reach.process_of GcSections-as-Reach.walked GcSections-as-Roots.value_lead GcSections-as-Roots.lead_of GcSections-as-Roots.readable GcSections-as-Roots.name_is GcSections-as-Roots.rooted GcSections-as-Roots.is_root GcSections-as-Run.judge_cells GcSections-as-Run.judge_of GcSections-as-Run.purge_of GcSections-as-Run.sweep_of GcSections-as-Run.finished GcSections-as-Run.collect_of GcSections-as-Run.run_of GcSections-as-Sweep.drop_unreached GcSections-as-Sweep.dropped_now GcSections-as-Sweep.purge_symbol GcSections-as-Sweep.sweep_sections GcSections-as-Sweep.purge_symbols PlainCollector-as-Visit.unvisited PlainCollector-as-Visit.visit_of PlainCollector-as-Visit.visited PlainCollector-as-Visit.marked_lead PlainCollector-as-Visit.root_lead PlainCollector-as-Visit.root_symbol PlainCollector-as-Visit.root_section PlainCollector-as-Visit.reached_of PlainCollector-as-Run.count_one PlainCollector-as-Run.count_built PlainCollector-as-Run.judge_plain PlainCollector-as-Run.finished PlainCollector-as-Run.plain_of MergePlan-as-Plan.is_first MergePlan-as-Plan.defines_of MergePlan-as-Plan.rule_of MergePlan-as-Plan.judged_of MergePlan-as-Plan.rowed_of MergePlan-as-Plan.read_of MergePlan-as-Plan.planned_of MergePlan-as-Plan.place_of MergePlan-as-Plan.file_after LibrarySymbols-as-Define.judged_of LibrarySymbols-as-Define.rowed_of LibrarySymbols-as-Define.external_of LibrarySymbols-as-Define.plan_of LibrarySymbols-as-Define.accept_of LibrarySymbols-as-Define.kept_of LibrarySymbols-as-Define.commit_of LibrarySymbols-as-Define.define_of LibrarySymbols-as-Load.library_symbol_named LibrarySymbols-as-Load.looked_of LibrarySymbols-as-Load.symbol_of LibrarySymbols-as-Load.symbols_from LibrarySymbols-as-Load.symbols_of Shared.want_of Shared.ended_as Shared.wanted_of Shared.library_named Shared.load_of SharedObjects-as-Stages.library_row_of SharedObjects-as-Stages.input_stage SharedObjects-as-Stages.lists_of SharedObjects-as-Stages.list_stage SharedObjects-as-Stages.contents_of SharedObjects-as-Stages.kept_of SharedObjects-as-Stages.issued_of SharedObjects-as-Stages.library_of MergeSymbols-as-Stage.accept_row MergeSymbols-as-Stage.kept_of MergeSymbols-as-Stage.commit_of MergeSymbols-as-Stage.symbol_named MergeSymbols-as-Stage.looked_of MergeSymbols-as-Stage.symbol_of MergeSymbols-as-Stage.symbols_from MergeSymbols-as-Stage.symbols_of MergeBuild-as-Build.plan_with MergeBuild-as-Build.plan_of MergeBuild-as-Build.section_id_of MergeBuild-as-Build.build_row_of MergeBuild-as-Build.kept_of MergeBuild-as-Build.commit_of MergeBuild-as-Build.tabled_of MergeBuild-as-Build.section_named MergeBuild-as-Build.built_from MergeBuild-as-Build.looked_of MergeBuild-as-Build.section_of MergeBuild-as-Build.build_from MergeBuild-as-Build.build_of MergeBuild-as-Relocations.table_for MergeBuild-as-Relocations.limit_of MergeBuild-as-Relocations.relocations_of MergeBuild-as-Relocations.symbol_ok MergeBuild-as-Relocations.symbols_ok MergeBuild-as-Relocations.id_in MergeBuild-as-Relocations.append_from AddGroup-as-AddGroup.marks_refusal AddGroup-as-AddGroup.rows_refusal AddGroup-as-AddGroup.check_of AddGroup-as-AddGroup.answer_of AddGroup-as-AddGroup.add_group_of MergeFinish-as-Finish.input_row_of MergeFinish-as-Finish.input_stage MergeFinish-as-Finish.program_stage MergeFinish-as-Finish.built_of Stages.build_stage Stages.merge_table_of Stages.filtered_of Stages.filter_stage Stages.merge_groups_of Stages.group_stage Stages.reserved_stages Stages.stages_of MergeElf-as-Merge.work_refusal MergeElf-as-Merge.rows_refusal MergeElf-as-Merge.check_of MergeElf-as-Merge.ended_as MergeElf-as-Merge.finished_of MergeElf-as-Merge.merge_of ArchiveLaws-as-Runs.start_run ArchiveLaws-as-Runs.step_run SymbolLaws-as-History.noted MergeLaws-as-MergeSteps.adds_of MergeLaws-as-MergeSteps.row_steps MergeLaws-as-MergeSteps.named_steps MergeLaws-as-MergeSteps.symbol_steps MergeLaws-as-MergeSteps.signed_steps MergeLaws-as-MergeSteps.group_section_steps MergeLaws-as-MergeSteps.built_steps MergeLaws-as-MergeSteps.section_steps MergeLaws-as-MergeSteps.input_steps MergeLaws-as-MergeSteps.program_steps MergeLaws-as-MergeSteps.both_steps MergeLaws-as-MergeSteps.build_stage_steps MergeLaws-as-MergeSteps.table_steps MergeLaws-as-MergeSteps.filtered_steps MergeLaws-as-MergeSteps.filter_steps MergeLaws-as-MergeSteps.merge_groups_steps MergeLaws-as-MergeSteps.group_stage_steps MergeLaws-as-MergeSteps.reserved_steps MergeLaws-as-MergeSteps.stages_steps MergeLaws-as-MergeSteps.merge_steps LoadLaws-as-LoadSteps.record_steps LoadLaws-as-LoadSteps.named_steps LoadLaws-as-LoadSteps.symbol_steps LoadLaws-as-LoadSteps.dependency_steps LoadLaws-as-LoadSteps.input_steps LoadLaws-as-LoadSteps.lists_steps LoadLaws-as-LoadSteps.list_stage_steps LoadLaws-as-LoadSteps.contents_steps LoadLaws-as-LoadSteps.kept_steps LoadLaws-as-LoadSteps.issued_steps LoadLaws-as-LoadSteps.library_steps LoadLaws-as-LoadSteps.wanted_steps LoadLaws-as-LoadSteps.asked_steps LoadLaws-as-LoadSteps.load_steps ArchiveWalk-as-Names.borne_from ArchiveWalk-as-Names.chained ArchiveWalk-as-Names.headed_of ArchiveWalk-as-Names.noted_of MergeLaws-as-MergeWords.relocates MergeLaws-as-MergeWords.named_by MergeLaws-as-MergeWords.entries_to MergeLaws-as-MergeWords.symbol_names MergeLaws-as-MergeWords.own_signatures MergeLaws-as-MergeWords.is_removed SymbolLaws-as-ObjectWords.loaded_as SymbolLaws-as-ObjectWords.strings_of Symbol-as-Hidden.hidden_code Symbol-as-Hidden.hide_code Symbol-as-Hidden.show_code Symbol-as-Hidden.passes Symbol-as-Hidden.hide_if Symbol-as-Hidden.pass_hidden UpcomingSymbol-as-Upcoming.library_code SymbolRows-as-Apply.replaced_in SymbolRows-as-Apply.amended_in SymbolRows-as-Decide.kept_of ArchiveWalk-as-Look.ties_row ArchiveWalk-as-Look.tied_name SymbolRows-as-Undefined.strong_undefined ObjectRequirement-as-Matches.defines_name ObjectRequirement-as-Matches.admits ShadowedMembers-as-Shadowed.offered_among ShadowedMembers-as-Shadowed.weak_definition ShadowedMembers-as-Shadowed.told_row ShadowedMembers-as-Shadowed.told_name ShadowedMembers-as-Shadowed.told_at ShadowedMembers-as-Shadowed.those ShadowedMembers-as-Shadowed.fits_index ShadowedMembers-as-Shadowed.shadowed_of
-witness true =
+worked-links true =
     record {
       new = refl;
       answers = refl;
@@ -327,7 +114,7 @@ witness true =
       calm = (λ e. e, omega arith, (λ e. e, omega arith, tt));
       quiet = (λ e. e, (λ e. e, (λ e. e, (λ e. e, (λ e. e, (λ e. e, (λ e. e, (λ e. e, (λ e. e, (λ e. e, (λ e. e, (λ e. e, (λ e. e, (λ e. omega arith, (λ e. e refl, (λ e. e refl, tt))))))))))))))));
     }
-witness false =
+worked-links false =
     record {
       new = refl;
       answers = refl;
