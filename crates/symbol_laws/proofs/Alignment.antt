@@ -1,6 +1,6 @@
 -- 2026-06: "alignment zero or no power of two". The test is passed by 2 ^ k for each k up to 63, and by no other number of 64 bits.
 -- Assumes nothing.
-use Rattle.std.specs.Prelude.{ℕ, zero, suc, ◌+◌, ◌/◌, ◌%◌, ◌^◌, ◌<◌, ◌≤◌, ◌≡◌, ◌≢◌, true, eqb, leb, count_ones}
+use Rattle.std.specs.Prelude.{ℕ, zero, suc, ◌+◌, ◌/◌, ◌%◌, ◌^◌, ◌<◌, ◌≤◌, ◌≡◌, ◌≢◌, true, cond, eqb, leb, count_ones}
 use Rattle.std.proofs.Common.{arith, ap, ◌∙◌, eqb-true, eq-eqb, leb-true, leb-false}
 use Rattle.std.proofs.lemmas.Bool.{eqb-false}
 use Rattle.std.specs.Int.{is_power_of_two, IsPowerOfTwo}
@@ -9,6 +9,8 @@ use Rattle.std.specs.Int.Count.{ones_step}
 use Rattle.std.proofs.Math.Pow.{pow_mono}
 use Rattle.std.proofs.Math.Nat.{two-pow-succ}
 use Rattle.cells.specs.Proof.Split.{by-test}
+use Rattle.symbol.specs.declared.Words.{Words}
+use Rattle.symbol.specs.Codes.{value_at, alignment_of}
 use Rattle.symbol_laws.specs.DirectContents.{IsAlignment}
 
 -- one digit is set
@@ -49,3 +51,23 @@ power-alignment a small e =
 
 pub alignment-power : (a : ℕ) → IsAlignment a → is_power_of_two a ≡ true
 alignment-power a p = eq-eqb (count_ones a) 1 (ap count_ones p.1.1 ∙ power-one p.0)
+
+-- "an alignment: a common's value field, as in gABI, else 0", of the value that a row's words hold
+pub alignment-is : (w : Words) → alignment_of (value_at w) ≡ cond (eqb w.kind 8) w.a 0
+unfolding value_at
+alignment-is w =
+    by-test (eqb w.kind 1) (λ a. let q : w.kind ≡ 1 = eqb-true _ _ a in rw q)
+    (λ a.
+    by-test (eqb w.kind 2) (λ b. let q : w.kind ≡ 2 = eqb-true _ _ b in rw q)
+    (λ b.
+    by-test (eqb w.kind 3) (λ c. let q : w.kind ≡ 3 = eqb-true _ _ c in rw q)
+    (λ c.
+    by-test (eqb w.kind 4) (λ d. let q : w.kind ≡ 4 = eqb-true _ _ d in rw q)
+    (λ d.
+    by-test (eqb w.kind 5) (λ e. let q : w.kind ≡ 5 = eqb-true _ _ e in rw q)
+    (λ e.
+    by-test (eqb w.kind 6) (λ f. let q : w.kind ≡ 6 = eqb-true _ _ f in rw q)
+    (λ f.
+    by-test (eqb w.kind 7) (λ g. let q : w.kind ≡ 7 = eqb-true _ _ g in rw q)
+    (λ g.
+    by-test (eqb w.kind 8) (λ h. rw (a, b, c, d, e, f, g, h)) (λ h. rw (a, b, c, d, e, f, g, h)))))))))

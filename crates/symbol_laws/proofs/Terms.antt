@@ -1,7 +1,7 @@
 -- The statements about the symbol table: the terms of acceptance, document 02's requests, the known places where gABI differs. The longer proofs stand
 -- in the other files.
 -- Assumes nothing.
-use Rattle.std.specs.Prelude.{ℕ, ◌^◌, ◌<◌, ◌≤◌, ◌≡◌, refl, Bool, true, false, List, [], ◌∷◌, ◌++◌, ◌≢◌, Ok}
+use Rattle.std.specs.Prelude.{ℕ, ◌^◌, ◌<◌, ◌≤◌, ◌≡◌, refl, Bool, true, false, cond, eqb, List, [], ◌∷◌, ◌++◌, ◌≢◌, Ok}
 use Rattle.std.specs.Int.{is_power_of_two}
 use Rattle.std.proofs.Common.{sym, ap, ◌∙◌, subst}
 use Rattle.link.specs.Said.{number_in, value_in}
@@ -14,7 +14,8 @@ use Rattle.symbol.specs.RowLaws.{symbol_of}
 use Rattle.symbol.specs.declared.Row.{Row}
 use Rattle.symbol.specs.declared.SymbolVisibility.TheVariants.{Global}
 use Rattle.symbol.specs.declared.SymbolValue.TheVariants.{Undefined}
-use Rattle.symbol.specs.Codes.{visibility_at, value_at}
+use Rattle.symbol.specs.declared.Words.{Words}
+use Rattle.symbol.specs.Codes.{visibility_at, value_at, alignment_of}
 use Rattle.symbol.specs.Hidden.{hidden_code, hide_code, passes, hide_if}
 use Rattle.symbol.specs.Row.{field, scope_refused, value_refused}
 use Rattle.symbol_resolution.specs.Holder.{global_at}
@@ -205,6 +206,10 @@ power-alignment = Alignment.power-alignment
 
 pub alignment-power : (a : ℕ) → IsAlignment a → is_power_of_two a ≡ true
 alignment-power = Alignment.alignment-power
+
+-- 2026-06: "an alignment: a common's value field, as in gABI, else 0", of the value that a row's words hold
+pub alignment-is : (w : Words) → alignment_of (value_at w) ≡ cond (eqb w.kind 8) w.a 0
+alignment-is = Alignment.alignment-is
 
 -- ---- "Known places where gABI differs": those of the symbol table, each with its smallest input
 

@@ -1,8 +1,10 @@
 -- Request 2026-05, lists of adds: rows of one list, each for both profiles.
 -- Assumes nothing.
-use Rattle.std.specs.Prelude.{ℕ, ◌≡◌, Bool, List, [], ◌∷◌}
+use Rattle.std.specs.Prelude.{ℕ, ◌≡◌, Bool, List, [], ◌∷◌, Some}
 use Rattle.link.specs.Judge.{refused, none}
 use Rattle.link.specs.declared.cause.Refusal.{Refusal}
+use Rattle.upcoming_symbol.specs.declared.UpcomingSymbol.{UpcomingSymbol}
+use Rattle.upcoming_symbol.specs.declared.UpcomingSymbol.TheVariants.{Elf}
 use Rattle.add_list.specs.AddList.{ListLeft, items_of, add_list_of}
 use Rattle.symbol_laws.specs.History.{table}
 use Rattle.worked_examples.specs.Examples.{start, old, gabi, sections}
@@ -63,3 +65,12 @@ cases = no_row ∷ bad_binding ∷ few_cells ∷ unissued ∷ all ∷ empty ∷ 
 abbrev pub All : (Case → Type 0) → List Case → Type 0
 All P [] = Unit {0}
 All P (x ∷ xs) = P x × All P xs
+
+-- ---- the cells of one row, each another number, and what it asks for: an object's symbol row, but its name's id, and its file's name id and 1
+
+abbrev pub one_row : List ℕ
+one_row = 1 ∷ 2 ∷ 3 ∷ 4 ∷ 5 ∷ 6 ∷ 7 ∷ 9 ∷ []
+
+abbrev pub one_item : UpcomingSymbol
+one_item =
+    Elf (record { binding = 2; kind = 3; visibility = 4; section = 5; value = 6; size = 7 }) (record { 0 = 1 }) (Some (record { 0 = 8 }))
