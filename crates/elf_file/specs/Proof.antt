@@ -1,1 +1,2 @@
 pub mod LoopWays
+pub mod CountWays

@@ -2,16 +2,18 @@
 // a byte that isn't there is 0.
 #![tactic(auto)]
 
-ghost use Rattle.std.specs.Prelude.{◌≡◌, ◌*◌, ◌+◌, ◌<◌};
+ghost use Rattle.std.specs.Prelude.{◌≡◌, ◌*◌, ◌+◌, ◌<◌, ◌≤◌, length};
 ghost use Rattle.gabi.specs.File.{byte_at, half_at, word_at, xword_at, first_header, section_count, header_table, name_section, r_sym, member_at};
 ghost use Rattle.byte_slices.specs.Bytes.{part};
 ghost use Rattle.elf_file.specs.File.{header_of, header_at};
 
 mod checks;
+mod counts;
 mod reading;
 mod rows;
 mod table;
 
+pub use counts::{Counts, count};
 pub use reading::{Written, read};
 pub use table::Table;
 
@@ -80,6 +82,8 @@ pub const RELA_SIZE: usize = 24;
 const R_INFO: usize = 8;
 
 const WORD_SIZE: usize = 4;
+
+const XWORD_SIZE: usize = 8;
 
 // The same sizes, to divide the number in a field by.
 pub const SHDR_BYTES: u64 = SHDR_SIZE as u64;
@@ -157,8 +161,45 @@ pub fn word(x: &[u8], i: usize) -> u64
     byte_slices::word_at(x, i) as u64
 }
 
+// Those that are all there: one load each.
+#[inline(always)]
+#[tactic(auto, unfolding(gabi::specs::File::half_at))]
+fn whole_half(x: &[u8], i: usize) -> u64
+    requires { i + 1 < length x.now }
+    ensures { result ≡ half_at x.now i }
+{
+    u16::from_le_bytes([x[i], x[i + 1]]) as u64
+}
+
+#[inline(always)]
+#[tactic(auto, unfolding(gabi::specs::File::word_at))]
+fn whole_word(x: &[u8], i: usize) -> u64
+    requires { i + 3 < length x.now }
+    ensures { result ≡ word_at x.now i }
+{
+    u32::from_le_bytes([x[i], x[i + 1], x[i + 2], x[i + 3]]) as u64
+}
+
+#[inline(always)]
 #[tactic(auto, unfolding(gabi::specs::File::xword_at, gabi::specs::File::word_at))]
-pub fn xword(x: &[u8], i: usize) -> u64
+fn whole_xword(x: &[u8], i: usize) -> u64
+    requires { i + 7 < length x.now }
+    ensures { result ≡ xword_at x.now i }
+{
+    u64::from_le_bytes([
+        x[i],
+        x[i + 1],
+        x[i + 2],
+        x[i + 3],
+        x[i + 4],
+        x[i + 5],
+        x[i + 6],
+        x[i + 7],
+    ])
+}
+
+#[tactic(auto, unfolding(gabi::specs::File::xword_at, gabi::specs::File::word_at))]
+fn cut_xword(x: &[u8], i: usize) -> u64
     ensures { result ≡ xword_at x.now i }
 {
     if x.len() <= i {
@@ -167,9 +208,21 @@ pub fn xword(x: &[u8], i: usize) -> u64
     word(x, i) + word(x, i + WORD_SIZE) * 0x1_0000_0000
 }
 
+#[inline(always)]
+pub fn xword(x: &[u8], i: usize) -> u64
+    ensures { result ≡ xword_at x.now i }
+{
+    if i < x.len() && x.len() - i >= XWORD_SIZE {
+        whole_xword(x, i)
+    } else {
+        cut_xword(x, i)
+    }
+}
+
 // ---- entries of a table
 
 // Entry i of a table whose entries have SIZE bytes each.
+#[inline(always)]
 pub fn entry<const SIZE: usize>(table: &[u8], i: usize) -> &[u8]
     ensures { result.now ≡ part table.now (i * SIZE) SIZE }
 {
@@ -200,8 +253,37 @@ pub fn r_sym(e: &[u8]) -> u64
 
 impl Header {
     // From the header's bytes.
-    #[tactic(auto, unfolding(crate::specs::File::header_of))]
+    #[inline(always)]
     pub fn of(bytes: &[u8]) -> Header
+        ensures { result ≡ header_of bytes.now }
+    {
+        if bytes.len() < SHDR_SIZE {
+            Header::of_cut(bytes)
+        } else {
+            Header::of_whole(bytes)
+        }
+    }
+
+    // All there.
+    #[inline(always)]
+    #[tactic(auto, unfolding(crate::specs::File::header_of))]
+    fn of_whole(bytes: &[u8]) -> Header
+        requires { 64 ≤ length bytes.now }
+        ensures { result ≡ header_of bytes.now }
+    {
+        Header {
+            name: whole_word(bytes, SH_NAME),
+            kind: whole_word(bytes, SH_TYPE),
+            flags: whole_xword(bytes, SH_FLAGS),
+            offset: whole_xword(bytes, SH_OFFSET),
+            size: whole_xword(bytes, SH_SIZE),
+            link: whole_word(bytes, SH_LINK),
+            info: whole_word(bytes, SH_INFO),
+        }
+    }
+
+    #[tactic(auto, unfolding(crate::specs::File::header_of))]
+    fn of_cut(bytes: &[u8]) -> Header
         ensures { result ≡ header_of bytes.now }
     {
         Header {
@@ -216,6 +298,7 @@ impl Header {
     }
 
     // Header i of the section header table.
+    #[inline(always)]
     #[tactic(auto, unfolding(crate::specs::File::header_at))]
     pub fn at(table: &[u8], i: usize) -> Header
         ensures { result ≡ header_at table.now i }

@@ -112,30 +112,54 @@ impl<'a> ObjectFile<'a> {
     }
 }
 
+// A symbol's bytes that are all there.
+#[inline(always)]
 #[tactic(auto, unfolding(crate::specs::Read::symbol_row))]
+fn whole_symbol(entry: &[u8]) -> [u64; elf_object::ROW_WIDTH]
+    requires { 24 ≤ length entry.now }
+    ensures { result ≡ symbol_row entry.now }
+{
+    let info = entry[crate::ST_INFO] as u64;
+    let other = entry[crate::ST_OTHER] as u64;
+    [
+        crate::whole_word(entry, crate::ST_NAME),
+        info / 16,
+        info % 16,
+        other % 4,
+        crate::whole_half(entry, crate::ST_SHNDX),
+        crate::whole_xword(entry, crate::ST_VALUE),
+        crate::whole_xword(entry, crate::ST_SIZE),
+        0,
+    ]
+}
+
+#[tactic(auto, unfolding(crate::specs::Read::symbol_row))]
+fn cut_symbol(entry: &[u8]) -> [u64; elf_object::ROW_WIDTH]
+    ensures { result ≡ symbol_row entry.now }
+{
+    let info = crate::byte(entry, crate::ST_INFO);
+    [
+        crate::word(entry, crate::ST_NAME),
+        info / 16,
+        info % 16,
+        crate::byte(entry, crate::ST_OTHER) % 4,
+        crate::half(entry, crate::ST_SHNDX),
+        crate::xword(entry, crate::ST_VALUE),
+        crate::xword(entry, crate::ST_SIZE),
+        0,
+    ]
+}
+
+#[inline(always)]
 fn symbol_row(entry: &[u8], rows: &mut [u64], i: usize)
     ensures { rows.new ≡ put_row rows.old i (symbol_row entry.now) }
 {
-    let name = crate::word(entry, crate::ST_NAME);
-    let info = crate::byte(entry, crate::ST_INFO);
-    let other = crate::byte(entry, crate::ST_OTHER);
-    let section = crate::half(entry, crate::ST_SHNDX);
-    let value = crate::xword(entry, crate::ST_VALUE);
-    let size = crate::xword(entry, crate::ST_SIZE);
-    cells::row_store(
-        rows,
-        i,
-        [
-            name,
-            info / 16,
-            info % 16,
-            other % 4,
-            section,
-            value,
-            size,
-            0,
-        ],
-    );
+    let row = if entry.len() < crate::SYM_SIZE {
+        cut_symbol(entry)
+    } else {
+        whole_symbol(entry)
+    };
+    cells::row_store(rows, i, row);
 }
 
 fn symbols(bytes: &[u8], rows: &mut [u64], at: usize, count: usize)

@@ -7,5 +7,6 @@ pub mod Trip
 pub mod Accepted
 pub mod Written
 pub mod Back
+mod Counted
 pub mod Writer
 pub mod Rows

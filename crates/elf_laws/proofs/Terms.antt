@@ -1,9 +1,9 @@
 -- Request 2026-01: the reader answers exactly the rows of the file, or refuses and leaves everything; its rows are in range, those of a written file its
 -- sections' own; cases. The longer proofs stand in the other files.
 -- Assumes nothing.
-use Rattle.std.specs.Prelude.{ℕ, ◌+◌, ◌*◌, ◌<◌, ◌≤◌, ◌≡◌, true, List, [], ◌∷◌, ◌++◌, eqb, leb, get_or, take, Result}
+use Rattle.std.specs.Prelude.{ℕ, ◌+◌, ◌*◌, ◌<◌, ◌≤◌, ◌≡◌, true, List, [], ◌∷◌, ◌++◌, eqb, leb, max, get_or, take, Result, Ok, Err}
 use native.Mathlib.Omega.{arith}
-use Rattle.std.proofs.Common.{zero-add, sym, ◌∙◌, append_assoc, take_at, drop_at}
+use Rattle.std.proofs.Common.{⊎_elim, zero-add, sym, ◌∙◌, append_assoc, take_at, drop_at}
 use Rattle.std.proofs.Math.Path.{refl, ap}
 use Rattle.std.proofs.Math.ListN.{length, drop, length-append}
 use Rattle.std.proofs.Math.Seq.{sets-eq}
@@ -21,14 +21,20 @@ use Rattle.elf_file.specs.Check.{is_object, headers_fit, excluded, entry_size, e
 use Rattle.elf_file.specs.Rows.{entries_in, contents_in, entry_count, content_count, room_of, kind_of, named_kind, names_of, comdat_of, flags_of, first_row_of, count_of, header_row_of}
 use Rattle.link.specs.declared.cause.Refusal.{Refusal}
 use Rattle.elf_file.specs.declared.reading.Written.{Written}
-use Rattle.elf_file.specs.Contract.{Exit, ReadMeets}
+use Rattle.elf_file.specs.declared.counts.Counts.{Counts}
+use Rattle.elf_file.specs.Contract.{Exit, ReadMeets, answer_of, written_as}
+use Rattle.elf_file.specs.Counts.{counted_of}
+use Rattle.elf_file.specs.Proof.CountWays.{contents-are}
 use Rattle.elf_file.specs.Read.{written_of, Done, done, read_as, roomed_of, read_of}
 use Rattle.elf_laws.specs.Object.{headers_from, symbols_from, all_symbols_from, elements_from, all_elements_from, rows_of, cells_of, laid}
+use Rattle.elf_laws.specs.Counted.{taken, IsListed}
 use Rattle.elf_laws.specs.Back.{le8, joined}
 use Rattle.elf_laws.specs.Tables.{Symbol, symbol_entries, symbol_rows, Relocation, rel_entries, rela_entries, symbols_of, Member, group_bytes, member_numbers}
 use Rattle.elf_laws.specs.Writer.{Section, file_of}
 use Rattle.elf_laws.specs.Trip.{Fit, Whole, no_section, own_rows}
 use Rattle.elf_laws.specs.Examples.{numbered, files, file_answers, file_refusals, tables, tables_judged, tables_pass, header_rows, rows_read, rows_wanted, frame_header_kind, kinds_of, types}
+use Rattle.elf_laws.proofs.Counted as Counted
+use Rattle.elf_laws.proofs.Counted.{counted-fine, counted-cells, uncounted, refusal-answered}
 use Rattle.elf_laws.proofs.Names as Names
 use Rattle.elf_laws.proofs.Ranges as Ranges
 use Rattle.elf_laws.proofs.Tables as Tables
@@ -96,6 +102,52 @@ module _ (file l : List ℕ) where
 -- its contract admits no second outcome
 pub one-outcome : (file l a b : List ℕ) (r q : Result Written Refusal) → ReadMeets file l a r → ReadMeets file l b q → (a ≡ b) × (r ≡ q)
 one-outcome file l a b r q e f = let h = e ∙ sym f in (ap (λ (d : Exit). d.cells) h, ap (λ (d : Exit). d.answer) h)
+
+-- ---- what has to be lent
+
+module _ (file before after : List ℕ) (r : Result Written Refusal) (m : ReadMeets file before after r) where
+  answered : r ≡ answer_of (read_of file before).answer
+  answered = ap (λ (e : Exit). e.answer) m
+
+  module _ (c : Counts) (q : counted_of file ≡ Ok c) where
+    -- the cells of its rows, as counted, or more: it is read, and has as many of each sort
+    pub counted-read : taken c ≤ length before → r ≡ Ok (written_as c.sections c.symbols (c.relocations + c.listed) (rows_of file).section_names)
+    counted-read h =
+        let (z, e) = counted-fine file c q in
+        let l : cells_of file ≤ length before = omega (arith, h, counted-cells file c q) in
+        answered ∙ ap (λ (d : Done). answer_of d.answer) (read-rows file before z l)
+        ∙ rw (e, contents-are (header_table file) 0 (section_count file)) refl
+
+    -- a cell fewer, and so a row fewer of any sort: 2
+    pub counted-short : length before < taken c → r ≡ Err (refused 2 0)
+    counted-short h =
+        let (z, e) = counted-fine file c q in
+        let l : length before < cells_of file = omega (arith, h, counted-cells file c q) in
+        answered ∙ ap (λ (d : Done). answer_of d.answer) (read_short file before z l)
+
+  -- what isn't counted isn't read either, of no more cells than the bound
+  pub uncounted-refused : (x : Refusal) → counted_of file ≡ Err x → length before ≤ max (length file) 0x1000000 → r ≡ Err x
+  uncounted-refused x q h =
+      answered
+      ∙ ⊎_elim
+      (λ (n, e). ap (λ (d : Done). answer_of d.answer) (read-refused file before n) ∙ refusal-answered file n ∙ ap Err (sym e))
+      (λ (z, l, e). ap (λ (d : Done). answer_of d.answer) (read_short file before z (omega (arith, l, h))) ∙ ap Err (sym e))
+      (uncounted file x q)
+
+module _ (file : List ℕ) (c : Counts) (q : counted_of file ≡ Ok c) where
+  -- what is counted takes no more cells than the file has bytes, or than 2^24
+  pub counted-bounded : taken c ≤ max (length file) 0x1000000
+  counted-bounded = Counted.counted-bounded file c q
+
+  -- a work row for each section that an object may have, and for each that a group lists; no more of them
+  pub sections-marked : (s : ℕ) → s < section_count file → s < 65280 → s < c.work_rows
+  sections-marked = Counted.sections-marked file c q
+
+  pub listed-marked : (s : ℕ) → IsListed file s → s < 65280 → s < c.work_rows
+  listed-marked = Counted.listed-marked file c q
+
+  pub marks-least : (b : ℕ) → ((s : ℕ) → s < section_count file → s < 65280 → s < b) → ((s : ℕ) → IsListed file s → s < 65280 → s < b) → c.work_rows ≤ b
+  marks-least = Counted.marks-least file c q
 
 -- what a caller hands to a merge: `&rows[..a]`, `&rows[a..b]`, `&rows[b..]`, cut by the answer's numbers
 module _ (file l : List ℕ) where

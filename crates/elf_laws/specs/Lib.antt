@@ -4,3 +4,4 @@ pub mod Writer
 pub mod Tables
 pub mod Trip
 pub mod Examples
+pub mod Counted

@@ -9,6 +9,8 @@ use Rattle.archive_walk.specs.Walk.{Start, start_of, Step, next_of}
 use Rattle.shadowed_members.specs.Shadowed as Shadowed
 use Rattle.shadowed_members.specs.Shadowed.{shadowed_of}
 use Rattle.object_requirement.specs.Matches.{matches_of}
+use Rattle.untaken_member.specs.Untaken as Untaken
+use Rattle.untaken_member.specs.Untaken.{would_of}
 use Rattle.ffi_cells.specs.declared.header.Reply.{Reply}
 use Rattle.ffi_cells.specs.Header.{is_short, link_in, result_of, refusal_of, refused_of, Told, told, answer_of}
 use Rattle.ffi_archive.specs.Cells.{walk_in, walk_out}
@@ -89,3 +91,20 @@ unfoldable pub matches_call : List ℕ → List ℕ → List ℕ → List ℕ �
 matches_call h c index rows entry headers entries contents image =
     cond (is_short h) (told 1 h)
     (cond (no_walk c) (answer_of h (refusal_of 1 0)) (answer_of h (admitted_reply (matches_of (link_in h) headers entries contents image index rows (walk_in c) entry))))
+
+-- ---- what a member that was not taken would have defined
+
+pub record WouldLeft : Type 0 where
+  pub told : Told
+  pub cells : List ℕ
+
+abbrev pub would_left : Told → List ℕ → WouldLeft
+would_left t cells = record { told = t; cells = cells }
+
+-- how many symbols are told
+abbrev pub would_told : List ℕ → Untaken.Left → WouldLeft
+would_told h x = would_left (answer_of h (begun_reply x.answer)) x.cells
+
+unfoldable pub would_call : List ℕ → List ℕ → List ℕ → List ℕ → List ℕ → List ℕ → List ℕ → List ℕ → List ℕ → WouldLeft
+would_call h b n s headers entries contents image cells =
+    cond (is_short h) (would_left (told 1 h) cells) (would_told h (would_of headers entries contents image (table_of (link_in h) b n s) cells))

@@ -5,7 +5,7 @@ use Rattle.std.specs.Prelude.{ℕ, ◌≡◌, List}
 use Rattle.cells.specs.Slice.{SliceMut}
 use Rattle.ffi_cells.specs.Header.{told}
 use Rattle.ffi_cells.specs.Contract.{ToldExit}
-use Rattle.ffi_archive.specs.Calls.{walk_left, start_call, next_call, shadowed_left, shadowed_call, matches_call}
+use Rattle.ffi_archive.specs.Calls.{walk_left, start_call, next_call, shadowed_left, shadowed_call, matches_call, would_left, would_call}
 
 -- ---- a walk's start, and a call for the next member
 
@@ -44,3 +44,17 @@ ShadowedMeets h walk index rows bytes names symbols cells e =
 abbrev pub MatchesMeets : List ℕ → List ℕ → List ℕ → List ℕ → ℕ → List ℕ → List ℕ → List ℕ → List ℕ → ToldExit → Type 0
 MatchesMeets h walk index rows entry headers entries contents image e =
     told e.number e.header ≡ matches_call h walk index rows entry headers entries contents image
+
+-- ---- what a member that was not taken would have defined
+
+pub record WouldExit : Type 0 where
+  pub number : ℕ
+  pub header : List ℕ
+  pub cells : List ℕ
+
+abbrev pub would_exit : ℕ → SliceMut → SliceMut → WouldExit
+would_exit n header cells = record { number = n; header = header.exit.now; cells = cells.exit.now }
+
+abbrev pub WouldMeets : List ℕ → List ℕ → List ℕ → List ℕ → List ℕ → List ℕ → List ℕ → List ℕ → List ℕ → WouldExit → Type 0
+WouldMeets h bytes names symbols headers entries contents image cells e =
+    would_left (told e.number e.header) e.cells ≡ would_call h bytes names symbols headers entries contents image cells

@@ -8,10 +8,11 @@ ghost use Rattle.archive_walk.specs.Walk.{started_of};
 ghost use Rattle.ffi_cells.specs.Contract.{told_exit};
 ghost use Rattle.ffi_archive.specs.Cells.{walk_in, walk_out};
 ghost use Rattle.ffi_archive.specs.Calls.{begun_reply, offered_reply, admitted_reply};
-ghost use Rattle.ffi_archive.specs.Contract.{walk_exit, StartMeets, NextMeets, shadowed_exit, ShadowedMeets, MatchesMeets};
+ghost use Rattle.ffi_archive.specs.Contract.{walk_exit, StartMeets, NextMeets, shadowed_exit, ShadowedMeets, MatchesMeets, would_exit, WouldMeets};
 
 use archive_index::Entries;
 use archive_walk::{Offer, Table, Walk};
+use elf_object::Object;
 use ffi_cells::Reply;
 use link::{Cause, Refusal};
 
@@ -215,4 +216,40 @@ pub fn matches(
         link, headers, entries, contents, image, walk, index, rows, entry,
     );
     ffi_cells::answer(header, admitted(answer))
+}
+
+// The value is how many symbols of the object are told; in the first cells lent for them stand pairs, a symbol's number and the id of the row.
+#[tactic(auto, unfolding(crate::specs::Calls::would_call, ffi_cells::specs::Header::is_short))]
+pub fn would_define(
+    header: &mut [u64],
+    bytes: &[u8],
+    names: &[u64],
+    symbols: &[u64],
+    headers: &[u64],
+    entries: &[u64],
+    contents: &[u64],
+    image: &[u8],
+    told: &mut [u64],
+) -> u64
+    ensures { WouldMeets header.old bytes.now names.now symbols.now headers.now entries.now contents.now image.now told.old (would_exit result header told) }
+{
+    if header.len() < ffi_cells::HEADER_CELLS {
+        return ffi_cells::SHORT;
+    }
+    let table = Table {
+        link: ffi_cells::link_in(header),
+        bytes,
+        names,
+        symbols,
+    };
+    let object = Object {
+        headers,
+        entries,
+        contents,
+        image,
+        section_names: 0,
+        table: 0,
+    };
+    let answer = untaken_member::would_define(object, table, told);
+    ffi_cells::answer(header, counted(answer))
 }

@@ -28,6 +28,8 @@ use Rattle.ffi_cells.specs.declared.header.Reply.{Reply}
 use Rattle.ffi_cells.specs.Header.{is_set, flag_of, is_short, link_with, link_in, refusal_of, reply_in, counts_in, profile_in, header_of, tell_of, answer_of}
 use Rattle.ffi_names.specs.Calls.{first_byte, part_reply, resolve_reply}
 use Rattle.ffi_symbols.specs.LookupCalls.{found_left, found_of, section_symbol_reply}
+use Rattle.elf_file.specs.declared.counts.Counts.{Counts}
+use Rattle.ffi_merge.specs.FileCalls as FileCalls
 use Rattle.ffi_archive.specs.Calls.{begun_reply, offered_reply, admitted_reply}
 use Rattle.ffi_laws.specs.Replies.{Holds, Replies, offer_cells, some_id, symbols_out}
 
@@ -188,3 +190,19 @@ module _ (h : List ℕ) (long : is_short h ≡ false) (r : Reply) where
           flag-back l.broken,
           flag-back l.gabi,
         )
+
+module _ (a : List ℕ) (room : 8 ≤ length a) where
+  cell : (vs : List ℕ) (f : ℕ) → length vs ≡ 8 → f < 8 → get_or (put_row a 0 vs) f 0 ≡ get_or vs f 0
+  cell vs f l b = let e : 0 * 8 + f ≡ f = omega arith in ap (λ (k : ℕ). get_or (put_row a 0 vs) k 0) (sym e) ∙ row_same a 0 vs f l b room
+
+  pub counts-reply : (c : Counts) → let told = FileCalls.count_told a (Ok c) in
+      (told.number ≡ 0) × (get_or told.answer 1 0 ≡ c.sections) × (get_or told.answer 2 0 ≡ c.symbols) × (get_or told.answer 3 0 ≡ c.relocations)
+      × (get_or told.answer 4 0 ≡ c.listed) × (get_or told.answer 5 0 ≡ c.work_rows)
+  unfolding FileCalls.count_told
+  counts-reply c =
+      let vs : List ℕ = 0 ∷ c.sections ∷ c.symbols ∷ c.relocations ∷ c.listed ∷ c.work_rows ∷ 0 ∷ 0 ∷ [] in
+      (refl, cell vs 1 refl (omega arith), cell vs 2 refl (omega arith), cell vs 3 refl (omega arith), cell vs 4 refl (omega arith), cell vs 5 refl (omega arith))
+
+  pub count-refusal : (r : Refusal) → let told = FileCalls.count_told a (Err r) in (told.number ≡ r.number) × (get_or told.answer 0 0 ≡ r.place)
+  unfolding FileCalls.count_told
+  count-refusal r = (refl, cell (r.place ∷ 0 ∷ 0 ∷ 0 ∷ 0 ∷ 0 ∷ 0 ∷ 0 ∷ []) 0 refl (omega arith))

@@ -7,7 +7,7 @@ use Rattle.link.specs.declared.Link.{Link}
 use Rattle.link.specs.declared.SymbolId.{SymbolId}
 use Rattle.link.specs.declared.cause.Refusal.{Refusal}
 use Rattle.symbol.specs.declared.Symbol.{Symbol}
-use Rattle.std.specs.Prelude.{ℕ, ◌≡◌, Bool, false, List, ◌≢◌, Option, Result}
+use Rattle.std.specs.Prelude.{ℕ, ◌≡◌, ◌≤◌, Bool, false, List, ◌≢◌, get_or, length, Option, Result, Ok, Err}
 use Rattle.std.proofs.Common.{sym, ap, ◌∙◌}
 use Rattle.byte_slices.specs.Bytes.{part}
 use Rattle.interner.specs.Names.{store_of}
@@ -30,6 +30,7 @@ use Rattle.ffi_list.specs.Calls as ListCalls
 use Rattle.ffi_list.specs.Contract as Adds
 use Rattle.ffi_symbols.specs.LookupCalls as LookupCalls
 use Rattle.ffi_symbols.specs.LookupContract as Lookup
+use Rattle.elf_file.specs.declared.counts.Counts.{Counts}
 use Rattle.ffi_merge.specs.Calls as MergeCalls
 use Rattle.ffi_merge.specs.Contract as Merge
 use Rattle.ffi_merge.specs.FileCalls as FileCalls
@@ -108,7 +109,10 @@ group-one-outcome h o bytes names work n x y e f = ap {B = Merge.GroupExit} (λ 
 pub merge-one-outcome : (h : List ℕ) (o : Stages.Object) (c : MergeCalls.Rows) (x y : MergeExit) → Merge.MergeMeets h o (merge_rows c x) x.told → Merge.MergeMeets h o (merge_rows c y) y.told → x ≡ y
 merge-one-outcome h o c x y e f = ap {B = MergeExit} (λ (o : MergeCalls.MergeLeft). record { told = record { number = o.told.number; header = o.told.header }; rows = o.rows }) (e ∙ sym f)
 
--- read_file and merge_file
+-- count_file, read_file and merge_file
+pub count-one-outcome : (a file : List ℕ) (x y : FileCalls.CountLeft) → File.CountMeets a file x → File.CountMeets a file y → x ≡ y
+count-one-outcome a file x y e f = e ∙ sym f
+
 pub read-one-outcome : (a file rows : List ℕ) (x y : File.ReadExit) → File.ReadMeets a file rows x → File.ReadMeets a file rows y → x ≡ y
 read-one-outcome a file rows x y e f = ap {B = File.ReadExit} (λ (o : FileCalls.ReadLeft). record { number = o.number; answer = o.answer; rows = o.rows }) (e ∙ sym f)
 
@@ -134,6 +138,11 @@ pub shadowed-one-outcome : (h walk index rows bytes names symbols cells : List �
     → Archive.ShadowedMeets h walk index rows bytes names symbols cells y → x ≡ y
 shadowed-one-outcome h walk index rows bytes names symbols cells x y e f =
     ap {B = Archive.ShadowedExit} (λ (o : ArchiveCalls.ShadowedLeft). record { number = o.told.number; header = o.told.header; cells = o.cells }) (e ∙ sym f)
+
+pub would-one-outcome : (h bytes names symbols headers entries contents file cells : List ℕ) (x y : Archive.WouldExit) → Archive.WouldMeets h bytes names symbols headers entries contents file cells x
+    → Archive.WouldMeets h bytes names symbols headers entries contents file cells y → x ≡ y
+would-one-outcome h bytes names symbols headers entries contents file cells x y e f =
+    ap {B = Archive.WouldExit} (λ (o : ArchiveCalls.WouldLeft). record { number = o.told.number; header = o.told.header; cells = o.cells }) (e ∙ sym f)
 
 -- a collection
 pub run-one-outcome : (h : List ℕ) (c : Lists) (symbols sections : List ℕ) (entry : Option SymbolId) (work : List ℕ) (x y : Collect.RunExit) → Collect.RunMeets h c symbols sections entry work x
@@ -163,6 +172,16 @@ offer-reply = RepliesLaws.offer-reply
 
 pub admission-reply : (x : Result Bool Refusal) → Replies (ArchiveCalls.admitted_reply x) (Matches.said x).number (Matches.said x).place (Matches.said x).values
 admission-reply = RepliesLaws.admission-reply
+
+-- `count_file`: the number, and the answer's cells
+module _ (a : List ℕ) (room : 8 ≤ length a) where
+  pub counts-reply : (c : Counts) → let told = FileCalls.count_told a (Ok c) in
+      (told.number ≡ 0) × (get_or told.answer 1 0 ≡ c.sections) × (get_or told.answer 2 0 ≡ c.symbols) × (get_or told.answer 3 0 ≡ c.relocations)
+      × (get_or told.answer 4 0 ≡ c.listed) × (get_or told.answer 5 0 ≡ c.work_rows)
+  counts-reply = RepliesLaws.counts-reply a room
+
+  pub count-refusal : (r : Refusal) → let told = FileCalls.count_told a (Err r) in (told.number ≡ r.number) × (get_or told.answer 0 0 ≡ r.place)
+  count-refusal = RepliesLaws.count-refusal a room
 
 -- `resolve`: number and place; the part of the lent bytes that the reply tells is the name
 module _ (b n : List ℕ) (id : ℕ) (l : Link) where

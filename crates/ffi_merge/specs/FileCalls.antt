@@ -1,12 +1,32 @@
 -- What the calls return, and every lent cell after them.
 -- Assumes nothing.
-use Rattle.std.specs.Prelude.{ℕ, cond, List, [], ◌∷◌, ltb, length}
+use Rattle.std.specs.Prelude.{ℕ, cond, List, [], ◌∷◌, ltb, length, Result, Ok, Err}
 use Rattle.cells.specs.Rows.{put_row}
+use Rattle.link.specs.declared.cause.Refusal.{Refusal}
+use Rattle.elf_file.specs.declared.counts.Counts.{Counts}
+use Rattle.elf_file.specs.Counts.{counted_of}
 use Rattle.elf_file.specs.Read.{Done, read_of}
 use Rattle.merge_file.specs.MergeFile as File
 use Rattle.merge_file.specs.MergeFile.{merge_file_of}
 use Rattle.ffi_cells.specs.Header.{is_short, link_in, refused_of, Told, told, tell_of}
 use Rattle.ffi_merge.specs.Calls.{Rows, rows_in, with_link}
+
+-- ---- a count
+
+-- the number returned and the answer's cells: the place, or sections, symbols, relocations, listed sections and work rows
+pub record CountLeft : Type 0 where
+  pub number : ℕ
+  pub answer : List ℕ
+
+abbrev pub count_left : ℕ → List ℕ → CountLeft
+count_left n a = record { number = n; answer = a }
+
+unfoldable pub count_told : List ℕ → Result Counts Refusal → CountLeft
+count_told a (Ok c) = count_left 0 (put_row a 0 (0 ∷ c.sections ∷ c.symbols ∷ c.relocations ∷ c.listed ∷ c.work_rows ∷ 0 ∷ 0 ∷ []))
+count_told a (Err r) = count_left r.number (put_row a 0 (r.place ∷ 0 ∷ 0 ∷ 0 ∷ 0 ∷ 0 ∷ 0 ∷ 0 ∷ []))
+
+unfoldable pub count_call : List ℕ → List ℕ → CountLeft
+count_call a file = cond (ltb (length a) 8) (count_left 1 a) (count_told a (counted_of file))
 
 -- ---- a read
 

@@ -6,7 +6,15 @@ use Rattle.cells.specs.Slice.{SliceMut}
 use Rattle.ffi_cells.specs.Header.{told}
 use Rattle.ffi_cells.specs.Contract.{ToldExit}
 use Rattle.ffi_merge.specs.Calls.{rows_of}
-use Rattle.ffi_merge.specs.FileCalls.{read_left, read_call, Lent, lent_of, file_left, file_call}
+use Rattle.ffi_merge.specs.FileCalls.{CountLeft, count_left, count_call, read_left, read_call, Lent, lent_of, file_left, file_call}
+
+-- ---- `count_file`
+
+abbrev pub count_exit : ℕ → SliceMut → CountLeft
+count_exit n answer = count_left n answer.exit.now
+
+abbrev pub CountMeets : List ℕ → List ℕ → CountLeft → Type 0
+CountMeets answer file e = e ≡ count_call answer file
 
 -- ---- `read_file`
 

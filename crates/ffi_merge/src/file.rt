@@ -1,9 +1,41 @@
-// The merge of an object file, and its rows alone, for another language. A merge has the link and the answer in a header (ffi_cells); a header of
-// fewer than 24 cells gives 1, and nothing is read or written. A read has no link: its answer is a row of 8 cells, of which fewer give 1.
+// The merge of an object file, and its rows alone, and how many they are, for another language. A merge has the link and the answer in a header (ffi_cells); a header of
+// fewer than 24 cells gives 1, and nothing is read or written. A count and a read have no link: its answer is a row of 8 cells, of which fewer give 1.
 // Kept: slices one by one, as C lends them.
 ghost use Rattle.std.specs.Prelude.{◌≡◌};
 ghost use Rattle.ffi_cells.specs.Contract.{told_exit};
-ghost use Rattle.ffi_merge.specs.FileContract.{read_exit, ReadMeets, lent_rows, FileMeets};
+ghost use Rattle.ffi_merge.specs.FileContract.{count_exit, CountMeets, read_exit, ReadMeets, lent_rows, FileMeets};
+
+// The answer's cells: the place; how many sections, symbols and relocations the file has, section numbers that its groups list, and work rows that
+// its merge takes; 0.
+#[tactic(auto, unfolding(crate::specs::FileCalls::count_call, crate::specs::FileCalls::count_told))]
+pub fn count_file(answer: &mut [u64], file: &[u8]) -> u64
+    ensures { CountMeets answer.old file.now (count_exit result answer) }
+{
+    if answer.len() < 8 {
+        return ffi_cells::SHORT;
+    }
+    match elf_file::count(file) {
+        Ok(c) => {
+            let row = [
+                0,
+                c.sections,
+                c.symbols,
+                c.relocations,
+                c.listed,
+                c.work_rows,
+                0,
+                0,
+            ];
+            cells::row_store(answer, 0, row);
+            0
+        }
+        Err(refusal) => {
+            let place = refusal.place;
+            cells::row_store(answer, 0, [place, 0, 0, 0, 0, 0, 0, 0]);
+            refusal.number
+        }
+    }
+}
 
 // The answer's cells: the place; how many sections, symbols and cells of contents were written; the section of the sections' names; 0.
 #[tactic(auto, unfolding(crate::specs::FileCalls::read_call, elf_file::specs::Read::read_of, elf_file::specs::Read::roomed_of))]

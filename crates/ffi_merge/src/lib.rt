@@ -12,7 +12,7 @@ ghost use Rattle.ffi_merge.specs.Contract.{group_exit, group_object, GroupMeets,
 mod file;
 
 use ffi_cells::Reply;
-pub use file::{merge_file, read_file};
+pub use file::{count_file, merge_file, read_file};
 use link::Refusal;
 
 // Kept: a match of its own, as each answer's values are its own.

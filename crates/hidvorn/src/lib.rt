@@ -183,6 +183,13 @@ pub extern "C" fn hidvorn_merge_elf(
 }
 
 #[unsafe(no_mangle)]
+pub extern "C" fn hidvorn_count_file(answer: &mut [u64], file: &[u8]) -> u64
+    ensures { File.CountMeets answer.old file.now (File.count_exit result answer) }
+{
+    ffi_merge::count_file(answer, file)
+}
+
+#[unsafe(no_mangle)]
 pub extern "C" fn hidvorn_read_file(answer: &mut [u64], rows: &mut [u64], file: &[u8]) -> u64
     ensures { File.ReadMeets answer.old file.now rows.old (File.read_exit result answer rows) }
 {
@@ -297,6 +304,25 @@ pub extern "C" fn hidvorn_matches(
 {
     ffi_archive::matches(
         header, walk, index, rows, entry, headers, entries, contents, image,
+    )
+}
+
+#[unsafe(no_mangle)]
+pub extern "C" fn hidvorn_would_define(
+    header: &mut [u64],
+    bytes: &[u8],
+    names: &[u64],
+    symbols: &[u64],
+    headers: &[u64],
+    entries: &[u64],
+    contents: &[u64],
+    image: &[u8],
+    told: &mut [u64],
+) -> u64
+    ensures { Archive.WouldMeets header.old bytes.now names.now symbols.now headers.now entries.now contents.now image.now told.old (Archive.would_exit result header told) }
+{
+    ffi_archive::would_define(
+        header, bytes, names, symbols, headers, entries, contents, image, told,
     )
 }
 

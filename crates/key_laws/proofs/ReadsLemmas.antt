@@ -3,7 +3,7 @@
 use Rattle.link.specs.declared.SectionId.{SectionId}
 use Prim.Native.Nat.{ℕ, zero, suc, ◌+◌, ◌<◌, ◌≤◌}
 use Rattle.std.proofs.Common.{arith, ◌∙◌, eqb-true, leb-false}
-use Rattle.std.specs.Prelude.{◌≡◌, true, List, eqb, ltb, leb, length, get_or, Option, None, Some}
+use Rattle.std.specs.Prelude.{◌≡◌, true, cond, ◌&&◌, List, eqb, ltb, leb, length, get_or, Option, None, Some}
 use Rattle.std.proofs.Math.Path.{refl, ap}
 use Rattle.std.proofs.lemmas.Bool.{false≢true, eqb-false}
 use Rattle.cells.specs.Proof.Split.{by-test}
@@ -24,8 +24,14 @@ use Rattle.archive_walk.specs.Look as Look
 use Rattle.object_requirement.specs.Matches.{matches_of}
 use Rattle.archive_walk.specs.Look.{judge_table, name_holder, was_removed, ties, removed_name, tied_name}
 use Rattle.archive_walk.specs.Walk.{Queue, queue_of, tie_of, tie_all, removed_of, make_of, search_of, pass_of, go_of, next_of}
-use Rattle.shadowed_members.specs.Shadowed.{offered_among, told_holder, told_name, told_at, shadowed_of}
+use Rattle.shadowed_members.specs.Shadowed as Shadowed
+use Rattle.shadowed_members.specs.Shadowed.{offered_among, shadowed_of}
 use Rattle.shadowed_members.specs.Proof.Ways.{those_same}
+use Rattle.strings.specs.Lookup.{Looked}
+use Rattle.upcoming_symbol.specs.declared.ElfSymbol.{ElfSymbol}
+use Rattle.elf_object.specs.Rows.{rows_in, name_in, entry_name_at, elf_at}
+use Rattle.untaken_member.specs.Proof.Ways.{told_same}
+use Rattle.untaken_member.specs.Untaken.{loaded_of, defines, told_holder, told_name, told_at, told_of, roomed_of, head_of, would_of}
 use Rattle.gc_sections.specs.Each.{each}
 use Rattle.gc_sections.specs.Roots.{name_is, rooted, is_root, symbol_id, lead_of}
 use Rattle.gc_sections.specs.Reach as Reach
@@ -78,10 +84,20 @@ module _ (k : ℕ) (t : Look.Table) (n : List ℕ) (e : Rekeyed k (record { byte
   next-same s l w = rw (judge-same, gone_same s l w.entries 0, tie-same w.key w.entries s (w.passes + 1) w.entries 0 (queue_of l w.queued))
 
   pub shadowed-same : (s l : List ℕ) (w : Walk) (c : List ℕ) → shadowed_of s l w u c ≡ shadowed_of s l w t c
-  unfolding shadowed_of told_at told_name
+  unfolding shadowed_of Shadowed.told_at Shadowed.told_name
   shadowed-same s l w c =
       let o = offered_among l w.offered in
-      rw (judge-same, those_same (told_at s l u o) (told_at s l t o) w.entries 0 (λ j. ap (told_holder t.symbols (o (member_at l j))) (holds_same (stored_name s l j))))
+      rw (judge-same, those_same (Shadowed.told_at s l u o) (Shadowed.told_at s l t o) w.entries 0 (λ j. ap (Shadowed.told_holder t.symbols (o (member_at l j))) (holds_same (stored_name s l j))))
+
+  told-name-same : (e : ElfSymbol) (x : Looked) → told_name u e x ≡ told_name t e x
+  unfolding told_name
+  told-name-same e x = ap (λ h. cond (x.found && defines e) (told_holder t.symbols e h) None) (holds_same x.name)
+
+  pub would-same : (headers entries contents file c : List ℕ) → would_of headers entries contents file u c ≡ would_of headers entries contents file t c
+  unfolding would_of roomed_of told_of head_of told_at
+  would-same headers entries contents file c =
+      let o = loaded_of headers entries file in
+      rw (judge-same, told_same (told_at o u) (told_at o t) (rows_in o.entries) 0 (λ i. told-name-same (elf_at o.entries i) (name_in o.headers o.image o.names (entry_name_at o.entries i))))
 
 -- admission looks at the link's profile alone
 pub matches-same : (k : ℕ) (l : Link) (headers entries contents file s rows : List ℕ) (w : Walk) (e : ℕ)

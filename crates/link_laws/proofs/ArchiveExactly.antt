@@ -23,6 +23,10 @@ use Rattle.archive_index.specs.Open.{offsets_in, open_rows_of, open_names_of, op
 use Rattle.archive_walk.specs.declared.Walk.{Walk}
 use Rattle.archive_walk.specs.Look.{judge_table, name_holder, removed_name}
 use Rattle.archive_walk.specs.Walk.{Step, begun_number, begun_place, begun_of, start_of, number_of, place_of, step_moved, refused_move, offer_of, removed_of, make_of, search_of, pass_of, walk_fits, go_of, next_of}
+use Rattle.merge_laws.specs.MergeWords.{symbols_of}
+use Rattle.link_laws.proofs.LoadedTable.{loaded-entries}
+use Rattle.untaken_member.specs.Untaken as Untaken
+use Rattle.untaken_member.specs.Untaken.{loaded_of, told_of, roomed_of, head_of, would_of}
 use Rattle.shadowed_members.specs.Shadowed as Shadowed
 use Rattle.shadowed_members.specs.Shadowed.{fits_index, shadowed_of}
 use Rattle.elf_object.specs.Judge as Elf
@@ -31,7 +35,7 @@ use Rattle.object_requirement.specs.Matches.{admission, offered_in, matches_of}
 use Rattle.interner_laws.specs.Good.{Chained}
 use Rattle.symbol_laws.specs.History.{State, store}
 use Rattle.merge_laws.specs.Calls.{Linked}
-use Rattle.link_laws.specs.Calls.{archive_start, archive_next, archive_shadowed, matches, view_in, call_refusal}
+use Rattle.link_laws.specs.Calls.{archive_start, archive_next, archive_shadowed, matches, would_define, view_in, call_refusal}
 use Rattle.link_laws.specs.Rules.{Rule, ◌gives◌at◌, each, first_refusal, numbered, lent_rows, count_rules}
 use Rattle.link_laws.proofs.Rules.{over-either, numbered-both, each-numbered, first-none, first-is, follows, headed, taken, left_out, count-rules}
 use Rattle.link_laws.proofs.AddExactly.{least-below}
@@ -40,7 +44,7 @@ use Rattle.link_laws.proofs.Exactly.{holder-is}
 use Rattle.link_laws.specs.ObjectRules.{object_rules}
 use Rattle.link_laws.proofs.ObjectExactly.{object-exactly, object-numbered}
 use Rattle.link_laws.proofs.MergeSymbols.{find-is}
-use Rattle.link_laws.specs.ArchiveRules.{entries_in, name_start, is_offset_cut, is_name_cut, empty_rules, offset_rules, name_rules, cell_rules, start_rules, is_other_walk, entry_name, is_gone, pass_rules, next_rules, is_no_entry, is_strange_walk, shadowed_rules, matches_rules}
+use Rattle.link_laws.specs.ArchiveRules.{entries_in, name_start, is_offset_cut, is_name_cut, empty_rules, offset_rules, name_rules, cell_rules, start_rules, is_other_walk, entry_name, is_gone, pass_rules, next_rules, is_no_entry, is_strange_walk, shadowed_rules, matches_rules, would_rules}
 
 true≢false : true ≡ false → ⊥
 true≢false e = false≢true (sym e)
@@ -331,3 +335,37 @@ module _ (headers entries contents file index cells : List ℕ) (w : Walk) (e : 
 
   pub matches-numbered : numbered (matches_rules headers entries contents file index cells w e) ≡ true
   matches-numbered = numbered-both (object_rules headers entries contents file) _ (object-numbered headers entries contents file) refl
+
+-- ---- what a member that was not taken would have defined
+
+module _ (headers entries contents file cells : List ℕ) where
+  abbrev would_said : Untaken.Left → Refusal
+  would_said x = refused (begun_number x.answer) (begun_place x.answer)
+
+  module _ (t : State) where
+    abbrev link_rules : List Rule
+    link_rules = count_rules t.link (lent_rows (length t.names / 9) (length t.bytes) (length t.symbols) t.link.slots not_lent not_lent)
+
+    abbrev head_rules : List Rule
+    head_rules = link_rules ++ object_rules headers entries contents file
+
+    head-numbered : numbered head_rules ≡ true
+    head-numbered = numbered-both link_rules (object_rules headers entries contents file) refl (object-numbered headers entries contents file)
+
+    head-exactly : head_of headers entries contents file (view_in t) ≡ first_refusal head_rules
+    unfolding head_of judge_table
+    head-exactly =
+        headed (object_rules headers entries contents file) (λ (r : Refusal). r) link_rules _ _ _ refl (count-rules t.link _) refl
+        (λ a. object-exactly headers entries contents file)
+
+    pub would-numbered : numbered (would_rules headers entries contents file t cells) ≡ true
+    would-numbered = numbered-both head_rules _ head-numbered refl
+
+  pub would-exactly : (s : Linked) → call_refusal (would_define headers entries contents file cells) s ≡ first_refusal (would_rules headers entries contents file s.table cells)
+  unfolding would_of roomed_of told_of
+  would-exactly s =
+      headed ((ltb (length cells / 2) (length (symbols_of headers entries contents file) / 8) gives 2 at 0) ∷ []) would_said (head_rules s.table)
+      (head_of headers entries contents file (view_in s.table)) _ _ (head-numbered s.table) (head-exactly s.table) refl
+      (λ a.
+      rw (loaded-entries headers entries contents file)
+      (by-test (ltb (length cells / 2) (length (symbols_of headers entries contents file) / 8)) (λ d. rw d) (λ d. rw d)))

@@ -14,6 +14,9 @@ use Rattle.archive_walk.specs.declared.Walk.{Walk}
 use Rattle.archive_walk.specs.Walk.{Started}
 use Rattle.archive_walk.specs.Look.{Table, judge_table}
 use Rattle.archive_walk.specs.Walk.{Step, begun_number, begun_of, start_of, number_of, removed_of, make_of, search_of, pass_of, walk_fits, go_of, next_of}
+use Rattle.elf_object.specs.Rows.{rows_in}
+use Rattle.untaken_member.specs.Untaken as Untaken
+use Rattle.untaken_member.specs.Untaken.{loaded_of, told_of, roomed_of, head_of, would_of}
 use Rattle.shadowed_members.specs.Shadowed as Shadowed
 use Rattle.shadowed_members.specs.Shadowed.{fits_index, shadowed_of}
 use Rattle.link_laws.proofs.NeverRemoved.{offered-number}
@@ -50,6 +53,19 @@ shadowed-leaves index rows w t cells =
     (λ a u. refl)
   where
     P : Shadowed.Left → Type 0
+    P x = begun_number x.answer ≢ 0 → x.cells ≡ cells
+
+-- ---- and one at what a member would have defined
+
+pub would-leaves : (headers entries contents file : List ℕ) (t : Table) (cells : List ℕ) → begun_number (would_of headers entries contents file t cells).answer ≢ 0
+    → (would_of headers entries contents file t cells).cells ≡ cells
+unfolding would_of roomed_of told_of
+would-leaves headers entries contents file t cells =
+    pick P (eqb (head_of headers entries contents file t).number 0) _ _
+    (λ a. pick P (ltb (length cells / 2) (rows_in (loaded_of headers entries file).entries)) _ _ (λ b u. refl) (λ b u. absurd (u refl)))
+    (λ a u. refl)
+  where
+    P : Untaken.Left → Type 0
     P x = begun_number x.answer ≢ 0 → x.cells ≡ cells
 
 -- ---- a refused start leaves the cells lent to it

@@ -15,6 +15,9 @@ use Rattle.archive_walk.specs.Walk.{Started}
 use Rattle.archive_walk.specs.Look.{judge_table}
 use Rattle.archive_walk.specs.Look as Look
 use Rattle.archive_walk.specs.Walk.{Step, begun_number, number_of, begun_of, start_of, offer_of, removed_of, make_of, search_of, pass_of, walk_fits, go_of, next_of}
+use Rattle.elf_object.specs.Rows.{rows_in}
+use Rattle.untaken_member.specs.Untaken as Untaken
+use Rattle.untaken_member.specs.Untaken.{loaded_of, told_of, roomed_of, head_of, would_of}
 use Rattle.shadowed_members.specs.Shadowed as Shadowed
 use Rattle.shadowed_members.specs.Shadowed.{fits_index, shadowed_of}
 use Rattle.object_requirement.specs.Matches as Matches
@@ -23,7 +26,7 @@ use Rattle.archive_walk.specs.Names.{required_of}
 use Rattle.merge_laws.proofs.ByNumber.{elf-gives}
 use Rattle.link_laws.proofs.Among.{Among}
 use Rattle.link_laws.specs.Table.{call_numbers}
-use Rattle.link_laws.specs.Calls.{archive_start, archive_next, archive_shadowed, matches}
+use Rattle.link_laws.specs.Calls.{archive_start, archive_next, archive_shadowed, matches, would_define}
 
 open-numbers : (key : ℕ) (s l : List ℕ) → Among (call_numbers (archive_start key s l)) (open_of s l).opened.refusal.number
 unfolding open_of open_entries_of open_names_of open_rows_of
@@ -103,3 +106,19 @@ matches-numbers link headers entries contents file s l w e =
     either : (b : Bool) → P (admission b)
     either true = refl
     either false = refl
+
+pub would-numbers : (headers entries contents file : List ℕ) (t : Look.Table) (c : List ℕ)
+    → Among (call_numbers (would_define headers entries contents file c)) (begun_number (would_of headers entries contents file t c).answer)
+unfolding would_of roomed_of told_of head_of judge_table
+would-numbers headers entries contents file t c =
+    pick P (eqb (head_of headers entries contents file t).number 0) _ _
+    (λ a. pick P (ltb (length c / 2) (rows_in (loaded_of headers entries file).entries)) _ _ (λ b. refl) (λ b. refl))
+    (λ a.
+    pick Q (eqb (judge_table t).number 0) _ _ (λ b. elf-gives Q (λ k. refl) refl headers entries (length contents) (length file))
+    (λ b. judge-gives Q (λ k. refl) refl t.link _))
+  where
+    P : Untaken.Left → Type 0
+    P x = Among (call_numbers (would_define headers entries contents file c)) (begun_number x.answer)
+
+    Q : Refusal → Type 0
+    Q r = Among (call_numbers (would_define headers entries contents file c)) r.number

@@ -25,6 +25,8 @@ use Rattle.shared_objects.specs.Load as Loading
 use Rattle.archive_walk.specs.Walk as Archive
 use Rattle.shadowed_members.specs.Shadowed as Shadowed
 use Rattle.shadowed_members.specs.Contract.{ShadowedExit}
+use Rattle.untaken_member.specs.Untaken as Untaken
+use Rattle.untaken_member.specs.Contract.{WouldExit}
 use Rattle.archive_walk.specs.Contract.{StartExit, NextExit}
 use Rattle.gc_sections.specs.declared.Outcome as Collection
 use Rattle.gc_sections.specs.Run as Collecting
@@ -57,6 +59,7 @@ meets-left (reads (Read.archive_start key index cells)) s e h = h
 meets-left (reads (Read.archive_next index cells w)) s e h = h
 meets-left (reads (Read.archive_shadowed index rows w cells)) s e h = h
 meets-left (reads (Read.matches headers entries contents file index cells w i)) s e h = h
+meets-left (reads (Read.would_define headers entries contents file cells)) s e h = h
 meets-left (collect marks entry work) s e h = h
 meets-left (plain_collect marks entry work) s e h = h
 
@@ -191,6 +194,9 @@ next_one x y e = ap {B = NextExit} (λ (o : Archive.Step). record { cells = o.ce
 shadowed-one : (x y : ShadowedExit) → Shadowed.left x.cells x.result ≡ Shadowed.left y.cells y.result → x ≡ y
 shadowed-one x y e = ap {B = ShadowedExit} (λ (o : Shadowed.Left). record { cells = o.cells; result = o.answer }) e
 
+would-one : (x y : WouldExit) → Untaken.left x.cells x.result ≡ Untaken.left y.cells y.result → x ≡ y
+would-one x y e = ap {B = WouldExit} (λ (o : Untaken.Left). record { cells = o.cells; result = o.answer }) e
+
 seen_one : (k : Call) (x y : Exit k) → seen k x ≡ seen k y → x ≡ y
 seen_one (intern b) x y e = intern-one x y e
 seen_one (reads (Read.resolve id)) x y e = resolve-one x y e
@@ -208,6 +214,7 @@ seen_one (reads (Read.archive_start key index cells)) x y e = start-one x y e
 seen_one (reads (Read.archive_next index cells w)) x y e = next_one x y e
 seen_one (reads (Read.archive_shadowed index rows w cells)) x y e = shadowed-one x y e
 seen_one (reads (Read.matches headers entries contents file index cells w i)) x y e = e
+seen_one (reads (Read.would_define headers entries contents file cells)) x y e = would-one x y e
 seen_one (collect marks entry work) x y e = collect-one x y e
 seen_one (plain_collect marks entry work) x y e = collect-one x y e
 

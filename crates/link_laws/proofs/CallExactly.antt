@@ -20,7 +20,7 @@ use Rattle.link_laws.specs.MergeRules.{merge_rules}
 use Rattle.link_laws.specs.FileRules.{file_rules}
 use Rattle.link_laws.proofs.FileExactly.{file-exactly, file-numbered}
 use Rattle.link_laws.proofs.LoadWhole.{load-exactly, load-numbered}
-use Rattle.link_laws.proofs.ArchiveExactly.{start-exactly, start-numbered, next-exactly, next-numbered, shadowed-exactly, matches-exactly, matches-numbered}
+use Rattle.link_laws.proofs.ArchiveExactly.{start-exactly, start-numbered, next-exactly, next-numbered, shadowed-exactly, matches-exactly, matches-numbered, would-exactly, would-numbered}
 use Rattle.link_laws.proofs.CollectExactly.{collect-exactly}
 use Rattle.link_laws.proofs.PlainExactly.{plain-exactly}
 use Rattle.link_laws.proofs.ListExactly.{list-exactly, list-numbered}
@@ -43,6 +43,7 @@ call-exactly (reads (Read.archive_start key index cells)) s met m = start-exactl
 call-exactly (reads (Read.archive_next index cells w)) s met m = next-exactly index cells w s m.good.chained
 call-exactly (reads (Read.archive_shadowed index rows w cells)) s met m = shadowed-exactly index rows w cells s
 call-exactly (reads (Read.matches headers entries contents file index cells w e)) s met m = matches-exactly headers entries contents file index cells w e s
+call-exactly (reads (Read.would_define headers entries contents file cells)) s met m = would-exactly headers entries contents file cells s
 call-exactly (collect marks entry work) s met m = collect-exactly marks entry work s
 call-exactly (plain_collect marks entry work) s met m = plain-exactly marks entry work s
 
@@ -67,5 +68,6 @@ rules-numbered (reads (Read.archive_start key index cells)) s = start-numbered i
 rules-numbered (reads (Read.archive_next index cells w)) s = next-numbered index cells w s.table
 rules-numbered (reads (Read.archive_shadowed index rows w cells)) s = refl
 rules-numbered (reads (Read.matches headers entries contents file index cells w e)) s = matches-numbered headers entries contents file index cells w e
+rules-numbered (reads (Read.would_define headers entries contents file cells)) s = would-numbered headers entries contents file cells s.table
 rules-numbered (collect marks entry work) s = refl
 rules-numbered (plain_collect marks entry work) s = refl

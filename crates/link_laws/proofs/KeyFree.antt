@@ -26,14 +26,14 @@ use Rattle.load_laws.specs.Whole as Loads
 use Rattle.key_laws.specs.Rekeyed.{Rekeyed}
 use Rattle.key_laws.proofs.Tables.{intern-moved, resolve_same, add-moved, remove-keyed, remove-link, get-keyed, global-same, section-symbol-keyed}
 use Rattle.key_laws.specs.SectionNames.{Named}
-use Rattle.key_laws.proofs.ReadsLemmas.{next-same, shadowed-same, matches-same, collect-same, collect-link}
+use Rattle.key_laws.proofs.ReadsLemmas.{next-same, shadowed-same, would-same, matches-same, collect-same, collect-link}
 use Rattle.key_laws.proofs.Groups.{add-group-moved}
 use Rattle.key_laws.proofs.Merge.{merge-moved}
 use Rattle.key_laws.proofs.Load.{load_moved}
 use Rattle.key_laws.proofs.SectionCalls.{intern-named, add-named, remove-named, group-named, merge-named, load-named, collect-named}
 use Rattle.key_laws.proofs.NewTables.{new-said, new-moved, new-named}
 use Rattle.link_laws.specs.Read as Read
-use Rattle.link_laws.specs.Calls.{Call, intern, add, remove, add_group, merge, merge_file, load, archive_next, archive_shadowed, matches, collect, plain_collect, call_left, refusal_in, refusal_by, call_next, run_calls, group_in, library_in, lists_in, view_in, is_read, reads, add_list}
+use Rattle.link_laws.specs.Calls.{Call, intern, add, remove, add_group, merge, merge_file, load, archive_next, archive_shadowed, matches, would_define, collect, plain_collect, call_left, refusal_in, refusal_by, call_next, run_calls, group_in, library_in, lists_in, view_in, is_read, reads, add_list}
 use Rattle.link_laws.proofs.PlainCalls.{plain-link}
 use Rattle.key_laws.proofs.PlainReads.{plain-same, plain-named}
 use Rattle.elf_laws.specs.Object as ElfFile
@@ -273,6 +273,9 @@ module _ (key : ℕ) (s : Linked) (n : List ℕ) (e : Rekeyed key (store s.table
   under_same (reads (Read.matches headers entries contents file index cells w i)) =
       let q = matches-same key s.table.link headers entries contents file index cells w i in
       record { answer = q; refusal = ap (refusal_in (matches headers entries contents file index cells w i)) q; next = stays }
+  under_same (reads (Read.would_define headers entries contents file cells)) =
+      let q = would-same key (view_in s.table) n e headers entries contents file cells in
+      record { answer = q; refusal = ap (refusal_in (would_define headers entries contents file cells)) q; next = stays }
   under_same (collect marks entry work) =
       let l : Link = s.table.link in
       let q = collect-same key (store s.table) n e s.table.symbols s.table.sections s.lists marks h entry work in

@@ -33,6 +33,9 @@ pub mod Undefined
 pub mod LookedUp
 pub mod WalkIn
 pub mod Shadowed
+pub mod Untaken
+mod LoadedTable
+pub mod Taking
 pub mod Leaves
 pub mod PlainExactly
 pub mod Growth

@@ -56,7 +56,7 @@ use Rattle.link_laws.proofs.Among.{one-within, Among}
 use Rattle.link_laws.proofs.GroupNumbers.{group-numbers}
 use Rattle.link_laws.proofs.MergeNumbers.{merge-numbers}
 use Rattle.link_laws.proofs.LoadNumbers.{load-numbers}
-use Rattle.link_laws.proofs.ArchiveNumbers.{start-numbers, next-numbers, shadowed-numbers, matches-numbers}
+use Rattle.link_laws.proofs.ArchiveNumbers.{start-numbers, next-numbers, shadowed-numbers, matches-numbers, would-numbers}
 use Rattle.merge_laws.specs.Table.{one_of, within, file_head_numbers, refusals}
 use Rattle.link_laws.proofs.ListCall.{list-gives}
 
@@ -232,6 +232,7 @@ numbers (reads (Read.archive_start key index cells)) s = start-numbers key index
 numbers (reads (Read.archive_next index cells w)) s = next-numbers index cells w (view_in s.table)
 numbers (reads (Read.archive_shadowed index rows w cells)) s = shadowed-numbers index rows w (view_in s.table) cells
 numbers (reads (Read.matches headers entries contents file index cells w e)) s = matches-numbers s.table.link headers entries contents file index cells w e
+numbers (reads (Read.would_define headers entries contents file cells)) s = would-numbers headers entries contents file (view_in s.table) cells
 numbers (collect marks entry work) s = collect-numbers s.table.link (lists_in s marks) s.table.symbols s.table.sections entry work
 numbers (plain_collect marks entry work) s = plain-numbers marks entry work s
 
@@ -253,6 +254,7 @@ in_table (reads (Read.archive_start key index cells)) = refl
 in_table (reads (Read.archive_next index cells w)) = refl
 in_table (reads (Read.archive_shadowed index rows w cells)) = refl
 in_table (reads (Read.matches headers entries contents file index cells w e)) = refl
+in_table (reads (Read.would_define headers entries contents file cells)) = refl
 in_table (collect marks entry work) = refl
 in_table (plain_collect marks entry work) = refl
 

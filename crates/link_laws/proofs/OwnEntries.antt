@@ -75,7 +75,7 @@ undefined-is w =
     by-test (eqb w.kind 7) (λ h. rw (a, b, c, d, f, g, h))
     (λ h. by-test (eqb w.kind 8) (λ i. rw (a, b, c, d, f, g, h, i)) (λ i. rw (a, b, c, d, f, g, h, i)))))))))
 
-common-is : (w : Words) → is_common_value (value_at w) ≡ eqb w.kind 8
+pub common-is : (w : Words) → is_common_value (value_at w) ≡ eqb w.kind 8
 unfolding value_at
 common-is w =
     by-test (eqb w.kind 1) (λ a. let e : w.kind ≡ 1 = eqb-true _ _ a in rw (a, e))

@@ -21,6 +21,8 @@
 --   Premises      types 0 to 3, no commons, and what else a list of adds has to be (order_laws/specs/Premises.antt)
 --   AnyOrder      every arrangement of the list is accepted, with the same content of each name with a strong definition (order_laws/specs/Order.antt)
 --   told i q s k  entry k of index i, by its name's lookup in s and by whether the members offered by the entries q have its own (Shadowed.antt)
+--   would h e c f s i  symbol i of an object of the headers h, entries e, contents c and bytes f, by its entry and its name's lookup in s; defines is its half that
+--                 doesn't ask s, held_id the id of the row (Untaken.antt)
 -- WorkedLinks.antt has a history that meets the premises, and other worked links.
 -- Assumes nothing.
 use Rattle.shared_objects.specs.declared.Load.TheVariants.{NotNeeded}
@@ -58,11 +60,18 @@ use Rattle.symbol_laws.specs.History.{Entry, opened, rows}
 use Rattle.merge_laws.specs.Calls.{Linked, linked}
 use Rattle.merge_laws.specs.Origin.{from_objects}
 use Rattle.merge_laws.specs.MergeWords.{named_by, is_removed}
+use Rattle.merge_laws.specs.MergeWords as ObjectWords
+use Rattle.link.specs.declared.Interned.{Interned}
+use Rattle.symbol.specs.declared.Row.{Row}
+use Rattle.symbol.specs.Hidden.{pass_hidden}
+use Rattle.symbol_resolution.specs.Apply as Apply
+use Rattle.symbol_laws.specs.History.{upcoming}
+use Rattle.symbol_laws.specs.ObjectWords as Entries
 use Rattle.upcoming_symbol.specs.declared.UpcomingSymbol.{UpcomingSymbol}
 use Rattle.order_laws.specs.Premises.{Premises}
 use Rattle.order_laws.specs.Order.{names_issued, AnyOrder}
 use Rattle.order_laws.proofs.Terms as Order
-use Rattle.link_laws.specs.Calls.{Call, remove, get, get_global, section_symbol, merge, load, archive_start, archive_next, archive_shadowed, collect, library_in, lists_in, call_left, refusal_by, call_refusal, call_number, call_next, run_calls, RemovesNothing, earlier}
+use Rattle.link_laws.specs.Calls.{Call, remove, get, get_global, section_symbol, merge, load, archive_start, archive_next, archive_shadowed, would_define, add, collect, library_in, lists_in, call_left, refusal_by, call_refusal, call_number, call_next, run_calls, RemovesNothing, earlier}
 use Rattle.link_laws.specs.Leaves.{by_elements}
 use Rattle.link_laws.specs.Elements as Elements
 use Rattle.link_laws.specs.CallContracts.{Exit, Meets}
@@ -78,6 +87,7 @@ use Rattle.link_laws.specs.NeededIn.{NeededIn}
 use Rattle.link_laws.specs.Words.{id_of, lookup, undefined, strong, ties, adds, tied}
 use Rattle.link_laws.proofs.Words.{ties-seen, tied-seen}
 use Rattle.link_laws.specs.Shadowed.{knows, strongly_defined, told, those_below, Tells}
+use Rattle.link_laws.specs.Untaken.{defines, would, held_id, as_added, TellsPairs}
 use Rattle.link_laws.specs.Rules as Rules
 use Rattle.link_laws.specs.CallRules.{rules}
 use Rattle.link_laws.proofs.ExactTerms as ExactTerms
@@ -348,6 +358,43 @@ module _ (key : ℕ) (gabi : Bool) (bytes names symbols sections inputs lists : 
         → (k : ℕ) → k < count_of index → Rounds.among index k walk_end.offers ≡ false → knows (name_of index (count_of index) k) now ≡ true
         → strongly_defined (name_of index (count_of index) k) now ≡ true
     passed-by-held = Terms.passed-by-held key gabi bytes names symbols sections inputs lists new ks lent walk_key index cells begun ts out
+
+  -- and what a member that was not taken would have defined, told by another: any object, over the link after any calls
+  module _ (ks : List Call) (headers entries contents file : List ℕ) where
+    abbrev pub so_far : Linked
+    so_far = run_calls ks s0
+
+    -- a symbol is told just where it has a name and is a definition, global or weak, and a lookup of the name answers an undefined row, a common where the symbol is a
+    -- global definition that is none, or a weak definition where it is a global one or a common; with the row's id
+    pub untaken-exactly : (out : List ℕ) → call_number (would_define headers entries contents file out) so_far ≡ 0
+        → TellsPairs (held_id headers entries contents file so_far)
+        (those_below (would headers entries contents file so_far) (Entries.entries_in (ObjectWords.symbols_of headers entries contents file))) out
+        (call_left (would_define headers entries contents file out) so_far)
+    untaken-exactly = Terms.untaken-exactly key gabi bytes names symbols sections inputs lists new ks lent headers entries contents file
+
+    -- which is what the resolution would do: an accepted add of what is told leaves its row under the name, hidden too if in the gABI's profile the row was; one of
+    -- another definition of a name that the link knows leaves the row, joined with it if both are common, hidden too if it is
+    module _ (i : ℕ) (conversion : List ℕ) (source : Option Interned)
+        (ok : call_number (add conversion (as_added headers entries contents file so_far i source)) so_far ≡ 0) where
+      abbrev pub its_row : Row
+      its_row = upcoming so_far.table conversion (as_added headers entries contents file so_far i source)
+
+      abbrev pub row_then : Row
+      row_then = row_at so_far.table.symbols (held_id headers entries contents file so_far i)
+
+      abbrev pub row_now : Row
+      row_now = row_at (call_next (add conversion (as_added headers entries contents file so_far i source)) so_far).table.symbols (held_id headers entries contents file so_far i)
+
+      pub told-takes-over : would headers entries contents file so_far i ≡ true → row_now ≡ pass_hidden gabi row_then.scope its_row
+      told-takes-over e =
+          Terms.told-takes-over key gabi bytes names symbols sections inputs lists new ks lent headers entries contents file i conversion source ok e
+          ∙ ap (λ (g : Bool). pass_hidden g row_then.scope its_row) (Terms.profile key gabi bytes names symbols sections inputs lists new ks)
+
+      pub untold-stays : defines headers entries contents file so_far i ≡ true → knows (ObjectWords.symbol_name headers entries contents file i) so_far ≡ true
+          → would headers entries contents file so_far i ≡ false → row_now ≡ pass_hidden gabi its_row.scope (Apply.joined row_then its_row)
+      untold-stays d h e =
+          Terms.untold-stays key gabi bytes names symbols sections inputs lists new ks lent headers entries contents file i conversion source ok d h e
+          ∙ ap (λ (g : Bool). pass_hidden g its_row.scope (Apply.joined row_then its_row)) (Terms.profile key gabi bytes names symbols sections inputs lists new ks)
 
   -- ---- where lists grow between the calls, as the Rust crate lends them: the profile, demand 3a
 

@@ -49,7 +49,7 @@ use Rattle.merge_laws.proofs.ByNumber as ByNumber
 use Rattle.merge_laws.proofs.ByNumber.{disjoint, changed, elf-gives}
 use Rattle.merge_laws.specs.Calls.{Linked, all_in}
 use Rattle.link_laws.specs.Read as Read
-use Rattle.link_laws.specs.Calls.{Call, intern, resolve, add, remove, get, get_global, add_group, merge, merge_file, load, archive_start, archive_next, archive_shadowed, matches, collect, plain_collect, library_in, lists_in, group_in, call_refusal, call_number, file_head, is_read, reads, add_list}
+use Rattle.link_laws.specs.Calls.{Call, intern, resolve, add, remove, get, get_global, add_group, merge, merge_file, load, archive_start, archive_next, archive_shadowed, matches, would_define, collect, plain_collect, library_in, lists_in, group_in, call_refusal, call_number, file_head, is_read, reads, add_list}
 use Rattle.link_laws.proofs.PlainCalls.{Compared, alike, many, compared, many-refusal}
 use Rattle.merge_file.specs.MergeFile.{file_head_of}
 use Rattle.elf_laws.specs.Object as ElfFile
@@ -269,6 +269,7 @@ broken-only (reads (Read.archive_start key index cells)) s e = never (archive_st
 broken-only (reads (Read.archive_next index cells w)) s e = never (archive_next index cells w) s 22 refl e
 broken-only (reads (Read.archive_shadowed index rows w cells)) s e = never (archive_shadowed index rows w cells) s 22 refl e
 broken-only (reads (Read.matches headers entries contents file index cells w x)) s e = never (matches headers entries contents file index cells w x) s 22 refl e
+broken-only (reads (Read.would_define headers entries contents file cells)) s e = never (would_define headers entries contents file cells) s 22 refl e
 broken-only (collect marks entry work) s e =
     (refl, collect-only s.table.link (lists_in s marks) s.table.symbols s.table.sections entry work e)
 broken-only (plain_collect marks entry work) s e = go (compared marks entry work s)
@@ -343,6 +344,7 @@ zero-places (reads (Read.archive_start key index cells)) s p = start-place key i
 zero-places (reads (Read.archive_next index cells w)) s p = none_of (archive_next index cells w) s refl p
 zero-places (reads (Read.archive_shadowed index rows w cells)) s p = none_of (archive_shadowed index rows w cells) s refl p
 zero-places (reads (Read.matches headers entries contents file index cells w e)) s p = none_of (matches headers entries contents file index cells w e) s refl p
+zero-places (reads (Read.would_define headers entries contents file cells)) s p = none_of (would_define headers entries contents file cells) s refl p
 zero-places (collect marks entry work) s p = only-22 (collect marks entry work) s (0 ∷ 1 ∷ 2 ∷ 21 ∷ []) refl refl p
 zero-places (plain_collect marks entry work) s p = go (compared marks entry work s)
   where

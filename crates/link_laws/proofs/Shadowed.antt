@@ -63,7 +63,7 @@ module _ (symbols : List ℕ) (name : Interned) where
   neither true = refl
   neither false = refl
 
-  same-binding : (v : SymbolVisibility) → is_weak_binding v ≡ weak_in v
+  pub same-binding : (v : SymbolVisibility) → is_weak_binding v ≡ weak_in v
   same-binding Local = refl
   same-binding (Global weak hidden) = refl
 

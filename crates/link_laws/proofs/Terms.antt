@@ -120,6 +120,8 @@ use Rattle.merge_laws.proofs.RowStays as RowStays
 use Rattle.merge_laws.proofs.Terms as MergeTerms
 use Rattle.merge_laws.specs.MergeWords.{named_by, own_signatures, is_removed}
 use Rattle.merge_laws.specs.MergeWords as ObjectWords
+use Rattle.symbol.specs.Hidden.{pass_hidden}
+use Rattle.symbol_resolution.specs.Apply as Apply
 use Rattle.load_laws.specs.Accepted as LoadRows
 use Rattle.load_laws.proofs.Terms as LoadTerms
 use Rattle.merge_laws.proofs.Lookups as Lookups
@@ -133,7 +135,7 @@ use Rattle.load_laws.proofs.SymbolDuplicates as InLoadLaws
 use Rattle.plain_laws.specs.Agrees.{Agrees}
 use Rattle.plain_laws.proofs.Terms as Plain
 use Rattle.plain_laws.specs.BuiltRows.{built_rows}
-use Rattle.link_laws.specs.Calls.{Call, intern, resolve, add, remove, get, get_global, section_symbol, add_group, merge, merge_file, load, archive_start, archive_next, archive_shadowed, matches, collect, plain_collect, view_in, group_in, library_in, lists_in, call_left, call_refusal, call_number, call_next, call_notes, run_calls, log_calls, Removes, RemovesNothing, file_head, add_list, earlier}
+use Rattle.link_laws.specs.Calls.{Call, intern, resolve, add, remove, get, get_global, section_symbol, add_group, merge, merge_file, load, archive_start, archive_next, archive_shadowed, matches, would_define, collect, plain_collect, view_in, group_in, library_in, lists_in, call_left, call_refusal, call_number, call_next, call_notes, run_calls, log_calls, Removes, RemovesNothing, file_head, add_list, earlier}
 use Rattle.link_laws.proofs.FileCall as FileCall
 use Rattle.elf_laws.specs.Object as ElfFile
 use Rattle.elf_laws.specs.Object.{laid}
@@ -206,6 +208,9 @@ use Rattle.link_laws.specs.WalkIn as WalkIn
 use Rattle.link_laws.proofs.WalkIn as WalkInLaws
 use Rattle.link_laws.specs.Shadowed.{knows, strongly_defined, told_by, told, Settled, those_below, Tells}
 use Rattle.link_laws.proofs.Shadowed as ShadowedLaws
+use Rattle.link_laws.specs.Untaken.{defines, would, held_id, as_added, TellsPairs}
+use Rattle.link_laws.proofs.Untaken as UntakenLaws
+use Rattle.link_laws.proofs.Taking as Taking
 use Rattle.link_laws.specs.WorkedLinks.{WorkedLinks}
 use Rattle.link_laws.proofs.WorkedLinks as Worked
 use Rattle.merge_laws.specs.Origin.{from_objects}
@@ -383,6 +388,10 @@ walk-leaves index cells w s = ArchiveLeaves.walk-leaves index cells w _
 pub shadowed-leaves : (index rows : List ℕ) (w : Walk) (cells : List ℕ) (s : Linked) → call_number (archive_shadowed index rows w cells) s ≢ 0
     → (call_left (archive_shadowed index rows w cells) s).cells ≡ cells
 shadowed-leaves index rows w cells s = ArchiveLeaves.shadowed-leaves index rows w _ cells
+
+pub untaken-leaves : (headers entries contents file cells : List ℕ) (s : Linked) → call_number (would_define headers entries contents file cells) s ≢ 0
+    → (call_left (would_define headers entries contents file cells) s).cells ≡ cells
+untaken-leaves headers entries contents file cells s = ArchiveLeaves.would-leaves headers entries contents file _ cells
 
 -- 1, 15, 20, 22, 23, 25, 26, 27 and 30 leave "all", whichever call gives them, but what the earlier adds of a list made
 pub leaves_all : (k : Call) (s : Linked) → one_of (call_number k s) unstarred ≡ true → call_next k s ≡ earlier k s
@@ -880,6 +889,46 @@ module _ (key : ℕ) (gabi : Bool) (bytes names symbols sections inputs lists : 
             → strongly_defined (Index.name_of index (count_of index) k) after ≡ true
         passed-by-held old d e told k h free known = ShadowedLaws.held-strongly index walk_next.offers after k (profile ∙ old) free (all-settled d e told k h known)
 
+      -- ---- what a member that was not taken would have defined: over this link, whatever was removed from it. The member is any object
+
+      module _ (headers entries contents file : List ℕ) where
+        abbrev pub asked : List ℕ → Call
+        asked = would_define headers entries contents file
+
+        abbrev pub count : ℕ
+        count = entries_in (ObjectWords.symbols_of headers entries contents file)
+
+        -- a symbol of the table that a merge would load is told just where it has a name and is a definition, global or weak, and no file symbol; and a lookup of the
+        -- name answers an undefined row, a common where the symbol is a global definition that is none, or a weak definition where it is a global one or a common.
+        -- With its number comes the row's id
+        pub untaken-exactly : (cells : List ℕ) → call_number (asked cells) after ≡ 0
+            → TellsPairs (held_id headers entries contents file after) (those_below (would headers entries contents file after) count) cells (call_left (asked cells) after)
+        untaken-exactly cells = UntakenLaws.tells-them headers entries contents file after fits (lasting-within after _ lasting) cells
+
+        -- the call is accepted where the object's rows are in range and two cells are lent for each symbol
+        pub untaken-goes : (cells : List ℕ) → (Elf.judge_of headers entries (length contents) (length file)).number ≡ 0 → count ≤ length cells / 2 → call_number (asked cells) after ≡ 0
+        untaken-goes cells = UntakenLaws.tells-goes headers entries contents file after fits (lasting-within after _ lasting) cells (signatures ks start) marked
+
+        -- and a symbol is told just where the resolution would take it: an accepted add of what is told leaves its row under the name, hidden too if in the gABI's
+        -- profile the row was; one of another definition of a name that the link knows leaves the row, joined with it if both are common, hidden too if it is
+        module _ (i : ℕ) (conversion : List ℕ) (source : Option Interned) where
+          abbrev pub added : Call
+          added = add conversion (as_added headers entries contents file after i source)
+
+          abbrev pub its_row : Row
+          its_row = upcoming after.table conversion (as_added headers entries contents file after i source)
+
+          abbrev pub row_in : Linked → Row
+          row_in s = row_at s.table.symbols (held_id headers entries contents file after i)
+
+          pub told-takes-over : call_number added after ≡ 0 → would headers entries contents file after i ≡ true
+              → row_in (call_next added after) ≡ pass_hidden after.table.link.gabi (row_in after).scope its_row
+          told-takes-over = Taking.told-takes-over headers entries contents file after fits (lasting-within after _ lasting) i conversion source
+
+          pub untold-stays : call_number added after ≡ 0 → defines headers entries contents file after i ≡ true → knows (ObjectWords.symbol_name headers entries contents file i) after ≡ true
+              → would headers entries contents file after i ≡ false → row_in (call_next added after) ≡ pass_hidden after.table.link.gabi its_row.scope (Apply.joined (row_in after) its_row)
+          untold-stays = Taking.untold-stays headers entries contents file after fits (lasting-within after _ lasting) i conversion source
+
   -- ---- the same where lists grow between calls
 
   -- "any sequence of calls that removes nothing", before each of which cells may be lent more, behind those that the link has (Growth.antt). What is
@@ -951,6 +1000,14 @@ module _ (key : ℕ) (gabi : Bool) (bytes names symbols sections inputs lists : 
         → Tells (those_below (told index r.offers grown_end) (count_of index)) cells (call_left (archive_shadowed index r.cells r.walk cells) grown_end)
     grown-shadowed walk_key index rows begun us cells =
         ShadowedLaws.told-exactly walk_key index rows begun us grown_end (WithinLaws.inv-fits grown_end.table _ some.reached.held) (reached-within grown_end _ _ some.reached) cells
+
+    -- and so is what a member would have defined
+    pub grown-untaken : (headers entries contents file cells : List ℕ) → call_number (would_define headers entries contents file cells) grown_end ≡ 0
+        → TellsPairs (held_id headers entries contents file grown_end)
+        (those_below (would headers entries contents file grown_end) (entries_in (ObjectWords.symbols_of headers entries contents file))) cells
+        (call_left (would_define headers entries contents file cells) grown_end)
+    grown-untaken headers entries contents file cells =
+        UntakenLaws.tells-them headers entries contents file grown_end (WithinLaws.inv-fits grown_end.table _ some.reached.held) (reached-within grown_end _ _ some.reached) cells
 
   -- ---- 3. the demands
 

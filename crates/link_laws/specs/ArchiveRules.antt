@@ -9,6 +9,7 @@ use Rattle.symbol_laws.specs.History.{State}
 use Rattle.link_laws.specs.Rules.{Rule, ◌gives◌at◌, each, lent_rows, count_rules}
 use Rattle.link_laws.specs.TableRules.{is_removed, row_of, is_known, id_in}
 use Rattle.link_laws.specs.ObjectRules.{cell_at, object_rules}
+use Rattle.merge_laws.specs.MergeWords.{symbols_of}
 
 -- ---- the index: "a big-endian 32-bit count, that many 32-bit member offsets, as many zero-ended names"
 
@@ -109,3 +110,12 @@ is_no_entry index cells w e = ltb (length index) w.length || ltb (length cells /
 abbrev pub matches_rules : List ℕ → List ℕ → List ℕ → List ℕ → List ℕ → List ℕ → Walk → ℕ → List Rule
 matches_rules headers entries contents file index cells w e =
     object_rules headers entries contents file ++ ((is_no_entry index cells w e gives 1 at 0) ∷ [])
+
+-- ---- what a member that was not taken would have defined, a call of our own: the link's counts, the object's rows, then two cells for each symbol that a
+-- merge would load
+
+abbrev pub would_rules : List ℕ → List ℕ → List ℕ → List ℕ → State → List ℕ → List Rule
+would_rules headers entries contents file t cells =
+    (count_rules t.link (lent_rows (length t.names / 9) (length t.bytes) (length t.symbols) t.link.slots not_lent not_lent)
+    ++ object_rules headers entries contents file)
+    ++ ((ltb (length cells / 2) (length (symbols_of headers entries contents file) / 8) gives 2 at 0) ∷ [])

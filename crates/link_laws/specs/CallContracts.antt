@@ -32,6 +32,8 @@ use Rattle.archive_walk.specs.Walk as Archive
 use Rattle.archive_walk.specs.Contract.{StartExit, StartMeets, NextExit, NextMeets}
 use Rattle.shadowed_members.specs.Shadowed as Shadowed
 use Rattle.shadowed_members.specs.Contract.{ShadowedExit, ShadowedMeets}
+use Rattle.untaken_member.specs.Untaken as Untaken
+use Rattle.untaken_member.specs.Contract.{WouldExit, WouldMeets}
 use Rattle.object_requirement.specs.Contract.{MatchesMeets}
 use Rattle.gc_sections.specs.declared.Outcome as Collection
 use Rattle.gc_sections.specs.Run as Collecting
@@ -77,6 +79,7 @@ Exit (reads (Read.archive_start key index cells)) = StartExit
 Exit (reads (Read.archive_next index cells w)) = NextExit
 Exit (reads (Read.archive_shadowed index rows w cells)) = ShadowedExit
 Exit (reads (Read.matches headers entries contents file index cells w e)) = (Result Bool Refusal)
+Exit (reads (Read.would_define headers entries contents file cells)) = WouldExit
 Exit (collect marks entry work) = Collects.Exit
 Exit (plain_collect marks entry work) = Collects.Exit
 
@@ -114,6 +117,7 @@ Meets (reads (Read.archive_start key index cells)) s e = StartMeets key index ce
 Meets (reads (Read.archive_next index cells w)) s e = NextMeets index cells w (view_in s.table) e
 Meets (reads (Read.archive_shadowed index rows w cells)) s e = ShadowedMeets index rows w (view_in s.table) cells e
 Meets (reads (Read.matches headers entries contents file index cells w i)) s e = MatchesMeets s.table.link headers entries contents file index cells w i e
+Meets (reads (Read.would_define headers entries contents file cells)) s e = WouldMeets headers entries contents file (view_in s.table) cells e
 Meets (collect marks entry work) s e = RunMeets s.table.link (lists_in s marks) s.table.symbols s.table.sections entry work e
 Meets (plain_collect marks entry work) s e = PlainMeets s.table.link (lists_in s marks) s.table.symbols s.table.sections entry work e
 
@@ -142,6 +146,7 @@ seen (reads (Read.archive_start key index cells)) e = Archive.start_left e.cells
 seen (reads (Read.archive_next index cells w)) e = Archive.step_moved e.cells e.result
 seen (reads (Read.archive_shadowed index rows w cells)) e = Shadowed.left e.cells e.result
 seen (reads (Read.matches headers entries contents file index cells w i)) e = e
+seen (reads (Read.would_define headers entries contents file cells)) e = Untaken.left e.cells e.result
 seen (collect marks entry work) e = Collecting.outcome e.symbols e.sections e.work e.result
 seen (plain_collect marks entry work) e = Collecting.outcome e.symbols e.sections e.work e.result
 

@@ -11,7 +11,7 @@ use Rattle.link_laws.specs.GroupRules.{alone, group_head, own_group_rules}
 use Rattle.link_laws.specs.MergeRules.{merge_rules}
 use Rattle.link_laws.specs.FileRules.{file_rules}
 use Rattle.link_laws.specs.LoadRules.{load_rules}
-use Rattle.link_laws.specs.ArchiveRules.{start_rules, next_rules, shadowed_rules, matches_rules}
+use Rattle.link_laws.specs.ArchiveRules.{start_rules, next_rules, shadowed_rules, matches_rules, would_rules}
 use Rattle.link_laws.specs.CollectRules.{collect_rules, plain_rules}
 use Rattle.link_laws.specs.ListRules.{list_head, list_rules}
 use Rattle.add_list.specs.AddList.{items_of}
@@ -35,5 +35,6 @@ rules (reads (Read.archive_start key index cells)) s = start_rules index cells
 rules (reads (Read.archive_next index cells w)) s = next_rules index cells w s.table
 rules (reads (Read.archive_shadowed index rows w cells)) s = shadowed_rules index rows w s.table cells
 rules (reads (Read.matches headers entries contents file index cells w e)) s = matches_rules headers entries contents file index cells w e
+rules (reads (Read.would_define headers entries contents file cells)) s = would_rules headers entries contents file s.table cells
 rules (collect marks entry work) s = collect_rules s.table s.lists marks entry work
 rules (plain_collect marks entry work) s = plain_rules s.table s.lists marks entry work

@@ -90,6 +90,9 @@ archive_shadowed index rows w cells = reads (Read.archive_shadowed index rows w 
 abbrev pub matches : List ℕ → List ℕ → List ℕ → List ℕ → List ℕ → List ℕ → Walk → ℕ → Call
 matches headers entries contents file index cells w e = reads (Read.matches headers entries contents file index cells w e)
 
+abbrev pub would_define : List ℕ → List ℕ → List ℕ → List ℕ → List ℕ → Call
+would_define headers entries contents file cells = reads (Read.would_define headers entries contents file cells)
+
 -- ---- what each call leaves and answers
 
 abbrev pub group_in : State → List ℕ → Group.State

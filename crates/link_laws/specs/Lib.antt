@@ -21,6 +21,7 @@ pub mod LocalRows
 pub mod SectionSymbols
 pub mod Words
 pub mod Shadowed
+pub mod Untaken
 pub mod ListRules
 pub mod AddHead
 pub mod Admitted

@@ -18,6 +18,8 @@ use Rattle.archive_walk.specs.Walk as Archive
 use Rattle.archive_walk.specs.Walk.{start_of, next_of}
 use Rattle.shadowed_members.specs.Shadowed as Shadowed
 use Rattle.shadowed_members.specs.Shadowed.{shadowed_of}
+use Rattle.untaken_member.specs.Untaken as Untaken
+use Rattle.untaken_member.specs.Untaken.{would_of}
 use Rattle.object_requirement.specs.Matches as Matches
 use Rattle.object_requirement.specs.Matches.{matches_of}
 use Rattle.symbol_laws.specs.History.{State, store}
@@ -34,6 +36,8 @@ pub data ReadCall : Type 0 where
   archive_shadowed : List ℕ → List ℕ → Walk → List ℕ → ReadCall
   -- headers, entries, contents and bytes of the object; index, cells, walk; the entry that was offered
   matches : List ℕ → List ℕ → List ℕ → List ℕ → List ℕ → List ℕ → Walk → ℕ → ReadCall
+  -- of an object the same; cells for the symbols that are told, and their rows
+  would_define : List ℕ → List ℕ → List ℕ → List ℕ → List ℕ → ReadCall
 
 -- what a call for the next member is lent of a link
 abbrev pub view_in : State → Look.Table
@@ -52,6 +56,7 @@ ReadLeft (archive_start key index cells) = Archive.Start
 ReadLeft (archive_next index cells w) = Archive.Step
 ReadLeft (archive_shadowed index rows w cells) = Shadowed.Left
 ReadLeft (matches headers entries contents file index cells w e) = (Result Bool Refusal)
+ReadLeft (would_define headers entries contents file cells) = Untaken.Left
 
 -- its contract: the outcome is this
 abbrev pub read_left : (k : ReadCall) → State → ReadLeft k
@@ -63,6 +68,7 @@ read_left (archive_start key index cells) t = start_of key index cells
 read_left (archive_next index cells w) t = next_of index cells w (view_in t)
 read_left (archive_shadowed index rows w cells) t = shadowed_of index rows w (view_in t) cells
 read_left (matches headers entries contents file index cells w e) t = matches_of t.link headers entries contents file index cells w e
+read_left (would_define headers entries contents file cells) t = would_of headers entries contents file (view_in t) cells
 
 -- number and place, 0 and 0 for a result
 abbrev pub read_refusal : (k : ReadCall) → ReadLeft k → Refusal
@@ -74,3 +80,4 @@ read_refusal (archive_start key index cells) o = refusal_with (Archive.begun_sai
 read_refusal (archive_next index cells w) o = refusal_with (Archive.offer_said o.moved.offer)
 read_refusal (archive_shadowed index rows w cells) o = refusal_with (Archive.begun_said o.answer)
 read_refusal (matches headers entries contents file index cells w e) o = refusal_with (Matches.said o)
+read_refusal (would_define headers entries contents file cells) o = refusal_with (Archive.begun_said o.answer)

@@ -49,5 +49,7 @@ call_numbers (reads (Read.archive_next index cells w)) = 1 ∷ 21 ∷ []
 -- a call of our own
 call_numbers (reads (Read.archive_shadowed index rows w cells)) = 1 ∷ 2 ∷ []
 call_numbers (reads (Read.matches headers entries contents file index cells w e)) = 1 ∷ []
+-- a call of our own
+call_numbers (reads (Read.would_define headers entries contents file cells)) = 1 ∷ 2 ∷ []
 call_numbers (collect marks entry work) = 22 ∷ 1 ∷ 2 ∷ 21 ∷ []
 call_numbers (plain_collect marks entry work) = 22 ∷ 1 ∷ 30 ∷ 2 ∷ 21 ∷ []

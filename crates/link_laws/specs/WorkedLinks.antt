@@ -11,14 +11,14 @@ use Rattle.link.specs.declared.SectionId.{SectionId}
 use Rattle.link.specs.Judge.{refused}
 use Rattle.symbols.specs.New.{new_of}
 use Rattle.symbols.specs.Lookup.{not_found}
-use Rattle.upcoming_symbol.specs.declared.UpcomingSymbol.TheVariants.{GlobalUnknown, ExternallyDefined, Section}
+use Rattle.upcoming_symbol.specs.declared.UpcomingSymbol.TheVariants.{GlobalUnknown, ExternallyDefined, Section, Elf}
 use Rattle.section_groups.specs.Group as Group
 use Rattle.merge_stages.specs.Stages as Stages
 use Rattle.shared_objects.specs.Load as Shared
 use Rattle.archive_walk.specs.Walk as Archive
 use Rattle.symbol_laws.specs.History.{opened}
 use Rattle.merge_laws.specs.Calls.{Linked, linked}
-use Rattle.link_laws.specs.Calls.{Call, intern, resolve, add, remove, get, get_global, section_symbol, add_group, merge, load, archive_start, archive_next, archive_shadowed, matches, collect, plain_collect, view_in, library_in, call_left, call_refusal, call_number, call_next, run_calls, RemovesNothing}
+use Rattle.link_laws.specs.Calls.{Call, intern, resolve, add, remove, get, get_global, section_symbol, add_group, merge, load, archive_start, archive_next, archive_shadowed, matches, would_define, collect, plain_collect, view_in, library_in, call_left, call_refusal, call_number, call_next, run_calls, RemovesNothing}
 use Rattle.archive_laws.specs.PassList.{offered}
 use Rattle.link_laws.specs.Walks.{next_in}
 use Rattle.link_laws.specs.Kept.{signatures}
@@ -28,6 +28,7 @@ use Rattle.symbol_laws.specs.ObjectWords.{sections_in, program, loaded_as}
 use Rattle.merge_laws.specs.MergeWords.{named_by, is_removed}
 use Rattle.archive_laws.specs.Runs.{Run, start_run}
 use Rattle.shadowed_members.specs.Shadowed as Shadowed
+use Rattle.untaken_member.specs.Untaken as Untaken
 
 -- ---- what is lent
 
@@ -159,6 +160,17 @@ passing s = next_in index (start_run 0 index (zeros 8)) s
 abbrev pub told : Linked → Shadowed.Left
 told s = call_left (archive_shadowed index (passing s).cells (passing s).walk (9 ∷ [])) s
 
+-- ---- the object, as a member that was not taken: over those links, and where `f` is common
+
+abbrev pub common : Bool → Linked
+common gabi =
+    run_calls
+    (intern (102 ∷ []) ∷ add [] (Elf (record { binding = 1; visibility = 0; kind = 1; section = 0xfff2; value = 4; size = 4 }) (record { 0 = 1 }) None) ∷ [])
+    (s0 gabi)
+
+abbrev pub would : Linked → Untaken.Left
+would s = call_left (would_define headers entries (1 ∷ []) file (9 ∷ 9 ∷ 9 ∷ 9 ∷ [])) s
+
 -- ---- lists that grow: a table without bytes for names, which gets them before `f` is interned
 
 abbrev pub tight : Bool → Linked
@@ -196,6 +208,11 @@ pub record WorkedLinks (gabi : Bool) : Type 0 where
   pub shadows : ((passing (defined 2 gabi)).offers ≡ []) × ((passing (defined 2 gabi)).walk.done ≡ true) × (told (defined 2 gabi) ≡ Shadowed.left (0 ∷ []) (Ok 1))
   pub strong-untold : ((passing (defined 1 gabi)).walk.done ≡ true) × (told (defined 1 gabi) ≡ Shadowed.left (9 ∷ []) (Ok 0))
   pub lacks : ((passing (run_calls front (s0 gabi))).offers ≡ 0 ∷ []) × (told (run_calls front (s0 gabi)) ≡ Shadowed.left (0 ∷ []) (Ok 1))
+  -- the object's `f`, symbol 1, is strong: it would have taken over the row 1, where that is a weak definition, a common or undefined; a strong one stays
+  pub would-weak : would (defined 2 gabi) ≡ Untaken.left (1 ∷ 1 ∷ 9 ∷ 9 ∷ []) (Ok 1)
+  pub would-common : would (common gabi) ≡ Untaken.left (1 ∷ 1 ∷ 9 ∷ 9 ∷ []) (Ok 1)
+  pub would-undefined : would (run_calls front (s0 gabi)) ≡ Untaken.left (1 ∷ 1 ∷ 9 ∷ 9 ∷ []) (Ok 1)
+  pub would-not : would (defined 1 gabi) ≡ Untaken.left (9 ∷ 9 ∷ 9 ∷ 9 ∷ []) (Ok 0)
   -- the library is loaded, and the collection drops nothing, since `f` is marked
   pub loaded : (run_calls (ks gabi) (s0 gabi)).table.link.inputs ≡ 2
   pub kept : (call_left (collect (1 ∷ 1 ∷ 1 ∷ []) None (zeros 2)) (run_calls (ks gabi) (s0 gabi))).answer ≡ Ok (dropped 0 0)

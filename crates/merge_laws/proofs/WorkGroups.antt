@@ -84,7 +84,7 @@ module _ (o : Object) (a : All) where
 
 -- ---- the loaded symbol table
 
-table-entries : (headers entries : List ℕ) (k : ℕ) → table_entries headers entries (table_to headers k) ≡ entries_to headers entries k
+pub table-entries : (headers entries : List ℕ) (k : ℕ) → table_entries headers entries (table_to headers k) ≡ entries_to headers entries k
 unfolding table_entries entries_from section_of entries_to
 table-entries headers entries zero = refl
 table-entries headers entries (suc t) =
@@ -96,7 +96,7 @@ unfolding name_in strings_of
 name-same headers file n o =
     rw (loaded-same headers n 4) (by-test (loaded_as headers n string_table) (λ a. rw a) (λ a. rw (a, name-empty o)))
 
-table-names : (headers file : List ℕ) (k o : ℕ) → table_to headers k ≢ 0 → (name_in headers file (link_at headers (section_of (table_to headers k))) o).name ≡ name_at (symbol_names headers file k) o
+pub table-names : (headers file : List ℕ) (k o : ℕ) → table_to headers k ≢ 0 → (name_in headers file (link_at headers (section_of (table_to headers k))) o).name ≡ name_at (symbol_names headers file k) o
 unfolding section_of symbol_names
 table-names headers file zero o u = absurd (u refl)
 table-names headers file (suc t) o u =
@@ -109,7 +109,7 @@ found-same : (headers file : List ℕ) (n o : ℕ) → (name_in headers file n o
 unfolding name_in strings_of
 found-same headers file n o = rw (loaded-same headers n 4) (by-test (loaded_as headers n string_table) (λ a. rw a) (λ a. rw a))
 
-table-found : (headers file : List ℕ) (k o : ℕ) → table_to headers k ≢ 0
+pub table-found : (headers file : List ℕ) (k o : ℕ) → table_to headers k ≢ 0
     → (name_in headers file (link_at headers (section_of (table_to headers k))) o).found ≡ has_names headers k && has_name (symbol_names headers file k) o
 unfolding section_of symbol_names has_names
 table-found headers file zero o u = absurd (u refl)
@@ -119,7 +119,7 @@ table-found headers file (suc t) o u =
     (λ a. rw (a, ne_eqb (t + 1) 0 (λ q. omega arith), e) (found-same headers file (link_of headers t) o))
     (λ a. rw a (table-found headers file t o (rw a at u)))
 
-no-entries : (headers entries : List ℕ) (k : ℕ) → table_to headers k ≡ 0 → entries_to headers entries k ≡ []
+pub no-entries : (headers entries : List ℕ) (k : ℕ) → table_to headers k ≡ 0 → entries_to headers entries k ≡ []
 unfolding entries_to
 no-entries headers entries zero e = refl
 no-entries headers entries (suc t) e =

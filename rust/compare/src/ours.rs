@@ -241,7 +241,8 @@ impl Ours {
         let Some(name) = issued.or_else(|| self.link.find(name.as_bytes())) else {
             return Err(Refusal::new(Cause::UnknownGlobalName, 0));
         };
-        self.link.get_global(name).map(|symbol| self.symbol(&symbol))
+        let symbol = self.link.get_global(name)?;
+        Ok(self.symbol(&symbol))
     }
 
     // ---- libraries, archives, collections

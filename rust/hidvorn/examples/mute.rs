@@ -1,14 +1,19 @@
 //! A title's link: the emulator core carries a weak `mute` that does nothing, and its mixer calls
 //! it by name; the sound archive has the strong one, which clears the mix buffer. Prints who holds
-//! `mute` at the end and which member gave it, and warns where the archive's was not taken.
+//! `mute` at the end, and warns of each definition that a member which was not taken would have
+//! given: a gate for a title's build, which other linkers don't have.
 use hidvorn::{
-    Converted, ElfSymbol, Link, Object, PendingArchive, Refusal, Relocations, SectionContent,
-    SectionHeader, Shadowed, Step, Symbol, SymbolValue, SymbolVisibility,
+    ElfSymbol, Link, Object, PendingArchive, Refusal, Relocations, SectionContent, SectionHeader,
+    Step,
 };
+use std::collections::BTreeSet;
+use support::{Holders, strength, warn};
+
+mod support;
 
 /// An ELF object by hand: a program section for each name of `sections`, whose relocations name
-/// the symbols of `calls`; and symbols by name, binding and section.
-fn object(sections: &[(&str, &[usize])], symbols: &[(&str, u64, usize)]) -> Object<'static> {
+/// the symbols of `calls`; and symbols by name, binding, section and size.
+fn object(sections: &[(&str, &[usize])], symbols: &[(&str, u64, usize, u64)]) -> Object<'static> {
     // A string table: a zero byte, then zero-ended names.
     let mut strings = vec![0];
     let mut offset = |name: &str| {
@@ -31,9 +36,16 @@ fn object(sections: &[(&str, &[usize])], symbols: &[(&str, u64, usize)]) -> Obje
     let table = object.push_section(SectionHeader { content, ..Default::default() });
     object.set_section_names(table);
     object.push_symbol(ElfSymbol::default());
-    for ((_, binding, section), name) in symbols.iter().zip(symbol_names) {
-        let (binding, section) = (*binding, *section);
-        object.push_symbol(ElfSymbol { name, binding, kind: 2, section, ..Default::default() });
+    for (&(_, binding, section, size), name) in symbols.iter().zip(symbol_names) {
+        object.push_symbol(ElfSymbol {
+            name,
+            binding,
+            kind: 2,
+            section,
+            size,
+            value: 0,
+            visibility: 0,
+        });
     }
     let count = object.symbol_count();
     let content = SectionContent::SymbolTable { strings: table, first: 0, count };
@@ -62,8 +74,8 @@ const STRONG: u64 = 1;
 
 /// The core: symbol 1 is the weak mute, symbol 2 the mixer, which calls it and what `others` are.
 fn core(others: &[&str]) -> Object<'static> {
-    let mut symbols = vec![("mute", WEAK, 1), ("mixer", STRONG, 2)];
-    symbols.extend(others.iter().map(|name| (*name, STRONG, 0)));
+    let mut symbols = vec![("mute", WEAK, 1, 1), ("mixer", STRONG, 2, 20)];
+    symbols.extend(others.iter().map(|name| (*name, STRONG, 0, 0)));
     let calls: Vec<_> = (1..=symbols.len()).filter(|symbol| *symbol != 2).collect();
     object(&[(".text.mute", &[]), (".text.mixer", &calls)], &symbols)
 }
@@ -80,16 +92,15 @@ fn main() -> Result<(), Refusal> {
 fn link_title(core: &Object<'_>) -> Result<(), Refusal> {
     let sound = object(
         &[(".text.mute", &[2]), (".text.mix", &[])],
-        &[("mute", STRONG, 1), ("mix_clear", STRONG, 2)],
+        &[("mute", STRONG, 1, 8), ("mix_clear", STRONG, 2, 64)],
     );
-    let video = object(&[(".text.blank", &[])], &[("blank", STRONG, 1)]);
-    let members = [(60, "sound.o", &sound), (900, "video.o", &video)];
+    let video = object(&[(".text.blank", &[])], &[("blank", STRONG, 1, 40)]);
+    let members = [(60, "libav.a(sound.o)", &sound), (900, "libav.a(video.o)", &video)];
     let archive = index(&[("mute", 60), ("mix_clear", 60), ("blank", 900)]);
 
     let mut link = Link::new();
-    link.merge_elf(core)?;
-    let mute = link.intern(b"mute")?;
-    let mut giver = "the core";
+    let (mut holders, mut taken) = (Holders::default(), BTreeSet::new());
+    holders.note("core.o", &link.merge_elf(core)?);
     let mut walk = PendingArchive::new(archive)?;
     let passes = loop {
         let member = match walk.next(&link)? {
@@ -100,22 +111,21 @@ fn link_title(core: &Object<'_>) -> Result<(), Refusal> {
         let required: Vec<_> = walk.required(&member).map(String::from_utf8_lossy).collect();
         println!("pass {} offers {name}, for {}", member.passes, required.join(", "));
         if walk.admits(&link, &member, object)? {
-            let merged = link.merge_elf(object)?;
-            // Whoever has the section has the symbol.
-            let holder = merged.link().get_global(mute)?.value.section().map(Converted::Section);
-            if merged.sections().any(|section| holder == Some(section)) {
-                giver = name;
-            }
+            holders.note(name, &link.merge_elf(object)?);
+            taken.insert(member.offset);
         } else {
             println!("warning: {name}: offered, but not admitted: what it defines is left out");
         }
     };
     println!("done after {passes} passes");
-    for told in walk.shadowed(&link)? {
-        let (_, member, _) = members.iter().find(|(at, ..)| *at == told.offset).unwrap();
-        warn(&told, member);
+
+    // At the end of the whole link, of every archive each member that was not taken.
+    for (_, name, object) in members.iter().filter(|(at, ..)| !taken.contains(at)) {
+        warn(&link, &holders, name, object)?;
     }
-    report(&link, &link.get_global(mute)?, giver)?;
+    let mute = link.get_global(link.find(b"mute").expect("the core defines it"))?;
+    let holder = holders.of(&mute).expect("the core defines it");
+    println!("mute is held by the {} one of {holder}, size {}", strength(&mute), mute.size);
 
     // The mixer is the entry: what it doesn't reach is dropped.
     let mixer = link.find(b"mixer").expect("the core defines it");
@@ -123,29 +133,5 @@ fn link_title(core: &Object<'_>) -> Result<(), Refusal> {
     let marks = vec![0; link.symbol_count()];
     let collected = link.gc_sections(&marks, Some(entry))?;
     println!("dropped sections: {:?}", collected.sections);
-    Ok(())
-}
-
-/// What the walk passed by, in words that somebody can act on.
-fn warn(told: &Shadowed<'_>, member: &str) {
-    let name = String::from_utf8_lossy(told.name);
-    match told.holder.value {
-        SymbolValue::Undefined { .. } => {
-            println!("warning: {name}: undefined still, though the archive's {member} was offered");
-        }
-        _ => println!(
-            "warning: {name}: weak in the core; the archive's {member} defines it and was not taken"
-        ),
-    }
-}
-
-fn report(link: &Link, symbol: &Symbol, giver: &str) -> Result<(), Refusal> {
-    let strength = match symbol.visibility {
-        SymbolVisibility::Global { weak: true, .. } => "weak",
-        SymbolVisibility::Global { weak: false, .. } => "strong",
-        SymbolVisibility::Local => "local",
-    };
-    let name = String::from_utf8_lossy(link.resolve(symbol.name)?);
-    println!("{name} is held by the {strength} one of {giver}: {:?}", symbol.value);
     Ok(())
 }

@@ -1,15 +1,21 @@
 //! The link of examples/mute.rs from real files: compiles a core and an archive with `cc` and `ar`,
 //! merges the core, walks over the archive and merges the members that it admits. Prints who holds
-//! `mute` at the end, and which file gave it.
-use hidvorn::{Converted, Link, Object, PendingArchive, Profile, Step, SymbolVisibility};
+//! `mute` at the end, and warns of what a member that was not taken would have defined.
+use hidvorn::{Link, Object, PendingArchive, Profile, Step};
+use std::collections::BTreeSet;
 use std::path::{Path, PathBuf};
 use std::process::{self, Command};
 use std::{env, error::Error, fs};
+use support::{Holders, strength, warn};
+
+mod support;
 
 type Outcome<T> = Result<T, Box<dyn Error>>;
 
-// A weak mute that does nothing; the mixer calls it, and mix_clear, which the core doesn't have.
-const CORE: &str = "void mix_clear(void);
+// A weak mute that does nothing; the mixer calls it, and mix_clear, which the core doesn't have. A
+// common volume, which the archive's video.o defines.
+const CORE: &str = "int volume;
+void mix_clear(void);
 __attribute__((weak)) void mute(void) {}
 void mixer(void) { mute(); mix_clear(); }
 ";
@@ -17,7 +23,9 @@ const SOUND: &str = "static int buffer[64];
 void mix_clear(void) { for (int i = 0; i < 64; i++) buffer[i] = 0; }
 void mute(void) { mix_clear(); }
 ";
-const VIDEO: &str = "void blank(void) {}\n";
+const VIDEO: &str = "int volume = 7;
+void blank(void) {}
+";
 
 fn run(command: &mut Command) -> Outcome<()> {
     let status = command.status().map_err(|error| format!("{command:?}: {error}"))?;
@@ -27,7 +35,10 @@ fn run(command: &mut Command) -> Outcome<()> {
 fn compile(folder: &Path, name: &str, source: &str) -> Outcome<PathBuf> {
     let (from, to) = (folder.join(format!("{name}.c")), folder.join(format!("{name}.o")));
     fs::write(&from, source)?;
-    run(Command::new("cc").args(["-c", "-O1", "-ffunction-sections", "-o"]).arg(&to).arg(from))?;
+    run(Command::new("cc")
+        .args(["-c", "-O1", "-fcommon", "-ffunction-sections", "-o"])
+        .arg(&to)
+        .arg(from))?;
     Ok(to)
 }
 
@@ -62,9 +73,8 @@ fn link(folder: &Path) -> Outcome<()> {
 
 fn link_title(profile: Profile, core: &[u8], archive: &[u8]) -> Outcome<()> {
     let mut link = Link::with_profile(profile, hidvorn::Capacity::BOUNDS)?;
-    link.merge_file(core)?;
-    let mute = link.find(b"mute").ok_or("the core has a mute")?;
-    let mut giver = "core.o".to_string();
+    let (mut holders, mut taken) = (Holders::default(), BTreeSet::new());
+    holders.note("core.o", &link.merge_file(core)?);
 
     // The index is the first member, behind the archive's eight bytes.
     let mut walk = PendingArchive::new(member(archive, 8)?.1)?;
@@ -77,17 +87,21 @@ fn link_title(profile: Profile, core: &[u8], archive: &[u8]) -> Outcome<()> {
         let required: Vec<_> = walk.required(&offered).map(String::from_utf8_lossy).collect();
         println!("pass {} offers {name}, for {}", offered.passes, required.join(", "));
         if walk.admits(&link, &offered, &Object::read(file)?)? {
-            let merged = link.merge_file(file)?;
-            let holder = merged.link().get_global(mute)?.value.section().map(Converted::Section);
-            if merged.sections().any(|section| holder == Some(section)) {
-                giver = name;
-            }
+            holders.note(&name, &link.merge_file(file)?);
+            taken.insert(offered.offset);
         }
     };
-    let symbol = link.get_global(mute)?;
-    let weak = matches!(symbol.visibility, SymbolVisibility::Global { weak: true, .. });
-    let strength = if weak { "weak" } else { "strong" };
-    println!("done after {passes} passes: mute is held by the {strength} one of {giver}");
+
+    // At the end of the whole link, of every archive each member that was not taken.
+    let entries = (0..walk.entry_count()).filter_map(|entry| walk.entry(entry));
+    let members: BTreeSet<_> = entries.map(|entry| entry.offset).collect();
+    for offset in members.difference(&taken) {
+        let (name, file) = member(archive, *offset as usize)?;
+        warn(&link, &holders, &format!("libsound.a({name})"), &Object::read(file)?)?;
+    }
+    let mute = link.get_global(link.find(b"mute").ok_or("the core has a mute")?)?;
+    let holder = holders.of(&mute).ok_or("the core defines mute")?;
+    println!("done after {passes} passes: mute is held by the {} one of {holder}", strength(&mute));
 
     // The mixer is the entry: what it doesn't reach is dropped.
     let entry = link.get_global(link.find(b"mixer").ok_or("the core has a mixer")?)?.id;

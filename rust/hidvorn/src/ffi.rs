@@ -210,6 +210,13 @@ unsafe extern "C" {
         strings: usize,
     ) -> u64;
 
+    fn hidvorn_count_file(
+        answer: *mut u64,
+        answer_len: usize,
+        file: *const u8,
+        file_len: usize,
+    ) -> u64;
+
     fn hidvorn_read_file(
         answer: *mut u64,
         answer_len: usize,
@@ -341,6 +348,27 @@ unsafe extern "C" {
         contents_len: usize,
         file: *const u8,
         file_len: usize,
+    ) -> u64;
+
+    fn hidvorn_would_define(
+        header: *mut u64,
+        header_len: usize,
+        bytes: *const u8,
+        bytes_len: usize,
+        names: *const u64,
+        names_len: usize,
+        symbols: *const u64,
+        symbols_len: usize,
+        headers: *const u64,
+        headers_len: usize,
+        entries: *const u64,
+        entries_len: usize,
+        contents: *const u64,
+        contents_len: usize,
+        file: *const u8,
+        file_len: usize,
+        told: *mut u64,
+        told_len: usize,
     ) -> u64;
 
     fn hidvorn_gc_run(
@@ -714,13 +742,43 @@ pub(crate) fn merge_elf(
     answer(header)
 }
 
-/// The cells of a read's answer: the place, or how many sections, symbols and cells of contents
-/// were written, and the section of the sections' names.
-pub(crate) type Reading = [u64; 8];
+/// What has to be lent for a file: a row for each section and symbol, a cell for each relocation and
+/// each section number that a group lists; and the work rows of its merge.
+#[derive(Clone, Copy, Debug, Default, PartialEq)]
+pub(crate) struct FileRows {
+    pub(crate) sections: usize,
+    pub(crate) symbols: usize,
+    pub(crate) relocations: usize,
+    pub(crate) listed: usize,
+    pub(crate) work_rows: usize,
+}
 
-/// Writes the rows of a file: headers, symbols, contents, one after the other.
-pub(crate) fn read_file(rows: &mut [u64], file: &[u8]) -> Result<Reading, Refusal> {
-    let mut answer: Reading = [0; 8];
+impl FileRows {
+    /// The cells of its rows.
+    pub(crate) fn cells(self) -> usize {
+        8 * (self.sections + self.symbols) + self.relocations + self.listed
+    }
+}
+
+/// Counts the rows of a file.
+pub(crate) fn count_file(file: &[u8]) -> Result<FileRows, Refusal> {
+    let mut answer = [0; 8];
+    // SAFETY: see the module.
+    let number =
+        unsafe { hidvorn_count_file(answer.as_mut_ptr(), answer.len(), file.as_ptr(), file.len()) };
+    let [place, sections, symbols, relocations, listed, work_rows, ..] =
+        answer.map(|cell| cell as usize);
+    match number {
+        0 => Ok(FileRows { sections, symbols, relocations, listed, work_rows }),
+        number => Err(Refusal::new(cause(number), place)),
+    }
+}
+
+/// Writes the rows of a file, headers, symbols, contents, one after the other, and answers the
+/// section of the sections' names.
+pub(crate) fn read_file(rows: &mut [u64], file: &[u8]) -> Result<usize, Refusal> {
+    // The place, or how many sections, symbols and cells of contents, and the names' section.
+    let mut answer = [0; 8];
     // SAFETY: see the module.
     let number = unsafe {
         hidvorn_read_file(
@@ -733,7 +791,7 @@ pub(crate) fn read_file(rows: &mut [u64], file: &[u8]) -> Result<Reading, Refusa
         )
     };
     match number {
-        0 => Ok(answer),
+        0 => Ok(answer[4] as usize),
         number => Err(Refusal::new(cause(number), answer[0] as usize)),
     }
 }
@@ -959,6 +1017,44 @@ pub(crate) fn matches(
             contents.len(),
             file.as_ptr(),
             file.len(),
+        );
+    }
+    answer(header)
+}
+
+#[allow(clippy::too_many_arguments)]
+pub(crate) fn would_define(
+    header: &mut Header,
+    bytes: &[u8],
+    names: &[u64],
+    symbols: &[u64],
+    headers: &[u64],
+    entries: &[u64],
+    contents: &[u64],
+    file: &[u8],
+    told: &mut [u64],
+) -> Result<(), Refusal> {
+    // SAFETY: see the module.
+    unsafe {
+        hidvorn_would_define(
+            header.as_mut_ptr(),
+            header.len(),
+            bytes.as_ptr(),
+            bytes.len(),
+            names.as_ptr(),
+            names.len(),
+            symbols.as_ptr(),
+            symbols.len(),
+            headers.as_ptr(),
+            headers.len(),
+            entries.as_ptr(),
+            entries.len(),
+            contents.as_ptr(),
+            contents.len(),
+            file.as_ptr(),
+            file.len(),
+            told.as_mut_ptr(),
+            told.len(),
         );
     }
     answer(header)

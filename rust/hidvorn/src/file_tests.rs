@@ -1,7 +1,7 @@
 //! Object files against a reader of the tests' own: its sums are of 128 bits, it goes by elf.h's
 //! structures, and it shares nothing with the proved one. Files compiled on the spot, every member
 //! of the system's archives, damaged copies; each is read, then merged as a file and as rows.
-use crate::names::file_work_rows;
+use crate::ffi::{FileRows, count_file};
 use crate::{Link, Object, PendingArchive, Profile, Refusal, Step};
 use std::collections::BTreeMap;
 use std::path::{Path, PathBuf};
@@ -167,7 +167,7 @@ fn read(file: &[u8]) -> Result<Rows, Refused> {
         ]);
     }
     let cells = rows.headers.len() + rows.entries.len() + rows.contents.len();
-    if cells > file.len() / 3 + 8 { Err((2, 0)) } else { Ok(rows) }
+    if cells > file.len().max(1 << 24) { Err((2, 0)) } else { Ok(rows) }
 }
 
 // ---- each file: its rows, then merged as a file and as rows
@@ -201,7 +201,9 @@ fn try_file(file: &[u8], link: &mut Link, by_hand: &mut Link, whole: bool) -> u6
     let expected = match object {
         // what they are about is the same too
         Ok(object) => {
-            assert!(object.work_rows() <= file_work_rows(file));
+            let counted = count_file(file).expect("it was read");
+            assert_eq!(counted.work_rows, object.work_rows());
+            assert_eq!(counted.relocations + counted.listed, object.contents.len());
             by_hand.merge_elf(&object).map(|merged| format!("{merged:?}"))
         }
         Err(refused) => {
@@ -568,7 +570,72 @@ fn names_of_files() {
     assert!(cut.ends_with("section `.rela.text` (refusal 27)"), "{cut}");
 }
 
-/// Two relocation tables over the same bytes have more entries than the file has room for.
+/// A file of that many headers of one type, whose contents all begin with the file and are that long.
+fn headers_over(count: usize, kind: u32, size: usize, tail: usize) -> Vec<u8> {
+    let mut file = vec![0; 64 + 64 * count + tail];
+    file[..6].copy_from_slice(b"\x7fELF\x02\x01");
+    (file[16], file[40]) = (1, 64);
+    file[60..62].copy_from_slice(&(count as u16).to_le_bytes());
+    for header in file[64..64 + 64 * count].as_chunks_mut::<64>().0 {
+        header[4..8].copy_from_slice(&kind.to_le_bytes());
+        header[32..40].copy_from_slice(&(size as u64).to_le_bytes());
+    }
+    file
+}
+
+/// A file whose tables overlap is lent what they need, whatever was merged before.
+#[test]
+fn overlapping_whatever_came_before() {
+    let file = headers_over(60, 9, 3_840, 0);
+    let long = headers_over(0, 0, 0, 60_000);
+    let relocations = 60 * 240;
+    assert_eq!(file.len(), 3_904);
+    let wanted = FileRows { sections: 60, relocations, work_rows: 60, ..FileRows::default() };
+    assert_eq!(count_file(&file), Ok(wanted));
+    assert_eq!(Object::read(&file[..]).unwrap().contents.len(), relocations);
+    for profile in [Profile::Old, Profile::Gabi] {
+        let (mut link, mut by_hand) = links(profile);
+        let mut answers = Vec::new();
+        for before in [None, Some(&long), Some(&file)] {
+            for clear in [false, true] {
+                let (mut link, mut by_hand) = (link.clone(), by_hand.clone());
+                if let Some(before) = before {
+                    try_file(before, &mut link, &mut by_hand, true);
+                }
+                if clear {
+                    link.clear();
+                    by_hand.clear();
+                }
+                answers.push(try_file(&file, &mut link, &mut by_hand, true));
+            }
+        }
+        assert_eq!(answers, [0; 6]);
+        // the same in one link, without new storage in between
+        for file in [&long, &file, &file] {
+            assert_eq!(try_file(file, &mut link, &mut by_hand, true), 0);
+        }
+    }
+}
+
+/// Past the bound a file is refused with 2 at 0, and nothing changes; a relocation fewer in each
+/// table, and it is read.
+#[test]
+fn more_rows_than_the_bound() {
+    let over = |relocations: usize| headers_over(1_000, 9, 16 * relocations, 300_000);
+    let most = (1 << 24) / 1_000 - 8;
+    let (fits, past) = (over(most), over(most + 1));
+    let (mut link, mut by_hand) = links(Profile::Old);
+    assert_eq!(count_file(&fits).unwrap().cells(), 1_000 * (8 + most));
+    assert_eq!(count_file(&past).map_err(refusal), Err((2, 0)));
+    assert_eq!(Object::read(&past[..]).map(|_| ()).map_err(refusal), Err((2, 0)));
+    for _ in 0..2 {
+        assert_eq!(try_file(&past, &mut link, &mut by_hand, true), 2);
+        assert!(!link.is_broken());
+        assert_eq!(try_file(&fits, &mut link, &mut by_hand, true), 0);
+    }
+}
+
+/// Two relocation tables over the same bytes.
 #[test]
 fn overlapping_tables() {
     let folder = Folder::new("overlapping");

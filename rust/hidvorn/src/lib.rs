@@ -14,6 +14,7 @@
 //! | `load_shared_object` | [`Link::load_shared_object`] of a [`SharedObject`] |
 //! | `PendingArchive::{new, next}`, `ObjectRequirement::matches` | [`PendingArchive::new`], [`PendingArchive::next`], [`PendingArchive::admits`] |
 //! | nothing | [`PendingArchive::shadowed`]: what a walk passed by, as the archive's strong definition behind a weak one |
+//! | nothing | [`Link::would_define`]: what a member that was not taken would have defined |
 //! | `gc_sections::run` | [`Link::gc_sections`] |
 //! | `plain_collector::run` | [`Link::gc_sections_plain`] |
 //! | panics and errors | [`Refusal`], a cause and a place, and what that is by name |
@@ -59,6 +60,7 @@ mod object;
 mod refusal;
 mod rows;
 mod symbol;
+mod untaken;
 
 #[cfg(test)]
 mod file_tests;
@@ -69,7 +71,7 @@ pub use archive::{IndexEntry, Member, PendingArchive, Shadowed, Step};
 pub use group::GroupMarks;
 pub use ids::{Interned, SectionId, SymbolId};
 pub use library::{LibraryName, Load, SharedObject};
-pub use link::{Capacity, Collected, Link, ListRefused, Profile};
+pub use link::{Capacity, Collected, Link, ListRefused, LookupRefused, Profile};
 pub use merged::Merged;
 pub use object::{Object, Relocations, SectionContent, SectionHeader};
 pub use refusal::{About, Cause, Holder, Refusal};
@@ -78,3 +80,4 @@ pub use symbol::{
     Converted, ElfSymbol, ListedSymbol, SectionConversion, Symbol, SymbolType, SymbolValue,
     SymbolVisibility, UpcomingSymbol,
 };
+pub use untaken::Untaken;

@@ -1,11 +1,12 @@
 //! The link: its storage and its calls.
 use crate::ffi::{self, Header, KEY, PROFILE, VALUE};
-use crate::names::{file_section_name, file_sections, file_work_rows};
-use crate::object::{cells_for, loaded_symbols};
+use crate::names::file_section_name;
+use crate::object::loaded_symbols;
 use crate::{
     About, Cause, GroupMarks, Holder, Interned, LibraryName, ListedSymbol, Load, Merged, Object,
     Refusal, Section, SectionConversion, SectionId, SharedObject, Symbol, SymbolId, UpcomingSymbol,
 };
+use std::error::Error;
 use std::fmt;
 use std::hash::{BuildHasher, RandomState};
 
@@ -119,13 +120,80 @@ pub struct ListRefused {
     pub ids: Vec<SymbolId>,
 }
 
-impl std::fmt::Display for ListRefused {
-    fn fmt(&self, f: &mut std::fmt::Formatter<'_>) -> std::fmt::Result {
+impl fmt::Display for ListRefused {
+    fn fmt(&self, f: &mut fmt::Formatter<'_>) -> fmt::Result {
         write!(f, "add {}: {}", self.position, self.refusal)
     }
 }
 
-impl std::error::Error for ListRefused {}
+impl Error for ListRefused {}
+
+/// A lookup of a name that was refused, which is an ordinary answer: nothing is allocated for it. It
+/// borrows the link, and looks the name up there when it is printed or made into a [`Refusal`], as
+/// `?` does.
+#[derive(Clone, Copy)]
+pub struct LookupRefused<'l> {
+    /// 23, or 21.
+    pub cause: Cause,
+    /// Of 21 the name's id; else 0.
+    pub place: usize,
+    name: Interned,
+    link: &'l Link,
+}
+
+impl LookupRefused<'_> {
+    /// The cause's number.
+    pub const fn number(&self) -> u64 {
+        self.cause.number()
+    }
+}
+
+/// Of two links too: the names aren't compared, but their ids.
+impl PartialEq for LookupRefused<'_> {
+    fn eq(&self, other: &Self) -> bool {
+        (self.cause, self.place, self.name) == (other.cause, other.place, other.name)
+    }
+}
+
+impl Eq for LookupRefused<'_> {}
+
+impl From<LookupRefused<'_>> for Refusal {
+    fn from(refused: LookupRefused<'_>) -> Self {
+        let LookupRefused { cause, place, name, link } = refused;
+        Refusal::new(cause, place).about(link.name(name))
+    }
+}
+
+// It is no `Error` itself, since it borrows; so `?` needs these.
+impl From<LookupRefused<'_>> for Box<dyn Error> {
+    fn from(refused: LookupRefused<'_>) -> Self {
+        Refusal::from(refused).into()
+    }
+}
+
+impl From<LookupRefused<'_>> for Box<dyn Error + Send + Sync> {
+    fn from(refused: LookupRefused<'_>) -> Self {
+        Refusal::from(refused).into()
+    }
+}
+
+impl fmt::Display for LookupRefused<'_> {
+    fn fmt(&self, f: &mut fmt::Formatter<'_>) -> fmt::Result {
+        Refusal::from(*self).fmt(f)
+    }
+}
+
+impl fmt::Debug for LookupRefused<'_> {
+    fn fmt(&self, f: &mut fmt::Formatter<'_>) -> fmt::Result {
+        let LookupRefused { cause, place, name, .. } = self;
+        let mut fields = f.debug_struct("LookupRefused");
+        fields
+            .field("cause", cause)
+            .field("place", place)
+            .field("name", name)
+            .finish_non_exhaustive()
+    }
+}
 
 impl Link {
     /// An empty link of `Capacity::BOUNDS`, in the old profile.
@@ -287,11 +355,14 @@ impl Link {
     }
 
     /// The symbol that holds a name; 23 if there is none, 21 if it was removed.
-    pub fn get_global(&self, name: Interned) -> Result<Symbol, Refusal> {
+    pub fn get_global(&self, name: Interned) -> Result<Symbol, LookupRefused<'_>> {
         let (mut header, mut out) = (self.header, [0; 10]);
-        ffi::get_global(&mut header, &self.names, &self.symbols, name.0, &mut out)
-            .map_err(|refusal| refusal.about(self.name(name)))?;
-        Ok(found(&out))
+        match ffi::get_global(&mut header, &self.names, &self.symbols, name.0, &mut out) {
+            Ok(()) => Ok(found(&out)),
+            Err(Refusal { cause, place, .. }) => {
+                Err(LookupRefused { cause, place, name, link: self })
+            }
+        }
     }
 
     /// The symbol of a section, if it has one.
@@ -315,11 +386,10 @@ impl Link {
     /// Merges an object, and answers which ids its sections and symbols have. A refusal breaks the
     /// link; what was merged before it stays. (1 and 22 change nothing.)
     pub fn merge_elf(&mut self, object: &Object<'_>) -> Result<Merged<'_>, Refusal> {
+        let work = 8 * object.work_rows();
         self.make_room(object.contents.len());
-        self.make_work(8 * object.work_rows());
-        if self.ids.len() < object.symbol_count() {
-            self.ids.resize(object.symbol_count(), 0);
-        }
+        self.make_work(work);
+        grow(&mut self.ids, object.symbol_count());
         ffi::merge_elf(
             &mut self.header,
             &mut self.bytes,
@@ -328,36 +398,33 @@ impl Link {
             &mut self.sections,
             &mut self.inputs,
             &mut self.lists,
-            &mut self.work,
-            &mut self.ids,
+            &mut self.work[..work],
+            &mut self.ids[..object.symbol_count()],
             &object.headers,
             &object.entries,
             &object.contents,
             &object.file,
             object.names,
         )
-        .map_err(|refusal| self.tell_object(refusal, object, object.loaded_table()))?;
+        .map_err(|refusal| self.tell_object(refusal, object))?;
         Ok(Merged::new(self, object.section_count(), object.loaded_symbols()))
     }
 
     /// Merges an object file: an ELF file of the 64-bit class, little-endian, relocatable. It is
-    /// answered as the merge of its rows ([`Object::read`], then [`Link::merge_elf`]). 26 and 27
-    /// change nothing, nor does 2 at place 0 for a file whose tables overlap and have more entries
-    /// than a file of its size has room for; of other refusals see [`Link::merge_elf`].
+    /// answered as the merge of its rows ([`Object::read`], then [`Link::merge_elf`]), whatever was
+    /// merged before, but that a broken link is refused before the file is looked at. 26 and 27
+    /// change nothing, nor does 2 at place 0 for a file whose tables overlap and need too many rows;
+    /// of other refusals see [`Link::merge_elf`].
     ///
     /// Nothing of the file is copied but names. Rows are kept for the next file: the storage grows
     /// with the largest.
     pub fn merge_file(&mut self, file: &[u8]) -> Result<Merged<'_>, Refusal> {
-        let cells = cells_for(file);
-        if self.rows.len() < cells {
-            self.rows.resize(cells, 0);
-        }
-        // Its relocations and groups' members are among the rows; a symbol has 24 bytes.
-        self.make_room(cells);
-        self.make_work(8 * file_work_rows(file));
-        if self.ids.len() < file.len() / 24 {
-            self.ids.resize(file.len() / 24, 0);
-        }
+        // A file that is refused needs nothing: the merge refuses it alike, after 22.
+        let due = ffi::count_file(file).unwrap_or_default();
+        self.make_room(due.relocations);
+        self.make_work(8 * due.work_rows);
+        grow(&mut self.ids, due.symbols);
+        grow(&mut self.rows, due.cells());
         ffi::merge_file(
             &mut self.header,
             &mut self.bytes,
@@ -366,14 +433,13 @@ impl Link {
             &mut self.sections,
             &mut self.inputs,
             &mut self.lists,
-            &mut self.work,
-            &mut self.ids,
-            &mut self.rows,
+            &mut self.work[..8 * due.work_rows],
+            &mut self.ids[..due.symbols],
+            &mut self.rows[..due.cells()],
             file,
         )
         .map_err(|refusal| self.tell_file(refusal, file))?;
-        let sections = file_sections(file);
-        Ok(Merged::new(self, sections, loaded_symbols(&self.rows[..sections * 8])))
+        Ok(Merged::new(self, due.sections, loaded_symbols(&self.rows[..8 * due.sections])))
     }
 
     /// Adds one section group of an object outside of a merge. `section` is the group; `marks` has
@@ -394,7 +460,7 @@ impl Link {
             marks.table,
             section,
         )
-        .map_err(|refusal| self.tell_object(refusal, marks.object, marks.table))
+        .map_err(|refusal| self.tell_group(refusal, marks, section))
     }
 
     /// Loads a shared object, if it is needed or as-needed wasn't asked for. A refusal breaks the
@@ -495,9 +561,7 @@ impl Link {
 
     /// So many work cells at least.
     fn make_work(&mut self, cells: usize) {
-        if self.work.len() < cells {
-            self.work.resize(cells, 0);
-        }
+        grow(&mut self.work, cells);
     }
 
     // ---- what a refusal is about
@@ -524,22 +588,34 @@ impl Link {
         refusal.about(about)
     }
 
-    /// A refusal of the merge of an object, or of its group: by its section or its symbol in the
-    /// table; of 1 and 2 either, of 1 a symbol by its number among all.
-    fn tell_object(&self, refusal: Refusal, object: &Object<'_>, table: usize) -> Refusal {
-        let (cause, place) = (refusal.cause, refusal.place);
-        let section = || object.section_name(place).map(|name| About::Section(name.to_vec()));
-        match cause {
+    /// A refusal of the merge of an object: by its section or its symbol in the table; of 1 and 2
+    /// either, of 1 a symbol by its number among all.
+    pub(crate) fn tell_object(&self, refusal: Refusal, object: &Object<'_>) -> Refusal {
+        let place = refusal.place;
+        let in_table = object.symbol_name(object.loaded_table(), place);
+        let symbol = match refusal.cause {
+            Cause::OutOfRange => object.entry_name(place),
+            _ => in_table,
+        };
+        match refusal.cause {
             Cause::OutOfRange | Cause::NoRoom => {
-                let symbol = match cause {
-                    Cause::OutOfRange => object.entry_name(place),
-                    _ => object.symbol_name(table, place),
-                };
-                refusal.about(About::one_of([section(), symbol.map(About::symbol)]))
+                let symbol = symbol.map(About::symbol);
+                refusal.about(About::one_of([object.section_about(place), symbol]))
             }
-            cause if cause.is_of_section() => refusal.about(section()),
-            _ => self.tell_symbol(refusal, object.symbol_name(table, place)),
+            cause if cause.is_of_section() => refusal.about(object.section_about(place)),
+            _ => self.tell_symbol(refusal, symbol),
         }
+    }
+
+    /// A refusal of a group by itself: by a section. 1 may also be a symbol's, by its number in the
+    /// table, unless the group's section is no group: that is refused with 1 for itself. 2 is the
+    /// group's, or that of all marks.
+    fn tell_group(&self, refusal: Refusal, marks: &GroupMarks<'_>, section: usize) -> Refusal {
+        let (object, place) = (marks.object, refusal.place);
+        let of_symbol = refusal.cause == Cause::OutOfRange
+            && (place != section || object.is_loaded_group(section));
+        let symbol = object.symbol_name(marks.table, place).filter(|_| of_symbol);
+        refusal.about(About::one_of([object.section_about(place), symbol.map(About::symbol)]))
     }
 
     /// A refusal of a load: by the symbol; of 1 and 2 by it or the dependency.
@@ -559,7 +635,7 @@ impl Link {
     /// The same of a file. Its rows are read again.
     fn tell_file(&self, refusal: Refusal, file: &[u8]) -> Refusal {
         match Object::read(file) {
-            Ok(object) => self.tell_object(refusal, &object, object.loaded_table()),
+            Ok(object) => self.tell_object(refusal, &object),
             Err(Refusal { cause: Cause::BadTable, .. }) => {
                 let name = file_section_name(file, refusal.place);
                 let about = name.map(|name| About::Section(name.to_vec()));
@@ -607,6 +683,13 @@ impl fmt::Debug for Link {
 impl Default for Link {
     fn default() -> Self {
         Link::new()
+    }
+}
+
+/// So many cells at least.
+fn grow(cells: &mut Vec<u64>, count: usize) {
+    if cells.len() < count {
+        cells.resize(count, 0);
     }
 }
 

@@ -1,8 +1,7 @@
 //! Names in what a call was lent, looked up once it was refused; and how many work rows an object
-//! needs. Nothing here decides an answer: a name that isn't found isn't told, and with too few work
-//! rows a merge is refused.
-use crate::Object;
-use crate::object::cells_for;
+//! needs that is given by rows. Nothing here decides an answer: a name that isn't found isn't told,
+//! and with too few work rows a merge is refused.
+use crate::{About, Object};
 
 /// The most sections that an object can have.
 const OBJECT_SECTIONS: usize = 65_280;
@@ -51,6 +50,16 @@ impl Object<'_> {
         self.string(self.names, self.header(section)?[1])
     }
 
+    /// The section by name, if it has one.
+    pub(crate) fn section_about(&self, section: usize) -> Option<About> {
+        self.section_name(section).map(|name| About::Section(name.to_vec()))
+    }
+
+    /// Whether the section is a group that isn't excluded.
+    pub(crate) fn is_loaded_group(&self, section: usize) -> bool {
+        self.header(section).is_some_and(|row| row[0] == GROUP && row[2] & 1 == 0)
+    }
+
     /// The name of a symbol by its number in the symbol table that is that section.
     pub(crate) fn symbol_name(&self, table: usize, symbol: usize) -> Option<&[u8]> {
         let [SYMBOL_TABLE | DYNAMIC_SYMBOLS, _, _, strings, _, first, count, _] =
@@ -85,7 +94,7 @@ impl Object<'_> {
     }
 }
 
-// ---- files, before they are read
+// ---- a file that is refused with 27, of which there are no rows
 
 fn number(bytes: &[u8], at: usize, len: usize) -> u64 {
     let cell = bytes.get(at..at + len).unwrap_or_default();
@@ -93,7 +102,7 @@ fn number(bytes: &[u8], at: usize, len: usize) -> u64 {
 }
 
 /// The section headers of a file, as far as they lie in it: `e_shnum` of them from `e_shoff` on, or
-/// `sh_size` of the first one where that is 0; none where `e_shoff` is 0. An accepted file has all.
+/// `sh_size` of the first one where that is 0; none where `e_shoff` is 0.
 fn headers(file: &[u8]) -> &[[u8; 64]] {
     let from = match number(file, 40, 8) {
         0 => None,
@@ -107,26 +116,9 @@ fn headers(file: &[u8]) -> &[[u8; 64]] {
     &there[..there.len().min(usize::try_from(count).unwrap_or(usize::MAX))]
 }
 
-/// How many sections an accepted file has.
-pub(crate) fn file_sections(file: &[u8]) -> usize {
-    headers(file).len()
-}
-
 /// The bytes of a section by its header.
 fn contents<'f>(file: &'f [u8], header: &[u8; 64]) -> Option<&'f [u8]> {
     part(file, number(header, 24, 8), number(header, 32, 8))
-}
-
-/// How many work rows the merge of a file needs. `SHT_GROUP` is 17, `SHF_EXCLUDE` 2^31; the first of
-/// a group's words are its flags. A file whose groups overlap and have more words together than
-/// there are cells for its rows is refused, so that no more are looked at.
-pub(crate) fn file_work_rows(file: &[u8]) -> usize {
-    let loaded = |header: &&[u8; 64]| number(&header[..], 8, 8) & 1 << 31 == 0;
-    let groups = headers(file).iter().filter(|header| number(&header[..], 4, 4) == 17);
-    let words = groups.filter(loaded).filter_map(|header| contents(file, header));
-    let words = words.flat_map(|group| group.as_chunks::<4>().0.iter().skip(1));
-    let words = words.take(cells_for(file)).map(|word| u32::from_le_bytes(*word).into());
-    work_rows(file_sections(file), words)
 }
 
 /// The name of a section of a file that wasn't read. `e_shstrndx` 0xffff takes the names' section

@@ -121,20 +121,18 @@ impl<'a> Object<'a> {
 
     /// The object that a file holds: an ELF file of the 64-bit class, little-endian, relocatable. 26
     /// if it is no such file, 27 if its headers or a table lie past its end or are cut; 2 if its
-    /// tables overlap and have more entries together than a file of its size has room for.
+    /// tables overlap and need too many rows: more cells than the file has bytes, and than 2^24.
     ///
     /// [`Link::merge_file`](crate::Link::merge_file) does the same by itself: this is for
     /// [`PendingArchive::admits`](crate::PendingArchive::admits).
     pub fn read(file: impl Into<Cow<'a, [u8]>>) -> Result<Self, Refusal> {
         let file = file.into();
-        let mut rows = vec![0; cells_for(&file)];
-        let [_, sections, symbols, contents, names, ..] = ffi::read_file(&mut rows, &file)?;
-        let [sections, symbols, contents] =
-            [sections * 8, symbols * 8, contents].map(|cells| cells as usize);
-        rows.truncate(sections + symbols + contents);
-        let contents = rows.split_off(sections + symbols);
-        let entries = rows.split_off(sections);
-        Ok(Object { headers: rows, entries, contents, file, names: names as usize })
+        let due = ffi::count_file(&file)?;
+        let mut rows = vec![0; due.cells()];
+        let names = ffi::read_file(&mut rows, &file)?;
+        let contents = rows.split_off(8 * (due.sections + due.symbols));
+        let entries = rows.split_off(8 * due.sections);
+        Ok(Object { headers: rows, entries, contents, file, names })
     }
 
     /// How many sections it has.
@@ -207,12 +205,6 @@ impl<'a> Object<'a> {
 pub(crate) fn loaded_symbols(headers: &[u64]) -> usize {
     let mut headers = headers.as_chunks::<8>().0.iter();
     headers.find(|row| row[0] == 3 && row[2] & 1 == 0).map_or(0, |row| row[6] as usize)
-}
-
-/// Cells for the rows of any file of that length whose tables don't overlap: 8 for a symbol of 24
-/// bytes; for headers, relocations and members of groups it is less of each byte.
-pub(crate) fn cells_for(file: &[u8]) -> usize {
-    file.len() / 3 + 8
 }
 
 /// A section's contents as fields of a header's row.

@@ -6,15 +6,18 @@ macro_rules! causes {
     ($($(#[$doc:meta])* $name:ident = $number:literal: $words:literal,)*) => {
         /// The causes of document 01's table, and those that document 02's requests add. As a number
         /// each is the table's; `Display` tells its words.
+        ///
+        /// Requests to come may add some.
         #[derive(Clone, Copy, Debug, PartialEq, Eq, PartialOrd, Ord, Hash)]
         #[repr(u8)]
+        #[non_exhaustive]
         pub enum Cause {
             $($(#[$doc])* $name = $number,)*
         }
 
         impl Cause {
             /// Every cause, by ascending number.
-            pub const ALL: [Cause; 29] = [$(Cause::$name),*];
+            pub const ALL: &[Cause] = &[$(Cause::$name),*];
 
             fn words(self) -> &'static str {
                 match self {
@@ -95,7 +98,7 @@ impl Cause {
 
     /// The cause of that number.
     pub fn of_number(number: u64) -> Option<Cause> {
-        Cause::ALL.into_iter().find(|cause| cause.number() == number)
+        Cause::ALL.iter().copied().find(|cause| cause.number() == number)
     }
 
     /// Whether its place in a merge is the number of a section of the object.

@@ -208,6 +208,12 @@ impl ElfSymbol {
         let [name, section] = [self.name, self.section].map(|number| number as u64);
         [name, self.binding, self.kind, self.visibility, section, self.value, self.size, 0]
     }
+
+    pub(crate) fn of_cells(cells: &[u64; 8]) -> Self {
+        let [name, binding, kind, visibility, section, value, size, _] = *cells;
+        let [name, section] = [name, section].map(|cell| cell as usize);
+        ElfSymbol { name, binding, kind, visibility, section, value, size }
+    }
 }
 
 /// What a section number of an object stands for, in a direct add or after a merge.

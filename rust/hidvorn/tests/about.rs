@@ -3,7 +3,7 @@
 mod support;
 
 use hidvorn::*;
-use std::fmt::Debug;
+use std::fmt::Display;
 use support::{object, object_of, strings};
 
 const SMALL: Capacity = Capacity { names: 16, name_bytes: 64, symbols: 8, sections: 8, inputs: 4 };
@@ -14,8 +14,8 @@ fn link() -> Link {
     Link::with_capacity(SMALL).expect("room for the null symbol")
 }
 
-fn told<T: Debug>(answer: Result<T, Refusal>) -> String {
-    answer.expect_err("a refusal").to_string()
+fn told<T>(answer: Result<T, impl Display>) -> String {
+    answer.err().expect("a refusal").to_string()
 }
 
 #[test]
@@ -194,4 +194,33 @@ fn members() {
         "field out of range, list over its bound, index or mark list cut short, place 2, member at \
          60 of the archive, for `mute` (refusal 1)"
     );
+}
+
+/// Of a group by itself a symbol has its number in the table that was named, and 1 where the section
+/// is no group is about that section alone.
+#[test]
+fn symbols_of_groups() {
+    let (bytes, places) = strings(&["a", "b", "c", "d"]);
+    let len = bytes.len();
+    let mut object = Object::new(bytes);
+    let header = |content| SectionHeader { content, ..Default::default() };
+    object.push_section(header(SectionContent::StringTable { first: 0, len }));
+    let table = |first| SectionContent::SymbolTable { strings: 0, first, count: 2 };
+    object.push_section(SectionHeader { exclude: true, ..header(table(0)) });
+    object.push_section(header(table(2)));
+    let content = SectionContent::Group { table: 2, signature: 0, comdat: true, sections: &[1] };
+    object.push_section(header(content));
+    for (name, visibility) in places.into_iter().zip([0, 0, 0, 4]) {
+        object.push_symbol(ElfSymbol { name, visibility, ..Default::default() });
+    }
+    let refused = |place, about: &str| {
+        let words = "field out of range, list over its bound, index or mark list cut short";
+        format!("{words}, place {place}{about} (refusal 1)")
+    };
+    let add = |object: &Object<'_>, table, section| {
+        told(link().add_group(&mut GroupMarks::new(object, table), section))
+    };
+    assert_eq!(add(&object, 2, 3), refused(1, ", symbol `d`"));
+    let other = object_of(&[("a", ElfSymbol::default())]);
+    assert_eq!(add(&other, 3, 1), refused(1, ", section `.text`"));
 }

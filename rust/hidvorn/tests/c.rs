@@ -4,11 +4,11 @@ use std::process::Command;
 
 const SAID: &str = "\
 the mixer calls mute alone
-  warning: the archive's entry 0 was passed by
-  mute is the core's weak one, at 0x1000
+  warning: mute: libav.a(sound.o) was not taken and has a strong one, size 8; core.o holds it: weak, size 1
+  mute is the weak one of core.o, at 0x1000, size 1
 the mixer calls mute and mix_clear, which the core doesn't have
-  the member at 60 is taken
-  mute is the archive's, at 0x5000
+  libav.a(sound.o) is taken
+  mute is the strong one of libav.a(sound.o), at 0x5000, size 8
 ";
 
 #[test]

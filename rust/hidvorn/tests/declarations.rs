@@ -76,5 +76,5 @@ fn the_refusals_of_the_header() {
     let (refusals, _) = refusals.split_once("/* kinds").expect("an end of the refusals");
     let lines = refusals.lines().filter_map(|line| line.strip_prefix("#define HIDVORN_"));
     let numbers = lines.map(|line| line.split(' ').nth(1).and_then(|word| word.parse().ok()));
-    assert!(numbers.eq(Cause::ALL.map(|cause| Some(cause.number()))));
+    assert!(numbers.eq(Cause::ALL.iter().map(|cause| Some(cause.number()))));
 }

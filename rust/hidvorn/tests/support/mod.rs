@@ -4,8 +4,8 @@
 use hidvorn::*;
 
 /// The number and place of a refusal.
-pub fn refused<T: std::fmt::Debug>(answer: Result<T, Refusal>) -> (u64, usize) {
-    let refusal = answer.unwrap_err();
+pub fn refused<T>(answer: Result<T, impl Into<Refusal>>) -> (u64, usize) {
+    let refusal = answer.err().expect("a refusal").into();
     (refusal.number(), refusal.place)
 }
 
