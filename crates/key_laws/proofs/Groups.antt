@@ -3,7 +3,7 @@
 use Prim.Native.Nat.{ℕ, zero, suc, ◌+◌, ◌*◌, ◌/◌, ◌<◌}
 use Rattle.std.proofs.Common.{arith, sym, eqb-true, ltb-true, leb-false}
 use Rattle.std.proofs.Math.Path.{◌≡◌, ap, subst}
-use Rattle.std.specs.Prelude.{refl, true, cond, List, eqb, ltb, leb, length, get_or}
+use Rattle.std.specs.Prelude.{refl, true, cond, List, eqb, ltb, leb, length}
 use Rattle.std.proofs.Math.ListN.{set}
 use Rattle.cells.specs.Proof.Split.{by-test}
 use Rattle.link.specs.Stage.{Stage}
@@ -16,10 +16,10 @@ use Rattle.interner_laws.proofs.Find.{find-low}
 use Rattle.interner_laws.specs.Interns.{id_of}
 use Rattle.interner_laws.proofs.Interns.{keeps}
 use Rattle.symbol_laws.proofs.Issue.{room-free}
-use Rattle.elf_object.specs.Rows.{is_loaded, first_at}
+use Rattle.elf_object.specs.Rows.{is_loaded}
 use Rattle.section_groups.specs.Group.{Plan}
 use Rattle.section_groups.specs.Group as Group
-use Rattle.section_groups.specs.Group.{Object, State, state_of, Step, step_of, repeated_of, plan_with, plan_of, group_committed, commit_group_of, decided_of, group_named, signature_of, signed_of, shape_of, shaped_of, group_of, group_section_of, groups_from, groups_of}
+use Rattle.section_groups.specs.Group.{Object, State, state_of, listed_in, Step, step_of, repeated_of, plan_with, plan_of, group_committed, commit_group_of, decided_of, group_named, signature_of, signed_of, shape_of, shaped_of, group_of, group_section_of, groups_from, groups_of}
 use Rattle.section_groups.specs.AddGroup as AddGroup
 use Rattle.section_groups.specs.AddGroup.{check_of, answer_of, answered, add_group_of}
 use Rattle.key_laws.specs.Rekeyed.{keyed, Rekeyed, Moved}
@@ -68,14 +68,14 @@ module _ (k : ℕ) (s : State) (n : List ℕ) (e : Rekeyed k (state_store s) n) 
   repeated-same id =
       by-test (leb s.link.names id) (λ a. rw a) (λ a. rw (a, cell_same k st n e id 4 (leb-false _ _ a) (omega arith) (λ z. omega arith)))
 
-  plan-same : (marks : ℕ) (x : List ℕ) (listed : ℕ) → plan_of (keyed k s.link) s.bytes n marks x listed ≡ plan_of s.link s.bytes s.names marks x listed
+  plan-same : (marks : ℕ) (x listed : List ℕ) → plan_of (keyed k s.link) s.bytes n marks x listed ≡ plan_of s.link s.bytes s.names marks x listed
   unfolding plan_of plan_with
   plan-same marks x listed = rw (find-same k st n e x, repeated-same (find st x), fits-same k st n e (id_of st x) (length x))
 
   stop-moved : (number place : ℕ) → Alike k (Group.stop s number place) (Group.stop (state_under k n s) number place)
   stop-moved number place = moved step_store (step_under k) k (Group.stop s number place) n e
 
-  module _ (x : List ℕ) (i listed : ℕ) where
+  module _ (x : List ℕ) (i : ℕ) (listed : List ℕ) where
     abbrev p : Plan
     p = plan_of s.link s.bytes s.names (length s.work / 8) x listed
 
@@ -112,10 +112,10 @@ module _ (k : ℕ) (s : State) (n : List ℕ) (e : Rekeyed k (state_store s) n) 
   unfolding group_of shaped_of signed_of
   group-moved o i =
       let x : Looked = signature_of o.headers o.entries o.image o.table i in
-      let number : ℕ = shape_of o.headers o.entries o.table i in
+      let number : ℕ = shape_of o s.work i in
       moved_cond step_store (step_under k) k (eqb number 0) _ _ _ _
       (λ a.
-      moved_cond step_store (step_under k) k x.found _ _ _ _ (λ f. named-moved x.name i (get_or o.contents (first_at o.headers i) 0)) (λ f. stop-moved 7 i))
+      moved_cond step_store (step_under k) k x.found _ _ _ _ (λ f. named-moved x.name i (listed_in o i)) (λ f. stop-moved 7 i))
       (λ a. stop-moved number i)
 
 -- ---- all groups of an object

@@ -143,7 +143,7 @@ module _ (k : ℕ) where
   unfolding filter_stage
   filter-moved o a n e =
       moved_cond all_store (all_under k) k (eqb a.stage.number 0) _ _ _ _
-      (λ c. filtered-moved o a n e (filter_of a.work o.entries)) (λ c. moved all_store (all_under k) k a n e)
+      (λ c. filtered-moved o a n e (filter_of a.stage.link.gabi a.work o.entries)) (λ c. moved all_store (all_under k) k a n e)
 
   merge-groups-moved : (o : Tabled) (a : All) (n : List ℕ) → Rekeyed k (all_store a) n → Whole (merge_groups_of o a) (merge_groups_of o (all_under k n a))
   unfolding merge_groups_of

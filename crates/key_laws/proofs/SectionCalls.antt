@@ -22,7 +22,7 @@ use Rattle.symbol_resolution.specs.Apply.{Table}
 use Rattle.symbols.specs.Calls as Calls
 use Rattle.symbols.specs.Add.{file_of, decided_of, add_row_of, judge_add_of, empty_at, lent, add_of}
 use Rattle.symbols.specs.Proof.AddOutcomes.{added-left}
-use Rattle.elf_object.specs.Rows.{rows_in, first_at}
+use Rattle.elf_object.specs.Rows.{rows_in}
 use Rattle.sections.specs.Rows.{is_built}
 use Rattle.symbols.specs.Remove.{Rows, rows_of, remove_of}
 use Rattle.section_groups.specs.Filter.{filter_of}
@@ -91,8 +91,8 @@ group-shape : (o : Group.Object) (s : Group.State) (i : ℕ) → shape (group_of
 unfolding group_of shaped_of signed_of Group.group_named Group.decided_of commit_group_of
 group-shape o s i =
     let x : Looked = signature_of o.headers o.entries o.image o.table i in
-    let p : Plan = plan_of s.link s.bytes s.names (length s.work / 8) x.name (get_or o.contents (first_at o.headers i) 0) in
-    by-test (eqb (shape_of o.headers o.entries o.table i) 0)
+    let p : Plan = plan_of s.link s.bytes s.names (length s.work / 8) x.name (Group.listed_in o i) in
+    by-test (eqb (shape_of o s.work i) 0)
     (λ a.
     by-test x.found
     (λ b.
@@ -142,7 +142,7 @@ unfolding filter_stage filtered_of
 filter-named o a h =
     by-test (eqb a.stage.number 0)
     (λ z.
-    by-test (ltb (filter_of a.work o.entries) (rows_in o.entries)) (λ t. rw (z, t) h.named) (λ t. rw (z, t) (table-named o a.work (symbols_in a) h)))
+    by-test (ltb (filter_of a.stage.link.gabi a.work o.entries) (rows_in o.entries)) (λ t. rw (z, t) h.named) (λ t. rw (z, t) (table-named o a.work (symbols_in a) h)))
     (λ z. rw z h.named)
 
 module _ (k : ℕ) where

@@ -29,6 +29,7 @@ use Rattle.symbols.specs.Remove.{Rows, drop_section, remove_row_of}
 use Rattle.elf_object.specs.Rows.{rows_in, field, name_offset_at, retain_at, read_at, name_in, conversion_at}
 use Rattle.merge_sections.specs.Reserve as Reserve
 use Rattle.merge_sections.specs.Reserve.{take_row_of, reserve_class_of, reserve_one_of, reserve_all_of}
+use Rattle.section_groups.specs.Filter.{dropped_at}
 use Rattle.merge_symbols.specs.Plan.{Planned}
 use Rattle.merge_symbols.specs.Plan.{input_of, planned_of}
 use Rattle.merge_symbols.specs.Stage as Symbols
@@ -196,14 +197,16 @@ symbol-named o s i h =
     let t : Table = table_of k.names s.symbols s.sections k.link in
     let g : Named k.link s.sections = named-shape s.stage.link k.link s.sections (keep_shape st p.id x.name) h.named in
     let low : k.link.names ≤ k.link.chains = keep_low st p.id x.name h.low in
+    by-test (dropped_at s.stage.link.gabi o.work o.entries i) (λ d. rw d h)
+    (λ d.
     by-test x.found
     (λ a.
-    by-test (eqb (refusal_of p.decision) 2) (λ b. rw (a, b) h)
+    by-test (eqb (refusal_of p.decision) 2) (λ b. rw (d, a, b) h)
     (λ b.
     by-test (eqb (refusal_of p.decision) 0)
-    (λ c. rw (a, b, c) (record { named = applied-named t p.row p.decision g; low = applied-low t p.row p.decision low }))
-    (λ c. rw (a, b, c) (record { named = g; low = low }))))
-    (λ a. rw a h)
+    (λ c. rw (d, a, b, c) (record { named = applied-named t p.row p.decision g; low = applied-low t p.row p.decision low }))
+    (λ c. rw (d, a, b, c) (record { named = g; low = low }))))
+    (λ a. rw (d, a) h))
 
 pub symbols-named : (o : Symbols.Object) (s : Symbols.State) → BuiltNamed s.stage.link s.sections
     → BuiltNamed (symbols_of o s).stage.link (symbols_of o s).sections

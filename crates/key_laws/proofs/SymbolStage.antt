@@ -18,9 +18,10 @@ use Rattle.symbol_resolution.specs.Holder.{holder_of}
 use Rattle.symbol_resolution.specs.Decide.{decide_of, refusal_of}
 use Rattle.symbol_resolution.specs.Apply.{Table, table_of}
 use Rattle.elf_object.specs.Rows.{field, name_in}
+use Rattle.section_groups.specs.Filter.{dropped_at}
 use Rattle.merge_symbols.specs.Plan.{Planned}
 use Rattle.merge_symbols.specs.Plan.{View, view_of, Input, input_of, rule_of, judged_of, rowed_of, read_of, planned_of, file_after}
-use Rattle.merge_symbols.specs.Stage.{State, state_of, Object, stage_of, cell_of, refuse, accepting, accept_row, accept, kept_of, commit_of, view, symbol_named, looked_of, symbol_of, symbols_from, symbols_of}
+use Rattle.merge_symbols.specs.Stage.{State, state_of, Object, stage_of, cell_of, refuse, drop_symbol, accepting, accept_row, accept, kept_of, commit_of, view, symbol_named, looked_of, symbol_of, symbols_from, symbols_of}
 use Rattle.key_laws.specs.Rekeyed.{keyed, rekeyed, Rekeyed, Moved}
 use Rattle.key_laws.proofs.RekeyedLemmas.{moved, moved_cond, find-same, fits-same, keep-moved}
 use Rattle.key_laws.proofs.Tables.{decide-keyed, holder-same, apply-moved}
@@ -124,7 +125,9 @@ module _ (k : ℕ) (s : State) where
     unfolding symbol_of looked_of
     symbol-moved o i =
         let x : Looked = name_in o.headers o.image o.symbol_names (field o.entries i 0) in
-        moved_cond symbol_store (symbol_under k) k x.found _ _ _ _ (λ f. named-moved (input_of o.entries o.work) x.name i) (λ f. refuse-moved 9 i)
+        moved_cond symbol_store (symbol_under k) k (dropped_at s.stage.link.gabi o.work o.entries i) _ _ _ _
+        (λ d. moved symbol_store (symbol_under k) k (drop_symbol s i) n e)
+        (λ d. moved_cond symbol_store (symbol_under k) k x.found _ _ _ _ (λ f. named-moved (input_of o.entries o.work) x.name i) (λ f. refuse-moved 9 i))
 
 module _ (k : ℕ) (o : Object) where
   from-moved : (m i : ℕ) (s : State) (n : List ℕ) → Rekeyed k (symbol_store s) n → Alike k (symbols_from o m i s) (symbols_from o m i (symbol_under k n s))

@@ -12,7 +12,7 @@ pub enum Cause {
     NoRoom = 2,
     UnsupportedKind = 3,
     NotComdat = 4,
-    SectionCountNotOne = 5,
+    EmptyGroup = 5,
     SignatureSymbolMissing = 6,
     SignatureStringMissing = 7,
     LocalInRemovedSection = 8,
@@ -36,6 +36,7 @@ pub enum Cause {
     NotAnObject = 26,
     BadTable = 27,
     CommonAlignment = 28,
+    SectionInTwoGroups = 29,
     TooManySections = 30,
 }
 

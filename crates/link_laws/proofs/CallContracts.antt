@@ -14,7 +14,7 @@ use Rattle.symbols.specs.Calls as Calls
 use Rattle.symbols.specs.New.{NewLeft, new_outcome}
 use Rattle.symbols.specs.Remove.{RemoveLeft, remove_outcome}
 use Rattle.symbols.specs.Contract.{NewExit, NewMeets, AddExit, RemoveExit}
-use Rattle.section_groups.specs.Contract.{SectionAfterMeets, FilterMeets}
+use Rattle.section_groups.specs.Contract.{SectionAfterMeets, DiscardedMeets, FilterMeets}
 use Rattle.section_groups.specs.AddGroup as AddGroup
 use Rattle.section_groups.specs.AloneContract as Grouping
 use Rattle.merge_elf.specs.declared.Outcome as Merge
@@ -237,8 +237,11 @@ string-one-outcome table offset x y e f = ap {B = StringExit} (λ (o : Looked). 
 pub ended-one-outcome : (bytes : List ℕ) (offset : ℕ) (x y : StringExit) → EndedMeets bytes offset x → EndedMeets bytes offset y → x ≡ y
 ended-one-outcome bytes offset x y e f = ap {B = StringExit} (λ (o : Looked). record { result = o.name; found = o.found }) (e ∙ sym f)
 
-pub filter-one-outcome : (work entries : List ℕ) (x y : ℕ) → FilterMeets work entries x → FilterMeets work entries y → x ≡ y
-filter-one-outcome work entries x y e f = e ∙ sym f
+pub filter-one-outcome : (gabi : Bool) (work entries : List ℕ) (x y : ℕ) → FilterMeets gabi work entries x → FilterMeets gabi work entries y → x ≡ y
+filter-one-outcome gabi work entries x y e f = e ∙ sym f
+
+pub discarded-one-outcome : (work entries : List ℕ) (i : ℕ) (x y : Bool) → DiscardedMeets work entries i x → DiscardedMeets work entries i y → x ≡ y
+discarded-one-outcome work entries i x y e f = e ∙ sym f
 
 pub section-after-one-outcome : (work : List ℕ) (section x y : ℕ) → SectionAfterMeets work section x → SectionAfterMeets work section y → x ≡ y
 section-after-one-outcome work section x y e f = e ∙ sym f

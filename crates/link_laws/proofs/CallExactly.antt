@@ -8,7 +8,7 @@ use Rattle.link_laws.specs.Calls.{Call, intern, add, remove, add_group, merge, m
 use Rattle.elf_laws.specs.Object as ElfFile
 use Rattle.link_laws.specs.Rules.{first_refusal, numbered}
 use Rattle.link_laws.proofs.Rules.{numbered-both}
-use Rattle.link_laws.specs.GroupRules.{alone, group_head, own_group_rules}
+use Rattle.link_laws.specs.GroupRules.{alone, group_head, is_noted, own_group_rules}
 use Rattle.link_laws.specs.CallRules.{rules}
 use Rattle.link_laws.proofs.Exactly.{get-exactly, global-exactly, remove-exactly, resolve-exactly}
 use Rattle.link_laws.proofs.InternExactly.{intern-exactly}
@@ -58,7 +58,7 @@ rules-numbered (reads (Read.get id)) s = refl
 rules-numbered (reads (Read.get_global name)) s = refl
 rules-numbered (reads (Read.section_symbol id)) s = refl
 rules-numbered (add_group o work n) s =
-    numbered-both (group_head o n s.table (length work / 8)) (own_group_rules (alone o) n s.table (length work / 8)) (GroupExactly.head-numbered o work n s) refl
+    numbered-both (group_head o n s.table (length work / 8)) (own_group_rules (alone o) n (is_noted work) s.table (length work / 8)) (GroupExactly.head-numbered o work n s) refl
 rules-numbered (merge o work ids) s = merge-numbered o (all_in s work ids)
 rules-numbered (merge_file file cells work ids) s =
     numbered-both (file_rules s.table.link.broken file (length cells)) (merge_rules (ElfFile.rows_of file) (all_in s work ids))

@@ -4,7 +4,6 @@ use Prim.Native.Nat.{ℕ, ◌/◌}
 use Rattle.std.proofs.Common.{arith, ◌∙◌, subst, eqb-true}
 use Rattle.std.proofs.Math.Path.{◌≡◌, sym, ap}
 use Rattle.std.specs.Prelude.{true, List, [], eqb, length}
-use Rattle.std.proofs.Math.ListN.{get_or}
 use Rattle.std.proofs.lemmas.Bool.{eqb-false}
 use Rattle.cells.specs.Proof.Split.{by-test}
 use Rattle.link.specs.declared.Link.{Link}
@@ -15,19 +14,18 @@ use Rattle.link.specs.Judge.{change_of}
 use Rattle.strings.specs.Lookup.{Looked}
 use Rattle.interner.specs.Names.{Store, store_of, keep_of}
 use Rattle.symbols.specs.Remove.{Rows}
-use Rattle.elf_object.specs.Rows.{first_at, is_loaded}
+use Rattle.elf_object.specs.Rows.{is_loaded}
 use Rattle.elf_object.specs.Judge as Elf
 use Rattle.section_groups.specs.Group as Group
 use Rattle.section_groups.specs.Group.{Plan}
 use Rattle.section_groups.specs.Group.{shape_of, signature_of, plan_of, commit_group_of, decided_of, group_named, signed_of, shaped_of, group_of, group_section_of, go}
 use Rattle.section_groups.specs.AddGroup as AddGroup
 use Rattle.section_groups.specs.AddGroup.{check_of, head_in, lent, rows_refusal, marks_refusal, answer_of, table_in, loaded_in, add_group_of}
-use Rattle.symbol_laws.specs.History.{State, table, with_rows}
+use Rattle.symbol_laws.specs.History.{State, with_rows}
 use Rattle.merge_laws.specs.Steps.{Step, log_steps, Makes}
 use Rattle.merge_laws.proofs.Steps.{makes_none}
 use Rattle.merge_laws.specs.MergeSteps.{signed_steps, group_section_steps}
 use Rattle.merge_laws.proofs.GroupStage.{section-makes}
-use Rattle.link_laws.specs.Calls.{add, add_group, load}
 use Rattle.link_laws.specs.CallSteps.{at, group_steps}
 
 -- ---- a list of adds
@@ -95,9 +93,9 @@ module _ (o : Group.Object) (t : State) (work : List ℕ) (n : ℕ) where
     unfolding group_of shaped_of signed_of group_named decided_of commit_group_of
     group-same =
         let x : Looked = signature_of o.headers (table_in o.headers o.entries o.table) o.image o.table n in
-        let listed : ℕ = get_or o.contents (first_at o.headers n) 0 in
+        let listed : List ℕ = Group.listed_in o n in
         let p : Plan = plan_of t.link t.bytes t.names (length work / 8) x.name listed in
-        by-test (eqb (shape_of o.headers (table_in o.headers o.entries o.table) o.table n) 0)
+        by-test (eqb (shape_of (loaded_in o) work n) 0)
         (λ a.
         by-test x.found
         (λ b.

@@ -1,7 +1,7 @@
 -- The ids that a merge gave the symbols of an object stand for those symbols through all calls that follow: a local's for a row with what its entry says, another's
 -- for the row of its name. So what relocations name is told by the object's own symbols.
 -- Assumes nothing.
-use Rattle.std.specs.Prelude.{ℕ, suc, ◌+◌, ◌*◌, ◌≤◌, ◌<◌, ◌≡◌, refl, true, ◌≢◌, eqb, length, None}
+use Rattle.std.specs.Prelude.{ℕ, suc, ◌+◌, ◌*◌, ◌≤◌, ◌<◌, ◌≡◌, refl, true, false, ◌≢◌, eqb, length, None}
 use Rattle.std.proofs.Common.{arith, sym, ◌∙◌, get_or-set_same}
 use Rattle.std.proofs.Math.Path.{ap, subst}
 use mathlib.Core.List.{List, [], ◌∷◌, ◌++◌}
@@ -49,7 +49,7 @@ use Rattle.merge_laws.specs.FileNames.{IsFile}
 use Rattle.merge_laws.proofs.FileNames.{file-stays, row-file}
 use Rattle.merge_laws.specs.ObjectContents as Contents
 use Rattle.merge_laws.proofs.ObjectContents as ContentsLaws
-use Rattle.merge_laws.specs.SymbolIds.{name_of}
+use Rattle.merge_laws.specs.SymbolIds.{is_dropped, name_of}
 use Rattle.merge_laws.specs.SymbolDuplicates.{Comes, steps_to, row_to}
 use Rattle.merge_laws.proofs.SymbolDuplicates.{table_to, steps-make, Begins}
 use Rattle.merge_laws.specs.Stops as Stops
@@ -62,7 +62,7 @@ use Rattle.merge_laws.specs.GivenIds as GivenIds
 use Rattle.merge_laws.proofs.BuiltNames as Names
 use Rattle.merge_laws.specs.BuiltNames.{AllGive, Gives, null, answered}
 use Rattle.merge_laws.specs.Calls.{Linked, all_in}
-use Rattle.link_laws.specs.Calls.{Call, resolve, get, get_global, merge, call_left, call_number, call_next, run_calls}
+use Rattle.link_laws.specs.Calls.{Call, resolve, get_global, merge, call_left, call_number, call_next, run_calls}
 use Rattle.link_laws.specs.Kept.{signatures}
 use Rattle.link_laws.proofs.Kept.{Lasting, lasting-within, lasting-on}
 use Rattle.merge_laws.proofs.NamesOn.{steps-stay}
@@ -73,7 +73,7 @@ use Rattle.link_laws.proofs.LookedUp as LookedUp
 use Rattle.link_laws.proofs.LookedUp.{Later, calls-later}
 use Rattle.link_laws.specs.LocalRows.{Shown, Onto, Stay}
 use Rattle.link_laws.proofs.LocalRows.{onto-both, steps-onto, onto-stay, stay-both, stands-local, calls-stay}
-use Rattle.link_laws.specs.GivenRows.{NameHas, gone, row, symbols, name_bytes, Stands, first, own, shared, AllStand}
+use Rattle.link_laws.specs.GivenRows.{NameHas, gone, row, symbols, names_file, name_bytes, Stands, first, own, shared, AllStand}
 
 -- ---- the words
 
@@ -153,7 +153,7 @@ module _ (s : Linked) (met : List (List ℕ)) (g : Lasting s met) (ready : Ready
   abbrev merged : Linked
   merged = call_next (merge o work ids) s
 
-  module _ (k : ℕ) (low : k < rows_in (Stops.object o a).entries) (found : (name_of reader k).found ≡ true)
+  module _ (k : ℕ) (low : k < rows_in (Stops.object o a).entries) (keeps : is_dropped reader (symbols_to o a k) k ≡ false) (found : (name_of reader k).found ≡ true)
       (added : adds (input_of reader.entries reader.work) (name_of reader k).name k ≡ true)
       (fine : (Symbols.symbol_of reader (symbols_to o a k) k).stage.number ≡ 0) where
     abbrev x : List ℕ
@@ -184,18 +184,18 @@ module _ (s : Linked) (met : List (List ℕ)) (g : Lasting s met) (ready : Ready
         }
 
     decided-zero : refusal_of (decided (table named) r) ≡ 0
-    decided-zero = SymbolNames.decided-zero o a met g.marked k comes fine found added
+    decided-zero = SymbolNames.decided-zero o a met g.marked k comes fine keeps found added
 
     leads-then : table_to o a (suc k) ≡ then
-    leads-then = SymbolNames.leads-then o a met g.marked k comes fine found added
+    leads-then = SymbolNames.leads-then o a met g.marked k comes fine keeps found added
 
     -- the merge's further steps
     begins : Begins o a (suc k)
-    begins = SymbolNames.begins o a met g.marked k comes fine found added
+    begins = SymbolNames.begins o a met g.marked k comes fine keeps found added
 
     on-makes : Makes then begins.rest merged.table
     unfolding begins
-    on-makes = SymbolNames.on-makes o a met g.marked k comes fine found added
+    on-makes = SymbolNames.on-makes o a met g.marked k comes fine keeps found added
 
     then-onto : Onto s.table then
     then-onto = subst (Onto s.table) leads-then (to-onto (suc k))
@@ -214,10 +214,10 @@ module _ (s : Linked) (met : List (List ℕ)) (g : Lasting s met) (ready : Ready
 
     -- its name
     fits : fits_of (store before) (id_of before x) (length x) ≡ true
-    fits = SymbolNames.fits o a met g.marked k comes fine found added
+    fits = SymbolNames.fits o a met g.marked k comes fine keeps found added
 
     own-id : r.name.0 ≡ find (store before) x
-    own-id = SymbolNames.own-id o a met g.marked k comes fine found added
+    own-id = SymbolNames.own-id o a met g.marked k comes fine keeps found added
 
     named-issued : Issued (store named) (find (store before) x) x
     named-issued = keep-issued (store before) x (to-marked k).good fits
@@ -232,7 +232,7 @@ module _ (s : Linked) (met : List (List ℕ)) (g : Lasting s met) (ready : Ready
         omega (arith, own-id, l, c.rows_in, c.rows-lent)
 
     put-goes : number_in (put_of named r).said ≡ 0
-    put-goes = SymbolNames.put-goes o a met g.marked k comes fine found added
+    put-goes = SymbolNames.put-goes o a met g.marked k comes fine keeps found added
 
     then-issued : Issued (store then) r.name.0 x
     then-issued =
@@ -323,9 +323,9 @@ module _ (s : Linked) (met : List (List ℕ)) (g : Lasting s met) (ready : Ready
       name-own : x ≡ name_bytes o s met last k
       name-own = sym bears.bytes
 
-      filed : IsFile (store last.table) (symbols o s met last) (Words.Bears o.headers o.entries o.contents o.image) k r.file
+      filed : IsFile (store last.table) (names_file o s met last) (Words.Bears o.headers o.entries o.contents o.image) k r.file
       filed =
-          file-stays (store merged.table) (symbols o s met last) (Words.Bears o.headers o.entries o.contents o.image) k r.file (store last.table)
+          file-stays (store merged.table) (names_file o s met last) (Words.Bears o.headers o.entries o.contents o.image) k r.file (store last.table)
           (NamesStay.calls-stay ls merged (met ++ signatures (merge o work ids ∷ []) s) (lasting-on (merge o work ids ∷ []) s met g).marked)
           (row-file o a met g.marked head-goes (sections-going o a whole) (groups-pass o a whole) (filter_passes o a ok) k low comes.going)
 
@@ -335,7 +335,7 @@ module _ (s : Linked) (met : List (List ℕ)) (g : Lasting s met) (ready : Ready
 
       stands-local-row : r.scope ≡ 0 → Stands o s met last k id
       stands-local-row v =
-          let c = ContentsLaws.local-content o a head-goes (sections-going o a whole) (groups-pass o a whole) met g.marked k low fine found added v in
+          let c = ContentsLaws.local-content o a head-goes (sections-going o a whole) (groups-pass o a whole) met g.marked k low fine keeps found added v in
           let (h, e) = local-stays v in
           own c.bound bears.found
           (record {
@@ -343,7 +343,7 @@ module _ (s : Linked) (met : List (List ℕ)) (g : Lasting s met) (ready : Ready
             content = subst (Contents.LocalContent o.headers o.entries o.contents o.image s.table.link.sections met (symbols o s met last) k) (sym e) c;
             named =
                 ap (λ (r : Row). call_left (resolve r.name) last) e ∙ resolves ∙ ap (λ (b : List ℕ). resolved b 0 0) name-own;
-            filed = subst (λ (r : Row). IsFile (store last.table) (symbols o s met last) (Words.Bears o.headers o.entries o.contents o.image) k r.file) (sym e) filed;
+            filed = subst (λ (r : Row). IsFile (store last.table) (names_file o s met last) (Words.Bears o.headers o.entries o.contents o.image) k r.file) (sym e) filed;
           })
 
       pub answered-stands : Stands o s met last k id
@@ -351,7 +351,7 @@ module _ (s : Linked) (met : List (List ℕ)) (g : Lasting s met) (ready : Ready
           by-test (eqb r.scope 0) (λ v. stands-local-row (eqb-true _ _ v))
           (λ v.
           let u = eqb-false _ _ v in
-          shared (λ b. u (ContentsLaws.binding-local o a head-goes (sections-going o a whole) (groups-pass o a whole) met g.marked k low fine found added b))
+          shared (λ b. u (ContentsLaws.binding-local o a head-goes (sections-going o a whole) (groups-pass o a whole) met g.marked k low fine keeps found added b))
           bears.found
           (subst (λ (b : List ℕ). NameHas b last (record { 0 = id })) name-own (name-has u)))
 
@@ -363,7 +363,7 @@ module _ (s : Linked) (met : List (List ℕ)) (g : Lasting s met) (ready : Ready
 
     gives-stand : (k id : ℕ) → Gives o a k id → Stands o s met end k id
     gives-stand k id (null low f e) = first (ContentsLaws.null_is o a head-goes (sections-going o a whole) (groups-pass o a whole) met g.marked k low f) e
-    gives-stand k id (answered low f d z e) = subst (Stands o s met end k) (sym e) (answered-stands k low f d z ls)
+    gives-stand k id (answered low r f d z e) = subst (Stands o s met end k) (sym e) (answered-stands k low r f d z ls)
 
     pub all-stand : (ks is : List ℕ) → AllGive o a ks is → AllStand o s met end ks is
     all-stand [] [] q = tt

@@ -8,7 +8,6 @@ use Rattle.link.specs.Judge as Answer
 use Rattle.link.specs.declared.cause.Refusal.{Refusal}
 use Rattle.link.specs.Stage.{Stage}
 use Rattle.link.specs.Judge.{refused, change_of, going_of}
-use Rattle.elf_object.specs.Rows as Elf
 use Rattle.elf_object.specs.Judge as Object
 use Rattle.section_groups.specs.Group as Group
 use Rattle.section_groups.specs.declared.alone.Outcome.{Outcome}
@@ -19,20 +18,11 @@ use Rattle.symbol_laws.specs.History.{State, store}
 use Rattle.merge_laws.specs.Calls.{Linked}
 use Rattle.link_laws.specs.Calls.{add_group, group_in, call_refusal}
 use Rattle.link_laws.specs.Rules.{Rule, ◌gives◌at◌, first_refusal, head_rules, numbered}
-use Rattle.link_laws.proofs.Rules.{numbered-both, first-none, taken, left_out, headed, not-below, head-rules}
-use Rattle.link_laws.specs.ObjectRules.{cell_at, is_excluded, is_section, object_rules}
+use Rattle.link_laws.proofs.Rules.{numbered-both, first-none, taken, left_out, headed, head-rules}
+use Rattle.link_laws.specs.ObjectRules.{is_section, object_rules}
 use Rattle.link_laws.proofs.ObjectExactly.{object-exactly, object-numbered}
-use Rattle.link_laws.specs.GroupRules.{alone, own_group_rules, group_head}
-use Rattle.link_laws.proofs.MergeExactly.{excluded-is}
-use Rattle.link_laws.proofs.MergeGroups.{group-exactly}
-
-pub loaded-is : (headers : List ℕ) (n kind : ℕ) → Elf.is_loaded headers n kind ≡ is_section headers n kind
-unfolding Elf.is_loaded
-loaded-is headers n kind =
-    rw (not-below n (length headers / 8), excluded-is headers n)
-    (by-test (ltb n (length headers / 8))
-    (λ a. by-test (is_excluded headers n) (λ b. rw (a, b)) (λ b. by-test (eqb (cell_at headers n 0) kind) (λ d. rw (a, b, d)) (λ d. rw (a, b, d))))
-    (λ a. rw a))
+use Rattle.link_laws.specs.GroupRules.{alone, is_noted, own_group_rules, group_head}
+use Rattle.link_laws.proofs.MergeGroups.{loaded-is, group-exactly}
 
 -- a result has place 0
 answer-said : (s : Stage) (r : Refusal) → refused s.number s.place ≡ r → (eqb r.number 0 ≡ true → r ≡ refused 0 0) → Answer.refusal_in (answer_of s).answer ≡ r
@@ -80,12 +70,13 @@ module _ (o : Group.Object) (work : List ℕ) (n : ℕ) (s : Linked) where
   loaded-alone =
       ap (λ (b : Bool). Group.object_of o.headers (cond b o.entries []) o.contents o.image o.table) (loaded-is o.headers o.table 3)
 
-  pub add-group-exactly : Chained (store t) → call_refusal (add_group o work n) s ≡ first_refusal (group_head o n t marks ++ own_group_rules (alone o) n t marks)
+  pub add-group-exactly : Chained (store t) → call_refusal (add_group o work n) s ≡ first_refusal (group_head o n t marks ++ own_group_rules (alone o) n (is_noted work) t marks)
   unfolding add_group_of
   add-group-exactly c =
       let here = Group.step_of t.bytes t.names work (going_of t.link) in
-      headed (own_group_rules (alone o) n t marks) (λ (x : AddGroup.Left). x.said) (group_head o n t marks) (head_in o (group_in t work) n) _ _ head-numbered head-exactly refl
+      headed (own_group_rules (alone o) n (is_noted work) t marks) (λ (x : AddGroup.Left). x.said) (group_head o n t marks) (head_in o (group_in t work) n) _ _ head-numbered head-exactly refl
       (λ e.
-      answer-said _ (first_refusal (own_group_rules (alone o) n t marks))
-      (group-exactly (AddGroup.loaded_in o) here n c ∙ ap (λ (x : Group.Object). first_refusal (own_group_rules x n t marks)) loaded-alone)
-      (λ z. first-none (own_group_rules (alone o) n t marks) refl z))
+      answer-said _ (first_refusal (own_group_rules (alone o) n (is_noted work) t marks))
+      (group-exactly (AddGroup.loaded_in o) here n c (is_noted work) (λ m l. refl)
+      ∙ ap (λ (x : Group.Object). first_refusal (own_group_rules x n (is_noted work) t marks)) loaded-alone)
+      (λ z. first-none (own_group_rules (alone o) n (is_noted work) t marks) refl z))

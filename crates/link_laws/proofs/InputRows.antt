@@ -151,7 +151,7 @@ unfolding filter_stage filtered_of
 filter-took o a =
     by-test (eqb a.stage.number 0)
     (λ z.
-    by-test (ltb (filter_of a.work o.entries) (rows_in o.entries)) (λ t. rw (z, t) (none refl))
+    by-test (ltb (filter_of a.stage.link.gabi a.work o.entries) (rows_in o.entries)) (λ t. rw (z, t) (none refl))
     (λ t. rw (z, t) (table-took o a.work (symbols_in a))))
     (λ z. rw z (none refl))
 

@@ -46,17 +46,18 @@ ids-ok ids limit (k ∷ ks) =
     rw (not-below k limit)
     (by-test (ltb k limit) (λ a. by-test (eqb (get_or ids k 0) 0) (λ b. rw (a, b)) (λ b. rw (a, b) (ids-ok ids limit ks))) (λ a. rw a))
 
+-- no section's rules ask the profile
 -- without a table nothing is named, so the limit doesn't matter
 module _ (d : Tabled) (work ids : List ℕ) (kind n : ℕ) where
   abbrev limit_for : ℕ
-  limit_for = nameable_in d.headers d.table (length d.entries / 8) (table_for (at_work work) (identified_by ids) d kind n)
+  limit_for = nameable_in d.headers d.table (length d.entries / 8) (table_for (at_work false work) (identified_by ids) d kind n)
 
-  relocations-are : Relocations.relocations_of d.headers d.contents (Relocations.table_for work n kind) ≡ relocations (at_work work) (identified_by ids) d kind n
+  relocations-are : Relocations.relocations_of d.headers d.contents (Relocations.table_for work n kind) ≡ relocations (at_work false work) (identified_by ids) d kind n
   unfolding Relocations.relocations_of Relocations.table_for Elf.section_of
   relocations-are = by-test (eqb kind 1) (λ a. rw a (by-test (eqb (cell_at work n 2) 0) (λ e. rw e) (λ e. rw e))) (λ a. rw a)
 
   lacks-is : symbols_ok ids (limit_of d.headers (Relocations.table_for work n kind) d.table (length d.entries / 8)) (Relocations.relocations_of d.headers d.contents (Relocations.table_for work n kind))
-      ≡ not (lacks_id (identified_by ids) limit_for (relocations (at_work work) (identified_by ids) d kind n))
+      ≡ not (lacks_id (identified_by ids) limit_for (relocations (at_work false work) (identified_by ids) d kind n))
   unfolding limit_of Relocations.table_for Elf.section_of Relocations.relocations_of symbols_ok
   lacks-is =
       by-test (eqb kind 1)
@@ -70,7 +71,7 @@ module _ (d : Tabled) (work ids : List ℕ) (kind : ℕ) (s : Build.State) (n : 
   o = build_object d work ids
 
   abbrev k : Reading
-  k = at_work work
+  k = at_work false work
 
   abbrev t : State
   t = names_of s.bytes s.names s.stage.link
@@ -196,7 +197,7 @@ module _ (d : Tabled) (work ids : List ℕ) (kind : ℕ) where
   builder = build_object d work ids
 
   abbrev own : Build.State → ℕ → List Rule
-  own = build_rules (at_work work) (identified_by ids) d kind
+  own = build_rules (at_work false work) (identified_by ids) d kind
 
   pub record Named (s : Build.State) (n : ℕ) : Type 0 where
     pub quiet : build_said s ≡ refused 0 0

@@ -59,9 +59,10 @@ module _ {S : Type 0} (rules : S → ℕ → List Rule) (next : S → ℕ → S)
 abbrev pub found_in : ℕ → Found
 found_in cell = cond (eqb cell 0) absent (found (cell - 1))
 
-abbrev pub at_work : List ℕ → Reading
-at_work work =
+abbrev pub at_work : Bool → List ℕ → Reading
+at_work gabi work =
     record {
+      gabi = gabi;
       removed = λ s. eqb (cell_at work s 1) 2;
       defines = λ s. eqb (cell_at work s 1) 1;
       conversion = λ s. conversion_in (cell_at work s 0);

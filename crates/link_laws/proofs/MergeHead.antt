@@ -1,9 +1,7 @@
 -- Of a merge's head, filter and input row: the answer is that of the first rule that holds.
 -- Assumes nothing.
-use Rattle.std.specs.Prelude.{ℕ, ◌/◌, ◌≡◌, true, cond, not, ◌&&◌, List, ◌++◌, eqb, ltb, length}
-use Rattle.std.proofs.Math.Path.{refl}
-use Rattle.std.proofs.Common.{sym, eqb-true, eq-eqb, ne_eqb}
-use Rattle.std.proofs.lemmas.Bool.{eqb-false}
+use Rattle.std.specs.Prelude.{ℕ, ◌/◌, ◌≡◌, Bool, true, false, cond, not, ◌&&◌, List, ◌++◌, ltb, length}
+use Rattle.std.proofs.Math.Path.{refl, ap}
 use Rattle.cells.specs.Proof.Split.{by-test}
 use Rattle.link.specs.declared.Link.{Link}
 use Rattle.link.specs.declared.cause.Refusal.{Refusal}
@@ -16,39 +14,28 @@ use Rattle.merge_elf.specs.Merge.{work_refusal, rows_refusal, check_of, head_in,
 use Rattle.link_laws.specs.Rules.{Rule, first_refusal, numbered}
 use Rattle.link_laws.proofs.Rules.{each-numbered, headed, head-rules}
 use Rattle.link_laws.proofs.AddExactly.{least-below}
-use Rattle.link_laws.specs.ObjectRules.{cell_at, object_rules}
+use Rattle.link_laws.specs.ObjectRules.{object_rules}
 use Rattle.link_laws.proofs.ObjectExactly.{from_zero, object-exactly, object-numbered}
-use Rattle.link_laws.specs.MergeRules.{Reading, is_removed_in, change_rules, work_rules, filter_rules, input_rules}
+use Rattle.link_laws.specs.MergeRules.{Reading, is_discarded, change_rules, work_rules, filter_rules, input_rules}
 use Rattle.link_laws.proofs.MergeExactly.{at_work}
-use Rattle.link_laws.proofs.MergeSymbols.{after_is}
+use Rattle.link_laws.proofs.MergeSymbols.{discarded-is}
 
 -- ---- the filter
 
-filter-ok : (work entries : List ℕ) (i : ℕ) → symbol_ok work entries i ≡ not (eqb (cell_at entries i 1) 0 && not (eqb (cell_at entries i 4) 0) && is_removed_in (at_work work) (cell_at entries i 4))
+filter-ok : (gabi : Bool) (work entries : List ℕ) (i : ℕ) → symbol_ok gabi work entries i ≡ not (not gabi && is_discarded (at_work gabi work) entries i)
 unfolding symbol_ok
-filter-ok work entries i =
-    let s = cell_at entries i 4 in
-    rw (after_is work s)
-    (by-test (eqb (cell_at entries i 1) 0)
-    (λ a.
-    by-test (is_removed_in (at_work work) s)
-    (λ b. by-test (eqb s 0) (λ c. rw (a, b, eqb-true s 0 c)) (λ c. rw (a, b, c, ne_eqb 0 s (λ (q : 0 ≡ s). eqb-false s 0 c (sym q)))))
-    (λ b. by-test (eqb s 0) (λ c. rw (a, b, c, eqb_same s)) (λ c. rw (a, b, c, eqb_same s))))
-    (λ a. rw a))
-  where
-    eqb_same : (n : ℕ) → eqb n n ≡ true
-    eqb_same n = eq-eqb n n refl
+filter-ok true work entries i = refl
+filter-ok false work entries i = ap not (discarded-is false work entries i)
 
-pub filter-exactly : (work entries : List ℕ)
-    → cond (ltb (filter_of work entries) (length entries / 8)) (refused 8 (filter_of work entries)) (refused 0 0) ≡ first_refusal (filter_rules (at_work work) entries)
+pub filter-exactly : (gabi : Bool) (work entries : List ℕ)
+    → cond (ltb (filter_of gabi work entries) (length entries / 8)) (refused 8 (filter_of gabi work entries)) (refused 0 0) ≡ first_refusal (filter_rules (at_work gabi work) entries)
 unfolding filter_of
-filter-exactly work entries =
-    from_zero (λ i. eqb (cell_at entries i 1) 0 && not (eqb (cell_at entries i 4) 0) && is_removed_in (at_work work) (cell_at entries i 4)) (symbol_ok work entries) 8
-    (filter-ok work entries) (length entries / 8)
+filter-exactly gabi work entries =
+    from_zero (λ i. not gabi && is_discarded (at_work gabi work) entries i) (symbol_ok gabi work entries) 8 (filter-ok gabi work entries) (length entries / 8)
 
 pub filters-numbered : (k : Reading) (entries : List ℕ) → numbered (filter_rules k entries) ≡ true
 filters-numbered k entries =
-    each-numbered (λ i. eqb (cell_at entries i 1) 0 && not (eqb (cell_at entries i 4) 0) && is_removed_in k (cell_at entries i 4)) 8 refl (length entries / 8) 0
+    each-numbered (λ i. not k.gabi && is_discarded k entries i) 8 refl (length entries / 8) 0
 
 -- ---- the input's row
 

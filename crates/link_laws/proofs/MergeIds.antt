@@ -28,12 +28,15 @@ use Rattle.merge_symbols.specs.Plan.{input_of, filtered_at, defines_of, rule_of,
 use Rattle.merge_stages.specs.Stages.{Tabled, symbol_object}
 use Rattle.merge_symbols.specs.Stage as Symbols
 use Rattle.merge_symbols.specs.Stage.{cell_of, accept_row, kept_of, commit_of, view, looked_of, symbol_of, symbols_of}
-use Rattle.merge_laws.proofs.SymbolStageLemmas.{symbols-loop}
+use Rattle.section_groups.specs.Filter.{dropped_at}
+use Rattle.merge_laws.specs.MergeSteps.{symbol_steps}
+use Rattle.merge_laws.proofs.SymbolStageLemmas.{symbol-makes, symbols-loop}
+use Rattle.merge_laws.proofs.Profile.{makes-profile}
 use Rattle.link_laws.proofs.Rules.{not-below}
 use Rattle.link_laws.specs.ObjectRules.{cell_at}
-use Rattle.link_laws.specs.MergeRules.{Reading, bytes, is_first, is_idless}
+use Rattle.link_laws.specs.MergeRules.{Reading, is_dropped, table_at, bytes, is_first, is_idless}
 use Rattle.link_laws.proofs.MergeExactly.{at_work, identified_by, next-some}
-use Rattle.link_laws.proofs.MergeSymbols.{looked-found, looked-name, entry-is, first-tree, group-tree}
+use Rattle.link_laws.proofs.MergeSymbols.{looked-found, looked-name, entry-is, dropped-is, first-tree, group-tree}
 use Rattle.link_laws.proofs.MergeReading.{loop-keeps}
 
 -- ---- a decision that is accepted has an id
@@ -54,15 +57,15 @@ module _ (c : ℕ) where
 
 -- ---- one symbol
 
-module _ (d : Tabled) (work : List ℕ) where
+module _ (gabi : Bool) (d : Tabled) (work : List ℕ) where
   abbrev k : Reading
-  k = at_work work
+  k = at_work gabi work
 
   abbrev o : Symbols.Object
   o = symbol_object d work
 
   abbrev identified : ℕ → Bool
-  identified i = is_first k d i || not (is_idless k d i)
+  identified i = not (is_dropped k d.entries i) && (is_first k d i || not (is_idless k d i))
 
   -- the cell that an accepted decision leaves
   rule-cell : (l : Link) (names symbols sections : List ℕ) (i c : ℕ) (empty : Bool) (e : ElfSymbol) (r : Row) → Decide.refusal_of (rule_of l names symbols sections work i empty e r) ≡ 0
@@ -120,9 +123,10 @@ module _ (d : Tabled) (work : List ℕ) where
         (λ e.
         by-test (eqb (Decide.refusal_of p.decision) 0) (λ f. (eqb-true _ _ f, rw (e, f))) (λ f. absurd (eqb-false _ _ f (rw (e, f) at z))))
 
-    symbol-cell : (symbol_of o s i).stage.number ≡ 0 → Cell (symbol_of o s i).ids
-    unfolding symbol_of looked_of Symbols.symbol_named
-    symbol-cell z =
+    kept-cell : is_dropped k d.entries i ≡ false → (looked_of o s i (Elf.name_in d.headers d.image (cell_at d.headers d.table 3) (cell_at d.entries i 0))).stage.number ≡ 0
+        → Cell (looked_of o s i (Elf.name_in d.headers d.image (cell_at d.headers d.table 3) (cell_at d.entries i 0))).ids
+    unfolding looked_of Symbols.symbol_named
+    kept-cell a z =
         let x = Elf.name_in d.headers d.image (cell_at d.headers d.table 3) (cell_at d.entries i 0) in
         let f = looked-found d.headers d.image (cell_at d.headers d.table 3) (cell_at d.entries i 0) in
         by-test x.found
@@ -134,24 +138,33 @@ module _ (d : Tabled) (work : List ℕ) where
           cell = _;
           is = c.1;
           says =
-              plan-cell x.name _ c.0
+              rw a
+              (plan-cell x.name _ c.0
               ∙ ap (λ (y : List ℕ). id_on i (eqb (length y) 0) (filtered_at d.entries work i)) n
-              ∙ ap (id_on i (eqb (length (bytes k d i)) 0)) (entry-is d work i);
+              ∙ ap (id_on i (eqb (length (bytes k d i)) 0)) (entry-is gabi d work i));
         }))
         (λ e. let q : ◌≡◌ {A = ℕ} 9 0 = rw e at z in absurd (omega arith))
+
+    symbol-cell : s.stage.link.gabi ≡ gabi → (symbol_of o s i).stage.number ≡ 0 → Cell (symbol_of o s i).ids
+    unfolding symbol_of
+    symbol-cell p z =
+        let q : dropped_at s.stage.link.gabi work d.entries i ≡ is_dropped k d.entries i = ap (λ (g : Bool). dropped_at g work d.entries i) p ∙ dropped-is gabi work d.entries i in
+        by-test (is_dropped k d.entries i) (λ a. rw (q, a) (record { cell = 0; is = refl; says = rw a })) (λ a. rw (q, a) (kept-cell a (rw (q, a) at z)))
 
   -- ---- all of them
 
   module _ (long : ℕ) where
     pub record Ids (s : Symbols.State) (i : ℕ) : Type 0 where
       pub ids-long : length s.ids ≡ long
+      pub profile : s.stage.link.gabi ≡ gabi
       pub says : (j : ℕ) → j < i → identified_by s.ids j ≡ identified j
 
     ids_next : (s : Symbols.State) (i : ℕ) → i < long → Ids s i → (symbol_of o s i).stage.number ≡ 0 → Ids (symbol_of o s i) (i + 1)
     ids_next s i l h z =
-        let c = symbol-cell s i z in
+        let c = symbol-cell s i h.profile z in
         record {
           ids-long = ap length c.is ∙ length-set s.ids i c.cell ∙ h.ids-long;
+          profile = makes-profile (table_at s) (table_at (symbol_of o s i)) (symbol_steps o s i) (symbol-makes o s i) ∙ h.profile;
           says =
               λ j q.
               by-test (eqb j i)
@@ -165,14 +178,14 @@ module _ (d : Tabled) (work : List ℕ) where
               ∙ ap (λ (v : ℕ). not (eqb v 0)) (get_or-set_other s.ids i j c.cell 0 (λ q. u q)) ∙ h.says j (omega (arith, u)));
         }
 
-    pub all_ids : (s : Symbols.State) → length d.entries / 8 ≤ long → length s.ids ≡ long → (symbols_of o s).stage.number ≡ 0
+    pub all_ids : (s : Symbols.State) → s.stage.link.gabi ≡ gabi → length d.entries / 8 ≤ long → length s.ids ≡ long → (symbols_of o s).stage.number ≡ 0
         → (j : ℕ) → j < length d.entries / 8 → identified_by (symbols_of o s).ids j ≡ identified j
     unfolding symbols_of
-    all_ids s lent e z =
+    all_ids s p lent e z =
         let n = length d.entries / 8 in
         let q = symbols-loop o n 0 s in
         let none : 0 + n ≡ n = omega arith in
         λ j l.
         ap (λ (r : Symbols.State). identified_by r.ids j) q
         ∙ (loop-keeps (λ (r : Symbols.State). r.stage.number) (symbol_of o) Ids n (λ r i l h z. ids_next r i (omega arith) h z) n 0 s (omega arith)
-        (record { ids-long = e; says = λ j p. absurd (omega arith) }) (ap (λ (r : Symbols.State). r.stage.number) (sym q) ∙ z)).says j (omega arith)
+        (record { ids-long = e; profile = p; says = λ j p. absurd (omega arith) }) (ap (λ (r : Symbols.State). r.stage.number) (sym q) ∙ z)).says j (omega arith)

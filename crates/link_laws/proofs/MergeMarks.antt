@@ -1,9 +1,9 @@
 -- What a merge's groups leave in the work rows is what the object says: the sections that are removed, and those that define a group.
 -- Assumes nothing.
-use Prim.Native.Nat.{ℕ, zero, suc, ◌+◌, ◌/◌, ◌<◌, ◌≤◌}
+use Prim.Native.Nat.{ℕ, zero, suc, ◌/◌, ◌<◌, ◌≤◌}
 use Rattle.std.proofs.Common.{arith, zero-add, sym, ◌∙◌, subst, append-nil, ltb-true, ltb-false, le-ltb}
 use Rattle.std.proofs.Math.Path.{◌≡◌, ap}
-use Rattle.std.specs.Prelude.{refl, Bool, false, ◌&&◌, ◌||◌, List, [], ◌∷◌, ◌++◌, eqb, ltb, length}
+use Rattle.std.specs.Prelude.{refl, Bool, false, ◌&&◌, ◌||◌, List, [], ◌∷◌, ◌++◌, eqb, ltb, get_or, length}
 use Rattle.std.proofs.Math.Bool.{true, cond}
 use Rattle.std.proofs.lemmas.Bool.{eqb-false}
 use Rattle.cells.specs.Proof.Split.{by-test}
@@ -12,12 +12,13 @@ use Rattle.interner.specs.Names.{find_of}
 use Rattle.interner_laws.proofs.Find.{found}
 use Rattle.elf_object.specs.Rows as Elf
 use Rattle.section_groups.specs.Group as Group
-use Rattle.section_groups.specs.Group.{mark_group_of, mark_removed_of, group_section_of, groups_from, groups_of}
+use Rattle.section_groups.specs.Group.{all_marked, mark_group_of, mark_all, group_section_of, groups_from, groups_of}
 use Rattle.merge_stages.specs.Stages.{All, Object, Tabled, group_object}
 use Rattle.symbol_laws.specs.History.{State, store}
-use Rattle.merge_laws.proofs.GroupMarks.{group-marks, mark-lent}
+use Rattle.merge_laws.proofs.GroupMarks.{each-holds, group-marks, marks-lent}
 use Rattle.merge_laws.proofs.Accepted.{going, next-going}
-use Rattle.merge_laws.proofs.WorkGroups.{group-cell, removed-cell, group-long, mark-after, told, told_more, told_same, groups-next}
+use Rattle.merge_laws.proofs.WorkGroups.{group-cell, listed-cell, group-long, mark-after, told, told_more, told_same, groups-next}
+use Rattle.merge_laws.specs.MergeWords.{is_listed}
 use Rattle.merge_laws.specs.Marked.{Marked}
 use Rattle.merge_laws.specs.Whole.{table_in}
 use Rattle.merge_laws.specs.FirstKept as FirstKept
@@ -27,10 +28,10 @@ use Rattle.merge_laws.specs.Stops.{reserved, object, prepared, grouped, marked, 
 use Rattle.link_laws.specs.Rules.{some}
 use Rattle.link_laws.proofs.InternExactly.{among-found}
 use Rattle.link_laws.specs.ObjectRules.{cell_at, is_section}
-use Rattle.link_laws.specs.GroupRules.{is_met, signature, listed}
-use Rattle.link_laws.proofs.GroupExactly.{loaded-is}
+use Rattle.link_laws.specs.GroupRules.{is_met, some_of, signature, listed}
+use Rattle.link_laws.proofs.MergeGroups.{loaded-is, any-some, or_assoc, some-last}
 use Rattle.link_laws.proofs.MergeSymbols.{find-is, looked-found, looked-name}
-use Rattle.link_laws.specs.MergeRules.{is_met_before}
+use Rattle.link_laws.specs.MergeRules.{lists, is_met_before}
 
 -- ---- signatures
 
@@ -52,22 +53,6 @@ unfolding among
 among-snoc x y [] = by-test (same_name y x) (λ e. rw e) (λ e. rw e)
 among-snoc x y (z ∷ l) = by-test (same_name z x) (λ e. rw e) (λ e. rw e (among-snoc x y l))
 
--- ---- the last of some
-
-or_assoc : (a b c : Bool) → a || (b || c) ≡ a || b || c
-or_assoc true b c = refl
-or_assoc false b c = refl
-
-pub some-last : (test : ℕ → Bool) (n i : ℕ) → some test i (suc n) ≡ some test i n || test (i + n)
-some-last test zero i = let e : i ≡ i + 0 = omega arith in or-none (test i) ∙ ap test e
-  where
-    or-none : (b : Bool) → b || false ≡ b
-    or-none true = refl
-    or-none false = refl
-some-last test (suc n) i =
-    let e : i + 1 + n ≡ i + suc n = omega arith in
-    ap (◌||◌ (test i)) (some-last test n (i + 1) ∙ ap (λ (k : ℕ). some test (i + 1) n || test k) e) ∙ or_assoc (test i) (some test (i + 1) n) (test (i + suc n))
-
 -- ---- one group
 
 module _ (o : Group.Object) (s : Group.Step) (n : ℕ) (group : is_section o.headers n 7 ≡ true) (accepted : (group_section_of o s n).stage.number ≡ 0) where
@@ -77,7 +62,7 @@ module _ (o : Group.Object) (s : Group.Step) (n : ℕ) (group : is_section o.hea
       let l : Elf.is_loaded o.headers n 7 ≡ true = loaded-is o.headers n 7 ∙ group in
       by-test (Group.signature_of o.headers o.entries o.image o.table n).found (λ c. c)
       (λ c.
-      by-test (eqb (Group.shape_of o.headers o.entries o.table n) 0)
+      by-test (eqb (Group.shape_of o s.work n) 0)
       (λ b. let z : ◌≡◌ {A = ℕ} 7 0 = rw (l, b, c) at accepted in absurd (omega arith))
       (λ b. absurd (eqb-false _ _ b (rw (l, b) at accepted))))
 
@@ -134,14 +119,14 @@ module _ (o : Object) (a : All) (met : List (List ℕ)) (m : Marked (table_in a)
   first = (prepared o a).work
 
   abbrev removing : ℕ → ℕ → Bool
-  removing s h = is_section o.headers h 7 && eqb (listed g h) s && is_met_before d t h (signature g h)
+  removing s h = lists g h s && is_met_before d t h (signature g h)
 
   abbrev mark_is : ℕ → ℕ → ℕ
   mark_is n s = cond (some (removing s) 0 n) 2 (cond (ltb s n && is_section o.headers s 7) 1 0)
 
   pub record Marks (w : List ℕ) (n : ℕ) : Type 0 where
     pub long : length w ≡ length first
-    pub others : (s f : ℕ) → f < 8 → (f ≡ 1 → ⊥) → cell_at w s f ≡ cell_at first s f
+    pub others : (s f : ℕ) → f < 8 → (f ≡ 1 → ⊥) → (f ≡ 3 → ⊥) → cell_at w s f ≡ cell_at first s f
     pub marks : (s : ℕ) → cell_at first s 1 ≡ 0 → cell_at w s 1 ≡ mark_is n s
 
   -- of one group more
@@ -171,7 +156,7 @@ module _ (o : Object) (a : All) (met : List (List ℕ)) (m : Marked (table_in a)
       abbrev s₀ : Group.Step
       s₀ = groups_to o a n
 
-      abbrev k : ℕ
+      abbrev k : List ℕ
       k = listed g n
 
       abbrev again : Bool
@@ -184,20 +169,28 @@ module _ (o : Object) (a : All) (met : List (List ℕ)) (m : Marked (table_in a)
       again-is = met-to n (omega arith) (FirstKept.signature o a n) ∙ ap (is_met_before d t n) (signature-is g s₀ n e (next-going o a passed n l))
 
       abbrev after : List ℕ
-      after = mark_removed_of (mark_group_of w n) again k
+      after = mark_all (mark_group_of w n) again k
 
       work-is : (group_section_of g s₀ n).work ≡ after
       work-is =
           group-marks a.symbols (reserved o a).sections g s₀ (met_to o a met n) (to-marked o a met m n) n group (next-going o a passed n l)
-          ∙ ap (λ (b : Bool). mark_removed_of (mark_group_of w n) b k) again-is
+          ∙ ap (λ (b : Bool). mark_all (mark_group_of w n) b k) again-is
+
+      marks-room : again ≡ true → (j : ℕ) → j < length k → get_or k j 0 < length w / 8
+      unfolding all_marked
+      marks-room b j low =
+          ltb-true _ _
+          (each-holds (λ x. ltb x (length w / 8)) k j low
+          (marks-lent a.symbols (reserved o a).sections g s₀ (met_to o a met n) (to-marked o a met m n) n group (next-going o a passed n l) (again-is ∙ b)))
 
       mark-is : (s : ℕ) → cell_at first s 1 ≡ 0 → cell_at after s 1 ≡ mark_is (suc n) s
       mark-is s z =
-          mark-after w n k s again (omega (arith, h.long, lent))
-          (λ b. mark-lent a.symbols (reserved o a).sections g s₀ (met_to o a met n) (to-marked o a met m n) n group (next-going o a passed n l) (again-is ∙ b))
-          ∙ ap (λ (x : ℕ). cond (again && eqb k s) 2 (cond (eqb s n) (cond (eqb x 2) 2 1) x)) (h.marks s z)
-          ∙ told_more (λ j. is_section o.headers j 7) s n e (some (removing s) 0 n) (again && eqb k s)
-          ∙ ap (λ (b : Bool). told (λ j. is_section o.headers j 7) s n (suc n) b) (sym (one_last n s ∙ ap (◌||◌ (some (removing s) 0 n)) (rw e (and_comm (eqb k s) again))))
+          mark-after w n k s again (omega (arith, h.long, lent)) marks-room
+          ∙ ap (λ (x : ℕ). cond (again && is_listed s k) 2 (cond (eqb s n) (cond (eqb x 2) 2 1) x)) (h.marks s z)
+          ∙ told_more (λ j. is_section o.headers j 7) s n e (some (removing s) 0 n) (again && is_listed s k)
+          ∙ ap (λ (b : Bool). told (λ j. is_section o.headers j 7) s n (suc n) (some (removing s) 0 n || (again && b))) (any-some (λ i. eqb (get_or k i 0) s) 0 (length k))
+          ∙ ap (λ (b : Bool). told (λ j. is_section o.headers j 7) s n (suc n) b)
+          (sym (one_last n s ∙ ap (◌||◌ (some (removing s) 0 n)) (rw e (and_comm (some_of (λ x. eqb x s) k) again))))
         where
           and_comm : (b c : Bool) → b && c ≡ c && b
           and_comm true true = refl
@@ -210,7 +203,7 @@ module _ (o : Object) (a : All) (met : List (List ℕ)) (m : Marked (table_in a)
           subst (λ (v : List ℕ). Marks v (suc n)) (sym work-is)
           (record {
             long = group-long w again n k ∙ h.long;
-            others = λ s f p q. removed-cell (mark_group_of w n) again k s f p q ∙ group-cell w n s f p q ∙ h.others s f p q;
+            others = λ s f p q r. listed-cell again k s f p q r 0 (length k) (mark_group_of w n) ∙ group-cell w n s f p q ∙ h.others s f p q r;
             marks = mark-is;
           })
 
@@ -221,7 +214,7 @@ module _ (o : Object) (a : All) (met : List (List ℕ)) (m : Marked (table_in a)
 
   marks-to : rows ≤ length first / 8 → (n : ℕ) → n ≤ rows → Marks (groups_to o a n).work n
   unfolding groups_from
-  marks-to lent zero l = record { long = refl; others = λ s f p q. refl; marks = λ s z. z ∙ ap (λ (b : Bool). cond (b && is_section o.headers s 7) 1 0) (sym (le-ltb s 0 (omega arith))) }
+  marks-to lent zero l = record { long = refl; others = λ s f p q r. refl; marks = λ s z. z ∙ ap (λ (b : Bool). cond (b && is_section o.headers s 7) 1 0) (sym (le-ltb s 0 (omega arith))) }
   marks-to lent (suc n) l = one-section lent n (omega arith) (marks-to lent n (omega arith))
 
   pub all-marks : rows ≤ length first / 8 → Marks (marked o a).work rows

@@ -113,10 +113,15 @@ module _ (o : Object) (a : All) (few : length o.headers / 8 ≤ 65280) (lent : l
       (λ l. cleared.others s 1 l (omega arith) ∙ noted.others s 1 (omega arith) (λ q. omega arith) ∙ placed.noted.clean s 1 l (omega arith) (omega arith))
       (λ f p z. z 1 (omega arith))
 
+  -- no group lists a section before the groups
+  pub before-listed : (n : ℕ) → n < rows → cell_at (prepared o a).work n 3 ≡ 0
+  before-listed n l =
+      cleared.others n 3 l (omega arith) ∙ noted.others n 3 (omega arith) (λ q. omega arith) ∙ placed.noted.clean n 3 l (omega arith) (omega arith)
+
   before-table : (n : ℕ) → n < rows → found_in (cell_at (prepared o a).work n 2) ≡ table_of d t n
   before-table n l = ap found_in (cleared.others n 2 l (omega arith) ∙ noted.tables n l) ∙ last_found o.headers few n rows (omega arith)
 
-  long : length (prepared o a).work ≡ length a.work
+  pub long : length (prepared o a).work ≡ length a.work
   long = cleared.long ∙ noted.long ∙ placed.work-long
 
   -- ---- after them
@@ -129,10 +134,10 @@ module _ (o : Object) (a : All) (few : length o.headers / 8 ≤ 65280) (lent : l
     marks = all-marks o a met m grouped-on (omega (arith, lent, long))
 
     pub conversion-is : (s : ℕ) → Asked s → conversion_in (cell_at work s 0) ≡ conversion_of d t s
-    conversion-is s k = ap conversion_in (marks.others s 0 (omega arith) (λ q. omega arith)) ∙ before-conversion s k
+    conversion-is s k = ap conversion_in (marks.others s 0 (omega arith) (λ q. omega arith) (λ q. omega arith)) ∙ before-conversion s k
 
     pub table_is : (n : ℕ) → n < rows → found_in (cell_at work n 2) ≡ table_of d t n
-    table_is n l = ap found_in (marks.others n 2 (omega arith) (λ q. omega arith)) ∙ before-table n l
+    table_is n l = ap found_in (marks.others n 2 (omega arith) (λ q. omega arith) (λ q. omega arith)) ∙ before-table n l
 
     mark-is : (s : ℕ) → Asked s → cell_at work s 1 ≡ cond (is_removed d t s) 2 (cond (is_section o.headers s 7) 1 0)
     mark-is s k =

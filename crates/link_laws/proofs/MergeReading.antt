@@ -27,7 +27,7 @@ use Rattle.link_laws.specs.Rules.{Rule, least, first_refusal, each_of}
 use Rattle.link_laws.proofs.Rules.{turn-of}
 use Rattle.link_laws.specs.TableRules.{Conversion, nothing, not_loaded, to_section, conversion_in}
 use Rattle.link_laws.specs.ObjectRules.{cell_at, is_excluded, is_kind}
-use Rattle.link_laws.proofs.GroupExactly.{loaded-is}
+use Rattle.link_laws.proofs.MergeGroups.{loaded-is}
 use Rattle.link_laws.specs.MergeRules.{found, last_in, rows_below, no_section_row, section_rules}
 use Rattle.link_laws.proofs.MergeExactly.{stage-below, found_in, section_said, excluded-is, room-is, Met, section-exactly, section-table}
 

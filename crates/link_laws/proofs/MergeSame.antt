@@ -10,12 +10,15 @@ use Rattle.merge_stages.specs.Stages.{All, Object}
 use Rattle.symbol_laws.specs.History.{State}
 use Rattle.merge_laws.specs.Marked.{Marked}
 use Rattle.merge_laws.specs.Whole.{table_in}
+use Rattle.merge_laws.specs.SymbolDuplicates.{steps_to}
+use Rattle.merge_laws.proofs.SymbolDuplicates.{table_to, steps-make}
+use Rattle.merge_laws.proofs.Profile.{makes-profile}
 use Rattle.merge_laws.specs.Stops.{reserved, grouped, marked}
 use Rattle.link_laws.specs.Rules.{Rule, ◌gives◌at◌}
 use Rattle.link_laws.proofs.Rules.{each_same}
 use Rattle.link_laws.specs.TableRules.{id_in, is_unroomed, names_of, Conversion, elf_asked, Asked, shown_rules, held_rules}
 use Rattle.link_laws.specs.ObjectRules.{cell_at, is_section, is_named, name_in}
-use Rattle.link_laws.specs.MergeRules.{Found, absent, found, Reading, is_removed_in, filter_rules, table_at, named, bytes, is_first, is_idless, symbol_rules, lacks_id, nameable_in, relocations_of, build_rules, d, k, is_identified}
+use Rattle.link_laws.specs.MergeRules.{Found, absent, found, Reading, is_removed_in, is_discarded, is_dropped, filter_rules, table_at, named, bytes, is_first, is_idless, symbol_rules, lacks_id, nameable_in, relocations_of, build_rules, d, k, is_identified}
 use Rattle.link_laws.proofs.MergeExactly.{at_work, identified_by}
 use Rattle.link_laws.proofs.MergeObject as MergeObject
 use Rattle.link_laws.proofs.MergeObject.{conversion-is, table_is, removed-is, defines-is, entry-asked, zero-asked}
@@ -25,8 +28,15 @@ module _ (o : Object) (a : All) (few : length o.headers / 8 ≤ 65280) (lent : l
   abbrev Asked-for : ℕ → Type 0
   Asked-for s = MergeObject.Asked o a few lent passed s
 
+  abbrev profile : Bool
+  profile = (marked o a).stage.link.gabi
+
   abbrev kept : Reading
-  kept = at_work (marked o a).work
+  kept = at_work profile (marked o a).work
+
+  profile-same : profile ≡ (k o a).gabi
+  unfolding Symbols.symbols_from
+  profile-same = makes-profile (table_in a) (table_to o a 0) (steps_to o a 0) (steps-make o a 0)
 
   -- the section of symbol i
   abbrev section : ℕ → ℕ
@@ -37,11 +47,12 @@ module _ (o : Object) (a : All) (few : length o.headers / 8 ≤ 65280) (lent : l
 
   pub filter_same : filter_rules kept (d o a).entries ≡ filter_rules (k o a) (d o a).entries
   filter_same =
-      each_same (λ i. eqb (cell_at (d o a).entries i 1) 0 && not (eqb (section i) 0) && is_removed_in kept (section i) gives 8 at i)
-      (λ i. eqb (cell_at (d o a).entries i 1) 0 && not (eqb (section i) 0) && is_removed_in (k o a) (section i) gives 8 at i) (length (d o a).entries / 8) 0
+      each_same (λ i. not profile && is_discarded kept (d o a).entries i gives 8 at i)
+      (λ i. not (k o a).gabi && is_discarded (k o a) (d o a).entries i gives 8 at i) (length (d o a).entries / 8) 0
       (λ i l.
-      ap (λ (b : Bool). eqb (cell_at (d o a).entries i 1) 0 && not (eqb (section i) 0) && b gives 8 at i)
-      (removed-same (section i) (entry-asked o a few lent passed i (omega arith))))
+      ap (λ (b : Bool). not profile && (eqb (cell_at (d o a).entries i 1) 0 && not (eqb (section i) 0) && b) gives 8 at i)
+      (removed-same (section i) (entry-asked o a few lent passed i (omega arith)))
+      ∙ ap (λ (p : Bool). not p && is_discarded (k o a) (d o a).entries i gives 8 at i) profile-same)
 
   -- ---- a symbol
 
@@ -87,6 +98,9 @@ module _ (o : Object) (a : All) (few : length o.headers / 8 ≤ 65280) (lent : l
     abbrev idless_on : Bool → Bool → Bool
     idless_on b g = eqb (cell_at (d o a).entries i 2) 4 || not (eqb (left b) 0) && (ltb (left b) 0xff00 && g)
 
+    abbrev dropped_on : Bool → Bool → Bool
+    dropped_on p b = p && (eqb (cell_at (d o a).entries i 1) 0 && not (eqb (section i) 0) && b)
+
     abbrev asked_on : Bool → Conversion → State → Asked
     asked_on b c t = elf_asked (entry_on b) (id_in t x) None c (eqb (length x) 0)
 
@@ -96,16 +110,24 @@ module _ (o : Object) (a : All) (few : length o.headers / 8 ≤ 65280) (lent : l
         ∷ (is_unroomed (table_at s) x gives 2 at i)
         ∷ cond (first_on b || idless_on b g) [] (shown_rules (table_at s) (asked_on b c (table_at s)) i ++ held_rules (table_at s) (asked_on b c (table_at s)) i)
 
+    abbrev all_on : Bool → Bool → Bool → Conversion → Symbols.State → List Rule
+    all_on p b g c s = cond (dropped_on p b) [] (rules_on b g c s)
+
     pub symbol-same : (s : Symbols.State) → symbol_rules kept (d o a) i s ≡ symbol_rules (k o a) (d o a) i s
     symbol-same s =
-        ap (λ (b : Bool). rules_on b (kept.defines (left (is_removed_in kept (section i)))) (kept.conversion (left (is_removed_in kept (section i)))) s) gone
-        ∙ ap (λ (g : Bool). rules_on (is_removed_in (k o a) (section i)) g (kept.conversion (left (is_removed_in kept (section i)))) s) defines-same
-        ∙ ap (λ (c : Conversion). rules_on (is_removed_in (k o a) (section i)) ((k o a).defines (left (is_removed_in (k o a) (section i)))) c s) conversion-same
+        ap (λ (b : Bool). all_on profile b (kept.defines (left (is_removed_in kept (section i)))) (kept.conversion (left (is_removed_in kept (section i)))) s) gone
+        ∙ ap (λ (g : Bool). all_on profile (is_removed_in (k o a) (section i)) g (kept.conversion (left (is_removed_in kept (section i)))) s) defines-same
+        ∙ ap (λ (c : Conversion). all_on profile (is_removed_in (k o a) (section i)) ((k o a).defines (left (is_removed_in (k o a) (section i)))) c s) conversion-same
+        ∙ ap (λ (p : Bool). all_on p (is_removed_in (k o a) (section i)) ((k o a).defines (left (is_removed_in (k o a) (section i)))) ((k o a).conversion (left (is_removed_in (k o a) (section i)))) s) profile-same
 
-    pub identified-same : is_first kept (d o a) i || not (is_idless kept (d o a) i) ≡ is_identified o a i
+    abbrev id_on : Bool → Bool → Bool → Bool
+    id_on p b g = not (dropped_on p b) && (first_on b || not (idless_on b g))
+
+    pub identified-same : not (is_dropped kept (d o a).entries i) && (is_first kept (d o a) i || not (is_idless kept (d o a) i)) ≡ is_identified o a i
     identified-same =
-        ap (λ (b : Bool). first_on b || not (idless_on b (kept.defines (left (is_removed_in kept (section i)))))) gone
-        ∙ ap (λ (g : Bool). first_on (is_removed_in (k o a) (section i)) || not (idless_on (is_removed_in (k o a) (section i)) g)) defines-same
+        ap (λ (b : Bool). id_on profile b (kept.defines (left (is_removed_in kept (section i))))) gone
+        ∙ ap (λ (g : Bool). id_on profile (is_removed_in (k o a) (section i)) g) defines-same
+        ∙ ap (λ (p : Bool). id_on p (is_removed_in (k o a) (section i)) ((k o a).defines (left (is_removed_in (k o a) (section i))))) profile-same
 
   -- ---- a section that is built
 

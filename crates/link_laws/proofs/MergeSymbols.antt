@@ -1,7 +1,7 @@
 -- Of a merge's symbols: each one's answer is that of its first rule that holds, over names as every link has them.
 -- Assumes nothing.
 use Rattle.std.specs.Prelude.{ℕ, zero, suc, ◌+◌, ◌/◌, ◌<◌, ◌≤◌, ◌≡◌, refl, Bool, true, false, cond, not, ◌&&◌, ◌||◌, List, [], ◌∷◌, ◌++◌, eqb, ltb, length, None}
-use Rattle.std.proofs.Common.{arith, sym, ◌∙◌, subst, eqb-true, ltb-true, ltb-false}
+use Rattle.std.proofs.Common.{arith, sym, ◌∙◌, subst, eqb-true, eq-eqb, ne_eqb, ltb-true, ltb-false}
 use Rattle.std.proofs.Math.Path.{ap}
 use Rattle.std.proofs.lemmas.Bool.{false≢true, eqb-false}
 use Rattle.cells.specs.Proof.Split.{by-test}
@@ -20,7 +20,7 @@ use Rattle.symbol_resolution.specs.Holder.{holder_of}
 use Rattle.symbol_resolution.specs.Decide as Decide
 use Rattle.symbol_resolution.specs.Decide.{decide_of}
 use Rattle.elf_object.specs.Rows as Elf
-use Rattle.section_groups.specs.Filter.{section_after}
+use Rattle.section_groups.specs.Filter.{section_after, discarded_at, dropped_at}
 use Rattle.merge_symbols.specs.Plan.{Planned}
 use Rattle.merge_symbols.specs.Plan as Plan
 use Rattle.merge_symbols.specs.Plan.{input_of, filtered_at, defines_of, rule_of, judged_of, rowed_of, read_of, planned_of, place_of}
@@ -32,13 +32,14 @@ use Rattle.merge_laws.specs.Marked.{Marked, marks_of}
 use Rattle.merge_laws.proofs.MarkedLemmas.{steps-marked}
 use Rattle.merge_laws.specs.MergeSteps.{symbol_steps}
 use Rattle.merge_laws.proofs.SymbolStageLemmas.{symbol-makes, symbols-loop}
+use Rattle.merge_laws.proofs.Profile.{makes-profile}
 use Rattle.link_laws.specs.Rules.{in_turn, Rule, ◌gives◌at◌, first_refusal, numbered}
 use Rattle.link_laws.proofs.Rules.{first-is, not-below}
 use Rattle.link_laws.specs.TableRules.{bytes_of, Asked, conversion_in, elf_asked, shown_rules, held_rules, is_unroomed, id_among, id_in}
 use Rattle.link_laws.proofs.InternExactly.{fits-is}
 use Rattle.link_laws.proofs.AddExactly.{Stands, shown-same, answered, elf-reads, shown-first, held_first}
 use Rattle.link_laws.specs.ObjectRules.{cell_at, is_excluded, is_named, name_in}
-use Rattle.link_laws.specs.MergeRules.{Reading, is_removed_in, table_at, entry, named, bytes, is_first, is_idless, symbol_rules}
+use Rattle.link_laws.specs.MergeRules.{Reading, is_removed_in, is_discarded, is_dropped, table_at, entry, named, bytes, is_first, is_idless, symbol_rules}
 use Rattle.link_laws.proofs.MergeExactly.{stage-exactly, at_work, excluded-is}
 
 -- ---- the id of some bytes
@@ -111,13 +112,30 @@ looked-name headers file n offset e =
     (λ a. absurd (false≢true (rw a at e))))
 
 -- the entry after the filter
-pub after_is : (work : List ℕ) (s : ℕ) → section_after work s ≡ cond (is_removed_in (at_work work) s) 0 s
+after_is : (gabi : Bool) (work : List ℕ) (s : ℕ) → section_after work s ≡ cond (is_removed_in (at_work gabi work) s) 0 s
 unfolding section_after
-after_is work s =
+after_is gabi work s =
     by-test (ltb s 0xff00) (λ a. rw a (by-test (eqb (cell_at work s 1) 2) (λ b. rw b) (λ b. rw b))) (λ a. rw a)
 
-pub entry-is : (d : Tabled) (work : List ℕ) (i : ℕ) → filtered_at d.entries work i ≡ entry (at_work work) d i
-entry-is d work i = rw (after_is work (cell_at d.entries i 4))
+pub entry-is : (gabi : Bool) (d : Tabled) (work : List ℕ) (i : ℕ) → filtered_at d.entries work i ≡ entry (at_work gabi work) d i
+entry-is gabi d work i = rw (after_is gabi work (cell_at d.entries i 4))
+
+-- a local symbol of a removed section
+pub discarded-is : (gabi : Bool) (work entries : List ℕ) (i : ℕ) → discarded_at work entries i ≡ is_discarded (at_work gabi work) entries i
+unfolding discarded_at
+discarded-is gabi work entries i =
+    let s = cell_at entries i 4 in
+    rw (after_is gabi work s)
+    (by-test (eqb (cell_at entries i 1) 0)
+    (λ a.
+    by-test (is_removed_in (at_work gabi work) s)
+    (λ b. by-test (eqb s 0) (λ c. rw (a, b, eqb-true s 0 c)) (λ c. rw (a, b, c, ne_eqb 0 s (λ (q : 0 ≡ s). eqb-false s 0 c (sym q)))))
+    (λ b. by-test (eqb s 0) (λ c. rw (a, b, c, eq-eqb s s refl)) (λ c. rw (a, b, c, eq-eqb s s refl))))
+    (λ a. rw a))
+
+pub dropped-is : (gabi : Bool) (work entries : List ℕ) (i : ℕ) → dropped_at gabi work entries i ≡ is_dropped (at_work gabi work) entries i
+dropped-is true work entries i = discarded-is true work entries i
+dropped-is false work entries i = refl
 
 pub first-tree : (a b c d : Bool) → cond a (cond b (cond c d false) false) false ≡ a && b && c && d
 first-tree true true true d = refl
@@ -155,7 +173,7 @@ module _ (d : Tabled) (work : List ℕ) (s : Symbols.State) (i : ℕ) (c : Chain
   o = symbol_object d work
 
   abbrev k : Reading
-  k = at_work work
+  k = at_work s.stage.link.gabi work
 
   abbrev t : State
   t = table_at s
@@ -204,28 +222,37 @@ module _ (d : Tabled) (work : List ℕ) (s : Symbols.State) (i : ℕ) (c : Chain
     unfolding Symbols.symbol_named planned_of
     named-exactly =
         read-exactly (filtered_at o.entries work i) (find_of t.bytes t.names t.link x) (fits-is t x c)
-        ∙ ap (λ (e : ElfSymbol). first_refusal (own_rules e (find_of t.bytes t.names t.link x))) (entry-is d work i)
+        ∙ ap (λ (e : ElfSymbol). first_refusal (own_rules e (find_of t.bytes t.names t.link x))) (entry-is s.stage.link.gabi d work i)
         ∙ ap (λ (id : ℕ). first_refusal (own_rules (entry k d i) id)) (find-is t c x)
 
   pub symbol-exactly : symbol_said (symbol_of o s i) ≡ first_refusal (symbol_rules k d i s)
   unfolding symbol_of looked_of
   symbol-exactly =
-      rw (looked-found o.headers o.image o.symbol_names (cell_at o.entries i 0))
+      rw (dropped-is s.stage.link.gabi work o.entries i)
+      (by-test (is_dropped k d.entries i) (λ a. rw a)
+      (λ a.
+      rw (a, looked-found o.headers o.image o.symbol_names (cell_at o.entries i 0))
       (by-test (named k d i)
       (λ e. rw (e, looked-name o.headers o.image o.symbol_names (cell_at o.entries i 0) e) (named-exactly (bytes k d i)))
-      (λ e. rw e))
+      (λ e. rw e))))
+
+-- no rule has the number of a result
+pub symbol-numbered : (k : Reading) (d : Tabled) (i : ℕ) (s : Symbols.State) → numbered (symbol_rules k d i s) ≡ true
+symbol-numbered k d i s =
+    by-test (is_dropped k d.entries i) (λ a. rw a) (λ a. rw a (by-test (is_first k d i || is_idless k d i) (λ e. rw e) (λ e. rw e)))
 
 -- ---- all of them
 
-module _ (d : Tabled) (work : List ℕ) where
+module _ (gabi : Bool) (d : Tabled) (work : List ℕ) where
   abbrev reader : Symbols.Object
   reader = symbol_object d work
 
   abbrev own : Symbols.State → ℕ → List Rule
-  own s i = symbol_rules (at_work work) d i s
+  own s i = symbol_rules (at_work gabi work) d i s
 
-  -- names as every link has them
+  -- names as every link has them, and the profile
   pub record Named (s : Symbols.State) (i : ℕ) : Type 0 where
+    pub profile : s.stage.link.gabi ≡ gabi
     pub met : List (List ℕ)
     pub marked : Marked (table_at s) met
 
@@ -233,6 +260,7 @@ module _ (d : Tabled) (work : List ℕ) where
   stays s i h z =
       let m = symbol-makes reader s i in
       record {
+        profile = makes-profile (table_at s) (table_at (symbol_of reader s i)) (symbol_steps reader s i) m ∙ h.profile;
         met = h.met ++ marks_of (symbol_steps reader s i) (table_at s);
         marked =
             subst (λ (t : State). Marked t (h.met ++ marks_of (symbol_steps reader s i) (table_at s))) m.leads
@@ -240,11 +268,15 @@ module _ (d : Tabled) (work : List ℕ) where
       }
 
   pub symbol-rules-numbered : (s : Symbols.State) (i : ℕ) → numbered (own s i) ≡ true
-  symbol-rules-numbered s i = by-test (is_first (at_work work) d i || is_idless (at_work work) d i) (λ e. rw e) (λ e. rw e)
+  symbol-rules-numbered s i = symbol-numbered (at_work gabi work) d i s
+
+  one : (s : Symbols.State) (i : ℕ) → Named s i → symbol_said (symbol_of reader s i) ≡ first_refusal (own s i)
+  one s i h =
+      symbol-exactly d work s i h.marked.good.chained ∙ ap (λ (p : Bool). first_refusal (symbol_rules (at_work p work) d i s)) h.profile
 
   pub symbols-exactly : (s : Symbols.State) → Named s 0 → symbol_said s ≡ refused 0 0
       → symbol_said (symbols_of reader s) ≡ first_refusal (in_turn own (symbol_of reader) (length d.entries / 8) 0 s)
   unfolding symbols_of
   symbols-exactly s h z =
       ap symbol_said (symbols-loop reader (length d.entries / 8) 0 s)
-      ∙ stage-exactly own (symbol_of reader) symbol_said Named symbol-rules-numbered (λ s i h. symbol-exactly d work s i h.marked.good.chained) stays (length d.entries / 8) 0 s h z
+      ∙ stage-exactly own (symbol_of reader) symbol_said Named symbol-rules-numbered one stays (length d.entries / 8) 0 s h z

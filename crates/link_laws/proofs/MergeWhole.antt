@@ -35,16 +35,16 @@ use Rattle.link_laws.specs.Rules.{Rule, least, first_refusal, in_turn, numbered}
 use Rattle.link_laws.proofs.Rules.{numbered-both, none_both, each_none, each-of-numbered, turn-numbered, turn-same, first-none, follows, taken, left_out}
 use Rattle.link_laws.specs.ObjectRules.{cell_at, is_section, is_bad_header, header_rules, entry_rules, object_rules}
 use Rattle.link_laws.proofs.ObjectExactly.{headers-numbered, object-numbered}
-use Rattle.link_laws.specs.MergeRules.{Found, absent, found, Reading, loaded_table, entries_in, rows_below, section_rules, group_rules, filter_rules, table_at, is_first, is_idless, symbol_rules, build_rules, input_rules, change_rules, work_rules, d, k, is_identified, head_list, section_list, group_list, symbol_list, uninitialized_list, program_list, merge_rules}
+use Rattle.link_laws.specs.MergeRules.{Found, absent, found, Reading, loaded_table, entries_in, rows_below, section_rules, group_rules, filter_rules, is_dropped, table_at, is_first, is_idless, symbol_rules, build_rules, input_rules, change_rules, work_rules, d, k, is_identified, head_list, section_list, group_list, symbol_list, uninitialized_list, program_list, merge_rules}
 use Rattle.link_laws.proofs.MergeExactly.{at_work, identified_by, section_said}
 use Rattle.link_laws.proofs.MergeSymbols as MergeSymbols
-use Rattle.link_laws.proofs.MergeSymbols.{symbol_said, symbols-exactly}
+use Rattle.link_laws.proofs.MergeSymbols.{symbol_said, symbol-numbered, symbols-exactly}
 use Rattle.link_laws.proofs.MergeGroups as Groups
 use Rattle.link_laws.proofs.MergeGroups.{group_said, group-rules-numbered, groups-exactly}
 use Rattle.link_laws.proofs.MergeBuilds as Builds
 use Rattle.link_laws.proofs.MergeBuilds.{Names, builds-exactly, builds-good}
 use Rattle.link_laws.proofs.MergeReading.{none-placed, sections-exactly}
-use Rattle.link_laws.proofs.MergeObject.{object-is}
+use Rattle.link_laws.proofs.MergeObject.{object-is, before-listed, long}
 use Rattle.link_laws.proofs.MergeIds.{all_ids}
 use Rattle.link_laws.proofs.MergeSame.{filter_same, symbol-same, identified-same, build-same}
 use Rattle.link_laws.proofs.MergeHead.{head-exactly, filter-exactly, filters-numbered, input-exactly}
@@ -157,9 +157,6 @@ then-list r q xs ys n e f = follows xs ys r (r and_then q) n e (λ a. left_out q
 
 -- ---- no rule has the number of a result
 
-pub symbol-numbered : (k : Reading) (d : Tabled) (i : ℕ) (s : Symbols.State) → numbered (symbol_rules k d i s) ≡ true
-symbol-numbered k d i s = by-test (is_first k d i || is_idless k d i) (λ e. rw e) (λ e. rw e)
-
 pub build-numbered : (k : Reading) (identified : ℕ → Bool) (d : Tabled) (kind : ℕ) (s : Build.State) (n : ℕ) → numbered (build_rules k identified d kind s n) ≡ true
 build-numbered k identified d kind s n = by-test (is_section d.headers n kind && not (k.removed n)) (λ e. rw e) (λ e. rw e)
 
@@ -269,17 +266,20 @@ module _ (o : Object) (a : All) where
     abbrev work : List ℕ
     work = (marked o a).work
 
-    groups-named : Groups.Named (group_object (object o a)) (group_first (prepared o a)) 0
-    unfolding Group.groups_from
-    groups-named =
-        let k = to-marked o a met m 0 in
-        record { quiet = refl; met = met_to o a met 0; marked = record { good = k.good; marks = k.marks; known = k.known } }
+    abbrev profile : Bool
+    profile = (marked o a).stage.link.gabi
 
-    symbols-named : MergeSymbols.Named (object o a) work (symbol_first (symbols_in (marked o a))) 0
+    groups-named : Groups.Notes (group_object (object o a)) (group_first (prepared o a)) 0 → Groups.Named (group_object (object o a)) (group_first (prepared o a)) 0
+    unfolding Group.groups_from
+    groups-named notes =
+        let k = to-marked o a met m 0 in
+        record { quiet = refl; met = met_to o a met 0; marked = record { good = k.good; marks = k.marks; known = k.known }; notes = notes }
+
+    symbols-named : MergeSymbols.Named profile (object o a) work (symbol_first (symbols_in (marked o a))) 0
     unfolding Group.groups_of
     symbols-named =
         let k = to-marked o a met m (length o.headers / 8) in
-        record { met = met_to o a met (length o.headers / 8); marked = k }
+        record { profile = refl; met = met_to o a met (length o.headers / 8); marked = k }
 
     before-good : Names (building (before2 o a))
     before-good =
@@ -300,26 +300,30 @@ module _ (o : Object) (a : All) where
         is : object o a ≡ d o a
         is = object-is o a (few h) (lent h) p
 
+        notes : Groups.Notes (group_object (object o a)) (group_first (prepared o a)) 0
+        notes =
+            record { room = λ m l. omega (arith, l, lent h, long o a (few h) (lent h) p); says = λ m l. before-listed o a (few h) (lent h) p m l }
+
         groups-said : group_said (grouped o a) ≡ first_refusal (group_list o a)
         groups-said =
-            groups-exactly (group_object (object o a)) (group_first (prepared o a)) groups-named
+            groups-exactly (group_object (object o a)) (group_first (prepared o a)) (groups-named notes)
             ∙ ap (λ (x : Tabled). first_refusal (in_turn (group_rules (group_object x)) (Group.group_section_of (group_object x)) rows 0 (group_first (prepared o a)))) is
 
         module _ (q : (grouped o a).stage.number ≡ 0) where
           filter-said : filter_said o a ≡ first_refusal filter_list
           filter-said =
-              filter-exactly work (object o a).entries
-              ∙ ap (λ (x : Tabled). first_refusal (filter_rules (at_work work) x.entries)) is ∙ ap first_refusal (filter_same o a (few h) (lent h) p met m q)
+              filter-exactly profile work (object o a).entries
+              ∙ ap (λ (x : Tabled). first_refusal (filter_rules (at_work profile work) x.entries)) is ∙ ap first_refusal (filter_same o a (few h) (lent h) p met m q)
 
           abbrev first : Symbols.State
           first = symbol_first (symbols_in (marked o a))
 
           symbols-said : symbol_said (added o a) ≡ first_refusal (symbol_list o a)
           symbols-said =
-              symbols-exactly (object o a) work first symbols-named refl
-              ∙ ap (λ (x : Tabled). first_refusal (in_turn (λ s i. symbol_rules (at_work work) x i s) (Symbols.symbol_of (symbol_reader o a)) (length x.entries / 8) 0 first)) is
+              symbols-exactly profile (object o a) work first symbols-named refl
+              ∙ ap (λ (x : Tabled). first_refusal (in_turn (λ s i. symbol_rules (at_work profile work) x i s) (Symbols.symbol_of (symbol_reader o a)) (length x.entries / 8) 0 first)) is
               ∙ ap first_refusal
-              (turn-same (λ s i. symbol_rules (at_work work) (d o a) i s) (λ s i. symbol_rules (k o a) (d o a) i s) (Symbols.symbol_of (symbol_reader o a)) (length (d o a).entries / 8) 0 first
+              (turn-same (λ s i. symbol_rules (at_work profile work) (d o a) i s) (λ s i. symbol_rules (k o a) (d o a) i s) (Symbols.symbol_of (symbol_reader o a)) (length (d o a).entries / 8) 0 first
               (λ s i l. symbol-same o a (few h) (lent h) p met m q i (omega arith) s))
 
           module _ (z : (added o a).stage.number ≡ 0) where
@@ -328,8 +332,8 @@ module _ (o : Object) (a : All) where
 
             ids-are : (i : ℕ) → i < length (d o a).entries / 8 → identified_by ids i ≡ is_identified o a i
             ids-are i l =
-                subst (λ (x : Tabled). (i : ℕ) → i < length x.entries / 8 → identified_by ids i ≡ is_first (at_work work) x i || not (is_idless (at_work work) x i)) is
-                (all_ids (object o a) work (length a.ids) first fits refl z) i l
+                subst (λ (x : Tabled). (i : ℕ) → i < length x.entries / 8 → identified_by ids i ≡ not (is_dropped (at_work profile work) x.entries i) && (is_first (at_work profile work) x i || not (is_idless (at_work profile work) x i))) is
+                (all_ids profile (object o a) work (length a.ids) first refl fits refl z) i l
                 ∙ identified-same o a (few h) (lent h) p met m q i l
               where
                 fits : length (object o a).entries / 8 ≤ length a.ids
@@ -341,9 +345,9 @@ module _ (o : Object) (a : All) where
                 ≡ first_refusal (in_turn (build_rules (k o a) (is_identified o a) (d o a) kind) (λ s n. Build.section_of (builder o a) s n kind) rows 0 (building s))
             built-said kind s g =
                 builds-exactly (object o a) work ids kind (building s) g
-                ∙ ap (λ (x : Tabled). first_refusal (in_turn (build_rules (at_work work) (identified_by ids) x kind) (λ s n. Build.section_of (builder o a) s n kind) rows 0 (building s))) is
+                ∙ ap (λ (x : Tabled). first_refusal (in_turn (build_rules (at_work profile work) (identified_by ids) x kind) (λ s n. Build.section_of (builder o a) s n kind) rows 0 (building s))) is
                 ∙ ap first_refusal
-                (turn-same (build_rules (at_work work) (identified_by ids) (d o a) kind) (build_rules (k o a) (is_identified o a) (d o a) kind) (λ s n. Build.section_of (builder o a) s n kind) rows 0 (building s)
+                (turn-same (build_rules (at_work profile work) (identified_by ids) (d o a) kind) (build_rules (k o a) (is_identified o a) (d o a) kind) (λ s n. Build.section_of (builder o a) s n kind) rows 0 (building s)
                 (λ s n l. build-same o a (few h) (lent h) p met m q ids ids-are kind n (omega arith) s))
 
     pub merge-exactly : (merge_of o a).said ≡ first_refusal (merge_rules o a)

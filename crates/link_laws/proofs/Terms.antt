@@ -44,7 +44,7 @@ use Rattle.elf_object.specs.Judge as Elf
 use Rattle.sections.specs.Rows.{state_at}
 use Rattle.merge_sections.specs.Reserve.{class_of}
 use Rattle.section_groups.specs.Group as Group
-use Rattle.section_groups.specs.Group.{mark_group_of, mark_removed_of, group_section_of}
+use Rattle.section_groups.specs.Group.{mark_group_of, mark_all, group_section_of}
 use Rattle.section_groups.specs.AddGroup as AddGroup
 use Rattle.merge_stages.specs.Stages as Stages
 use Rattle.merge_elf.specs.Merge as Merge
@@ -155,6 +155,7 @@ use Rattle.link_laws.specs.CallDuplicates.{IsDuplicate, Judges}
 use Rattle.link_laws.specs.SectionCount.{Sectioned}
 use Rattle.link_laws.proofs.SectionCount.{calls-sectioned, new-sectioned, sections-judged}
 use Rattle.link_laws.specs.GroupAlone as GroupAlone
+use Rattle.link_laws.specs.GroupRules.{is_noted, lists_again}
 use Rattle.link_laws.proofs.GroupAlone as GroupAloneLaws
 use Rattle.link_laws.specs.Elements as Elements
 use Rattle.link_laws.proofs.Elements as ElementsLaws
@@ -175,7 +176,7 @@ use Rattle.link_laws.specs.CallContracts.{Exit, Meets, seen}
 use Rattle.link_laws.proofs.OneOutcome as OneOutcome
 use Rattle.symbols.specs.Contract.{NewExit, NewMeets}
 use Rattle.strings.specs.Contract.{StringExit, StringMeets, EndedMeets}
-use Rattle.section_groups.specs.Contract.{FilterMeets, SectionAfterMeets}
+use Rattle.section_groups.specs.Contract.{DiscardedMeets, FilterMeets, SectionAfterMeets}
 use Rattle.link_laws.proofs.KeyFree as KeyFree
 use Rattle.link_laws.specs.KeyFree.{Alike, Same, SameAnswers}
 use Rattle.link_laws.proofs.Idle as Idle
@@ -509,8 +510,11 @@ string-one-outcome = ContractsLaws.string-one-outcome
 pub ended-one-outcome : (bytes : List ℕ) (offset : ℕ) (x y : StringExit) → EndedMeets bytes offset x → EndedMeets bytes offset y → x ≡ y
 ended-one-outcome = ContractsLaws.ended-one-outcome
 
-pub filter-one-outcome : (work entries : List ℕ) (x y : ℕ) → FilterMeets work entries x → FilterMeets work entries y → x ≡ y
+pub filter-one-outcome : (gabi : Bool) (work entries : List ℕ) (x y : ℕ) → FilterMeets gabi work entries x → FilterMeets gabi work entries y → x ≡ y
 filter-one-outcome = ContractsLaws.filter-one-outcome
+
+pub discarded-one-outcome : (work entries : List ℕ) (i : ℕ) (x y : Bool) → DiscardedMeets work entries i x → DiscardedMeets work entries i y → x ≡ y
+discarded-one-outcome = ContractsLaws.discarded-one-outcome
 
 pub section-after-one-outcome : (work : List ℕ) (section x y : ℕ) → SectionAfterMeets work section x → SectionAfterMeets work section y → x ≡ y
 section-after-one-outcome = ContractsLaws.section-after-one-outcome
@@ -563,9 +567,9 @@ module _ (key other : ℕ) (gabi : Bool) (bytes names symbols sections inputs li
 
 -- ---- a group that is added by itself, and what a walk over an archive passed by: over any link
 
--- "signature symbol missing": one that lists one section, in an object whose symbol table is excluded or isn't of kind 3
+-- "signature symbol missing": one that lists sections, none that a group added before lists, in an object whose symbol table is excluded or isn't of kind 3
 pub alone-unloaded : (o : Group.Object) (work : List ℕ) (n : ℕ) (s : Linked) → (AddGroup.head_in o (group_in s.table work) n).number ≡ 0 → comdat_at o.headers n ≢ 0
-    → count_at o.headers n ≡ 1 → is_loaded o.headers o.table 3 ≡ false → call_refusal (add_group o work n) s ≡ refused 6 n
+    → count_at o.headers n ≢ 0 → lists_again o n (is_noted work) ≡ false → is_loaded o.headers o.table 3 ≡ false → call_refusal (add_group o work n) s ≡ refused 6 n
 alone-unloaded o work n s = GroupAloneLaws.alone-unloaded o s.table work n
 
 -- by entries and a member's key, of whatever they are the entries of: of a run whose rows say so (Fine), and a link whose rows are lent
@@ -617,20 +621,20 @@ module _ (key : ℕ) (gabi : Bool) (bytes names symbols sections inputs lists : 
     names-agree x y ok ls ok' = NamesStay.one-id-one-name after (signatures ks start) marked x ok ls y ok'
 
     -- of several groups of one signature, in this object, in earlier ones and among those added by themselves, the first is kept: one more merge, whose
-    -- section n is an accepted group, marks its listed section as removed unless the gABI keeps the group, whatever groups follow
+    -- section n is an accepted group, marks each section that it lists as removed unless the gABI keeps the group, whatever groups follow
     pub first-kept : (o : Stages.Object) (work ids : List ℕ) (n : ℕ)
         → let all = all_in after work ids in
         is_loaded (reader o all).headers n 7 ≡ true → (group_section_of (reader o all) (groups_to o all n) n).stage.number ≡ 0 → (later : List (List ℕ))
         → let met = met_to o all (signatures ks start) n in
         (group_section_of (reader o all) (groups_to o all n) n).work
-        ≡ mark_removed_of (mark_group_of (groups_to o all n).work n) (not (Gabi.kept (met ++ signature o all n ∷ later) (length met))) (listed o all n)
+        ≡ mark_all (mark_group_of (groups_to o all n).work n) (not (Gabi.kept (met ++ signature o all n ∷ later) (length met))) (listed o all n)
     first-kept o work ids = FirstKept.first-kept o (all_in after work ids) (signatures ks start) marked
 
     -- the same of one more group that is added by itself
     pub alone-kept : (o : Group.Object) (work : List ℕ) (n : ℕ) → call_number (add_group o work n) after ≡ 0 → (later : List (List ℕ))
         → let met = signatures ks start in
         (call_left (add_group o work n) after).work
-        ≡ mark_removed_of (mark_group_of work n) (not (Gabi.kept (met ++ GroupAlone.signature o n ∷ later) (length met))) (GroupAlone.listed o n)
+        ≡ mark_all (mark_group_of work n) (not (Gabi.kept (met ++ GroupAlone.signature o n ∷ later) (length met))) (GroupAlone.listed o n)
     alone-kept o work n = GroupAloneLaws.alone-kept o after.table work n (signatures ks start) marked
 
     -- a mark that a merge makes stands until its end: the section of a group that the gABI doesn't keep isn't built, and its symbols are undefined for the add
@@ -638,7 +642,8 @@ module _ (key : ℕ) (gabi : Bool) (bytes names symbols sections inputs lists : 
         → is_loaded o.headers n 7 ≡ true → (later : List (List ℕ))
         → let all = all_in after work ids in
         let met = met_to o all (signatures ks start) n in
-        Gabi.kept (met ++ signature o all n ∷ later) (length met) ≡ false → Discarded.Discarded o all (listed o all n)
+        Gabi.kept (met ++ signature o all n ∷ later) (length met) ≡ false
+        → (i : ℕ) → i < length (listed o all n) → Discarded.Discarded o all (get_or (listed o all n) i 0)
     repeated-discarded o work ids ok =
         let all = all_in after work ids in
         DiscardedLaws.repeated-discarded o all (signatures ks start) marked (DiscardedLaws.groups-pass o all (DiscardedLaws.merge-passes o all ok).1)

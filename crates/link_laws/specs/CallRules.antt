@@ -7,7 +7,7 @@ use Rattle.link_laws.specs.Calls.{Call, intern, add, remove, add_group, merge, m
 use Rattle.elf_laws.specs.Object as ElfFile
 use Rattle.link_laws.specs.Rules.{Rule}
 use Rattle.link_laws.specs.TableRules.{get_head, present_rules, get_global_head, global_rules, remove_head, absent_rules, intern_head, room_rules, resolve_head, issued_alone, add_head, add_rules}
-use Rattle.link_laws.specs.GroupRules.{alone, group_head, own_group_rules}
+use Rattle.link_laws.specs.GroupRules.{alone, group_head, is_noted, own_group_rules}
 use Rattle.link_laws.specs.MergeRules.{merge_rules}
 use Rattle.link_laws.specs.FileRules.{file_rules}
 use Rattle.link_laws.specs.LoadRules.{load_rules}
@@ -26,7 +26,7 @@ rules (reads (Read.get id)) s = get_head s.table ++ present_rules s.table id.0
 rules (reads (Read.get_global name)) s = get_global_head s.table ++ global_rules s.table name.0
 -- "A section without a symbol answers "none"": no refusal, nor 1 where fewer cells are lent (DECISIONS 12 and h)
 rules (reads (Read.section_symbol id)) s = []
-rules (add_group o work n) s = group_head o n s.table (length work / 8) ++ own_group_rules (alone o) n s.table (length work / 8)
+rules (add_group o work n) s = group_head o n s.table (length work / 8) ++ own_group_rules (alone o) n (is_noted work) s.table (length work / 8)
 rules (merge o work ids) s = merge_rules o (all_in s work ids)
 -- "then" its rows' own
 rules (merge_file file cells work ids) s = file_rules s.table.link.broken file (length cells) ++ merge_rules (ElfFile.rows_of file) (all_in s work ids)

@@ -5,7 +5,6 @@ use mathlib.Core.List.{List, [], ◌∷◌}
 use Rattle.gabi.specs.SymbolTable.{stb_local}
 use Rattle.link.specs.declared.SymbolId.{SymbolId}
 use Rattle.interner.specs.Calls.{resolved}
-use Rattle.interner_laws.specs.Good.{name}
 use Rattle.symbol.specs.Row.{symbol_at}
 use Rattle.symbols.specs.Lookup.{not_found}
 use Rattle.merge_stages.specs.Stages as Stages
@@ -31,6 +30,10 @@ module _ (o : Stages.Object) (s : Linked) (met : List (List ℕ)) (t : Linked) w
   abbrev pub name_bytes : ℕ → List ℕ
   name_bytes = Words.symbol_name o.headers o.entries o.contents o.image
 
+  -- the symbols that name the file of those behind them
+  abbrev pub names_file : ℕ → Bool
+  names_file = Words.names_file o.headers o.entries o.contents o.image s.table.link.gabi met
+
   -- its name isn't missing
   abbrev pub is_named : ℕ → Bool
   is_named = Words.is_named o.headers o.entries o.contents o.image
@@ -40,7 +43,7 @@ module _ (o : Stages.Object) (s : Linked) (met : List (List ℕ)) (t : Linked) w
     pub counted : id < t.table.link.symbols
     pub content : Contents.LocalContent o.headers o.entries o.contents o.image s.table.link.sections met symbols k (row_at t.table.symbols id)
     pub named : call_left (resolve (row_at t.table.symbols id).name) t ≡ resolved (name_bytes k) 0 0
-    pub filed : IsFile (store t.table) symbols (Words.Bears o.headers o.entries o.contents o.image) k (row_at t.table.symbols id).file
+    pub filed : IsFile (store t.table) names_file (Words.Bears o.headers o.entries o.contents o.image) k (row_at t.table.symbols id).file
 
   pub data Stands (k id : ℕ) : Type 0 where
     -- "maps to id 0"

@@ -18,7 +18,7 @@ use Rattle.merge_laws.specs.Stops.{prepared, symbol_reader, marked, builder, bef
 use Rattle.link_laws.specs.Rules.{Rule, ◌gives◌at◌, least, some, each, each_of, in_turn, lent_rows, head_rules}
 use Rattle.link_laws.specs.TableRules.{id_in, is_unroomed, names_of, Conversion, nothing, not_loaded, to_section, elf_asked, Asked, shown_rules, held_rules}
 use Rattle.link_laws.specs.ObjectRules.{is_excluded, is_kind, is_section, is_named, name_in, object_rules, name_offset, link_at, info_at, first_at, count_at, symbol_name, binding_at, type_at, visibility_at, section_at, value_at, size_at}
-use Rattle.link_laws.specs.GroupRules.{is_met, signature, listed, own_group_rules}
+use Rattle.link_laws.specs.GroupRules.{is_met, some_of, signature, listed, own_group_rules}
 
 -- ---- sections
 
@@ -41,8 +41,17 @@ section_rules headers lent count n =
 
 -- ---- groups
 
+-- group g lists section m
+abbrev pub lists : Group.Object → ℕ → ℕ → Bool
+lists o g m = is_section o.headers g 7 && some_of (λ x. eqb x m) (listed o g)
+
+-- one of the groups below section n does
+abbrev pub is_listed_before : Group.Object → ℕ → ℕ → Bool
+is_listed_before o n m = some (λ g. lists o g m) 0 n
+
 abbrev pub group_rules : Group.Object → Group.Step → ℕ → List Rule
-group_rules o s n = cond (is_section o.headers n 7) (own_group_rules o n (names_of s.bytes s.names s.stage.link) (length s.work / 8)) []
+group_rules o s n =
+    cond (is_section o.headers n 7) (own_group_rules o n (is_listed_before o n) (names_of s.bytes s.names s.stage.link) (length s.work / 8)) []
 
 -- ---- what the elements before left, as far as the rules ask
 
@@ -51,6 +60,8 @@ pub data Found : Type 0 where
   found : ℕ → Found
 
 pub record Reading : Type 0 where
+  -- the gABI's profile
+  pub gabi : Bool
   -- sections that are removed, those that define a group, and "for each section number an id, "not loaded" or nothing"
   pub removed : ℕ → Bool
   pub defines : ℕ → Bool
@@ -100,10 +111,9 @@ module _ (o : Stages.Tabled) (t : State) where
   abbrev pub is_met_before : ℕ → List ℕ → Bool
   is_met_before n x = is_met t x || some (λ g. is_section o.headers g 7 && same_name (signature (Stages.group_object o) g) x) 0 n
 
-  -- "marks the group's one section as removed"
+  -- a group of a signature met before lists it
   abbrev pub is_removed : ℕ → Bool
-  is_removed s =
-      some (λ g. is_section o.headers g 7 && eqb (listed (Stages.group_object o) g) s && is_met_before g (signature (Stages.group_object o) g)) 0 (length o.headers / 8)
+  is_removed s = some (λ g. lists (Stages.group_object o) g s && is_met_before g (signature (Stages.group_object o) g)) 0 (length o.headers / 8)
 
   -- "Excluded sections vanish first; a symbol in one gives 14. Non-excluded sections other than kinds 1 and 2 are "not loaded""
   abbrev pub conversion_of : ℕ → Conversion
@@ -118,23 +128,27 @@ module _ (o : Stages.Tabled) (t : State) where
   abbrev pub reading : Reading
   reading =
       record {
+        gabi = t.link.gabi;
         removed = is_removed;
         defines = λ s. is_section o.headers s 7 && not (is_removed s);
         conversion = conversion_of;
         table = table_of;
       }
 
--- ---- the filter: "Non-local symbols there become undefined; the first local gives 8"
+-- ---- the filter: symbols of removed sections that aren't local become undefined; the first local gives 8, and in the gABI's profile they are dropped
 
 -- only numbers below 0xff00 are sections
 abbrev pub is_removed_in : Reading → ℕ → Bool
 is_removed_in k s = ltb s 0xff00 && k.removed s
 
+abbrev pub is_discarded : Reading → List ℕ → ℕ → Bool
+is_discarded k entries i = eqb (binding_at entries i) 0 && not (eqb (section_at entries i) 0) && is_removed_in k (section_at entries i)
+
 abbrev pub filter_rules : Reading → List ℕ → List Rule
-filter_rules k entries =
-    each
-    (λ i. eqb (binding_at entries i) 0 && not (eqb (section_at entries i) 0) && is_removed_in k (section_at entries i) gives 8 at i)
-    0 (length entries / 8)
+filter_rules k entries = each (λ i. not k.gabi && is_discarded k entries i gives 8 at i) 0 (length entries / 8)
+
+abbrev pub is_dropped : Reading → List ℕ → ℕ → Bool
+is_dropped k entries i = k.gabi && is_discarded k entries i
 
 -- ---- symbols
 
@@ -173,12 +187,15 @@ module _ (k : Reading) (o : Stages.Tabled) (i : ℕ) where
   abbrev pub symbol_asked : State → Asked
   symbol_asked t = elf_asked entry (id_in t bytes) None (k.conversion entry.section) (eqb (length bytes) 0)
 
-  -- "symbols (9, then add)"
-  abbrev pub symbol_rules : Symbols.State → List Rule
-  symbol_rules s =
+  -- 9, then as an add; a dropped one has none
+  abbrev pub own_symbol_rules : Symbols.State → List Rule
+  own_symbol_rules s =
       (not named gives 9 at i)
       ∷ (is_unroomed (table_at s) bytes gives 2 at i)
       ∷ cond (is_first || is_idless) [] (shown_rules (table_at s) (symbol_asked (table_at s)) i ++ held_rules (table_at s) (symbol_asked (table_at s)) i)
+
+  abbrev pub symbol_rules : Symbols.State → List Rule
+  symbol_rules s = cond (is_dropped k o.entries i) [] (own_symbol_rules s)
 
 -- ---- the head of a merge: "22 comes first, then 1 (sections, symbols, then the rest)"
 
@@ -247,7 +264,7 @@ module _ (o : Stages.Object) (a : Stages.All) where
   k = reading d (table_in a)
 
   abbrev pub is_identified : ℕ → Bool
-  is_identified i = is_first k d i || not (is_idless k d i)
+  is_identified i = not (is_dropped k d.entries i) && (is_first k d i || not (is_idless k d i))
 
   abbrev pub head_list : List Rule
   head_list = change_rules o a ++ (object_rules o.headers o.entries o.contents o.image ++ work_rules o a)

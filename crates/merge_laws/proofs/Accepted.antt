@@ -38,7 +38,7 @@ use Rattle.merge_laws.proofs.GroupStage as GroupStage
 use Rattle.merge_laws.specs.GroupStage.{number_of}
 use Rattle.merge_laws.proofs.GroupStageLemmas.{groups-loop}
 use Rattle.merge_laws.proofs.SymbolStageLemmas.{symbols-loop}
-use Rattle.merge_laws.specs.SymbolIds.{name_of, plan_of}
+use Rattle.merge_laws.specs.SymbolIds.{is_dropped, name_of, plan_of}
 use Rattle.merge_laws.specs.Whole.{table_in}
 use Rattle.merge_laws.specs.Stops.{reserved, object, prepared, grouped, marked, symbol_reader, added, groups_to, symbols_to, number, end}
 use Rattle.merge_laws.proofs.Stops.{sections-stop, sections-pass, filtered, filter-stop, filter-pass, symbols-stop}
@@ -110,14 +110,15 @@ module _ (o : Tabled) (work : List ℕ) (s : SymbolLinks) where
 
 symbol-markless : (o : Symbols.Object) (s : Symbols.State) (i : ℕ) → Markless (symbol_steps o s i)
 unfolding symbol_steps named_steps
-symbol-markless o s i = by-test (name_of o i).found (λ a. rw a (row-markless _ _ _ _ _)) (λ a. rw a tt)
+symbol-markless o s i =
+    by-test (is_dropped o s i) (λ d. rw d tt) (λ d. by-test (name_of o i).found (λ a. rw (d, a) (row-markless _ _ _ _ _)) (λ a. rw (d, a) tt))
 
 filter-markless : (o : Tabled) (a : All) → Markless (filter_steps o a)
 unfolding filter_steps filtered_steps table_steps
 filter-markless o a =
     by-test (eqb a.stage.number 0)
     (λ t.
-    by-test (ltb (filter_of a.work o.entries) (rows_in o.entries)) (λ u. rw (t, u) tt)
+    by-test (ltb (filter_of a.stage.link.gabi a.work o.entries) (rows_in o.entries)) (λ u. rw (t, u) tt)
     (λ u.
     rw (t, u)
     (both (symbols_steps (symbol_object o a.work) (symbol_first (symbols_in a))) _
@@ -135,19 +136,21 @@ group-none o s n =
 -- ---- a symbol's row
 
 symbol-row : (o : Symbols.Object) (s : Symbols.State) (i : ℕ) → (symbol_of o s i).stage.number ≡ 0
-    → added_rows (symbol_steps o s i) ≡ cond (adds (input_of o.entries o.work) (name_of o i).name i) (global_rows (plan_of o s i).row) []
+    → added_rows (symbol_steps o s i) ≡ cond (is_dropped o s i) [] (cond (adds (input_of o.entries o.work) (name_of o i).name i) (global_rows (plan_of o s i).row) [])
 unfolding symbol_steps named_steps row_steps symbol_of looked_of symbol_named commit_of kept_of accept_row
 symbol-row o s i e =
     let d : Decision = (plan_of o s i).decision in
+    by-test (is_dropped o s i) (λ k. rw k)
+    (λ k.
     by-test (name_of o i).found
     (λ a.
-    by-test (eqb (refusal_of d) 2) (λ b. let z : ◌≡◌ {A = ℕ} 2 0 = rw (a, b) at e in absurd (omega arith))
+    by-test (eqb (refusal_of d) 2) (λ b. let z : ◌≡◌ {A = ℕ} 2 0 = rw (k, a, b) at e in absurd (omega arith))
     (λ b.
     by-test (eqb (refusal_of d) 0)
     (λ c.
-    by-test (adds (input_of o.entries o.work) (name_of o i).name i) (λ f. rw (a, b, c, f) (append-nil (global_rows (plan_of o s i).row))) (λ f. rw (a, b, c, f)))
-    (λ c. absurd (eqb-false _ _ c (rw (a, b, c) at e)))))
-    (λ a. let z : ◌≡◌ {A = ℕ} 9 0 = rw a at e in absurd (omega arith))
+    by-test (adds (input_of o.entries o.work) (name_of o i).name i) (λ f. rw (k, a, b, c, f) (append-nil (global_rows (plan_of o s i).row))) (λ f. rw (k, a, b, c, f)))
+    (λ c. absurd (eqb-false _ _ c (rw (k, a, b, c) at e)))))
+    (λ a. let z : ◌≡◌ {A = ℕ} 9 0 = rw (k, a) at e in absurd (omega arith)))
 
 module _ (o : Object) (a : All) where
   module _ (passes : (grouped o a).stage.number ≡ 0) where

@@ -46,7 +46,7 @@ part-most l f c = rw (length-take c (drop f l), length-drop f l) (omega (arith, 
     min-le : (x y : ℕ) → min y x ≤ x
     min-le x y = omega arith
 
-entries-most : (headers entries : List ℕ) (t : ℕ) → rows_in (table_entries headers entries t) ≤ rows_in entries
+pub entries-most : (headers entries : List ℕ) (t : ℕ) → rows_in (table_entries headers entries t) ≤ rows_in entries
 unfolding table_entries entries_from
 entries-most headers entries t =
     by-test (eqb t 0) (λ a. rw a (omega arith))
@@ -67,7 +67,7 @@ module _ (o : Object) (a : All) where
       where
         go : GivenIds.IdOf (reader o a) (symbol_first (symbols_in (marked o a))) refl (symbols-going o a ok) k h (omega (arith, (passed o a (merge-passes o a ok).0).ids, entries-most o.headers o.entries (reserved o a).reserved.table)) → Gives o a k (id_in (added o a).ids k)
         go (GivenIds.null f e) = null h f e
-        go (GivenIds.answered f d z e) = answered h f d z e
+        go (GivenIds.answered k f d z e) = answered h k f d z e
 
     all_give : (limit : ℕ) → limit ≤ rows_in (object o a).entries → (ks : List ℕ) → symbols_ok (added o a).ids limit ks ≡ true → AllGive o a ks (ids_of (added o a).ids ks)
     unfolding symbols_ok

@@ -1,6 +1,6 @@
 -- Of the groups of one signature the first is kept, over several objects too; and what becomes of the symbols of the others.
 -- Assumes nothing.
-use Rattle.std.specs.Prelude.{ℕ, zero, suc, ◌≤◌, ◌<◌, ◌≡◌, refl, Bool, true, cond, not, ◌||◌, List, [], ◌∷◌, ◌++◌, ◌≢◌, ltb, length}
+use Rattle.std.specs.Prelude.{ℕ, zero, suc, ◌+◌, ◌≤◌, ◌<◌, ◌≡◌, refl, Bool, true, cond, not, ◌||◌, List, [], ◌∷◌, ◌++◌, ◌≢◌, ltb, length}
 use Rattle.std.proofs.Common.{zero-add, arith, sym, ap, ◌∙◌, subst, append-nil, append_assoc}
 use Rattle.std.proofs.Math.Bool.{false}
 use Rattle.std.proofs.lemmas.Bool.{false≢true}
@@ -8,13 +8,14 @@ use Rattle.std.proofs.Math.Dec.{eqb}
 use borrow.Author.Tests.{eqb-true, eqb-false, eq-eqb, ne_eqb}
 use Rattle.cells.specs.Proof.Split.{by-test}
 use Rattle.gabi.specs.StringTable.{among}
-use Rattle.gabi.specs.SymbolTable.{is_local, is_global, is_weak}
+use Rattle.gabi.specs.SymbolTable.{Sym, is_local, is_global, is_weak}
 use Rattle.gabi.specs.Groups as Gabi
 use Rattle.gabi.specs.Groups.{stays, gone, unsaid, after_discard, undefine}
-use Rattle.elf_object.specs.Rows.{field, elf_at, is_loaded, mark_at}
+use Rattle.elf_object.specs.Rows.{rows_in, field, elf_at, is_loaded, mark_at}
+use Rattle.elf_object.specs.Judge.{first_bad}
 use Rattle.section_groups.specs.Group as Group
-use Rattle.section_groups.specs.Group.{mark_group_of, mark_removed_of, group_section_of}
-use Rattle.section_groups.specs.Filter.{section_after, symbol_ok}
+use Rattle.section_groups.specs.Group.{mark_group_of, mark_all, group_section_of}
+use Rattle.section_groups.specs.Filter.{section_after, discarded_at, dropped_at, symbol_ok, filter_of}
 use Rattle.merge_symbols.specs.Plan.{filtered_at}
 use Rattle.merge_stages.specs.Stages.{All, Object}
 use Rattle.symbol_laws.specs.History.{State}
@@ -94,10 +95,10 @@ module _ (o : Object) (a : All) where
 
     pub first-kept : (n : ℕ) → is_loaded (reader o a).headers n 7 ≡ true → (group_section_of (reader o a) (groups_to o a n) n).stage.number ≡ 0 → (later : List (List ℕ))
         → (group_section_of (reader o a) (groups_to o a n) n).work
-        ≡ mark_removed_of (mark_group_of (groups_to o a n).work n) (not (Gabi.kept (met_to o a met n ++ signature o a n ∷ later) (length (met_to o a met n)))) (listed o a n)
+        ≡ mark_all (mark_group_of (groups_to o a n).work n) (not (Gabi.kept (met_to o a met n ++ signature o a n ∷ later) (length (met_to o a met n)))) (listed o a n)
     first-kept n g z later =
         group-marks a.symbols (reserved o a).sections (reader o a) (groups_to o a n) (met_to o a met n) (to-marked n) n g z
-        ∙ ap (λ (b : Bool). mark_removed_of (mark_group_of (groups_to o a n).work n) b (listed o a n))
+        ∙ ap (λ (b : Bool). mark_all (mark_group_of (groups_to o a n).work n) b (listed o a n))
         (sym (ap not (kept_new (met_to o a met n) (signature o a n) later) ∙ not-not (among (signature o a n) (met_to o a met n))))
 
 -- ---- the filter, and the gABI's rule for symbols of a discarded section
@@ -122,23 +123,23 @@ module _ (work entries : List ℕ) (i : ℕ) where
   removed-other e z = false≢true (rw (eq-eqb _ _ z) at e)
 
   -- a symbol that passes is what the gABI makes of it, where that says what becomes of it
-  pub filter-agrees : (removed_in work section ≡ true → field entries i 1 ≤ 2) → symbol_ok work entries i ≡ true
+  pub filter-agrees : (removed_in work section ≡ true → field entries i 1 ≤ 2) → discarded_at work entries i ≡ false
       → after_discard (removed_in work section) (sym_of (elf_at entries i)) ≡ stays (sym_of (filtered_at entries work i))
-  unfolding symbol_ok after_discard undefine is_local is_global is_weak
+  unfolding discarded_at after_discard undefine is_local is_global is_weak
   filter-agrees low e =
       by-test (removed_in work section)
       (λ r.
       by-test (eqb (field entries i 1) 0)
       (λ b.
       let z : section_after work section ≡ 0 = after_is ∙ rw r in
-      by-test (eqb (section_after work section) section) (λ c. absurd (removed-other r (sym (eqb-true _ _ c) ∙ z))) (λ c. absurd (false≢true (rw (b, c) at e))))
+      by-test (eqb (section_after work section) section) (λ c. absurd (removed-other r (sym (eqb-true _ _ c) ∙ z))) (λ c. absurd (false≢true (sym (rw (b, c) at e)))))
       (λ b. rw (after_is, r, b, named (field entries i 1) (eqb-false _ _ b) (low r))))
       (λ r. rw (after_is, r))
 
   -- and of the other bindings it says nothing; they pass here too, to be refused (12) where they are added
   pub filter-unsaid : removed_in work section ≡ true → 2 < field entries i 1
-      → (symbol_ok work entries i ≡ true) × (after_discard (removed_in work section) (sym_of (elf_at entries i)) ≡ unsaid)
-  unfolding symbol_ok after_discard is_local is_global is_weak
+      → (discarded_at work entries i ≡ false) × (after_discard (removed_in work section) (sym_of (elf_at entries i)) ≡ unsaid)
+  unfolding discarded_at after_discard is_local is_global is_weak
   filter-unsaid r h =
       let z : eqb (field entries i 1) 0 ≡ false = ne_eqb _ _ (λ (e : field entries i 1 ≡ 0). omega arith) in
       let o : eqb (field entries i 1) 1 ≡ false = ne_eqb _ _ (λ (e : field entries i 1 ≡ 1). omega arith) in
@@ -146,13 +147,48 @@ module _ (work entries : List ℕ) (i : ℕ) where
       (rw z, rw (r, z, o, t))
 
   -- "a local in a dropped group is an error": where the filter stops, the gABI discards the symbol
-  pub filter-differs : symbol_ok work entries i ≡ false → after_discard (removed_in work section) (sym_of (elf_at entries i)) ≡ gone
-  unfolding symbol_ok after_discard is_local
+  pub filter-differs : discarded_at work entries i ≡ true → after_discard (removed_in work section) (sym_of (elf_at entries i)) ≡ gone
+  unfolding discarded_at after_discard is_local
   filter-differs e =
       by-test (eqb (field entries i 1) 0)
       (λ b.
       by-test (removed_in work section) (λ r. rw (r, b))
       (λ r.
       let z : section_after work section ≡ section = after_is ∙ rw r in
-      absurd (false≢true (sym (rw (b, eq-eqb _ _ z) at e)))))
-      (λ b. absurd (false≢true (sym (rw b at e))))
+      absurd (false≢true (rw (b, eq-eqb _ _ z) at e))))
+      (λ b. absurd (false≢true (rw b at e)))
+
+  -- and of the symbols that the gABI discards each is one
+  pub gone-discarded : after_discard (removed_in work section) (sym_of (elf_at entries i)) ≡ gone → discarded_at work entries i ≡ true
+  unfolding discarded_at after_discard is_local is_global is_weak
+  gone-discarded e =
+      by-test (removed_in work section)
+      (λ r.
+      by-test (eqb (field entries i 1) 0)
+      (λ b.
+      let z : section_after work section ≡ 0 = after_is ∙ rw r in
+      rw (b, ne_eqb (section_after work section) section (λ q. removed-other r (sym q ∙ z))))
+      (λ b. absurd (other (eqb (field entries i 1) 1 || eqb (field entries i 1) 2) _ (rw (r, b) at e))))
+      (λ r. absurd (stayed _ (rw r at e)))
+    where
+      stayed : (x : Sym) → stays x ≡ gone → ⊥
+      stayed x q = let z : ◌≡◌ {A = ℕ} 0 1 = cc in omega arith
+
+      other : (t : Bool) (x : Sym) → cond t (stays x) unsaid ≡ gone → ⊥
+      other true x q = stayed x q
+      other false x q = let z : ◌≡◌ {A = ℕ} 0 1 = cc in omega arith
+
+  -- in the gABI's profile: dropped where the gABI discards it, and else what the gABI makes of it
+  pub profile-agrees : (removed_in work section ≡ true → field entries i 1 ≤ 2)
+      → after_discard (removed_in work section) (sym_of (elf_at entries i)) ≡ cond (dropped_at true work entries i) gone (stays (sym_of (filtered_at entries work i)))
+  profile-agrees low = by-test (discarded_at work entries i) (λ d. rw d (filter-differs d)) (λ d. rw d (filter-agrees low d))
+
+module _ (work entries : List ℕ) where
+  passes-from : (n i : ℕ) → first_bad (symbol_ok true work entries) i n ≡ i + n
+  unfolding first_bad symbol_ok
+  passes-from zero i = let e : i ≡ i + 0 = omega arith in e
+  passes-from (suc n) i = let e : i + 1 + n ≡ i + suc n = omega arith in passes-from n (i + 1) ∙ e
+
+  pub filter-passes : filter_of true work entries ≡ rows_in entries
+  unfolding filter_of
+  filter-passes = passes-from (rows_in entries) 0 ∙ zero-add (rows_in entries)

@@ -1,6 +1,6 @@
 -- The group stage is its steps.
 -- Assumes nothing.
-use Rattle.std.specs.Prelude.{ℕ, ◌+◌, ◌*◌, ◌/◌, true, cond, List, [], eqb, get_or, set, length}
+use Rattle.std.specs.Prelude.{ℕ, ◌+◌, ◌*◌, ◌/◌, true, cond, List, [], eqb, set, length}
 use Rattle.std.proofs.Common.{arith, sym, eqb-true}
 use Rattle.std.proofs.Math.Path.{◌≡◌, ap}
 use Rattle.cells.specs.Proof.Split.{by-test}
@@ -9,9 +9,9 @@ use Rattle.link.specs.declared.Interned.{Interned}
 use Rattle.strings.specs.Lookup.{Looked}
 use Rattle.interner.specs.Names.{Store, store_of, find_of, fits_of, keep_of}
 use Rattle.interner_laws.proofs.Find.{find-low}
-use Rattle.elf_object.specs.Rows.{first_at, is_loaded}
+use Rattle.elf_object.specs.Rows.{is_loaded}
 use Rattle.section_groups.specs.Group.{Plan}
-use Rattle.section_groups.specs.Group.{Object, State, shape_of, signature_of, repeated_of, plan_with, plan_of, commit_group_of, decided_of, group_named, signed_of, shaped_of, group_of, group_section_of}
+use Rattle.section_groups.specs.Group.{Object, State, listed_in, shape_of, signature_of, repeated_of, plan_with, plan_of, commit_group_of, decided_of, group_named, signed_of, shaped_of, group_of, group_section_of}
 use Rattle.section_groups.specs.Group as Group
 use Rattle.symbol_laws.specs.History as History
 use Rattle.merge_laws.specs.Steps.{Makes}
@@ -19,7 +19,7 @@ use Rattle.merge_laws.proofs.Steps.{makes_none}
 use Rattle.merge_laws.proofs.Issue.{keep_low}
 use Rattle.merge_laws.specs.MergeSteps.{signed_steps, group_section_steps}
 
-module _ (l : Link) (bytes names : List ℕ) (marks : ℕ) (x : List ℕ) (listed : ℕ) where
+module _ (l : Link) (bytes names : List ℕ) (marks : ℕ) (x listed : List ℕ) where
   abbrev pub id : Interned
   id = record { 0 = find_of bytes names l x }
 
@@ -49,7 +49,7 @@ module _ (symbols sections : List ℕ) where
   abbrev table_at : State → History.State
   table_at s = record { bytes = s.bytes; names = s.names; symbols = symbols; sections = sections; link = s.link }
 
-  module _ (s : State) (x : List ℕ) (n listed : ℕ) where
+  module _ (s : State) (x : List ℕ) (n : ℕ) (listed : List ℕ) where
     abbrev p : Plan
     p = plan_of s.link s.bytes s.names (length s.work / 8) x listed
 
@@ -86,12 +86,12 @@ module _ (symbols sections : List ℕ) where
     signed-makes : (s : State) (n : ℕ) (x : Looked) → GroupMakes s x (signed_of o s n x)
     unfolding signed_of
     signed-makes s n x =
-        by-test x.found (λ t. rw t (named-makes s x.name n (get_or o.contents (first_at o.headers n) 0))) (λ t. rw t (makes_none (table_at s)))
+        by-test x.found (λ t. rw t (named-makes s x.name n (listed_in o n))) (λ t. rw t (makes_none (table_at s)))
 
     group-makes : (s : State) (n : ℕ) → GroupMakes s (signature_of o.headers o.entries o.image o.table n) (group_of o s n)
     unfolding group_of shaped_of
     group-makes s n =
-        by-test (eqb (shape_of o.headers o.entries o.table n) 0)
+        by-test (eqb (shape_of o s.work n) 0)
         (λ t. rw t (signed-makes s n (signature_of o.headers o.entries o.image o.table n))) (λ t. rw (t, t) (makes_none (table_at s)))
 
     pub section-makes : (s : Group.Step) (n : ℕ) → Makes (table_in s) (group_section_steps o s n) (table_in (group_section_of o s n))

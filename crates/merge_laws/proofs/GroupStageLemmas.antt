@@ -3,15 +3,15 @@
 use Prim.Native.Nat.{ℕ, zero, suc, ◌+◌, ◌*◌, ◌/◌}
 use Rattle.std.proofs.Common.{arith, ap, ◌∙◌, get_or-set_other}
 use Rattle.std.specs.Prelude.{◌≡◌, refl, Bool, true, false, cond, List, eqb, length}
-use Rattle.std.proofs.Math.ListN.{get_or}
+use Rattle.std.proofs.Math.ListN.{get_or, set}
 use Rattle.cells.specs.Proof.Split.{by-test}
 use Rattle.link.specs.declared.Link.{Link}
 use Rattle.link.specs.declared.Interned.{Interned}
 use Rattle.strings.specs.Lookup.{Looked}
 use Rattle.interner.specs.Names.{Store, store_of, keep_of}
-use Rattle.elf_object.specs.Rows.{rows_in, first_at, is_loaded, mark_at}
+use Rattle.elf_object.specs.Rows.{rows_in, is_loaded, mark_at}
 use Rattle.section_groups.specs.Group.{Plan}
-use Rattle.section_groups.specs.Group.{Object, shape_of, signature_of, plan_of, mark_group_of, mark_removed_of, commit_group_of, decided_of, group_named, signed_of, shaped_of, group_of, group_section_of, groups_from, groups_of}
+use Rattle.section_groups.specs.Group.{Object, listed_in, shape_of, signature_of, plan_of, mark_group_of, mark_one, mark_from, commit_group_of, decided_of, group_named, signed_of, shaped_of, group_of, group_section_of, groups_from, groups_of}
 use Rattle.section_groups.specs.Group as Group
 use Rattle.merge_laws.specs.Steps.{Makes}
 use Rattle.merge_laws.specs.Loop.{loop_steps}
@@ -47,27 +47,33 @@ unfolding mark_group_of
 group-firsts rows w n m h =
     by-test (eqb (mark_at w n) 2) (λ t. rw t) (λ t. rw t (get_or-set_other w (n * 8 + 1) (m * 8 + 0) 1 0 (λ e. omega arith)))
 
-removed-firsts : (rows : ℕ) (w : List ℕ) (b : Bool) (n : ℕ) → Firsts rows w (mark_removed_of w b n)
-unfolding mark_removed_of
-removed-firsts rows w true n m h = get_or-set_other w (n * 8 + 1) (m * 8 + 0) 2 0 (λ e. omega arith)
-removed-firsts rows w false n m h = refl
+one-firsts : (rows : ℕ) (w : List ℕ) (b : Bool) (n : ℕ) → Firsts rows w (mark_one w b n)
+unfolding mark_one
+one-firsts rows w true n m h =
+    get_or-set_other (set w (n * 8 + 1) 2) (n * 8 + 3) (m * 8 + 0) 1 0 (λ e. omega arith) ∙ get_or-set_other w (n * 8 + 1) (m * 8 + 0) 2 0 (λ e. omega arith)
+one-firsts rows w false n m h = get_or-set_other w (n * 8 + 3) (m * 8 + 0) 1 0 (λ e. omega arith)
+
+listed-firsts : (rows : ℕ) (b : Bool) (xs : List ℕ) (i k : ℕ) (w : List ℕ) → Firsts rows w (mark_from b xs i k w)
+unfolding mark_from
+listed-firsts rows b xs i zero w m h = refl
+listed-firsts rows b xs i (suc k) w m h = listed-firsts rows b xs (i + 1) k (mark_one w b (get_or xs i 0)) m h ∙ one-firsts rows w b (get_or xs i 0) m h
 
 section-firsts : (o : Object) (rows : ℕ) (s : Group.Step) (n : ℕ) → Firsts rows s.work (group_section_of o s n).work
 unfolding group_section_of group_of shaped_of signed_of group_named decided_of commit_group_of
 section-firsts o rows s n m h =
     by-test (is_loaded o.headers n 7)
     (λ a.
-    by-test (eqb (shape_of o.headers o.entries o.table n) 0)
+    by-test (eqb (shape_of o s.work n) 0)
     (λ b.
     let x : Looked = signature_of o.headers o.entries o.image o.table n in
     by-test x.found
     (λ c.
-    let listed : ℕ = get_or o.contents (first_at o.headers n) 0 in
+    let listed : List ℕ = listed_in o n in
     let q : Plan = plan_of s.stage.link s.bytes s.names (length s.work / 8) x.name listed in
     by-test (eqb q.number 0)
     (λ d.
     rw (a, b, c, d)
-    (removed-firsts rows (mark_group_of s.work n) q.repeated listed m h ∙ group-firsts rows s.work n m h)) (λ d. rw (a, b, c, d)))
+    (listed-firsts rows q.repeated listed 0 (length listed) (mark_group_of s.work n) m h ∙ group-firsts rows s.work n m h)) (λ d. rw (a, b, c, d)))
     (λ c. rw (a, b, c)))
     (λ b. rw (a, b)))
     (λ a. rw a)
@@ -86,11 +92,11 @@ module _ {A : Type 0} (count : Link → A) (same : (s : Store) (id : Interned) (
   unfolding group_section_of group_of shaped_of signed_of group_named decided_of commit_group_of
   section-count o s n =
       let x : Looked = signature_of o.headers o.entries o.image o.table n in
-      let listed : ℕ = get_or o.contents (first_at o.headers n) 0 in
+      let listed : List ℕ = listed_in o n in
       let q : Plan = plan_of s.stage.link s.bytes s.names (length s.work / 8) x.name listed in
       by-test (is_loaded o.headers n 7)
       (λ a.
-      by-test (eqb (shape_of o.headers o.entries o.table n) 0)
+      by-test (eqb (shape_of o s.work n) 0)
       (λ b.
       by-test x.found
       (λ c.

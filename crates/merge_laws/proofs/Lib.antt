@@ -3,6 +3,7 @@ pub mod Marked
 pub mod BuiltRow
 pub mod Stops
 pub mod WorkGroups
+pub mod ListedTwice
 pub mod Seen
 pub mod Built
 pub mod Terms
@@ -21,6 +22,7 @@ pub mod Lists
 pub mod Issue
 pub mod FirstKept
 pub mod Discarded
+pub mod DroppedSymbols
 pub mod FileNames
 pub mod GivenIds
 pub mod Steps

@@ -283,7 +283,7 @@ filter-left o a =
     let none : Left a a = listed-none a.inputs a.lists a.stage.link a.stage.link refl refl in
     by-test (eqb a.stage.number 0)
     (λ z.
-    by-test (ltb (filter_of a.work o.entries) (rows_in o.entries)) (λ t. rw (z, t) none) (λ t. rw (z, t) (table-left o a.work (symbols_in a))))
+    by-test (ltb (filter_of a.stage.link.gabi a.work o.entries) (rows_in o.entries)) (λ t. rw (z, t) none) (λ t. rw (z, t) (table-left o a.work (symbols_in a))))
     (λ z. rw z none)
 
 groups-left : (o : Stages.Object) (table : ℕ) (a : All) → Left a (group_stage o table a)

@@ -27,7 +27,7 @@ use Rattle.merge_laws.proofs.Markless.{added-append, loop-none}
 use Rattle.merge_laws.specs.GroupStage as GroupStage
 use Rattle.merge_laws.specs.SymbolStage.{number_of}
 use Rattle.merge_laws.proofs.SymbolStageLemmas.{symbols-loop}
-use Rattle.merge_laws.specs.SymbolIds.{name_of, plan_of}
+use Rattle.merge_laws.specs.SymbolIds.{is_dropped, name_of, plan_of}
 use Rattle.merge_laws.specs.SymbolDuplicates.{row_to, Comes}
 use Rattle.merge_laws.proofs.SymbolNames.{row_named}
 use Rattle.merge_laws.proofs.FileNames.{row-file}
@@ -49,24 +49,26 @@ all_append P (x ∷ a) b p q = (p.0, all_append P a b p.1 q)
 -- ---- one symbol's steps add its planned row, or none
 
 module _ (o : Symbols.Object) (s : Symbols.State) (i : ℕ) (P : Row → Type 0) where
-  symbol-rows : ((symbol_of o s i).stage.number ≡ 0 → (name_of o i).found ≡ true → adds (input_of o.entries o.work) (name_of o i).name i ≡ true → (plan_of o s i).row.scope ≢ 0 → P (plan_of o s i).row)
+  symbol-rows : ((symbol_of o s i).stage.number ≡ 0 → is_dropped o s i ≡ false → (name_of o i).found ≡ true → adds (input_of o.entries o.work) (name_of o i).name i ≡ true → (plan_of o s i).row.scope ≢ 0 → P (plan_of o s i).row)
       → Rank.All P (added_rows (symbol_steps o s i))
   unfolding symbol_steps named_steps row_steps symbol_of looked_of symbol_named commit_of kept_of accept_row
   symbol-rows f =
       let d : Decision = (plan_of o s i).decision in
+      by-test (is_dropped o s i) (λ k. rw k tt)
+      (λ k.
       by-test (name_of o i).found
       (λ a.
-      by-test (eqb (refusal_of d) 2) (λ b. rw (a, b) tt)
+      by-test (eqb (refusal_of d) 2) (λ b. rw (k, a, b) tt)
       (λ b.
       by-test (eqb (refusal_of d) 0)
       (λ c.
       by-test (adds (input_of o.entries o.work) (name_of o i).name i)
       (λ g.
-      by-test (eqb (plan_of o s i).row.scope 0) (λ v. rw (a, b, c, g, v) tt)
-      (λ v. let p : P (plan_of o s i).row = (rw (a, b, c) at f) refl refl g (eqb-false _ _ v) in rw (a, b, c, g, v) (p, tt)))
-      (λ g. rw (a, b, c, g) tt))
-      (λ c. rw (a, b, c) tt)))
-      (λ a. rw a tt)
+      by-test (eqb (plan_of o s i).row.scope 0) (λ v. rw (k, a, b, c, g, v) tt)
+      (λ v. let p : P (plan_of o s i).row = (rw (k, a, b, c) at f) refl refl refl g (eqb-false _ _ v) in rw (k, a, b, c, g, v) (p, tt)))
+      (λ g. rw (k, a, b, c, g) tt))
+      (λ c. rw (k, a, b, c) tt)))
+      (λ a. rw (k, a) tt))
 
 -- ---- the merge
 
@@ -79,17 +81,17 @@ module _ (o : Object) (a : All) (met : List (List ℕ)) where
     next = symbol_of (symbol_reader o a)
 
     module _ (head : (head_in o a).number ≡ 0) (goes : (reserved o a).reserved.number ≡ 0) (passes : (grouped o a).stage.number ≡ 0) where
-      from-symbol : (i : ℕ) → Comes o a i → (next (symbols_to o a i) i).stage.number ≡ 0 → (name_of (symbol_reader o a) i).found ≡ true
+      from-symbol : (i : ℕ) → Comes o a i → (next (symbols_to o a i) i).stage.number ≡ 0 → is_dropped (symbol_reader o a) (symbols_to o a i) i ≡ false → (name_of (symbol_reader o a) i).found ≡ true
           → adds (input_of (object o a).entries (marked o a).work) (name_of (symbol_reader o a) i).name i ≡ true → (row_to o a i).scope ≢ 0 → FromSymbol o a met (row_to o a i)
-      from-symbol i c z f d g =
+      from-symbol i c z k f d g =
           let h = c.below in
           record {
             number = i;
             below = subst (λ (l : List ℕ). i < rows_in l) (symbols-are o a head goes) h;
-            content = Contents.content o a head goes passes met known i h z f d g;
+            content = Contents.content o a head goes passes met known i h z k f d g;
             bytes = (name_of (symbol_reader o a) i).name;
             bears = bears-own o a head goes i h f;
-            named = row_named o a met known i c z f d;
+            named = row_named o a met known i c z k f d;
             filed = row-file o a met known head goes passes (le-ltb _ _ c.filter) i h c.going;
           }
 

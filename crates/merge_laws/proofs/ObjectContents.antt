@@ -4,14 +4,14 @@ use Prim.Native.Nat.{ℕ, ◌+◌, ◌-◌, ◌*◌, ◌/◌, ◌<◌, ◌≤◌
 use Rattle.std.specs.Int.{is_power_of_two}
 use native.Mathlib.Omega.{arith}
 use Rattle.std.proofs.Math.Path.{◌≡◌, sym, ap}
-use Rattle.std.specs.Prelude.{refl, Bool, ◌&&◌, ◌≢◌, ℤ, eqb, ltb, get_or, length, take, drop}
+use Rattle.std.specs.Prelude.{refl, Bool, not, ◌&&◌, ◌≢◌, ℤ, eqb, ltb, get_or, length, take, drop}
 use Rattle.std.proofs.Common.{◌∙◌, subst, length-take, length-drop, get_or-take, get_or-drop}
 use Rattle.std.proofs.Math.Bool.{true, false, cond}
 use Rattle.std.proofs.lemmas.Bool.{false≢true}
 use mathlib.Core.List.{List}
-use borrow.Author.Tests.{eqb-true, eqb-false, ltb-true, ltb-false, lt-ltb, ne_eqb}
+use borrow.Author.Tests.{eqb-true, eqb-false, eq-eqb, ltb-true, ltb-false, lt-ltb, ne_eqb}
 use Rattle.cells.specs.Proof.Split.{by-test}
-use Rattle.gabi.specs.SymbolTable.{stb_local, stb_weak, shn_undef, shn_common}
+use Rattle.gabi.specs.SymbolTable.{stb_local, stb_weak, shn_undef, shn_loreserve, shn_common}
 use Rattle.interner.specs.Names.{store_of, fits_of}
 use Rattle.symbol.specs.declared.Row.{Row}
 use Rattle.symbol.specs.declared.Words.{Words}
@@ -27,7 +27,7 @@ use Rattle.upcoming_symbol.specs.Upcoming.{in_section, conversion_from, converte
 use Rattle.upcoming_symbol.specs.Judge.{shown_of, hidden_of, judge_of}
 use Rattle.elf_object.specs.Rows as Elf
 use Rattle.elf_object.specs.Rows.{rows_in, field, conversion_at, mark_at, table_entries, entries_from, section_of}
-use Rattle.section_groups.specs.Filter.{section_after}
+use Rattle.section_groups.specs.Filter.{section_after, discarded_at}
 use Rattle.merge_sections.specs.Reserve.{class_of, conversion_of}
 use Rattle.merge_symbols.specs.Plan.{input_of, is_first, defines_of, rule_of, judged_of, rowed_of, read_of, planned_of, filtered_at}
 use Rattle.merge_symbols.specs.Stage as Symbols
@@ -37,11 +37,11 @@ use Rattle.symbol_laws.specs.ObjectWords.{sections_in, is_excluded, loaded_as, g
 use Rattle.symbol_laws.proofs.Alignment.{power-alignment}
 use Rattle.symbol_laws.specs.ContentWords.{IsOffset}
 use Rattle.symbol_laws.proofs.ContentWords.{type-is, offset-is, shown-is, admitted-is, decided-passes}
-use Rattle.merge_laws.specs.MergeWords.{is_rowed, rowed_below, symbols_of}
+use Rattle.merge_laws.specs.MergeWords.{is_rowed, rowed_below, symbols_of, is_removed, is_lost}
 use Rattle.merge_laws.specs.MergeSteps.{adds_of, adds}
 use Rattle.merge_laws.specs.Marked.{Marked}
 use Rattle.merge_laws.proofs.Placed.{few}
-use Rattle.merge_laws.specs.SymbolIds.{name_of, plan_of}
+use Rattle.merge_laws.specs.SymbolIds.{is_dropped, name_of, plan_of}
 use Rattle.merge_laws.proofs.SymbolIds.{commit-number}
 use Rattle.merge_laws.specs.SymbolDuplicates.{row_to}
 use Rattle.merge_laws.specs.Whole.{table_in}
@@ -176,6 +176,31 @@ module _ (o : Object) (a : All) (head : (head_in o a).number ≡ 0) (goes : (res
   unfolding section_after
   after_same p = by-test (ltb sec 0xff00) (λ b. rw (b, gone-mark, (rw b at p))) (λ b. rw b)
 
+  -- the local symbol of a removed section, in words
+  lost-own : discarded_at work t i ≡ eqb (field t i 1) 0 && not (eqb sec 0) && (ltb sec 0xff00 && gone)
+  unfolding discarded_at section_after
+  lost-own =
+      by-test (eqb (field t i 1) 0)
+      (λ x.
+      by-test (eqb sec 0)
+      (λ z.
+      let e : sec ≡ 0 = eqb-true _ _ z in
+      by-test (ltb sec 0xff00)
+      (λ l. by-test gone (λ g. rw (x, z, l, gone-mark, g, eq-eqb 0 sec (sym e))) (λ g. rw (x, z, l, gone-mark, g, eq-eqb sec sec refl))) (λ l. rw (x, z, l, eq-eqb sec sec refl)))
+      (λ z.
+      let u : 0 ≢ sec = λ e. eqb-false _ _ z (sym e) in
+      by-test (ltb sec 0xff00)
+      (λ l. by-test gone (λ g. rw (x, z, l, gone-mark, g, ne_eqb 0 sec u)) (λ g. rw (x, z, l, gone-mark, g, eq-eqb sec sec refl))) (λ l. rw (x, z, l, eq-eqb sec sec refl))))
+      (λ x. rw x)
+
+  pub lost-is : discarded_at work t i ≡ is_lost headers o.entries o.contents o.image met i
+  lost-is =
+      lost-own
+      ∙ ap
+      (λ (l : List ℕ). eqb (entry l i).binding stb_local && not (eqb (entry l i).section shn_undef)
+      && (ltb (entry l i).section shn_loreserve && is_removed headers o.entries o.contents o.image met rows (entry l i).section))
+      (symbols-are o a head goes)
+
   abbrev empty : Bool
   empty = eqb (length (name_of (symbol_reader o a) i).name) 0
 
@@ -278,11 +303,11 @@ module _ (o : Object) (a : All) (head : (head_in o a).number ≡ 0) (goes : (res
   row = row_to o a i
 
   -- accepted, and to be added
-  module _ (ok : (Symbols.symbol_of (symbol_reader o a) (symbols_to o a i) i).stage.number ≡ 0) (found : (name_of (symbol_reader o a) i).found ≡ true)
+  module _ (ok : (Symbols.symbol_of (symbol_reader o a) (symbols_to o a i) i).stage.number ≡ 0) (keeps : is_dropped (symbol_reader o a) (symbols_to o a i) i ≡ false) (found : (name_of (symbol_reader o a) i).found ≡ true)
       (added : adds (input_of t work) (name_of (symbol_reader o a) i).name i ≡ true) where
     decided : refusal_of (plan_of (symbol_reader o a) (symbols_to o a i) i).decision ≡ 0
     unfolding Symbols.symbol_of Symbols.looked_of
-    decided = commit-number (input_of t work) (symbols_to o a i) (name_of (symbol_reader o a) i).name i (rw found at ok)
+    decided = commit-number (input_of t work) (symbols_to o a i) (name_of (symbol_reader o a) i).name i (rw (keeps, found) at ok)
 
     row-passes : (scope_refused row ≡ false) × (value_refused row ≡ false)
     unfolding planned_of read_of rowed_of judged_of rule_of adds_of

@@ -16,7 +16,7 @@ use Rattle.merge_build.specs.Build as Build
 use Rattle.merge_build.specs.Finish as Finish
 use Rattle.merge_stages.specs.Stages as Stages
 use Rattle.merge_sections.specs.Reserve as Reserve
-use Rattle.section_groups.specs.Filter.{filter_of}
+use Rattle.section_groups.specs.Filter.{filter_of, dropped_at}
 use Rattle.merge_elf.specs.Merge as Merge
 use Rattle.symbol_laws.specs.Hidden.{is_hidden, some_hidden}
 use Rattle.symbol_laws.specs.History.{State, Source, direct, object, library, Entry, noted, only, rows, issue, put, put_of}
@@ -87,7 +87,8 @@ symbols-shown o s =
     (λ t i h.
     let x : Looked = name_in o.headers o.image o.symbol_names (field o.entries i 0) in
     let p = planned_of (Symbols.view t) (input_of o.entries o.work) x.name i t.stage.file in
-    pick AllShown x.found _ _ (λ f. row-shown object (adds (input_of o.entries o.work) x.name i) x.name p.row p.decision tt) (λ f. tt))
+    pick AllShown (dropped_at t.stage.link.gabi o.work o.entries i) _ _ (λ k. tt)
+    (λ k. pick AllShown x.found _ _ (λ f. row-shown object (adds (input_of o.entries o.work) x.name i) x.name p.row p.decision tt) (λ f. tt)))
     (rows_in o.entries) 0 s tt
 
 pub group-shown : (o : Group.Object) (s : Group.Step) (n : ℕ) → AllShown (group_section_steps o s n)
@@ -146,7 +147,7 @@ unfolding filter_steps filtered_steps
 filter-shown o a =
     pick AllShown (eqb a.stage.number 0) _ _
     (λ b.
-    pick AllShown (ltb (filter_of a.work o.entries) (rows_in o.entries)) _ _ (λ c. tt) (λ c. table-shown o a.work (Stages.symbols_in a)))
+    pick AllShown (ltb (filter_of a.stage.link.gabi a.work o.entries) (rows_in o.entries)) _ _ (λ c. tt) (λ c. table-shown o a.work (Stages.symbols_in a)))
     (λ b. tt)
 
 merge-groups-shown : (o : Stages.Tabled) (a : Stages.All) → AllShown (merge_groups_steps o a)

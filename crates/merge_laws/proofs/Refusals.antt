@@ -6,7 +6,7 @@ use Rattle.std.specs.Prelude.{◌≡◌, Bool, false, List, [], ◌∷◌, ◌++
 use Rattle.std.proofs.Math.Path.{refl}
 use Rattle.std.proofs.Math.Bool.{true}
 use Rattle.std.proofs.lemmas.Bool.{false≢true, eqb-false}
-use Rattle.std.proofs.Math.ListN.{get_or, length}
+use Rattle.std.proofs.Math.ListN.{length}
 use Rattle.cells.specs.Proof.Split.{by-test}
 use Rattle.byte_slices.specs.Proof.Ways.{pick}
 use Rattle.link.specs.declared.Link.{Link}
@@ -31,7 +31,7 @@ use Rattle.symbol_resolution.specs.Decision.{Decision}
 use Rattle.symbol_resolution.specs.Holder.{holder_of}
 use Rattle.symbol_resolution.specs.Decide.{type_refusal, decide_of, refusal_of}
 use Rattle.symbol_resolution.specs.Proof.Outcomes.{absent_under, is_local_row, Meets, decision-number}
-use Rattle.elf_object.specs.Rows.{conversion_at, rows_in, first_at, is_loaded, comdat_at, count_at, link_at, info_at}
+use Rattle.elf_object.specs.Rows.{conversion_at, rows_in, is_loaded, comdat_at, count_at, link_at, info_at}
 use Rattle.merge_sections.specs.Reserve as Reserve
 use Rattle.section_groups.specs.Group as Group
 use Rattle.merge_symbols.specs.Plan.{Planned}
@@ -48,27 +48,29 @@ pub record SectionLeft (s t : Reserve.State) (n : ℕ) : Type 0 where
 
 -- ---- groups
 
-shape-numbers : (headers entries : List ℕ) (table n : ℕ) → Group.shape_of headers entries table n ≢ 0 → one_of (Group.shape_of headers entries table n) group_numbers ≡ true
+shape-numbers : (o : Group.Object) (work : List ℕ) (n : ℕ) → Group.shape_of o work n ≢ 0 → one_of (Group.shape_of o work n) group_numbers ≡ true
 unfolding Group.shape_of
-shape-numbers headers entries table n =
-    pick P (eqb (comdat_at headers n) 0) _ _ (λ t u. refl)
+shape-numbers o work n =
+    pick P (eqb (comdat_at o.headers n) 0) _ _ (λ t u. refl)
     (λ t.
-    pick P (eqb (count_at headers n) 1) _ _
+    pick P (eqb (count_at o.headers n) 0) _ _ (λ t u. refl)
     (λ t.
-    pick P (eqb (link_at headers n) table) _ _ (λ t. pick P (leb (rows_in entries) (info_at headers n)) _ _ (λ t u. refl) (λ t u. absurd (u refl))) (λ t u. refl))
-    (λ t u. refl))
+    pick P (Group.all_fresh work (rows_in o.headers) (Group.listed_in o n)) _ _
+    (λ t.
+    pick P (eqb (link_at o.headers n) o.table) _ _ (λ t. pick P (leb (rows_in o.entries) (info_at o.headers n)) _ _ (λ t u. refl) (λ t u. absurd (u refl))) (λ t u. refl))
+    (λ t u. refl)))
   where
     P : ℕ → Type 0
     P k = k ≢ 0 → one_of k group_numbers ≡ true
 
-plan-numbers : (l : Link) (bytes names : List ℕ) (marks : ℕ) (x : List ℕ) (listed : ℕ) → (Group.plan_of l bytes names marks x listed).number ≢ 0
+plan-numbers : (l : Link) (bytes names : List ℕ) (marks : ℕ) (x listed : List ℕ) → (Group.plan_of l bytes names marks x listed).number ≢ 0
     → one_of (Group.plan_of l bytes names marks x listed).number group_numbers ≡ true
 unfolding Group.plan_of Group.plan_with Group.mark_refusal
 plan-numbers l bytes names marks x listed =
     let id : ℕ = find_of bytes names l x in
     pick (λ (p : Group.Plan). p.number ≢ 0 → one_of p.number group_numbers ≡ true) (fits_of (store_of bytes names l) (record { 0 = id }) (length x)) _ _
     (λ t.
-    pick P (Group.repeated_of names l.names id) _ _ (λ t. pick P (leb marks listed) _ _ (λ t u. refl) (λ t u. absurd (u refl))) (λ t u. absurd (u refl)))
+    pick P (Group.repeated_of names l.names id) _ _ (λ t. pick P (Group.all_marked marks listed) _ _ (λ t u. absurd (u refl)) (λ t u. refl)) (λ t u. absurd (u refl)))
     (λ t u. refl)
   where
     P : ℕ → Type 0
@@ -89,9 +91,9 @@ module _ (o : Group.Object) (s : Group.Step) (n : ℕ) where
   pub group-left : s.stage.number ≡ 0 → (Group.group_section_of o s n).stage.number ≢ 0 → GroupLeft s (Group.group_section_of o s n) n
   unfolding Group.group_section_of Group.group_of Group.shaped_of Group.signed_of Group.group_named Group.decided_of
   group-left z u =
-      let shape : ℕ = Group.shape_of o.headers o.entries o.table n in
+      let shape : ℕ = Group.shape_of o s.work n in
       let x : Looked = Group.signature_of o.headers o.entries o.image o.table n in
-      let listed : ℕ = get_or o.contents (first_at o.headers n) 0 in
+      let listed : List ℕ = Group.listed_in o n in
       let marks : ℕ = length s.work / 8 in
       let p : Group.Plan = Group.plan_of s.stage.link s.bytes s.names marks x.name listed in
       by-test (is_loaded o.headers n 7)
@@ -103,7 +105,7 @@ module _ (o : Group.Object) (s : Group.Step) (n : ℕ) where
       by-test (eqb p.number 0) (λ d. absurd (u (rw (a, b, c, d))))
       (λ d. rw (a, b, c, d) (stopped p.number (plan-numbers s.stage.link s.bytes s.names marks x.name listed (eqb-false _ _ d)))))
       (λ c. rw (a, b, c) (stopped 7 refl)))
-      (λ b. rw (a, b) (stopped shape (shape-numbers o.headers o.entries o.table n (eqb-false _ _ b)))))
+      (λ b. rw (a, b) (stopped shape (shape-numbers o s.work n (eqb-false _ _ b)))))
       (λ a. absurd (u (rw a z)))
 
 -- ---- symbols

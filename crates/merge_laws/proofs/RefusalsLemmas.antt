@@ -17,6 +17,7 @@ use Rattle.merge_build.specs.Relocations.{table_for, limit_of, relocations_of, s
 use Rattle.merge_build.specs.Build as Build
 use Rattle.merge_laws.specs.Table.{one_of, section_numbers}
 use Rattle.merge_laws.specs.Refusals.{symbol_name, section_name}
+use Rattle.section_groups.specs.Filter.{dropped_at}
 use Rattle.merge_laws.proofs.Refusals.{SectionLeft, e, planned-numbers, planned-new, SymbolLeft, commit-left, BuildLeft, as_it_was, but-its-name}
 
 reserve-numbers : (l : Link) (sections : List ℕ) (class table : ℕ) → Reserve.reserve_number l sections class table ≢ 0
@@ -49,12 +50,14 @@ symbol-left o s i u =
     let x : Looked = symbol_name o i in
     let q : Input = input_of o.entries o.work in
     let v : View = Symbols.view s in
+    by-test (dropped_at s.stage.link.gabi o.work o.entries i) (λ d. absurd (u (rw d)))
+    (λ d.
     by-test x.found
     (λ t.
-    rw t
+    rw (d, t)
     (commit-left o s i t (planned_of v q x.name i s.stage.file) (planned-id v q x.name i s.stage.file)
-    (planned-numbers v q x.name i s.stage.file) (planned-new v q x.name i s.stage.file) (rw t at u)))
-    (λ t. rw t (as_it_was refl refl))
+    (planned-numbers v q x.name i s.stage.file) (planned-new v q x.name i s.stage.file) (rw (d, t) at u)))
+    (λ t. rw (d, t) (as_it_was refl refl)))
 
 -- ---- sections built
 

@@ -20,6 +20,7 @@ use Rattle.merge_sections.specs.Reserve.{kind_class, class_of}
 use Rattle.merge_symbols.specs.Plan.{Planned}
 use Rattle.merge_symbols.specs.Plan.{input_of, planned_of}
 use Rattle.merge_symbols.specs.Stage as Symbols
+use Rattle.section_groups.specs.Filter.{dropped_at}
 use Rattle.merge_symbols.specs.Stage.{accept_row, kept_of, commit_of, view, symbol_named, looked_of, symbol_of, symbols_of}
 use Rattle.merge_build.specs.Build.{Plan}
 use Rattle.merge_build.specs.Relocations.{table_for, limit_of, relocations_of}
@@ -59,13 +60,15 @@ symbol-front o s i q h =
     let x : Looked = name_in o.headers o.image o.symbol_names (field o.entries i 0) in
     let p : Planned = planned_of (view s) (input_of o.entries o.work) x.name i s.stage.file in
     let k : Store = keep_of (store_of s.bytes s.names s.stage.link) p.id x.name in
+    by-test (dropped_at s.stage.link.gabi o.work o.entries i) (λ d. rw d)
+    (λ d.
     by-test x.found
     (λ a.
-    by-test (eqb (refusal_of p.decision) 2) (λ b. rw (a, b))
+    by-test (eqb (refusal_of p.decision) 2) (λ b. rw (d, a, b))
     (λ b.
     by-test (eqb (refusal_of p.decision) 0)
-    (λ c. rw (a, b, c) (applied-front (table_of k.names s.symbols s.sections k.link) p.row p.decision q (rw (keep-slots (store_of s.bytes s.names s.stage.link) p.id x.name) h))) (λ c. rw (a, b, c))))
-    (λ a. rw a)
+    (λ c. rw (d, a, b, c) (applied-front (table_of k.names s.symbols s.sections k.link) p.row p.decision q (rw (keep-slots (store_of s.bytes s.names s.stage.link) p.id x.name) h))) (λ c. rw (d, a, b, c))))
+    (λ a. rw (d, a)))
 
 -- ---- a section that is built writes its own row
 

@@ -63,8 +63,8 @@ module _ (o : Object) (a : All) where
   pub data Stops : Type 0 where
     in-sections : (n : ℕ) → n < rows_in o.headers → (sections_to o a n).reserved.number ≡ 0 → one_of (number o a) section_numbers ≡ true → end o a ≡ stop (after_sections a (sections_to o a n)) (number o a) n → Stops
     in-groups : (n : ℕ) → n < rows_in o.headers → (groups_to o a n).stage.number ≡ 0 → one_of (number o a) group_numbers ≡ true → end o a ≡ stop (after_groups (prepared o a) (groups_to o a n)) (number o a) n → Stops
-    in-filter : filter_of (marked o a).work (object o a).entries < rows_in (object o a).entries → (grouped o a).stage.number ≡ 0 → end o a ≡ stop (marked o a) 8 (filter_of (marked o a).work (object o a).entries) → Stops
-    in-symbols : (i : ℕ) (t : Symbols.State) → (reserved o a).reserved.number ≡ 0 → (grouped o a).stage.number ≡ 0 → ltb (filter_of (marked o a).work (object o a).entries) (rows_in (object o a).entries) ≡ false → i < rows_in (object o a).entries → (symbols_to o a i).stage.number ≡ 0 → t ≡ Symbols.symbol_of (symbol_reader o a) (symbols_to o a i) i → SymbolLeft (symbol_reader o a) (symbols_to o a i) t i → end o a ≡ put_symbols (marked o a) (with_added o a t) → Stops
+    in-filter : filter_of (marked o a).stage.link.gabi (marked o a).work (object o a).entries < rows_in (object o a).entries → (grouped o a).stage.number ≡ 0 → end o a ≡ stop (marked o a) 8 (filter_of (marked o a).stage.link.gabi (marked o a).work (object o a).entries) → Stops
+    in-symbols : (i : ℕ) (t : Symbols.State) → (reserved o a).reserved.number ≡ 0 → (grouped o a).stage.number ≡ 0 → ltb (filter_of (marked o a).stage.link.gabi (marked o a).work (object o a).entries) (rows_in (object o a).entries) ≡ false → i < rows_in (object o a).entries → (symbols_to o a i).stage.number ≡ 0 → t ≡ Symbols.symbol_of (symbol_reader o a) (symbols_to o a i) i → SymbolLeft (symbol_reader o a) (symbols_to o a i) t i → end o a ≡ put_symbols (marked o a) (with_added o a t) → Stops
     in-uninitialized : (n : ℕ) (t : Build.State) → n < rows_in o.headers → (uninitialized_to o a n).stage.number ≡ 0 → BuildLeft (builder o a) 2 (uninitialized_to o a n) t n → end o a ≡ with_build o a (after_build (before2 o a) t) → Stops
     in-program : (n : ℕ) (t : Build.State) → n < rows_in o.headers → (program_to o a n).stage.number ≡ 0 → BuildLeft (builder o a) 1 (program_to o a n) t n → end o a ≡ with_build o a (after_build (before1 o a) t) → Stops
     in-input : (before0 o a).stage.number ≡ 0 → end o a ≡ stop (with_build o a (before0 o a)) 2 0 → Stops
@@ -84,7 +84,7 @@ module _ (o : Object) (a : All) where
   groups-stop u = rw (ne_eqb (grouped o a).stage.number 0 u)
 
   abbrev pub filtered : ℕ
-  filtered = filter_of (marked o a).work (object o a).entries
+  filtered = filter_of (marked o a).stage.link.gabi (marked o a).work (object o a).entries
 
   pub filter-stop : (grouped o a).stage.number ≡ 0 → ltb filtered (rows_in (object o a).entries) ≡ true → filter_stage (object o a) (marked o a) ≡ stop (marked o a) 8 filtered
   unfolding filter_stage filtered_of

@@ -44,7 +44,7 @@ use Rattle.merge_laws.specs.SymbolStage.{number_of}
 use Rattle.merge_laws.proofs.SymbolStage.{chosen, chosen-fits}
 use Rattle.merge_laws.proofs.SymbolStageLemmas.{symbols-loop, symbols-make-to}
 use Rattle.merge_laws.specs.SymbolStage as SymbolStage
-use Rattle.merge_laws.specs.SymbolIds.{name_of, plan_of}
+use Rattle.merge_laws.specs.SymbolIds.{is_dropped, name_of, plan_of}
 use Rattle.merge_laws.specs.Whole.{table_in}
 use Rattle.merge_laws.proofs.Kept.{steps-keep}
 use Rattle.merge_laws.proofs.Refusals.{Fields, row-fields}
@@ -130,23 +130,27 @@ module _ (o : Input) (s : Symbols.State) (x : List ℕ) (i : ℕ) where
   named-place q = rw q
 
 module _ (o : Symbols.Object) (s : Symbols.State) (i : ℕ) where
-  symbol-number : (name_of o i).found ≡ true → (symbol_of o s i).stage.number ≡ refusal_of (plan_of o s i).decision
+  symbol-number : is_dropped o s i ≡ false → (name_of o i).found ≡ true → (symbol_of o s i).stage.number ≡ refusal_of (plan_of o s i).decision
   unfolding symbol_of looked_of
-  symbol-number f = rw f (named-number (input o) s (name_of o i).name i)
+  symbol-number k f = rw (k, f) (named-number (input o) s (name_of o i).name i)
 
-  symbol-place : (name_of o i).found ≡ true → refusal_of (plan_of o s i).decision ≡ 17 → (symbol_of o s i).stage.place ≡ i
+  symbol-place : is_dropped o s i ≡ false → (name_of o i).found ≡ true → refusal_of (plan_of o s i).decision ≡ 17 → (symbol_of o s i).stage.place ≡ i
   unfolding symbol_of looked_of
-  symbol-place f q = rw f (named-place (input o) s (name_of o i).name i q)
+  symbol-place k f q = rw (k, f) (named-place (input o) s (name_of o i).name i q)
 
   -- 17 is no number of a symbol that isn't added
+  symbol-kept : (symbol_of o s i).stage.number ≡ 17 → is_dropped o s i ≡ false
+  unfolding symbol_of
+  symbol-kept q = by-test (is_dropped o s i) (λ t. let z : ◌≡◌ {A = ℕ} 0 17 = rw t at q in absurd (omega arith)) (λ t. t)
+
   symbol-found : (symbol_of o s i).stage.number ≡ 17 → (name_of o i).found ≡ true
   unfolding symbol_of looked_of
-  symbol-found q = by-test (name_of o i).found (λ t. t) (λ t. let z : ◌≡◌ {A = ℕ} 9 17 = rw t at q in absurd (omega arith))
+  symbol-found q = by-test (name_of o i).found (λ t. t) (λ t. let z : ◌≡◌ {A = ℕ} 9 17 = rw (symbol-kept q, t) at q in absurd (omega arith))
 
   symbol-adds : (symbol_of o s i).stage.number ≡ 17 → adds (input o) (name_of o i).name i ≡ true
   symbol-adds q =
       by-test (adds (input o) (name_of o i).name i) (λ t. t)
-      (λ t. absurd (plan-other (input o) s (name_of o i).name i t (sym (symbol-number (symbol-found q)) ∙ q)))
+      (λ t. absurd (plan-other (input o) s (name_of o i).name i t (sym (symbol-number (symbol-kept q) (symbol-found q)) ∙ q)))
 
 -- ---- a merge: what it has done before symbol i
 
@@ -181,13 +185,13 @@ module _ (o : Object) (a : All) where
 
       number-judged : fits_of (store (table_to i)) (row_to o a i).name (length name) ≡ true → symbol_number o a i ≡ refusal_of (judged (table_to i) name (row_to o a i) own)
       number-judged w =
-          symbol-number (symbol_reader o a) (symbols_to o a i) i is.found
+          symbol-number (symbol_reader o a) (symbols_to o a i) i is.kept is.found
           ∙ ap (λ (d : Decision). refusal_of d) (plan-judged (input (symbol_reader o a)) (symbols_to o a i) name i is.added w)
 
       -- 17 itself says that its name has accepted adds, and that it is global and passes
       pub held_at : symbol_number o a i ≡ 17 → Held new_numbers refl (table_to i) (past_to o a past i) (row_to o a i)
       held_at q =
-          let k : refusal_of (plan_of (symbol_reader o a) (symbols_to o a i) i).decision ≡ 17 = sym (symbol-number (symbol_reader o a) (symbols_to o a i) i is.found) ∙ q in
+          let k : refusal_of (plan_of (symbol_reader o a) (symbols_to o a i) i).decision ≡ 17 = sym (symbol-number (symbol_reader o a) (symbols_to o a i) i is.kept is.found) ∙ q in
           let two : eqb (refusal_of (plan_of (symbol_reader o a) (symbols_to o a i) i).decision) 2 ≡ false = rw k in
           let w = plan-room (input (symbol_reader o a)) (symbols_to o a i) name i two in
           seventeen-held new_numbers refl (table_to i) (past_to o a past i) kept-to (row_to o a i)
@@ -216,6 +220,7 @@ module _ (o : Object) (a : All) where
         refuses = q;
         adds =
             record {
+              kept = symbol-kept (symbol_reader o a) (symbols_to o a i) i q;
               found = symbol-found (symbol_reader o a) (symbols_to o a i) i q;
               added = symbol-adds (symbol_reader o a) (symbols_to o a i) i q;
             };
@@ -223,8 +228,9 @@ module _ (o : Object) (a : All) where
 
   place_at : (i : ℕ) → symbol_number o a i ≡ 17 → (symbol_of (symbol_reader o a) (symbols_to o a i) i).stage.place ≡ i
   place_at i q =
+      let k = symbol-kept (symbol_reader o a) (symbols_to o a i) i q in
       let f = symbol-found (symbol_reader o a) (symbols_to o a i) i q in
-      symbol-place (symbol_reader o a) (symbols_to o a i) i f (sym (symbol-number (symbol_reader o a) (symbols_to o a i) i f) ∙ q)
+      symbol-place (symbol_reader o a) (symbols_to o a i) i k f (sym (symbol-number (symbol_reader o a) (symbols_to o a i) i k f) ∙ q)
 
   none_of : {P : Type 0} (l : List ℕ) → one_of 17 l ≡ false → one_of (Stops.number o a) l ≡ true → Stops.number o a ≡ 17 → P
   none_of l d e q = absurd (false≢true (sym d ∙ ap (λ (k : ℕ). one_of k l) (sym q) ∙ e))
@@ -303,7 +309,7 @@ module _ (o : Object) (a : All) where
       ∙ append_assoc (g ++ s) (r ++ b) e
 
   pub steps-begin-to : (i : ℕ) → (head_in o a).number ≡ 0 → (reserved o a).reserved.number ≡ 0 → (grouped o a).stage.number ≡ 0
-      → ltb (filter_of (marked o a).work (object o a).entries) (rows_in (object o a).entries) ≡ false → i ≤ rows_in (object o a).entries
+      → ltb (filter_of (marked o a).stage.link.gabi (marked o a).work (object o a).entries) (rows_in (object o a).entries) ≡ false → i ≤ rows_in (object o a).entries
       → (symbols_to o a i).stage.number ≡ 0 → Begins i
   unfolding merge_steps stages_steps reserved_steps group_stage_steps merge_groups_steps filter_steps filtered_steps table_steps
   steps-begin-to i head sections groups-go filter small going =

@@ -1,6 +1,6 @@
 -- The name of a symbol's row, by its bytes: in the link that a merge leaves, refused or not, the id under which a symbol was added has the bytes of the symbol's name.
 -- Assumes nothing.
-use Rattle.std.specs.Prelude.{ℕ, suc, true, List, [], ◌∷◌, ◌++◌, length}
+use Rattle.std.specs.Prelude.{ℕ, suc, true, false, List, [], ◌∷◌, ◌++◌, length}
 use Rattle.std.proofs.Common.{arith, zero-add, sym, ap, ◌∙◌, subst, le-ltb}
 use Rattle.std.proofs.Math.Path.{◌≡◌, refl}
 use Rattle.cells.specs.Proof.Split.{by-test}
@@ -23,7 +23,7 @@ use Rattle.merge_laws.proofs.Loop.{loop, loop-next}
 use Rattle.merge_laws.specs.MergeSteps.{symbol_first, adds, row_steps, named_steps, symbol_steps, merge_steps}
 use Rattle.merge_laws.specs.Marked.{Marked, marks_of}
 use Rattle.merge_laws.proofs.MarkedLemmas.{steps-marked}
-use Rattle.merge_laws.specs.SymbolIds.{name_of, plan_of}
+use Rattle.merge_laws.specs.SymbolIds.{is_dropped, name_of, plan_of}
 use Rattle.merge_laws.proofs.SymbolIds.{commit-number}
 use Rattle.merge_laws.specs.SymbolStage as SymbolStage
 use Rattle.merge_laws.specs.SymbolStage.{number_of}
@@ -40,7 +40,7 @@ module _ (o : Object) (a : All) (met : List (List ℕ)) (known : Marked (table_i
   abbrev reader : Symbols.Object
   reader = symbol_reader o a
 
-  module _ (fine : (Symbols.symbol_of reader (symbols_to o a i) i).stage.number ≡ 0) (found : (name_of reader i).found ≡ true)
+  module _ (fine : (Symbols.symbol_of reader (symbols_to o a i) i).stage.number ≡ 0) (keeps : is_dropped reader (symbols_to o a i) i ≡ false) (found : (name_of reader i).found ≡ true)
       (added : adds (input_of reader.entries reader.work) (name_of reader i).name i ≡ true) where
     abbrev x : List ℕ
     x = (name_of reader i).name
@@ -53,7 +53,7 @@ module _ (o : Object) (a : All) (met : List (List ℕ)) (known : Marked (table_i
 
     pub decision : refusal_of (plan_of reader (symbols_to o a i) i).decision ≡ 0
     unfolding Symbols.symbol_of Symbols.looked_of
-    decision = commit-number (input_of reader.entries reader.work) (symbols_to o a i) x i (rw found at fine)
+    decision = commit-number (input_of reader.entries reader.work) (symbols_to o a i) x i (rw (keeps, found) at fine)
 
     pub decided-zero : refusal_of (decided (table (part_next (issue x) before)) r) ≡ 0
     decided-zero =
@@ -61,7 +61,7 @@ module _ (o : Object) (a : All) (met : List (List ℕ)) (known : Marked (table_i
 
     its-steps : symbol_steps reader (symbols_to o a i) i ≡ part (issue x) ∷ part (put r object) ∷ []
     unfolding symbol_steps named_steps row_steps
-    its-steps = rw (found, decision, added)
+    its-steps = rw (keeps, found, decision, added)
 
     -- the state behind the symbol: its name issued, its row added
     abbrev pub then : State

@@ -17,6 +17,7 @@ use Rattle.symbol_resolution.specs.Proof.Outcomes.{decision-left}
 use Rattle.elf_object.specs.Rows.{rows_in, field, name_in}
 use Rattle.merge_symbols.specs.Plan.{Planned}
 use Rattle.merge_symbols.specs.Plan.{input_of, planned_of}
+use Rattle.section_groups.specs.Filter.{dropped_at}
 use Rattle.merge_symbols.specs.Stage.{Object, accept_row, kept_of, commit_of, view, symbol_named, looked_of, symbol_of, symbols_from, symbols_of}
 use Rattle.merge_symbols.specs.Stage as Symbols
 use Rattle.merge_laws.specs.Steps.{Makes}
@@ -34,7 +35,9 @@ looked-makes o s i x =
 
 pub symbol-makes : (o : Object) (s : Symbols.State) (i : ℕ) → Makes (table_in s) (symbol_steps o s i) (table_in (symbol_of o s i))
 unfolding symbol_of symbol_steps
-symbol-makes o s i = looked-makes o s i (name_in o.headers o.image o.symbol_names (field o.entries i 0))
+symbol-makes o s i =
+    by-test (dropped_at s.stage.link.gabi o.work o.entries i) (λ d. rw d (makes_none (table_in s)))
+    (λ d. rw d (looked-makes o s i (name_in o.headers o.image o.symbol_names (field o.entries i 0))))
 
 pub symbols-loop : (o : Object) (n i : ℕ) (s : Symbols.State) → symbols_from o n i s ≡ loop number_of (symbol_of o) n i s
 unfolding symbols_from
@@ -72,13 +75,15 @@ symbol-long o s i =
     let x : Looked = name_in o.headers o.image o.symbol_names (field o.entries i 0) in
     let p : Planned = planned_of (view s) (input_of o.entries o.work) x.name i s.stage.file in
     let k : Store = keep_of (store_of s.bytes s.names s.stage.link) p.id x.name in
+    by-test (dropped_at s.stage.link.gabi o.work o.entries i) (λ d. rw d)
+    (λ d.
     by-test x.found
     (λ a.
-    by-test (eqb (refusal_of p.decision) 2) (λ b. rw (a, b))
+    by-test (eqb (refusal_of p.decision) 2) (λ b. rw (d, a, b))
     (λ b.
     by-test (eqb (refusal_of p.decision) 0)
-    (λ c. rw (a, b, c) (applied-long (table_of k.names s.symbols s.sections k.link) p.row p.decision)) (λ c. rw (a, b, c))))
-    (λ a. rw a)
+    (λ c. rw (d, a, b, c) (applied-long (table_of k.names s.symbols s.sections k.link) p.row p.decision)) (λ c. rw (d, a, b, c))))
+    (λ a. rw (d, a)))
 
 pub symbols-long : (o : Object) (s : Symbols.State) → length (symbols_of o s).sections ≡ length s.sections
 unfolding symbols_of
@@ -101,16 +106,18 @@ module _ {A : Type 0} (count : Link → A) (same : (s : Store) (id : Interned) (
       let p : Planned = planned_of (view s) (input_of o.entries o.work) x.name i s.stage.file in
       let st : Store = store_of s.bytes s.names s.stage.link in
       let k : Store = keep_of st p.id x.name in
+      by-test (dropped_at s.stage.link.gabi o.work o.entries i) (λ d. rw d)
+      (λ d.
       by-test x.found
       (λ a.
-      by-test (eqb (refusal_of p.decision) 2) (λ b. rw (a, b))
+      by-test (eqb (refusal_of p.decision) 2) (λ b. rw (d, a, b))
       (λ b.
       by-test (eqb (refusal_of p.decision) 0)
       (λ c.
-      rw (a, b, c)
+      rw (d, a, b, c)
       (applied-count (table_of k.names s.symbols s.sections k.link) p.row p.decision ∙ same st p.id x.name))
-      (λ c. rw (a, b, c) (same st p.id x.name))))
-      (λ a. rw a)
+      (λ c. rw (d, a, b, c) (same st p.id x.name))))
+      (λ a. rw (d, a)))
 
   pub symbols-count : (o : Object) (s : Symbols.State) → count (symbols_of o s).stage.link ≡ count s.stage.link
   unfolding symbols_of

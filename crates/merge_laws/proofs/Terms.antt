@@ -1,6 +1,6 @@
 -- The statements about merges. The longer proofs stand in the other files.
 -- Assumes nothing.
-use Rattle.std.specs.Prelude.{ℕ, suc, ◌<◌, ◌≤◌, ◌≡◌, refl, Bool, true, false, not, List, [], ◌∷◌, ◌++◌, ◌≢◌, set, length, Ok, Err}
+use Rattle.std.specs.Prelude.{ℕ, suc, ◌<◌, ◌≤◌, ◌≡◌, refl, Bool, true, false, cond, not, List, [], ◌∷◌, ◌++◌, ◌≢◌, set, get_or, length, Ok, Err}
 use Rattle.std.proofs.Common.{ap, ◌∙◌, subst, eq-eqb}
 use Rattle.gabi.specs.SymbolTable.{Sym, is_local}
 use Rattle.gabi.specs.Resolution.{resolve}
@@ -14,14 +14,16 @@ use Rattle.symbols.specs.Lookup.{not_found, get_global_of}
 use Rattle.symbol.specs.RowLaws.{symbol_of}
 use Rattle.symbol.specs.Codes.{successor}
 use Rattle.link.specs.Bounds.{not_lent}
-use Rattle.elf_object.specs.Rows.{rows_in, field, elf_at, is_loaded}
+use Rattle.elf_object.specs.Rows.{rows_in, field, elf_at, is_loaded, comdat_at, count_at}
 use Rattle.elf_object.specs.Judge.{first_bad}
 use Rattle.sections.specs.Rows.{state_at}
 use Rattle.merge_sections.specs.Reserve.{class_of}
-use Rattle.section_groups.specs.Group.{mark_group_of, mark_removed_of, group_section_of}
-use Rattle.section_groups.specs.Filter.{section_after, symbol_ok, filter_of}
+use Rattle.section_groups.specs.Group.{shape_of, mark_group_of, mark_all, group_section_of}
+use Rattle.section_groups.specs.Filter.{section_after, discarded_at, dropped_at, symbol_ok, filter_of}
 use Rattle.merge_symbols.specs.Plan.{input_of, filtered_at}
 use Rattle.merge_symbols.specs.Stage as Symbols
+use Rattle.merge_build.specs.Build as Build
+use Rattle.merge_build.specs.Build.{section_of}
 use Rattle.merge_stages.specs.Stages.{All, Object, table_of, stop, filtered_of, filter_stage}
 use Rattle.merge_elf.specs.Merge.{leave, head_in, merge_of}
 use Rattle.symbol_laws.specs.Rank.{first_by_rank, joined_in}
@@ -46,7 +48,7 @@ use Rattle.merge_laws.specs.Steps.{log_steps, Makes}
 use Rattle.merge_laws.specs.MergeSteps.{adds, merge_steps}
 use Rattle.merge_laws.specs.SymbolStage as SymbolStage
 use Rattle.merge_laws.proofs.SymbolIdsLemmas as SymbolIdsLaws
-use Rattle.merge_laws.specs.SymbolIds.{name_of, plan_of}
+use Rattle.merge_laws.specs.SymbolIds.{is_dropped, name_of, plan_of}
 use Rattle.merge_laws.specs.Whole.{table_in}
 use Rattle.merge_laws.proofs.Whole.{merge-makes}
 use Rattle.merge_laws.specs.Kept.{added_rows}
@@ -64,6 +66,11 @@ use Rattle.merge_laws.specs.Marked.{marks_of, Marked}
 use Rattle.merge_laws.proofs.MarkedLemmas.{new-marked}
 use Rattle.merge_laws.proofs.FirstKept as FirstKept
 use Rattle.merge_laws.specs.FirstKept.{reader, met_to, signature, listed, removed_in}
+use Rattle.symbol_laws.specs.ObjectWords.{program}
+use Rattle.merge_laws.specs.MergeWords.{lists_again}
+use Rattle.merge_laws.proofs.ListedTwice as ListedTwice
+use Rattle.merge_laws.specs.DroppedSymbols.{Gone, Nothing, Names, Named}
+use Rattle.merge_laws.proofs.DroppedSymbols as DroppedSymbols
 use Rattle.merge_laws.specs.Discarded as Discarded
 use Rattle.merge_laws.proofs.Discarded as DiscardedLaws
 use Rattle.merge_laws.specs.Accepted as Accepted
@@ -106,7 +113,7 @@ pub merge-is-its-parts : (o : Object) (a : All) → a.stage.link.names ≤ a.sta
 merge-is-its-parts o a r = makes-parts (table_in a) (table_in (merge_of o a).cells) (merge_steps o a) r (merge-makes o a)
 
 -- the cell of an accepted symbol that is added has the id that its add is answered, and 1; s is what the symbols before it left
-pub symbol-ids : (o : Symbols.Object) (s : Symbols.State) (i : ℕ) → (name_of o i).found ≡ true → adds (input_of o.entries o.work) (name_of o i).name i ≡ true
+pub symbol-ids : (o : Symbols.Object) (s : Symbols.State) (i : ℕ) → is_dropped o s i ≡ false → (name_of o i).found ≡ true → adds (input_of o.entries o.work) (name_of o i).name i ≡ true
     → (Symbols.symbol_of o s i).stage.number ≡ 0
     → (Symbols.symbol_of o s i).ids
     ≡ set s.ids i (successor (value_in (put_of (part_next (issue (name_of o i).name) (SymbolStage.table_in s)) (plan_of o s i).row).said))
@@ -191,7 +198,7 @@ module _ (key : ℕ) (gabi : Bool) (bytes names symbols sections inputs lists : 
           → (later : List (List ℕ))
           → let met = met_to o all (signatures ks start) n in
           (group_section_of (reader o all) (groups_to o all n) n).work
-          ≡ mark_removed_of (mark_group_of (groups_to o all n).work n) (not (Gabi.kept (met ++ signature o all n ∷ later) (length met))) (listed o all n)
+          ≡ mark_all (mark_group_of (groups_to o all n).work n) (not (Gabi.kept (met ++ signature o all n ∷ later) (length met))) (listed o all n)
       first-kept = FirstKept.first-kept o all (signatures ks start) marked
 
       -- where the signatures met are those of the groups accepted before, in order
@@ -211,7 +218,8 @@ module _ (key : ℕ) (gabi : Bool) (bytes names symbols sections inputs lists : 
       -- the section of a group that the gABI doesn't keep: its mark stands until the merge's end, so it isn't built, and its symbols are undefined
       pub repeated-discarded : (Stages.grouped o all).stage.number ≡ 0 → (n : ℕ) → n < rows_in o.headers → is_loaded o.headers n 7 ≡ true → (later : List (List ℕ))
           → let met = met_to o all (signatures ks start) n in
-          Gabi.kept (met ++ signature o all n ∷ later) (length met) ≡ false → Discarded.Discarded o all (listed o all n)
+          Gabi.kept (met ++ signature o all n ∷ later) (length met) ≡ false
+          → (i : ℕ) → i < length (listed o all n) → Discarded.Discarded o all (get_or (listed o all n) i 0)
       repeated-discarded = DiscardedLaws.repeated-discarded o all (signatures ks start) marked
 
       -- and after an accepted merge the row that it has, of kind 1 or 2 and not excluded, is still reserved, not built
@@ -258,18 +266,51 @@ module _ (o : Object) (a : All) where
 
 module _ (work entries : List ℕ) (i : ℕ) where
   -- "Non-local symbols there become undefined", as the gABI has it of global and weak ones
-  pub filter-agrees : (removed_in work (field entries i 4) ≡ true → field entries i 1 ≤ 2) → symbol_ok work entries i ≡ true
+  pub filter-agrees : (removed_in work (field entries i 4) ≡ true → field entries i 1 ≤ 2) → discarded_at work entries i ≡ false
       → after_discard (removed_in work (field entries i 4)) (sym_of (elf_at entries i)) ≡ stays (sym_of (filtered_at entries work i))
   filter-agrees = FirstKept.filter-agrees work entries i
 
   -- of bindings above 2 it says nothing. They pass the filter, to be refused (12) where they are added
   pub filter-unsaid : removed_in work (field entries i 4) ≡ true → 2 < field entries i 1
-      → (symbol_ok work entries i ≡ true) × (after_discard (removed_in work (field entries i 4)) (sym_of (elf_at entries i)) ≡ unsaid)
+      → (discarded_at work entries i ≡ false) × (after_discard (removed_in work (field entries i 4)) (sym_of (elf_at entries i)) ≡ unsaid)
   filter-unsaid = FirstKept.filter-unsaid work entries i
 
   -- "the first local gives 8", where the gABI discards it (`local-refused` has the smallest input)
-  pub filter-differs : symbol_ok work entries i ≡ false → after_discard (removed_in work (field entries i 4)) (sym_of (elf_at entries i)) ≡ gone
+  pub filter-differs : discarded_at work entries i ≡ true → after_discard (removed_in work (field entries i 4)) (sym_of (elf_at entries i)) ≡ gone
   filter-differs = FirstKept.filter-differs work entries i
+
+  -- in the gABI's profile no local is refused, and the gABI's rule is kept: dropped where it discards, and else what it makes of the symbol
+  pub dropped-agrees : dropped_at true work entries i ≡ true → after_discard (removed_in work (field entries i 4)) (sym_of (elf_at entries i)) ≡ gone
+  dropped-agrees = FirstKept.filter-differs work entries i
+
+  pub profile-agrees : (removed_in work (field entries i 4) ≡ true → field entries i 1 ≤ 2)
+      → after_discard (removed_in work (field entries i 4)) (sym_of (elf_at entries i)) ≡ cond (dropped_at true work entries i) gone (stays (sym_of (filtered_at entries work i)))
+  profile-agrees = FirstKept.profile-agrees work entries i
+
+pub filter-passes : (work entries : List ℕ) → filter_of true work entries ≡ rows_in entries
+filter-passes = FirstKept.filter-passes
+
+-- of a symbol that the gABI discards nothing is left but a cell without an id
+pub dropped-alone : (o : Symbols.Object) (s : Symbols.State) (i : ℕ) → s.stage.link.gabi ≡ true → Gone o.work o.entries i → Nothing o s i
+dropped-alone = DroppedSymbols.dropped-alone
+
+-- and a section that is built, with a relocation to it, is refused with 19, once its own name is there and has room
+pub relocation-to-dropped : (o : Object) (a : All) → (head_in o a).number ≡ 0 → (Stages.reserved o a).reserved.number ≡ 0 → (Stages.added o a).stage.number ≡ 0
+    → a.stage.link.gabi ≡ true → (k : ℕ) → k < rows_in (Stages.object o a).entries → Gone (Stages.marked o a).work (Stages.object o a).entries k
+    → (n : ℕ) → Names o a k n → (s : Build.State) → Named o a k n s
+    → ((section_of (Stages.builder o a) s n program).stage.number ≡ 19) × ((section_of (Stages.builder o a) s n program).stage.place ≡ n)
+relocation-to-dropped = DroppedSymbols.relocation-to-dropped
+
+-- ---- 29, once 4 and 5 are passed: exactly at a group that lists a section of the object which a group before it lists too (`lists_again`)
+
+module _ (o : Object) (a : All) (head : (head_in o a).number ≡ 0) (goes : (Stages.reserved o a).reserved.number ≡ 0) (n : ℕ) (low : n ≤ rows_in o.headers)
+    (ok : (groups_to o a n).stage.number ≡ 0) where
+  pub listed-twice : comdat_at o.headers n ≢ 0 → count_at o.headers n ≢ 0 → lists_again o.headers o.entries o.contents o.image n ≡ true
+      → shape_of (reader o a) (groups_to o a n).work n ≡ 29
+  listed-twice = ListedTwice.listed-twice o a head goes n low ok
+
+  pub listed-once : lists_again o.headers o.entries o.contents o.image n ≡ false → shape_of (reader o a) (groups_to o a n).work n ≢ 29
+  listed-once = ListedTwice.listed-once o a head goes n low ok
 
 -- ---- "Known places where gABI differs": "a local in a dropped group is an error", with its smallest input
 
@@ -279,9 +320,9 @@ unfolding after_discard is_local
 local-discarded = refl
 
 -- a merge is refused with 8, at that symbol
-pub local-refused : (a : All) → a.stage.number ≡ 0 → a.work ≡ removed → filter_stage (table_of [] one_local [] [] 0 0) a ≡ stop a 8 0
-unfolding filter_stage filtered_of filter_of first_bad symbol_ok section_after
-local-refused a z w = rw (eq-eqb a.stage.number 0 z, w)
+pub local-refused : (a : All) → a.stage.number ≡ 0 → a.stage.link.gabi ≡ false → a.work ≡ removed → filter_stage (table_of [] one_local [] [] 0 0) a ≡ stop a 8 0
+unfolding filter_stage filtered_of filter_of first_bad symbol_ok discarded_at section_after
+local-refused a z p w = rw (eq-eqb a.stage.number 0 z, p, w)
 
 -- ---- what the gABI allows or reserves, and a merge refuses
 

@@ -121,7 +121,7 @@ unfolding filter_stage filtered_of
 filter-broken o a =
     by-test (eqb a.stage.number 0)
     (λ z.
-    by-test (ltb (filter_of a.work o.entries) (rows_in o.entries)) (λ t. rw (z, t)) (λ t. rw (z, t) (table-broken o a.work (symbols_in a))))
+    by-test (ltb (filter_of a.stage.link.gabi a.work o.entries) (rows_in o.entries)) (λ t. rw (z, t)) (λ t. rw (z, t) (table-broken o a.work (symbols_in a))))
     (λ z. rw z)
 
 groups-broken : (o : Stages.Object) (table : ℕ) (a : All) → (group_stage o table a).stage.link.broken ≡ a.stage.link.broken

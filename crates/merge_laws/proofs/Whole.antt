@@ -103,7 +103,7 @@ module _ (o : Tabled) (count : ℕ) where
   filter-makes : (a : All) → Reserved o.headers a.work a.stage.link.slots count → count ≤ a.stage.link.sections → Makes (table_in a) (filter_steps o a) (table_in (filter_stage o a))
   unfolding filter_stage filter_steps
   filter-makes a r d =
-      by-test (eqb a.stage.number 0) (λ t. rw t (filtered-makes a (filter_of a.work o.entries) r d)) (λ t. rw t (makes_none (table_in a)))
+      by-test (eqb a.stage.number 0) (λ t. rw t (filtered-makes a (filter_of a.stage.link.gabi a.work o.entries) r d)) (λ t. rw t (makes_none (table_in a)))
 
   groups-then : (a : All) → Reserved o.headers a.work a.stage.link.slots count → count ≤ a.stage.link.sections → Makes (table_in a) (merge_groups_steps o a) (table_in (merge_groups_of o a))
   unfolding merge_groups_of merge_groups_steps

@@ -12,6 +12,7 @@ use Rattle.std.proofs.Math.Dec.{eqb}
 use Rattle.std.proofs.Math.ListN.{length}
 use borrow.Author.Tests.{eqb-true, eqb-false, ltb-true, ltb-false, leb-false, ne_eqb, lt-ltb, le-ltb}
 use Rattle.cells.specs.Proof.Split.{by-test}
+use Rattle.cells.specs.Search.{any_from}
 use Rattle.gabi.specs.StringTable.{has_name, name_at, among}
 use Rattle.gabi.proofs.StringTableLaws.{name-empty}
 use Rattle.link.specs.Judge.{change_of}
@@ -21,13 +22,13 @@ use Rattle.elf_object.specs.Rows.{rows_in, field, link_at, info_at, first_at, ma
 use Rattle.elf_object.specs.Judge as Judge
 use Rattle.section_groups.specs.Group.{Plan}
 use Rattle.section_groups.specs.Group as Group
-use Rattle.section_groups.specs.Group.{shape_of, signature_of, mark_group_of, mark_removed_of, plan_of, group_section_of, group_of, shaped_of, signed_of, group_named, decided_of, commit_group_of, groups_of}
+use Rattle.section_groups.specs.Group.{listed_in, all_fresh, all_marked, shape_of, signature_of, mark_group_of, mark_one, mark_from, mark_all, plan_of, group_section_of, group_of, shaped_of, signed_of, group_named, decided_of, commit_group_of, groups_of}
 use Rattle.merge_sections.specs.Reserve.{class_of, conversion_of}
 use Rattle.merge_build.specs.Relocations.{relocations_of}
 use Rattle.merge_stages.specs.Stages.{All, Object}
 use Rattle.merge_elf.specs.Merge.{head_in, check_of, rows_refusal, lent}
 use Rattle.symbol_laws.specs.ObjectWords.{loaded_as, symbol_table, string_table, group, strings_of, link_of}
-use Rattle.merge_laws.specs.MergeWords.{rowed_below, named_by, entries_to, symbol_names, has_names, symbols_of, Bears, group_signature, group_section, own_signatures, is_removed}
+use Rattle.merge_laws.specs.MergeWords.{rowed_below, named_by, entries_to, symbol_names, has_names, symbols_of, Bears, group_signature, group_sections, is_listed, own_signatures, is_removed}
 use Rattle.merge_laws.proofs.Loop.{loop, loop-holds, loop-next}
 use Rattle.merge_laws.specs.MergeSteps.{group_first, reserve_first}
 use Rattle.merge_laws.proofs.WorkRows.{loaded-same, table_to, NotedTo, reserve-noted}
@@ -36,7 +37,7 @@ use Rattle.merge_laws.specs.GroupStage.{number_of}
 use Rattle.merge_laws.proofs.GroupStageLemmas.{groups-loop}
 use Rattle.merge_laws.specs.SymbolIds.{name_of}
 use Rattle.merge_laws.specs.Marked.{Marked}
-use Rattle.merge_laws.proofs.GroupMarks.{group-marks, mark-lent}
+use Rattle.merge_laws.proofs.GroupMarks.{one-length, each-holds, group-marks, marks-lent}
 use Rattle.merge_laws.specs.Accepted.{signatures_to}
 use Rattle.merge_laws.proofs.Accepted.{going, next-going}
 use Rattle.merge_laws.specs.FirstKept.{reader, signature, listed, met_to}
@@ -132,41 +133,50 @@ unfolding mark_group_of
 group-cell w n m f h u =
     by-test (eqb (mark_at w n) 2) (λ t. rw t) (λ t. rw t (get_or-set_other w (n * 8 + 1) (m * 8 + f) 1 0 (λ e. u (omega arith))))
 
-pub removed-cell : (w : List ℕ) (b : Bool) (n m f : ℕ) → f < 8 → f ≢ 1 → get_or (mark_removed_of w b n) (m * 8 + f) 0 ≡ get_or w (m * 8 + f) 0
-unfolding mark_removed_of
-removed-cell w true n m f h u = get_or-set_other w (n * 8 + 1) (m * 8 + f) 2 0 (λ e. u (omega arith))
-removed-cell w false n m f h u = refl
+one-cell : (w : List ℕ) (b : Bool) (n m f : ℕ) → f < 8 → f ≢ 1 → f ≢ 3 → get_or (mark_one w b n) (m * 8 + f) 0 ≡ get_or w (m * 8 + f) 0
+unfolding mark_one
+one-cell w true n m f h u v =
+    get_or-set_other (set w (n * 8 + 1) 2) (n * 8 + 3) (m * 8 + f) 1 0 (λ e. v (omega arith)) ∙ get_or-set_other w (n * 8 + 1) (m * 8 + f) 2 0 (λ e. u (omega arith))
+one-cell w false n m f h u v = get_or-set_other w (n * 8 + 3) (m * 8 + f) 1 0 (λ e. v (omega arith))
 
-pub group-long : (w : List ℕ) (b : Bool) (n k : ℕ) → length (mark_removed_of (mark_group_of w n) b k) ≡ length w
-unfolding mark_removed_of mark_group_of
-group-long w b n k = by-test (eqb (mark_at w n) 2) (λ t. rw t (last b w)) (λ t. rw t (last b (set w (n * 8 + 1) 1) ∙ length-set w (n * 8 + 1) 1))
-  where
-    last : (b : Bool) (v : List ℕ) → length (cond b (set v (k * 8 + 1) 2) v) ≡ length v
-    last true v = length-set v (k * 8 + 1) 2
-    last false v = refl
+pub listed-cell : (b : Bool) (xs : List ℕ) (m f : ℕ) → f < 8 → f ≢ 1 → f ≢ 3 → (i n : ℕ) (w : List ℕ) → get_or (mark_from b xs i n w) (m * 8 + f) 0 ≡ get_or w (m * 8 + f) 0
+unfolding mark_from
+listed-cell b xs m f h u v i zero w = refl
+listed-cell b xs m f h u v i (suc n) w = listed-cell b xs m f h u v (i + 1) n (mark_one w b (get_or xs i 0)) ∙ one-cell w b (get_or xs i 0) m f h u v
 
-section-cell : (o : Group.Object) (s : Group.Step) (n m f : ℕ) → f < 8 → f ≢ 1 → get_or (group_section_of o s n).work (m * 8 + f) 0 ≡ get_or s.work (m * 8 + f) 0
+listed-long : (b : Bool) (xs : List ℕ) (i n : ℕ) (w : List ℕ) → length (mark_from b xs i n w) ≡ length w
+unfolding mark_from
+listed-long b xs i zero w = refl
+listed-long b xs i (suc n) w = listed-long b xs (i + 1) n (mark_one w b (get_or xs i 0)) ∙ one-length w b (get_or xs i 0)
+
+pub group-long : (w : List ℕ) (b : Bool) (n : ℕ) (xs : List ℕ) → length (mark_all (mark_group_of w n) b xs) ≡ length w
+unfolding mark_group_of
+group-long w b n xs =
+    listed-long b xs 0 (length xs) (cond (eqb (mark_at w n) 2) w (set w (n * 8 + 1) 1))
+    ∙ by-test (eqb (mark_at w n) 2) (λ t. rw t) (λ t. rw t (length-set w (n * 8 + 1) 1))
+
+section-cell : (o : Group.Object) (s : Group.Step) (n m f : ℕ) → f < 8 → f ≢ 1 → f ≢ 3 → get_or (group_section_of o s n).work (m * 8 + f) 0 ≡ get_or s.work (m * 8 + f) 0
 unfolding group_section_of group_of shaped_of signed_of group_named decided_of commit_group_of
-section-cell o s n m f h u =
+section-cell o s n m f h u v =
     let x : Looked = signature_of o.headers o.entries o.image o.table n in
-    let k : ℕ = get_or o.contents (first_at o.headers n) 0 in
+    let k : List ℕ = listed_in o n in
     let q : Plan = plan_of s.stage.link s.bytes s.names (length s.work / 8) x.name k in
     by-test (is_loaded o.headers n 7)
     (λ a.
-    by-test (eqb (shape_of o.headers o.entries o.table n) 0)
+    by-test (eqb (shape_of o s.work n) 0)
     (λ b.
     by-test x.found
     (λ c.
-    by-test (eqb q.number 0) (λ d. rw (a, b, c, d) (removed-cell (mark_group_of s.work n) q.repeated k m f h u ∙ group-cell s.work n m f h u)) (λ d. rw (a, b, c, d)))
+    by-test (eqb q.number 0) (λ d. rw (a, b, c, d) (listed-cell q.repeated k m f h u v 0 (length k) (mark_group_of s.work n) ∙ group-cell s.work n m f h u)) (λ d. rw (a, b, c, d)))
     (λ c. rw (a, b, c)))
     (λ b. rw (a, b)))
     (λ a. rw a)
 
-groups-cell : (o : Group.Object) (s : Group.Step) (m f : ℕ) → f < 8 → f ≢ 1 → get_or (groups_of o s).work (m * 8 + f) 0 ≡ get_or s.work (m * 8 + f) 0
+groups-cell : (o : Group.Object) (s : Group.Step) (m f : ℕ) → f < 8 → f ≢ 1 → f ≢ 3 → get_or (groups_of o s).work (m * 8 + f) 0 ≡ get_or s.work (m * 8 + f) 0
 unfolding groups_of
-groups-cell o s m f h u =
+groups-cell o s m f h u v =
     rw (groups-loop o (rows_in o.headers) 0 s)
-    (loop-holds number_of (group_section_of o) (λ t. get_or t.work (m * 8 + f) 0 ≡ get_or s.work (m * 8 + f) 0) (λ t n e. section-cell o t n m f h u ∙ e)
+    (loop-holds number_of (group_section_of o) (λ t. get_or t.work (m * 8 + f) 0 ≡ get_or s.work (m * 8 + f) 0) (λ t n e. section-cell o t n m f h u v ∙ e)
     (rows_in o.headers) 0 s refl)
 
 skipped : (o : Group.Object) (s : Group.Step) (n : ℕ) → is_loaded o.headers n 7 ≡ false → (group_section_of o s n).work ≡ s.work
@@ -180,20 +190,54 @@ unfolding group_section_of group_of shaped_of shape_of
 group-inside o s n l z =
     by-test (eqb (Elf.comdat_at o.headers n) 0) (λ a. let q : ◌≡◌ {A = ℕ} 4 0 = rw (l, a) at z in absurd (omega arith))
     (λ a.
-    by-test (eqb (Elf.count_at o.headers n) 1)
+    by-test (eqb (Elf.count_at o.headers n) 0) (λ b. let q : ◌≡◌ {A = ℕ} 5 0 = rw (l, a, b) at z in absurd (omega arith))
     (λ b.
+    by-test (all_fresh s.work (rows_in o.headers) (listed_in o n))
+    (λ e.
     by-test (eqb (link_at o.headers n) o.table)
     (λ c.
-    by-test (leb (rows_in o.entries) (info_at o.headers n)) (λ d. let q : ◌≡◌ {A = ℕ} 6 0 = rw (l, a, b, c, d) at z in absurd (omega arith)) (λ d. leb-false _ _ d))
-    (λ c. let q : ◌≡◌ {A = ℕ} 6 0 = rw (l, a, b, c) at z in absurd (omega arith)))
-    (λ b. let q : ◌≡◌ {A = ℕ} 5 0 = rw (l, a, b) at z in absurd (omega arith)))
+    by-test (leb (rows_in o.entries) (info_at o.headers n)) (λ d. let q : ◌≡◌ {A = ℕ} 6 0 = rw (l, a, b, e, c, d) at z in absurd (omega arith)) (λ d. leb-false _ _ d))
+    (λ c. let q : ◌≡◌ {A = ℕ} 6 0 = rw (l, a, b, e, c) at z in absurd (omega arith)))
+    (λ e. let q : ◌≡◌ {A = ℕ} 29 0 = rw (l, a, b, e) at z in absurd (omega arith))))
 
 -- ---- one more group, by its marks
 
--- the mark after an accepted group at section n that lists k, and is repeated or not
-module _ (w : List ℕ) (n k m : ℕ) (repeated : Bool) (room : n < length w / 8) (lent : repeated ≡ true → k < length w / 8) where
+-- of the k of a list from the i-th on those are marked that m is one of
+module _ (xs : List ℕ) (m : ℕ) where
+  abbrev pub in_from : ℕ → ℕ → Bool
+  in_from i k = any_from (λ j. eqb (get_or xs j 0) m) i k
+
+  one-mark : (x : ℕ) (w : List ℕ) → x < length w / 8 → mark_at (mark_one w true x) m ≡ cond (eqb x m) 2 (mark_at w m)
+  unfolding mark_one
+  one-mark x w h =
+      get_or-set_other (set w (x * 8 + 1) 2) (x * 8 + 3) (m * 8 + 1) 1 0 (λ e. omega arith)
+      ∙ by-test (eqb x m) (λ c. let e : x ≡ m = eqb-true _ _ c in rw c (rw (← e) (get_or-set_same w (x * 8 + 1) 2 0 (omega arith))))
+      (λ c. let u : x ≢ m = eqb-false _ _ c in rw c (get_or-set_other w (x * 8 + 1) (m * 8 + 1) 2 0 (λ e. u (omega arith))))
+
+  later : (p q : Bool) (z : ℕ) → cond q 2 (cond p 2 z) ≡ cond (cond p true q) 2 z
+  later true true z = refl
+  later true false z = refl
+  later false true z = refl
+  later false false z = refl
+
+  marks-from : (k i : ℕ) (w : List ℕ) → ((j : ℕ) → i ≤ j → j < i + k → get_or xs j 0 < length w / 8) → mark_at (mark_from true xs i k w) m ≡ cond (in_from i k) 2 (mark_at w m)
+  unfolding mark_from any_from
+  marks-from zero i w lent = refl
+  marks-from (suc k) i w lent =
+      let here : get_or xs i 0 < length w / 8 = lent i (omega arith) (omega arith) in
+      marks-from k (i + 1) (mark_one w true (get_or xs i 0)) (λ j g h. omega (arith, lent j (omega arith) (omega arith), one-length w true (get_or xs i 0)))
+      ∙ ap (λ (z : ℕ). cond (in_from (i + 1) k) 2 z) (one-mark (get_or xs i 0) w here)
+      ∙ later (eqb (get_or xs i 0) m) (in_from (i + 1) k) (mark_at w m)
+
+  none-from : (k i : ℕ) (w : List ℕ) → mark_at (mark_from false xs i k w) m ≡ mark_at w m
+  unfolding mark_from mark_one
+  none-from zero i w = refl
+  none-from (suc k) i w = none-from k (i + 1) (mark_one w false (get_or xs i 0)) ∙ get_or-set_other w (get_or xs i 0 * 8 + 3) (m * 8 + 1) 1 0 (λ e. omega arith)
+
+-- the mark after an accepted group at section n that lists these, and is repeated or not
+module _ (w : List ℕ) (n : ℕ) (xs : List ℕ) (m : ℕ) (repeated : Bool) (room : n < length w / 8) (lent : repeated ≡ true → (j : ℕ) → j < length xs → get_or xs j 0 < length w / 8) where
   abbrev after : List ℕ
-  after = mark_removed_of (mark_group_of w n) repeated k
+  after = mark_all (mark_group_of w n) repeated xs
 
   own-mark : m ≡ n → mark_at (mark_group_of w n) m ≡ cond (eqb (mark_at w m) 2) 2 1
   unfolding mark_group_of
@@ -209,21 +253,16 @@ module _ (w : List ℕ) (n k m : ℕ) (repeated : Bool) (room : n < length w / 8
   unfolding mark_group_of
   group-length = by-test (eqb (mark_at w n) 2) (λ a. rw a) (λ a. rw a (length-set w (n * 8 + 1) 1))
 
-  pub mark-after : mark_at after m ≡ cond (repeated && eqb k m) 2 (cond (eqb m n) (cond (eqb (mark_at w m) 2) 2 1) (mark_at w m))
-  unfolding mark_removed_of
+  pub mark-after : mark_at after m ≡ cond (repeated && is_listed m xs) 2 (cond (eqb m n) (cond (eqb (mark_at w m) 2) 2 1) (mark_at w m))
   mark-after =
       let before : mark_at (mark_group_of w n) m ≡ cond (eqb m n) (cond (eqb (mark_at w m) 2) 2 1) (mark_at w m) =
       by-test (eqb m n) (λ a. rw a (own-mark (eqb-true _ _ a))) (λ a. rw a (other-mark (eqb-false _ _ a))) in
       by-test repeated
       (λ r.
       rw r
-      (by-test (eqb k m)
-      (λ c.
-      let e : k ≡ m = eqb-true _ _ c in
-      let l : k < length w / 8 = lent r in
-      rw (c, e) (get_or-set_same (mark_group_of w n) (m * 8 + 1) 2 0 (omega (arith, group-length))))
-      (λ c. let u : k ≢ m = eqb-false _ _ c in rw c (get_or-set_other (mark_group_of w n) (k * 8 + 1) (m * 8 + 1) 2 0 (λ e. u (omega arith)) ∙ before))))
-      (λ r. rw r before)
+      (marks-from xs m (length xs) 0 (mark_group_of w n) (λ j g h. omega (arith, lent r j (omega arith), group-length))
+      ∙ ap (λ (z : ℕ). cond (is_listed m xs) 2 z) before))
+      (λ r. rw r (none-from xs m (length xs) 0 (mark_group_of w n) ∙ before))
 
 -- the mark that is told of one section more: 2 where x or y says so, else 1 where a test holds
 module _ (g : ℕ → Bool) (m n : ℕ) where
@@ -283,10 +322,10 @@ module _ (o : Object) (a : All) (head : (head_in o a).number ≡ 0) (goes : (res
   pub noted : NotedTo headers count rows (reserved o a)
   noted = reserve-noted headers (reserve_first a) few-rows (passed o a head).work refl goes
 
-  untabled : (m : ℕ) → m < rows → Elf.relocations_at (reserved o a).work m ≡ 0
+  pub untabled : (m : ℕ) → m < rows → Elf.relocations_at (reserved o a).work m ≡ 0
   untabled m h = noted.clean m 2 h (omega arith) (omega arith)
 
-  prepared-long : rows ≤ length (prepared o a).work / 8
+  pub prepared-long : rows ≤ length (prepared o a).work / 8
   prepared-long = omega (arith, noted.room, done-long headers o.entries few-rows (reserved o a).work noted.room untabled)
 
   -- ---- symbols
@@ -325,21 +364,21 @@ module _ (o : Object) (a : All) (head : (head_in o a).number ≡ 0) (goes : (res
 
   -- ---- rows
 
-  pub cell-stands : (m f : ℕ) → m < rows → f < 8 → f ≢ 1 → f ≢ 2 → get_or (marked o a).work (m * 8 + f) 0 ≡ get_or (reserved o a).work (m * 8 + f) 0
-  cell-stands m f h g u v =
-      groups-cell (reader o a) (group_first (prepared o a)) m f g u ∙ done-cell headers o.entries few-rows (reserved o a).work noted.room untabled m h f g v
+  pub cell-stands : (m f : ℕ) → m < rows → f < 8 → f ≢ 1 → f ≢ 2 → f ≢ 3 → get_or (marked o a).work (m * 8 + f) 0 ≡ get_or (reserved o a).work (m * 8 + f) 0
+  cell-stands m f h g u v w =
+      groups-cell (reader o a) (group_first (prepared o a)) m f g u w ∙ done-cell headers o.entries few-rows (reserved o a).work noted.room untabled m h f g v
 
   pub conversion-is : (m : ℕ) → m < rows → Elf.conversion_at (marked o a).work m ≡ conversion_of (class_of headers m) (count + rowed_below headers m)
-  conversion-is m h = cell-stands m 0 h (omega arith) (λ e. omega arith) (λ e. omega arith) ∙ noted.cells m h
+  conversion-is m h = cell-stands m 0 h (omega arith) (λ e. omega arith) (λ e. omega arith) (λ e. omega arith) ∙ noted.cells m h
 
   -- a section number that a symbol has and the object hasn't
   pub conversion-none : (i m : ℕ) → i < rows_in o.entries → field o.entries i 4 ≡ m → rows ≤ m → Elf.conversion_at (marked o a).work m ≡ 0
   conversion-none i m h e p =
-      groups-cell (reader o a) (group_first (prepared o a)) m 0 (omega arith) (λ e. omega arith) ∙ done-past headers o.entries few-rows (reserved o a).work noted.room untabled i m 0 h e p (omega arith)
+      groups-cell (reader o a) (group_first (prepared o a)) m 0 (omega arith) (λ e. omega arith) (λ e. omega arith) ∙ done-past headers o.entries few-rows (reserved o a).work noted.room untabled i m 0 h e p (omega arith)
 
   pub relocations-are : (m : ℕ) → m < rows → relocations_of headers o.contents (Elf.relocations_at (marked o a).work m) ≡ named_by headers o.contents m rows
   relocations-are m h =
-      ap (relocations_of headers o.contents) (groups-cell (reader o a) (group_first (prepared o a)) m 2 (omega arith) (λ e. omega arith))
+      ap (relocations_of headers o.contents) (groups-cell (reader o a) (group_first (prepared o a)) m 2 (omega arith) (λ e. omega arith) (λ e. omega arith))
       ∙ done-names headers o.entries few-rows (reserved o a).work noted.room untabled m h o.contents
 
   -- ---- marks
@@ -390,7 +429,7 @@ module _ (o : Object) (a : All) (head : (head_in o a).number ≡ 0) (goes : (res
     work-next : (n : ℕ) → n < rows
         → (groups_to o a (suc n)).work
         ≡ cond (loaded_as headers n group)
-        (mark_removed_of (mark_group_of (groups_to o a n).work n) (among (group_signature headers o.entries o.contents o.image n) (met ++ ours n)) (group_section headers o.entries o.contents o.image n))
+        (mark_all (mark_group_of (groups_to o a n).work n) (among (group_signature headers o.entries o.contents o.image n) (met ++ ours n)) (group_sections headers o.entries o.contents o.image n))
         (groups_to o a n).work
     work-next n h =
         ap (λ (s : Group.Step). s.work) (groups-next o a passes n h)
@@ -399,17 +438,20 @@ module _ (o : Object) (a : All) (head : (head_in o a).number ≡ 0) (goes : (res
         let l : is_loaded headers n 7 ≡ true = loaded-same headers n 7 ∙ t in
         rw t
         (group-marks a.symbols (reserved o a).sections (reader o a) (groups_to o a n) (met_to o a met n) (to-marked o a met known n) n l (next-going o a passes n h)
-        ∙ ap (λ (x : List ℕ). mark_removed_of (mark_group_of (groups_to o a n).work n) (among x (met_to o a met n)) (listed o a n)) (signature-is n h l)
-        ∙ ap (λ (x : List (List ℕ)). mark_removed_of (mark_group_of (groups_to o a n).work n) (among (group_signature headers o.entries o.contents o.image n) x) (listed o a n)) (met-is n (omega arith))))
+        ∙ ap (λ (x : List ℕ). mark_all (mark_group_of (groups_to o a n).work n) (among x (met_to o a met n)) (listed o a n)) (signature-is n h l)
+        ∙ ap (λ (x : List (List ℕ)). mark_all (mark_group_of (groups_to o a n).work n) (among (group_signature headers o.entries o.contents o.image n) x) (listed o a n)) (met-is n (omega arith))))
         (λ t. rw t (skipped (reader o a) (groups_to o a n) n (loaded-same headers n 7 ∙ t)))
 
     mark-room : (n : ℕ) → n < rows → loaded_as headers n group ≡ true → among (group_signature headers o.entries o.contents o.image n) (met ++ ours n) ≡ true
-        → group_section headers o.entries o.contents o.image n < length (groups_to o a n).work / 8
-    mark-room n h t r =
+        → (j : ℕ) → j < length (group_sections headers o.entries o.contents o.image n) → get_or (group_sections headers o.entries o.contents o.image n) j 0 < length (groups_to o a n).work / 8
+    unfolding all_marked
+    mark-room n h t r j low =
         let l : is_loaded headers n 7 ≡ true = loaded-same headers n 7 ∙ t in
-        mark-lent a.symbols (reserved o a).sections (reader o a) (groups_to o a n) (met_to o a met n) (to-marked o a met known n) n l (next-going o a passes n h)
+        ltb-true _ _
+        (each-holds (λ x. ltb x (length (groups_to o a n).work / 8)) (listed o a n) j low
+        (marks-lent a.symbols (reserved o a).sections (reader o a) (groups_to o a n) (met_to o a met n) (to-marked o a met known n) n l (next-going o a passes n h)
         (ap (λ (x : List ℕ). among x (met_to o a met n)) (signature-is n h l)
-        ∙ ap (among (group_signature headers o.entries o.contents o.image n)) (met-is n (omega arith)) ∙ r)
+        ∙ ap (among (group_signature headers o.entries o.contents o.image n)) (met-is n (omega arith)) ∙ r)))
 
     work-long : (n : ℕ) → n ≤ rows → rows ≤ length (groups_to o a n).work / 8
     unfolding Group.groups_from
@@ -418,7 +460,7 @@ module _ (o : Object) (a : All) (head : (head_in o a).number ≡ 0) (goes : (res
         let r = work-long n (omega arith) in
         let e = work-next n (omega arith) in
         by-test (loaded_as headers n group)
-        (λ t. omega (arith, ap length (rw t at e), group-long (groups_to o a n).work (among (group_signature headers o.entries o.contents o.image n) (met ++ ours n)) n (group_section headers o.entries o.contents o.image n)))
+        (λ t. omega (arith, ap length (rw t at e), group-long (groups_to o a n).work (among (group_signature headers o.entries o.contents o.image n) (met ++ ours n)) n (group_sections headers o.entries o.contents o.image n)))
         (λ t. omega (arith, ap length (rw t at e)))
 
     -- behind the groups, of a section that has no mark before them
@@ -429,14 +471,14 @@ module _ (o : Object) (a : All) (head : (head_in o a).number ≡ 0) (goes : (res
       mark-to (suc n) h =
           let before : mark_at (groups_to o a n).work m ≡ mark_to n m = mark-to n (omega arith) in
           let repeated : Bool = among (group_signature headers o.entries o.contents o.image n) (met ++ ours n) in
-          let k : ℕ = group_section headers o.entries o.contents o.image n in
+          let k : List ℕ = group_sections headers o.entries o.contents o.image n in
           ap (λ (w : List ℕ). mark_at w m) (work-next n (omega arith))
           ∙ by-test (loaded_as headers n group)
           (λ t.
           rw t
           (mark-after (groups_to o a n).work n k m repeated (omega (arith, work-long n (omega arith))) (mark-room n (omega arith) t)
-          ∙ ap (λ (x : ℕ). cond (repeated && eqb k m) 2 (cond (eqb m n) (cond (eqb x 2) 2 1) x)) before
-          ∙ told_more (λ j. loaded_as headers j group) m n t (removed n m) (repeated && eqb k m)))
+          ∙ ap (λ (x : ℕ). cond (repeated && is_listed m k) 2 (cond (eqb m n) (cond (eqb x 2) 2 1) x)) before
+          ∙ told_more (λ j. loaded_as headers j group) m n t (removed n m) (repeated && is_listed m k)))
           (λ t. rw t (before ∙ told_same (λ j. loaded_as headers j group) m n t (removed n m)))
 
       pub mark-is : mark_at (marked o a).work m ≡ cond (removed rows m) 2 (cond (loaded_as headers m group) 1 0)

@@ -9,7 +9,7 @@ use Rattle.merge_stages.specs.Stages.{All, Object}
 use Rattle.merge_laws.specs.MergeSteps.{adds}
 use Rattle.merge_laws.specs.Kept.{global_rows}
 use Rattle.merge_laws.specs.Marked.{own_signature}
-use Rattle.merge_laws.specs.SymbolIds.{name_of, plan_of}
+use Rattle.merge_laws.specs.SymbolIds.{is_dropped, name_of, plan_of}
 use Rattle.merge_laws.specs.Stops.{object, marked, symbol_reader, symbols_to}
 use Rattle.merge_laws.specs.FirstKept.{signature}
 
@@ -23,4 +23,6 @@ module _ (o : Object) (a : All) where
   abbrev pub symbol_rows : ℕ → List Row
   symbol_rows zero = []
   symbol_rows (suc i) =
-      symbol_rows i ++ cond (adds (input_of (object o a).entries (marked o a).work) (name_of (symbol_reader o a) i).name i) (global_rows (plan_of (symbol_reader o a) (symbols_to o a i) i).row) []
+      symbol_rows i
+      ++ cond (is_dropped (symbol_reader o a) (symbols_to o a i) i) []
+      (cond (adds (input_of (object o a).entries (marked o a).work) (name_of (symbol_reader o a) i).name i) (global_rows (plan_of (symbol_reader o a) (symbols_to o a i) i).row) [])

@@ -82,7 +82,7 @@ module _ (o : Object) (a : All) where
   abbrev pub place_at : {b : All} → Between b → ℕ
   place_at (sections n) = n
   place_at (groups n) = n
-  place_at filter = filter_of (marked o a).work (object o a).entries
+  place_at filter = filter_of (marked o a).stage.link.gabi (marked o a).work (object o a).entries
   place_at (symbols i) = i
   place_at (uninitialized n) = n
   place_at (program n) = n

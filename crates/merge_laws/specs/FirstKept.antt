@@ -1,11 +1,11 @@
--- The groups of an object: their signatures, the section that each lists, the signatures met before one.
+-- The groups of an object: their signatures, the sections that each lists, the signatures met before one.
 -- Assumes nothing.
-use Rattle.std.specs.Prelude.{ℕ, Bool, cond, List, ◌++◌, ltb, get_or}
+use Rattle.std.specs.Prelude.{ℕ, Bool, cond, List, ◌++◌, ltb}
 use Rattle.std.proofs.Math.Bool.{false}
 use Rattle.std.proofs.Math.Dec.{eqb}
-use Rattle.elf_object.specs.Rows.{first_at, mark_at}
+use Rattle.elf_object.specs.Rows.{mark_at}
 use Rattle.section_groups.specs.Group as Group
-use Rattle.section_groups.specs.Group.{group_section_of, signature_of}
+use Rattle.section_groups.specs.Group.{listed_in, group_section_of, signature_of}
 use Rattle.merge_stages.specs.Stages.{All, Object, group_object}
 use Rattle.merge_laws.specs.Steps.{Step}
 use Rattle.merge_laws.specs.Loop.{loop_steps}
@@ -20,12 +20,12 @@ module _ (o : Object) (a : All) where
   abbrev pub reader : Group.Object
   reader = group_object (object o a)
 
-  -- of the group at section n, and the one section that it lists
+  -- of the group at section n, and the sections that it lists
   abbrev pub signature : ℕ → List ℕ
   signature n = (signature_of reader.headers reader.entries reader.image reader.table n).name
 
-  abbrev pub listed : ℕ → ℕ
-  listed n = get_or reader.contents (first_at reader.headers n) 0
+  abbrev pub listed : ℕ → List ℕ
+  listed n = listed_in reader n
 
   abbrev pub steps_to : ℕ → List Step
   steps_to n = loop_steps number_of (group_section_of reader) (group_section_steps reader) n 0 (group_first (prepared o a))

@@ -18,6 +18,7 @@ pub mod BuiltNames
 pub mod BuiltRow
 pub mod ByNumber
 pub mod Discarded
+pub mod DroppedSymbols
 pub mod FirstKept
 pub mod GivenIds
 pub mod GroupStage

@@ -1,6 +1,6 @@
 -- A row that is that of a symbol of the object of a merge: it has what the symbol's entry says, and its file.
 -- Assumes nothing.
-use Rattle.std.specs.Prelude.{ℕ, ◌<◌}
+use Rattle.std.specs.Prelude.{ℕ, ◌<◌, Bool}
 use mathlib.Core.List.{List}
 use Rattle.interner_laws.specs.Good.{Issued}
 use Rattle.symbol.specs.declared.Row.{Row}
@@ -20,8 +20,11 @@ module _ (o : Object) (a : All) (met : List (List ℕ)) where
   abbrev pub Bears : ℕ → List ℕ → Type 0
   Bears = Words.Bears o.headers o.entries o.contents o.image
 
+  abbrev pub names_file : ℕ → Bool
+  names_file = Words.names_file o.headers o.entries o.contents o.image a.stage.link.gabi met
+
   -- the row of symbol i of the loaded table: what its entry says; in the link that the merge leaves its name has the bytes that the symbol bears, and
-  -- its file's those of the last symbol of type 4 before it
+  -- its file's those of the last symbol of type 4 before it that isn't dropped
   pub record FromSymbol (r : Row) : Type 0 where
     pub number : ℕ
     pub below : number < entries_in table
@@ -29,4 +32,4 @@ module _ (o : Object) (a : All) (met : List (List ℕ)) where
     pub bytes : List ℕ
     pub bears : Bears number bytes
     pub named : Issued (store (table_in (merge_of o a).cells)) r.name.0 bytes
-    pub filed : IsFile (store (table_in (merge_of o a).cells)) table Bears number r.file
+    pub filed : IsFile (store (table_in (merge_of o a).cells)) names_file Bears number r.file

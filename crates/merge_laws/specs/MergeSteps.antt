@@ -16,7 +16,7 @@ use Rattle.merge_symbols.specs.Plan.{Planned}
 use Rattle.merge_symbols.specs.Plan.{Input, input_of, is_first, defines_of, filtered_at, planned_of}
 use Rattle.merge_symbols.specs.Stage as Symbols
 use Rattle.link.specs.Judge as Link
-use Rattle.section_groups.specs.Filter.{filter_of}
+use Rattle.section_groups.specs.Filter.{filter_of, dropped_at}
 use Rattle.merge_sections.specs.Reserve as Reserve
 use Rattle.merge_build.specs.Finish as Finish
 use Rattle.merge_stages.specs.Stages as Stages
@@ -52,7 +52,8 @@ abbrev pub looked_steps : Symbols.Object → Symbols.State → ℕ → Looked �
 looked_steps o s i x = cond x.found (named_steps (input_of o.entries o.work) s x.name i) []
 
 unfoldable pub symbol_steps : Symbols.Object → Symbols.State → ℕ → List Step
-symbol_steps o s i = looked_steps o s i (name_in o.headers o.image o.symbol_names (field o.entries i 0))
+symbol_steps o s i =
+    cond (dropped_at s.stage.link.gabi o.work o.entries i) [] (looked_steps o s i (name_in o.headers o.image o.symbol_names (field o.entries i 0)))
 
 abbrev pub symbols_steps : Symbols.Object → Symbols.State → List Step
 symbols_steps o s = loop_steps (λ t. t.stage.number) (Symbols.symbol_of o) (symbol_steps o) (rows_in o.entries) 0 s
@@ -125,7 +126,7 @@ unfoldable pub filtered_steps : Stages.Tabled → Stages.All → ℕ → List St
 filtered_steps o a i = cond (ltb i (rows_in o.entries)) [] (table_steps o a.work (Stages.symbols_in a))
 
 unfoldable pub filter_steps : Stages.Tabled → Stages.All → List Step
-filter_steps o a = cond (eqb a.stage.number 0) (filtered_steps o a (filter_of a.work o.entries)) []
+filter_steps o a = cond (eqb a.stage.number 0) (filtered_steps o a (filter_of a.stage.link.gabi a.work o.entries)) []
 
 abbrev pub group_first : Stages.All → Group.Step
 group_first a = Group.step_of a.bytes a.names a.work (Link.going_of a.stage.link)

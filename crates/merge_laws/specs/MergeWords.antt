@@ -1,9 +1,15 @@
 -- What an object gives a merge, in document 01's words: which of its sections get rows, what its relocation tables name, its loaded symbol table. Words
 -- for statements: no function and no contract has them.
 -- Assumes nothing.
-use Rattle.std.specs.Prelude.{ℕ, zero, suc, ◌≡◌, Bool, true, false, cond, ◌&&◌, ◌||◌, List, [], ◌∷◌, ◌++◌, eqb, get_or}
+use Rattle.std.specs.Prelude.{ℕ, zero, suc, ◌≡◌, Bool, true, false, cond, not, ◌&&◌, ◌||◌, List, [], ◌∷◌, ◌++◌, eqb, ltb, get_or, length}
+use Rattle.cells.specs.Search.{any_from}
 use Rattle.gabi.specs.StringTable.{has_name, name_at, among}
-use Rattle.symbol_laws.specs.ObjectWords.{part_from, sections_in, program, uninitialized, symbol_table, string_table, rel, rela, group, info_of, first_entry_row, count_of, link_of, loaded_as, strings_of, entries_of, entry_name}
+use Rattle.gabi.specs.SymbolTable.{stb_local, stt_file, shn_undef, shn_loreserve}
+use Rattle.symbol_laws.specs.ObjectWords.{part_from, sections_in, program, uninitialized, symbol_table, string_table, rel, rela, group, info_of, first_entry_row, count_of, link_of, loaded_as, strings_of, entries_of, entry, entry_name}
+
+-- the number m is in the list
+abbrev pub is_listed : ℕ → List ℕ → Bool
+is_listed m xs = any_from (λ i. eqb (get_or xs i 0) m) 0 (length xs)
 
 module _ (headers : List ℕ) where
   -- a program or an uninitialized section
@@ -63,17 +69,38 @@ module _ (headers entries contents file : List ℕ) where
   abbrev pub group_signature : ℕ → List ℕ
   group_signature g = symbol_name (info_of headers g)
 
-  abbrev pub group_section : ℕ → ℕ
-  group_section g = get_or contents (first_entry_row headers g) 0
+  -- the sections that it lists
+  abbrev pub group_sections : ℕ → List ℕ
+  group_sections g = part_from contents (first_entry_row headers g) (count_of headers g)
 
   -- the signatures of the groups among the first k sections
   unfoldable pub own_signatures : ℕ → List (List ℕ)
   own_signatures zero = []
   own_signatures (suc g) = own_signatures g ++ cond (loaded_as headers g group) (group_signature g ∷ []) []
 
-  -- "A signature met before, in this or an earlier object, marks the group's one section as removed": one of the groups among the first k sections lists
-  -- section m, and its signature is among those met by earlier calls and by the object's own groups before it
+  -- one of the groups among the first k sections lists section m
+  unfoldable pub is_listed_below : ℕ → ℕ → Bool
+  is_listed_below zero m = false
+  is_listed_below (suc g) m = is_listed_below g m || (loaded_as headers g group && is_listed m (group_sections g))
+
+  -- group g lists a section of the object that a group before it lists too
+  abbrev pub lists_again : ℕ → Bool
+  lists_again g =
+      any_from (λ i. ltb (get_or (group_sections g) i 0) (sections_in headers) && is_listed_below g (get_or (group_sections g) i 0)) 0 (length (group_sections g))
+
+  -- one of the groups among the first k sections lists section m, and its signature is among those met by earlier calls and by the object's own groups before
+  -- it
   unfoldable pub is_removed : List (List ℕ) → ℕ → ℕ → Bool
   is_removed met zero m = false
   is_removed met (suc g) m =
-      is_removed met g m || (loaded_as headers g group && (among (group_signature g) (met ++ own_signatures g) && eqb (group_section g) m))
+      is_removed met g m || (loaded_as headers g group && (among (group_signature g) (met ++ own_signatures g) && is_listed m (group_sections g)))
+
+  -- symbol i is local and of a removed section
+  abbrev pub is_lost : List (List ℕ) → ℕ → Bool
+  is_lost met i =
+      eqb (entry symbols_of i).binding stb_local && not (eqb (entry symbols_of i).section shn_undef)
+      && (ltb (entry symbols_of i).section shn_loreserve && is_removed met (sections_in headers) (entry symbols_of i).section)
+
+  -- it names the file of the symbols behind it: of type 4, and not dropped in the gABI's profile
+  abbrev pub names_file : Bool → List (List ℕ) → ℕ → Bool
+  names_file gabi met i = not (gabi && is_lost met i) && eqb (entry symbols_of i).type stt_file

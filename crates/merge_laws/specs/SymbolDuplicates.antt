@@ -2,7 +2,7 @@
 -- Assumes nothing.
 use Prim.Native.Nat.{ℕ, ◌<◌, ◌≤◌}
 use Rattle.std.proofs.Math.Path.{◌≡◌}
-use Rattle.std.specs.Prelude.{true}
+use Rattle.std.specs.Prelude.{true, false}
 use mathlib.Core.List.{List, [], ◌∷◌, ◌++◌}
 use Rattle.symbol.specs.declared.Row.{Row}
 use Rattle.upcoming_symbol.specs.declared.ElfSymbol.{ElfSymbol}
@@ -19,7 +19,7 @@ use Rattle.merge_laws.specs.Steps.{Step, others, log_steps}
 use Rattle.merge_laws.specs.Loop.{loop_steps}
 use Rattle.merge_laws.specs.MergeSteps.{adds, symbol_steps, groups_steps, symbol_first, group_first, merge_steps}
 use Rattle.merge_laws.specs.SymbolStage.{number_of}
-use Rattle.merge_laws.specs.SymbolIds.{name_of, plan_of}
+use Rattle.merge_laws.specs.SymbolIds.{is_dropped, name_of, plan_of}
 use Rattle.merge_laws.specs.Whole.{table_in}
 use Rattle.merge_laws.specs.Stops.{reserved, object, prepared, grouped, marked, symbol_reader, symbols_to}
 
@@ -49,8 +49,9 @@ module _ (o : Object) (a : All) where
   abbrev pub entry_to : ℕ → ElfSymbol
   entry_to i = filtered_at (object o a).entries (marked o a).work i
 
-  -- its name is found, and it is to be added: it is neither the first symbol, nor a file's, nor of a section that defines a group
+  -- it isn't dropped, its name is found, and it is to be added: it is neither the first symbol, nor a file's, nor of a section that defines a group
   pub record Adds (i : ℕ) : Type 0 where
+    pub kept : is_dropped (symbol_reader o a) (symbols_to o a i) i ≡ false
     pub found : (name_of (symbol_reader o a) i).found ≡ true
     pub added : adds (input (symbol_reader o a)) (name_of (symbol_reader o a) i).name i ≡ true
 
@@ -59,7 +60,7 @@ module _ (o : Object) (a : All) where
     pub head : (head_in o a).number ≡ 0
     pub sections : (reserved o a).reserved.number ≡ 0
     pub groups : (grouped o a).stage.number ≡ 0
-    pub filter : rows_in (object o a).entries ≤ filter_of (marked o a).work (object o a).entries
+    pub filter : rows_in (object o a).entries ≤ filter_of (marked o a).stage.link.gabi (marked o a).work (object o a).entries
     pub below : i < rows_in (object o a).entries
     pub going : (symbols_to o a i).stage.number ≡ 0
 

@@ -18,9 +18,9 @@ within (x ∷ xs) ys = cond (one_of x ys) (within xs ys) false
 abbrev pub section_causes : List ℕ
 section_causes = 3 ∷ 24 ∷ []
 
--- "not COMDAT", "section count not one", "signature symbol missing", "signature string missing"
+-- not COMDAT, no section listed, a section of two groups, the signature's symbol missing, its name missing
 abbrev pub group_causes : List ℕ
-group_causes = 4 ∷ 5 ∷ 6 ∷ 7 ∷ []
+group_causes = 4 ∷ 5 ∷ 29 ∷ 6 ∷ 7 ∷ []
 
 -- "local in a removed section"
 abbrev pub filter_causes : List ℕ

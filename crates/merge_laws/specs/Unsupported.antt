@@ -12,7 +12,7 @@ use Rattle.upcoming_symbol.specs.declared.Conversion.TheVariants as To
 use Rattle.upcoming_symbol.specs.Upcoming.{elf_row_of}
 use Rattle.merge_sections.specs.Reserve as Reserve
 use Rattle.merge_sections.specs.Reserve.{class_of}
-use Rattle.section_groups.specs.Group.{shape_of}
+use Rattle.section_groups.specs.Group.{object_of, shape_of}
 
 -- a link with one name, a free symbol row and a free section row
 abbrev link : Link
@@ -27,7 +27,7 @@ symbol b v k s =
 
 -- to a group with these flags (8 is COMDAT) and so many sections; its signature is symbol 0 of table 1
 abbrev pub group : ℕ → ℕ → ℕ
-group flags count = shape_of (7 ∷ 0 ∷ flags ∷ 1 ∷ 0 ∷ 0 ∷ count ∷ 0 ∷ []) (replicate {A = ℕ} 8 0) 1 0
+group flags count = shape_of (object_of (7 ∷ 0 ∷ flags ∷ 1 ∷ 0 ∷ 0 ∷ count ∷ 0 ∷ []) (replicate {A = ℕ} 8 0) (9 ∷ 10 ∷ []) [] 1) [] 0
 
 -- to a section of an object, by its kind
 abbrev pub section : ℕ → ℕ
@@ -57,10 +57,10 @@ cases =
     ∷ case (section 12) 3
     ∷ case (section 13) 3
     ∷ case (section 1) 0
-    -- a group that isn't COMDAT; COMDAT groups of no section and of two; of one it is accepted
+    -- a group that isn't COMDAT; COMDAT groups of no section; of two and of one it is accepted
     ∷ case (group 0 1) 4
     ∷ case (group 8 0) 5
-    ∷ case (group 8 2) 5
+    ∷ case (group 8 2) 0
     ∷ case (group 8 1) 0
     -- internal and protected
     ∷ case (symbol stb_global stv_internal stt_func 1) 10

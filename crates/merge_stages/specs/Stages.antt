@@ -196,7 +196,7 @@ filtered_of o a i =
     cond (ltb i (rows_in o.entries)) (stop a 8 i) (put_symbols a (merge_table_of o a.work (symbols_in a)))
 
 unfoldable pub filter_stage : Tabled → All → All
-filter_stage o a = cond (eqb a.stage.number 0) (filtered_of o a (filter_of a.work o.entries)) a
+filter_stage o a = cond (eqb a.stage.number 0) (filtered_of o a (filter_of a.stage.link.gabi a.work o.entries)) a
 
 abbrev pub group_object : Tabled → Group.Object
 group_object o = Group.object_of o.headers o.entries o.contents o.image o.table

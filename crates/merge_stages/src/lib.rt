@@ -150,7 +150,7 @@ impl Merge<'_> {
     {
         self.add_groups(object)?;
         let work = &mut *self.work;
-        if let Some(i) = section_groups::filter_symbol_table(work, object.entries) {
+        if let Some(i) = section_groups::filter_symbol_table(self.link.gabi, work, object.entries) {
             return Err(Refusal::new(Cause::LocalInRemovedSection, i));
         }
         self.merge_table(object)

@@ -1,4 +1,4 @@
--- The symbol stage of a merge, symbol by symbol up to the first refusal: 9; the name (2); the decision; what is written.
+-- The symbol stage of a merge, symbol by symbol up to the first refusal: one that is dropped; 9; the name (2); the decision; what is written.
 -- Assumes nothing.
 use Rattle.std.specs.Prelude.{ℕ, zero, suc, ◌+◌, ◌≡◌, cond, List, eqb, set, Result, Ok, Err}
 use Rattle.link.specs.declared.Link.{Link}
@@ -10,6 +10,7 @@ use Rattle.symbol_resolution.specs.Decision.{Decision, Refuse, Nothing, Keep, Ap
 use Rattle.symbol_resolution.specs.Decide.{refusal_of}
 use Rattle.symbol_resolution.specs.Apply.{Table, table_of, apply_of}
 use Rattle.elf_object.specs.Rows.{rows_in, link_at, name_in, entry_name_at}
+use Rattle.section_groups.specs.Filter.{dropped_at}
 use Rattle.merge_symbols.specs.Plan.{Planned, View, view_of, Input, input_of, planned_of, file_after, place_of}
 use Rattle.elf_object.specs.declared.Object.{Object as Lent}
 use Rattle.merge_symbols.specs.declared.Symbols.{Symbols}
@@ -142,8 +143,14 @@ symbol_named o s x i = commit_of s x (planned_of (view s) o x i s.stage.file) i
 unfoldable pub looked_of : Object → State → ℕ → Looked → State
 looked_of o s i x = cond x.found (symbol_named (input_of o.entries o.work) s x.name i) (refuse s 9 i)
 
+-- it gets no id, and nothing else of it is read or written
+abbrev pub drop_symbol : State → ℕ → State
+drop_symbol s i = state_of s.bytes s.names s.symbols s.sections (set s.ids i 0) (stage_of s.stage.link s.stage.file 0 0)
+
 unfoldable pub symbol_of : Object → State → ℕ → State
-symbol_of o s i = looked_of o s i (name_in o.headers o.image o.symbol_names (entry_name_at o.entries i))
+symbol_of o s i =
+    cond (dropped_at s.stage.link.gabi o.work o.entries i) (drop_symbol s i)
+    (looked_of o s i (name_in o.headers o.image o.symbol_names (entry_name_at o.entries i)))
 
 -- n symbols from the i-th on, up to the first refusal
 unfoldable pub symbols_from : Object → ℕ → ℕ → State → State

@@ -103,7 +103,8 @@ impl Symbols<'_> {
         }
     }
 
-    // One symbol: its name missing is 9; else it is judged on the link as it stands, then written.
+    // One symbol: in the gABI's profile a local one of a removed section is dropped; its name missing is 9; else it is judged on the link as it stands,
+    // then written.
     #[tactic(auto, unfolding(crate::specs::Stage::symbol_of, crate::specs::Stage::looked_of, crate::specs::Stage::symbol_named))]
     fn merge_symbol(
         &mut self,
@@ -116,6 +117,10 @@ impl Symbols<'_> {
         ensures value { state_after self.new result ≡ symbol_of (object_in object.entry work.now strings) (state_before self.old) i }
         ensures numbered { IfErr result (λ r. r.number ≢ 0) }
     {
+        if self.link.gabi && section_groups::is_discarded(work, object.entries, i) {
+            cells::put(self.ids, i, 0);
+            return Ok(());
+        }
         let offset = cells::row_get(object.entries, i, elf_object::ENTRY_NAME) as usize;
         let Some(x) = object.name_in(strings, offset) else {
             return Err(Refusal::new(Cause::SymbolNameMissing, i));

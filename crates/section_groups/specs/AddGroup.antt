@@ -1,7 +1,7 @@
--- Document 01, "Groups" and the refusal table: `add_group` as a call of its own. 22, then 1, then the marks; 4, 5, 6, 7, 2. "Those marked *
+-- Document 01, "Groups" and the refusal table: `add_group` as a call of its own. 22, then 1, then the marks; 4, 5, 29, 6, 7, 2. "Those marked *
 -- break the link when met inside an object", so not here.
 -- Assumes nothing.
-use Rattle.std.specs.Prelude.{ℕ, ◌/◌, cond, List, [], eqb, ltb, length, Result, Ok, Err}
+use Rattle.std.specs.Prelude.{ℕ, ◌/◌, cond, List, [], eqb, ltb, length, Ok, Err}
 use Rattle.cells.specs.Rows.{row_width}
 use Rattle.link.specs.declared.Link.{Link}
 use Rattle.link.specs.declared.Lent.{Lent}

@@ -1,6 +1,7 @@
--- Document 01, "Groups": 4, 5, 6, 7, then 2; "A signature met before, in this or an earlier object, marks the group's one section as removed".
+-- Groups of sections: a group lists one section or more, and one whose signature was met before removes them all. Its refusals, in this order: 4, 5, 29, 6,
+-- 7, then 2.
 -- Assumes nothing.
-use Rattle.std.specs.Prelude.{ℕ, zero, suc, ◌+◌, ◌*◌, ◌≡◌, Bool, true, false, cond, List, eqb, leb, get_or, set, length, Result}
+use Rattle.std.specs.Prelude.{ℕ, zero, suc, ◌+◌, ◌*◌, ◌≡◌, Bool, true, false, cond, not, List, eqb, ltb, leb, get_or, set, take, drop, length, Result}
 use Rattle.cells.specs.Rows.{row_width}
 use Rattle.link.specs.declared.Link.{Link}
 use Rattle.link.specs.declared.Interned.{Interned}
@@ -11,7 +12,8 @@ use Rattle.strings.specs.Lookup.{Looked, looked}
 use Rattle.strings.specs.Contract.{StringExit}
 use Rattle.interner.specs.Names.{Store, store_of, find_of, fits_of, keep_of}
 use Rattle.elf_object.specs.Kinds.{group}
-use Rattle.elf_object.specs.Rows.{rows_in, comdat_at, link_at, info_at, first_at, count_at, is_loaded, name_in, entry_name_at, mark_at, with_mark, group_mark, removed_mark}
+use Rattle.elf_object.specs.Rows.{rows_in, comdat_at, link_at, info_at, first_at, count_at, is_loaded, name_in, entry_name_at, mark_at, with_mark, group_mark, removed_mark, listed_at, with_listed}
+use Rattle.elf_object.specs.Judge.{first_bad}
 use Rattle.cells.specs.Slice.{Slice, SliceMut}
 use Rattle.elf_object.specs.declared.Object as Declared
 use Rattle.section_groups.specs.declared.Grouping.{Grouping}
@@ -77,12 +79,33 @@ stop s number place = step_of s.bytes s.names s.work (stopped_of s.link number p
 abbrev pub go : State → Step
 go s = step_of s.bytes s.names s.work (going_of s.link)
 
--- "not COMDAT" 4, "section count not one" 5, "signature symbol missing" 6: not in the loaded table
-unfoldable pub shape_of : List ℕ → List ℕ → ℕ → ℕ → ℕ
-shape_of headers entries t n =
-    cond (eqb (comdat_at headers n) 0) 4
-    (cond (eqb (count_at headers n) 1)
-    (cond (eqb (link_at headers n) t) (cond (leb (rows_in entries) (info_at headers n)) 6 0) 6) 5)
+-- the sections that group n lists
+abbrev pub listed_in : Object → ℕ → List ℕ
+listed_in o n = take (count_at o.headers n) (drop (first_at o.headers n) o.contents)
+
+-- the number is no section of the object, or one that no earlier group of it lists
+unfoldable pub is_fresh : List ℕ → ℕ → ℕ → Bool
+is_fresh work sections x = cond (ltb x sections) (not (eqb (listed_at work x) 1)) true
+
+-- f holds of each of the list
+abbrev pub each : (ℕ → Bool) → List ℕ → Bool
+each f xs = leb (length xs) (first_bad (λ i. f (get_or xs i 0)) 0 (length xs))
+
+unfoldable pub all_fresh : List ℕ → ℕ → List ℕ → Bool
+all_fresh work sections xs = each (is_fresh work sections) xs
+
+unfoldable pub all_marked : ℕ → List ℕ → Bool
+all_marked marks xs = each (λ x. ltb x marks) xs
+
+-- the signature's symbol is not in the loaded table
+abbrev pub symbol_refusal : Object → ℕ → ℕ
+symbol_refusal o n = cond (eqb (link_at o.headers n) o.table) (cond (leb (rows_in o.entries) (info_at o.headers n)) 6 0) 6
+
+-- not COMDAT; no section listed; one listed that an earlier group of the object lists too
+unfoldable pub shape_of : Object → List ℕ → ℕ → ℕ
+shape_of o work n =
+    cond (eqb (comdat_at o.headers n) 0) 4
+    (cond (eqb (count_at o.headers n) 0) 5 (cond (all_fresh work (rows_in o.headers) (listed_in o n)) (symbol_refusal o n) 29))
 
 -- the name of the signature's symbol, in the string section that the table links to
 unfoldable pub signature_of : List ℕ → List ℕ → List ℕ → ℕ → ℕ → Looked
@@ -111,15 +134,15 @@ pub record Plan : Type 0 where
 abbrev pub planned : ℕ → ℕ → Bool → Plan
 planned number id repeated = record { number = number; signature = record { 0 = id }; repeated = repeated }
 
--- a mark for the removed section, where there is one
-unfoldable pub mark_refusal : Bool → ℕ → ℕ → ℕ
-mark_refusal repeated marks listed = cond repeated (cond (leb marks listed) 2 0) 0
+-- a mark for each removed section
+unfoldable pub mark_refusal : Bool → ℕ → List ℕ → ℕ
+mark_refusal repeated marks listed = cond repeated (cond (all_marked marks listed) 0 2) 0
 
-unfoldable pub plan_with : Store → ℕ → ℕ → ℕ → ℕ → Bool → Plan
+unfoldable pub plan_with : Store → ℕ → ℕ → List ℕ → ℕ → Bool → Plan
 plan_with s marks len listed id repeated =
     cond (fits_of s (record { 0 = id }) len) (planned (mark_refusal repeated marks listed) id repeated) (planned 2 id repeated)
 
-unfoldable pub plan_of : Link → List ℕ → List ℕ → ℕ → List ℕ → ℕ → Plan
+unfoldable pub plan_of : Link → List ℕ → List ℕ → ℕ → List ℕ → List ℕ → Plan
 plan_of l bytes names marks x listed =
     plan_with (store_of bytes names l) marks (length x) listed (find_of bytes names l x)
     (repeated_of names l.names (find_of bytes names l x))
@@ -128,32 +151,40 @@ plan_of l bytes names marks x listed =
 unfoldable pub mark_group_of : List ℕ → ℕ → List ℕ
 mark_group_of work n = cond (eqb (mark_at work n) removed_mark) work (with_mark work n group_mark)
 
-unfoldable pub mark_removed_of : List ℕ → Bool → ℕ → List ℕ
-mark_removed_of work repeated listed = cond repeated (with_mark work listed removed_mark) work
+-- a listed section, removed with a repeated group
+unfoldable pub mark_one : List ℕ → Bool → ℕ → List ℕ
+mark_one work repeated x = with_listed (cond repeated (with_mark work x removed_mark) work) x
 
-abbrev pub group_committed : Store → List ℕ → Plan → ℕ → ℕ → State
-group_committed k work p n listed =
-    state_of k.bytes (with_signature k.names p.signature.0) (mark_removed_of (mark_group_of work n) p.repeated listed) k.link
+-- the n of the list from the i-th on
+unfoldable pub mark_from : Bool → List ℕ → ℕ → ℕ → List ℕ → List ℕ
+mark_from repeated xs i zero work = work
+mark_from repeated xs i (suc n) work = mark_from repeated xs (i + 1) n (mark_one work repeated (get_or xs i 0))
 
-unfoldable pub commit_group_of : State → List ℕ → Plan → ℕ → ℕ → State
+abbrev pub mark_all : List ℕ → Bool → List ℕ → List ℕ
+mark_all work repeated xs = mark_from repeated xs 0 (length xs) work
+
+abbrev pub group_committed : Store → List ℕ → Plan → ℕ → List ℕ → State
+group_committed k work p n listed = state_of k.bytes (with_signature k.names p.signature.0) (mark_all (mark_group_of work n) p.repeated listed) k.link
+
+unfoldable pub commit_group_of : State → List ℕ → Plan → ℕ → List ℕ → State
 commit_group_of s x p n listed = group_committed (keep_of (store_of s.bytes s.names s.link) p.signature x) s.work p n listed
 
-unfoldable pub decided_of : State → List ℕ → ℕ → ℕ → Plan → Step
+unfoldable pub decided_of : State → List ℕ → ℕ → List ℕ → Plan → Step
 decided_of s x n listed p = cond (eqb p.number 0) (go (commit_group_of s x p n listed)) (stop s p.number n)
 
-unfoldable pub group_named : State → List ℕ → ℕ → ℕ → Step
+unfoldable pub group_named : State → List ℕ → ℕ → List ℕ → Step
 group_named s x n listed = decided_of s x n listed (plan_of s.link s.bytes s.names (rows_in s.work) x listed)
 
 -- "signature string missing" 7
 unfoldable pub signed_of : Object → State → ℕ → Looked → Step
-signed_of o s n x = cond x.found (group_named s x.name n (get_or o.contents (first_at o.headers n) 0)) (stop s 7 n)
+signed_of o s n x = cond x.found (group_named s x.name n (listed_in o n)) (stop s 7 n)
 
 unfoldable pub shaped_of : Object → State → ℕ → ℕ → Step
 shaped_of o s n number =
     cond (eqb number 0) (signed_of o s n (signature_of o.headers o.entries o.image o.table n)) (stop s number n)
 
 unfoldable pub group_of : Object → State → ℕ → Step
-group_of o s n = shaped_of o s n (shape_of o.headers o.entries o.table n)
+group_of o s n = shaped_of o s n (shape_of o s.work n)
 
 -- a group section that isn't excluded
 unfoldable pub group_section_of : Object → Step → ℕ → Step

@@ -1,11 +1,11 @@
-// COMDAT groups of an object: which sections define a group, which are removed with a repeated one, and what that makes of symbols.
+// COMDAT groups of an object: which sections define a group, which are listed and removed with a repeated one, and what that makes of symbols.
 // Marks lie in the work rows of merge_sections, loaded signatures in the names' rows. The object's symbols are the loaded table's entries.
 #![tactic(auto)]
 
 ghost use Rattle.std.specs.Prelude.{◌≡◌, ◌≢◌, IfErr};
 ghost use Rattle.strings.specs.Contract.{string_exit};
 ghost use Rattle.link.specs.Judge.{judged, refused};
-ghost use Rattle.section_groups.specs.Group.{shape_of, SignatureMeets, repeated_of, mark_group_of, group_named, group_of, object_in, same_loans, state_before, step_after};
+ghost use Rattle.section_groups.specs.Group.{listed_in, is_fresh, all_fresh, all_marked, shape_of, SignatureMeets, repeated_of, mark_group_of, mark_one, mark_all, group_named, group_of, object_in, same_loans, state_before, step_after};
 
 mod alone;
 mod filter;
@@ -13,7 +13,7 @@ mod groups;
 
 pub use alone::{Outcome, add_group};
 use elf_object::Object;
-pub use filter::{filter_symbol_table, section_after};
+pub use filter::{filter_symbol_table, is_discarded, section_after};
 use interner::NamesMut;
 use link::{Cause, Link, Refusal};
 
@@ -30,26 +30,46 @@ pub struct Grouping<'a> {
     pub work: &'a mut [u64],
 }
 
-// Not COMDAT 4, not one section 5, the signature's symbol not in the loaded table 6.
-#[tactic(auto, unfolding(crate::specs::Group::shape_of, link::specs::Judge::judged))]
-fn judge_shape(object: Object<'_>, n: usize) -> Result<(), Refusal>
-    ensures { result ≡ judged (refused (shape_of object.entry.headers.now object.entry.entries.now object.entry.table n) n) }
+// The sections that group n lists.
+fn listed(object: Object<'_>, n: usize) -> &[u64]
+    ensures { result.now ≡ listed_in (object_in object.entry) n }
 {
-    if cells::row_get(object.headers, n, elf_object::HEADER_FLAGS) / elf_object::COMDAT_FLAG % 2
-        == 0
-    {
-        return Err(Refusal::new(Cause::NotComdat, n));
+    let first = cells::row_get(object.headers, n, elf_object::HEADER_FIRST) as usize;
+    let count = cells::row_get(object.headers, n, elf_object::HEADER_COUNT) as usize;
+    cells::part_of(object.contents, first, count)
+}
+
+// Is the number no section of the object, or one that no earlier group of it lists?
+#[tactic(auto, unfolding(crate::specs::Group::is_fresh))]
+fn is_fresh(work: &[u64], sections: usize, x: u64) -> bool
+    ensures { result ≡ is_fresh work.now sections x }
+{
+    sections as u64 <= x || cells::row_get(work, x as usize, elf_object::WORK_LISTED) != 1
+}
+
+#[tactic(auto, unfolding(crate::specs::Group::all_fresh))]
+fn all_fresh(work: &[u64], sections: usize, listed: &[u64]) -> bool
+    ensures { result ≡ all_fresh work.now sections listed.now }
+{
+    for i in 0..listed.len() {
+        if !is_fresh(work, sections, cells::get(listed, i)) {
+            return false;
+        }
     }
-    if cells::row_get(object.headers, n, elf_object::HEADER_COUNT) != 1 {
-        return Err(Refusal::new(Cause::SectionCountNotOne, n));
+    true
+}
+
+// A mark for each of these sections.
+#[tactic(auto, unfolding(crate::specs::Group::all_marked))]
+fn all_marked(marks: usize, listed: &[u64]) -> bool
+    ensures { result ≡ all_marked marks listed.now }
+{
+    for i in 0..listed.len() {
+        if marks as u64 <= cells::get(listed, i) {
+            return false;
+        }
     }
-    let symbols = object.symbol_count();
-    if cells::row_get(object.headers, n, elf_object::HEADER_LINK) != object.table as u64
-        || symbols as u64 <= cells::row_get(object.headers, n, elf_object::HEADER_INFO)
-    {
-        return Err(Refusal::new(Cause::SignatureSymbolMissing, n));
-    }
-    Ok(())
+    true
 }
 
 // The name of the signature's symbol, in the string section that the table links to.
@@ -81,13 +101,62 @@ fn mark_group(work: &mut [u64], n: usize)
     }
 }
 
+// A listed section, removed with a repeated group.
+#[tactic(auto, unfolding(crate::specs::Group::mark_one))]
+fn mark_one(work: &mut [u64], repeated: bool, x: u64)
+    ensures { work.new ≡ mark_one work.old repeated x }
+{
+    if repeated {
+        cells::row_put(
+            work,
+            x as usize,
+            elf_object::WORK_MARK,
+            elf_object::REMOVED_MARK,
+        );
+    }
+    cells::row_put(work, x as usize, elf_object::WORK_LISTED, 1);
+}
+
+fn mark_all(work: &mut [u64], repeated: bool, listed: &[u64])
+    ensures { work.new ≡ mark_all work.old repeated listed.now }
+{
+    for i in 0..listed.len() {
+        mark_one(work, repeated, cells::get(listed, i));
+    }
+}
+
 impl Grouping<'_> {
-    // A group whose signature is found: 2 of the name, and of the mark for the section that it lists, which a repeated one removes; else the
-    // signature is issued, and it is noted that it is loaded.
-    #[tactic(auto, unfolding(crate::specs::Group::group_named, crate::specs::Group::decided_of, crate::specs::Group::plan_of, crate::specs::Group::plan_with, crate::specs::Group::mark_refusal, crate::specs::Group::mark_removed_of, crate::specs::Group::commit_group_of, interner::specs::Names::find_of, interner::specs::Names::keep_of, interner::specs::Names::keep_at))]
-    fn take_named(&mut self, x: &[u8], n: usize, listed: u64) -> Result<(), Refusal>
+    // Not COMDAT 4, no section 5, one that an earlier group lists 29, the signature's symbol not in the loaded table 6.
+    #[tactic(auto, unfolding(crate::specs::Group::shape_of, link::specs::Judge::judged))]
+    fn judge_shape(&self, object: Object<'_>, n: usize) -> Result<(), Refusal>
+        ensures { result ≡ judged (refused (shape_of (object_in object.entry) self.now.work.now n) n) }
+    {
+        if cells::row_get(object.headers, n, elf_object::HEADER_FLAGS) / elf_object::COMDAT_FLAG % 2
+            == 0
+        {
+            return Err(Refusal::new(Cause::NotComdat, n));
+        }
+        if cells::row_get(object.headers, n, elf_object::HEADER_COUNT) == 0 {
+            return Err(Refusal::new(Cause::EmptyGroup, n));
+        }
+        if !all_fresh(self.work, object.section_count(), listed(object, n)) {
+            return Err(Refusal::new(Cause::SectionInTwoGroups, n));
+        }
+        let symbols = object.symbol_count();
+        if cells::row_get(object.headers, n, elf_object::HEADER_LINK) != object.table as u64
+            || symbols as u64 <= cells::row_get(object.headers, n, elf_object::HEADER_INFO)
+        {
+            return Err(Refusal::new(Cause::SignatureSymbolMissing, n));
+        }
+        Ok(())
+    }
+
+    // A group whose signature is found: 2 of the name, and of a mark for each section that it lists, which a repeated one removes; else the
+    // signature is issued, and it is noted that it is loaded and what it lists.
+    #[tactic(auto, unfolding(crate::specs::Group::group_named, crate::specs::Group::decided_of, crate::specs::Group::plan_of, crate::specs::Group::plan_with, crate::specs::Group::mark_refusal, crate::specs::Group::commit_group_of, interner::specs::Names::find_of, interner::specs::Names::keep_of, interner::specs::Names::keep_at))]
+    fn take_named(&mut self, x: &[u8], n: usize, listed: &[u64]) -> Result<(), Refusal>
         ensures loans { same_loans self.old self.new }
-        ensures value { step_after self.new result ≡ group_named (state_before self.old) x.now n listed }
+        ensures value { step_after self.new result ≡ group_named (state_before self.old) x.now n listed.now }
         ensures numbered { IfErr result (λ r. r.number ≢ 0) }
     {
         // Kept: the link is a field of the struct, which the other tables' calls need too, so it goes to the names and comes back.
@@ -104,36 +173,28 @@ impl Grouping<'_> {
         if !known.fits(id, x.len()) {
             return Err(Refusal::new(Cause::NoRoom, n));
         }
-        if repeated && (self.work.len() / elf_object::ROW_WIDTH) as u64 <= listed {
+        if repeated && !all_marked(self.work.len() / elf_object::ROW_WIDTH, listed) {
             return Err(Refusal::new(Cause::NoRoom, n));
         }
         names.keep_at(id, head, x);
         self.link = names.link;
         cells::row_put(self.names, id.0, NAME_SIGNATURE, 1);
         mark_group(self.work, n);
-        if repeated {
-            cells::row_put(
-                self.work,
-                listed as usize,
-                elf_object::WORK_MARK,
-                elf_object::REMOVED_MARK,
-            );
-        }
+        mark_all(self.work, repeated, listed);
         Ok(())
     }
 
-    // One group, of section n: 4, 5, 6, 7, 2; else it is marked.
+    // One group, of section n: 4, 5, 29, 6, 7, 2; else it is marked.
     #[tactic(auto, unfolding(crate::specs::Group::group_of, crate::specs::Group::shaped_of, crate::specs::Group::signed_of, link::specs::Judge::judged))]
     pub fn take_group(&mut self, object: Object<'_>, n: usize) -> Result<(), Refusal>
         ensures loans { same_loans self.old self.new }
         ensures value { step_after self.new result ≡ group_of (object_in object.entry) (state_before self.old) n }
         ensures numbered { IfErr result (λ r. r.number ≢ 0) }
     {
-        judge_shape(object, n)?;
+        self.judge_shape(object, n)?;
         let Some(x) = signature(object, n) else {
             return Err(Refusal::new(Cause::SignatureStringMissing, n));
         };
-        let first = cells::row_get(object.headers, n, elf_object::HEADER_FIRST) as usize;
-        self.take_named(x, n, cells::get(object.contents, first))
+        self.take_named(x, n, listed(object, n))
     }
 }

@@ -6,6 +6,7 @@ pub mod plain;
 pub mod rows;
 
 use ours::Ours;
+use std::collections::BTreeSet;
 
 /// Whether an answer of ours is the Rust's. A place of `?` isn't compared (oracle/README.md).
 pub use oracle::same_answer;
@@ -36,6 +37,13 @@ pub struct Domain {
     in_library: bool,
     common_object: bool,
     common_member: bool,
+    /// Nor groups of several sections; and it takes a section that two groups list. The object
+    /// announced last has either; one of the archive's members. Of that object how many sections it
+    /// has, and which of them its groups list.
+    grouped_object: bool,
+    grouped_member: bool,
+    sections: u64,
+    listed: BTreeSet<u64>,
 }
 
 impl Domain {
@@ -46,17 +54,29 @@ impl Domain {
         match keyword {
             // What was announced outlives the link.
             "link" => {
-                let Domain { empty_object, empty_library, common_object, in_library, .. } = *self;
-                let asked = line == "link";
-                *self = Domain { empty_object, empty_library, common_object, ..Domain::default() };
-                (self.asked, self.in_library) = (asked, in_library);
+                let before = std::mem::take(self);
+                *self = Domain {
+                    broken: false,
+                    left: false,
+                    empty_member: false,
+                    common_member: false,
+                    grouped_member: false,
+                    bare: false,
+                    asked: line == "link",
+                    ..before
+                };
             }
             "object" => {
                 (self.empty_object, self.common_object, self.bare) = (false, false, false);
-                self.in_library = false;
+                (self.in_library, self.grouped_object) = (false, false);
+                self.sections = line.split(' ').nth(1).and_then(|n| n.parse().ok()).unwrap_or(0);
+                self.listed.clear();
             }
             "add" if self.asked && is_common(line) => self.left = true,
-            "section" => self.empty_object |= is_empty_table(line),
+            "section" => {
+                self.empty_object |= is_empty_table(line);
+                self.group(line);
+            }
             "library" => {
                 (self.empty_library, self.bare, self.in_library) = (false, false, true);
             }
@@ -65,13 +85,21 @@ impl Domain {
                 self.empty_library |= self.bare;
                 self.common_object |= !self.in_library && is_common(line);
             }
-            "archive" => (self.empty_member, self.common_member) = (false, false),
+            "archive" => {
+                (self.empty_member, self.common_member) = (false, false);
+                self.grouped_member = false;
+            }
             "member" => {
                 self.empty_member |= self.empty_object;
                 self.common_member |= self.common_object;
+                self.grouped_member |= self.grouped_object;
             }
-            "merge" if self.asked && self.common_object => self.left = true,
-            "walk" if self.asked && self.common_member => self.left = true,
+            "merge" if self.asked && (self.common_object || self.grouped_object) => {
+                self.left = true;
+            }
+            "walk" if self.asked && (self.common_member || self.grouped_member) => {
+                self.left = true;
+            }
             "merge" | "admit" if self.empty_object => self.left = true,
             "walk" if self.empty_member => self.left = true,
             "load" if self.empty_library => self.left = true,
@@ -83,6 +111,18 @@ impl Domain {
         }
         self.broken |= oracle::breaks(line, rust);
         !self.left
+    }
+
+    /// A section row: of a COMDAT group that is loaded what it lists.
+    fn group(&mut self, line: &str) {
+        let words: Vec<&str> = line.split(' ').collect();
+        let ["section", "7", _, "0", _, _, _, _, "1", _, count, ref items @ ..] = words[..] else {
+            return;
+        };
+        self.grouped_object |= !matches!(count, "0" | "1");
+        for item in items.iter().filter_map(|item| item.parse().ok()) {
+            self.grouped_object |= item < self.sections && !self.listed.insert(item);
+        }
     }
 }
 
@@ -202,6 +242,32 @@ mod tests {
         let library =
             ["link", "library 0 0 - 1 l 1 0", "strings 006100", "symbol 1 1 0 0 65522 8 8"];
         assert!(run(&[&library[..], &["load", "dump"]].concat()).iter().all(same));
+    }
+
+    /// The Rust refuses groups of several sections with 5, and takes a section that two list.
+    #[test]
+    fn groups_of_several_sections_are_left_out_where_the_rust_is_asked() {
+        let table = "section 3 0 0 0 0 2 0 0 - 2 0 2";
+        let strings = "section 4 0 0 0 0 0 0 0 006700 0";
+        let text = "section 1 0 0 0 1 0 0 0 - 0";
+        let group = |items: &str| format!("section 7 0 0 0 0 1 1 1 - {items}");
+        let object = |link, groups: [&str; 2]| {
+            let [one, two] = groups.map(group);
+            let rows = ["section 0 0 0 0 0 0 0 0 - 0", table, strings, text, &one, &two];
+            let symbols = ["symbol 0 0 0 0 0 0", "symbol 1 2 0 0 3 0", "merge", "dump"];
+            let lines = [&[link, "object 6 2 2"], &rows[..], &symbols].concat();
+            run(&lines)
+        };
+        let left = |outcome: &Outcome| matches!(outcome, Outcome::LeftOut);
+        let same = |outcome: &Outcome| matches!(outcome, Outcome::Same);
+        for groups in [["1 3", "2 3 60"], ["1 3", "1 3"], ["2 0 0", "1 3"], ["2 60 60", "1 3"]] {
+            assert!(object("link", groups)[10..].iter().all(left), "{groups:?}");
+            assert!(object("link commons", groups).iter().all(same), "{groups:?}");
+            assert!(object("link gabi", groups).iter().all(same), "{groups:?}");
+        }
+        for groups in [["1 60", "1 3"], ["1 60", "1 60"], ["0", "1 3"]] {
+            assert!(object("link", groups).iter().all(same), "{groups:?}");
+        }
     }
 
     #[test]

@@ -178,7 +178,7 @@ fn smaller_object(rows: &ObjectRows, step: usize) -> Option<Option<ObjectRows>> 
     }
     at -= sections;
     if at < symbols * 7 {
-        zero_symbol(&mut out.symbols[at / 6], at % 6);
+        zero_symbol(&mut out.symbols[at / 7], at % 7);
         return Some(Some(out));
     }
     at -= symbols * 7;

@@ -607,10 +607,14 @@ fn told_ids(merged: &Merged, rows: &ObjectRows, first: usize) -> bool {
 /// in the merge, and remove the sections that it leaves reserved.
 fn merge(link: &mut Link, alone: &mut Link, rows: &ObjectRows) -> String {
     let (object, first, broken) = (object(rows), link.section_count(), link.is_broken());
-    let merged = link.merge_elf(&object).map(|merged| told_ids(&merged, rows, first));
-    if let Ok(false) = merged {
+    let gabi = link.profile() == Profile::Gabi;
+    let merged = link
+        .merge_elf(&object)
+        .map(|merged| told_ids(&merged, rows, first).then(|| merged.symbols().collect::<Vec<_>>()));
+    if let Ok(None) = merged {
         return "other ids of sections than the rows have".into();
     }
+    let ids = merged.as_ref().map_or(Vec::new(), |ids| ids.clone().unwrap_or_default());
     let merged = merged.map(|_| ());
     if broken {
         return told(merged.map(|()| "merged".into()));
@@ -625,7 +629,7 @@ fn merge(link: &mut Link, alone: &mut Link, rows: &ObjectRows) -> String {
     let same = match merged.as_ref().map_err(Refusal::number) {
         // It is refused before its groups are judged.
         Err(1 | 3 | 24) => true,
-        Err(4..=7) => added == merged,
+        Err(4..=7 | 29) => added == merged,
         Err(_) => added.is_ok(),
         Ok(()) => {
             let mut sections = numbers(&[1, 2]).zip(link.sections().skip(first));
@@ -634,12 +638,36 @@ fn merge(link: &mut Link, alone: &mut Link, rows: &ObjectRows) -> String {
                 && sections.all(|(number, section)| {
                     marks.is_removed(number) == (section == Section::Reserved)
                 })
+                && are_given(gabi, rows, table, &marks, &ids)
         }
     };
     match same {
         true => told(merged.map(|()| "merged".into())),
         false => format!("groups by themselves {added:?} {marks:?}"),
     }
+}
+
+/// Whether just those symbols have ids that are neither of type 4, of a section that defines a group,
+/// nor dropped: local ones of removed sections, in the gABI profile.
+fn are_given(
+    gabi: bool,
+    rows: &ObjectRows,
+    table: usize,
+    marks: &GroupMarks,
+    ids: &[Option<SymbolId>],
+) -> bool {
+    let symbols = match rows.sections.get(table).map(|row| &row.items[..]) {
+        Some([first, count]) => &rows.symbols[*first as usize..][..*count as usize],
+        _ => &[],
+    };
+    let has_id = |row: &SymbolRow| {
+        let section = row.section as usize;
+        let removed = row.section != 0 && row.section < 0xff00 && marks.is_removed(section);
+        let dropped = gabi && removed && row.binding == 0;
+        !dropped && row.kind != 4 && !marks.is_group(section)
+    };
+    ids.len() == symbols.len()
+        && symbols.iter().zip(ids).all(|(row, id)| has_id(row) == id.is_some())
 }
 
 /// Admission by names that were set by hand: a walk over a link in which just these are

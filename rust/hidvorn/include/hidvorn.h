@@ -97,7 +97,7 @@ extern "C" {
 #define HIDVORN_NO_ROOM 2                    /* the section or symbol without room */
 #define HIDVORN_UNSUPPORTED_KIND 3           /* the section; so 4 to 7, 18, 19, 24 */
 #define HIDVORN_NOT_COMDAT 4
-#define HIDVORN_SECTION_COUNT_NOT_ONE 5
+#define HIDVORN_EMPTY_GROUP 5
 #define HIDVORN_SIGNATURE_SYMBOL_MISSING 6
 #define HIDVORN_SIGNATURE_STRING_MISSING 7
 #define HIDVORN_LOCAL_IN_REMOVED_SECTION 8   /* the symbol in its table; so 9 to 14, 16, 17, 28 */
@@ -122,6 +122,7 @@ extern "C" {
 #define HIDVORN_NOT_AN_OBJECT 26
 #define HIDVORN_BAD_TABLE 27                 /* the section in the file, 0 for the headers */
 #define HIDVORN_COMMON_ALIGNMENT 28
+#define HIDVORN_SECTION_IN_TWO_GROUPS 29     /* the later group */
 #define HIDVORN_TOO_MANY_SECTIONS 30
 
 /* kinds of an object's section */
@@ -226,7 +227,8 @@ uint64_t hidvorn_section_symbol_id(
 
 /* Adds one COMDAT group of an object by itself: section is the group, table the object's symbol table. Work: as
    for a merge; it holds what the object's groups say of its sections, and is all 0 before the first of them: the
-   second cell of a row is 1 for a group, 2 for a section that is removed. Entries: those of the symbol table that
+   second cell of a row is 1 for a group, 2 for a section that is removed, the fourth 1 for one that a group
+   lists, which gives the next such group 29. Entries: those of the symbol table that
    is section `table`, whose first row the headers have at 0, with no rows in other tables. 1 at the section if it
    is no group or is excluded; 6 if its signature is in another table than `table`, or that is no symbol table or
    is excluded. */
@@ -240,7 +242,8 @@ uint64_t hidvorn_add_group(
    to the greatest section number below 65,280 that a group lists, if that is above: a repeated group's section
    without one gives 2 at the group, which breaks the link, as always from 65,280 on. Ids: a cell for each symbol
    of the object (2 at 0). Both are left with what each became: of a section's row the first cell (0 nothing, 1
-   not loaded, else its id and 2), of a symbol of the loaded table, by its number there, its id and 1, 0 for none. */
+   not loaded, else its id and 2), of a symbol of the loaded table, by its number there, its id and 1, 0 for none (as for a
+   local one of a removed section in the gABI's profile). */
 uint64_t hidvorn_merge_elf(
     uint64_t *header, size_t header_len, uint8_t *bytes, size_t bytes_len, uint64_t *names, size_t names_len,
     uint64_t *symbols, size_t symbols_len, uint64_t *sections, size_t sections_len, uint64_t *inputs,

@@ -13,16 +13,19 @@ pub struct GroupMarks<'o> {
     pub(crate) entries: &'o [u64],
     /// A row for each section, and for each number that a group lists.
     pub(crate) work: Vec<u64>,
+    /// The groups that were added.
+    pub(crate) added: Vec<usize>,
 }
 
 impl<'o> GroupMarks<'o> {
     /// Before the object's first group. `table` is the section that is its symbol table.
     pub fn new(object: &'o Object<'o>, table: usize) -> Self {
         let (headers, entries) = object.for_group(table);
-        GroupMarks { object, table, headers, entries, work: vec![0; object.work_rows() * 8] }
+        let work = vec![0; object.work_rows() * 8];
+        GroupMarks { object, table, headers, entries, work, added: Vec::new() }
     }
 
-    /// Whether a group of a signature met before lists the section.
+    /// Whether a group that was added lists the section and its signature was met before.
     pub fn is_removed(&self, section: usize) -> bool {
         self.mark(section) == 2
     }
@@ -30,6 +33,13 @@ impl<'o> GroupMarks<'o> {
     /// Whether the section is a group that was added, and isn't removed.
     pub fn is_group(&self, section: usize) -> bool {
         self.mark(section) == 1
+    }
+
+    /// Whether a group that was added lists the section, one of the object's: another group that
+    /// does is refused with 29.
+    pub fn is_listed(&self, section: usize) -> bool {
+        let row = self.work.as_chunks::<8>().0.get(section);
+        row.is_some_and(|row| row[3] == 1) && section < self.object.section_count()
     }
 
     /// 1 defines a group, 2 is removed.

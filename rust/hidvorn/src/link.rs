@@ -443,7 +443,8 @@ impl Link {
     }
 
     /// Adds one section group of an object outside of a merge. `section` is the group; `marks` has
-    /// the object and its symbol table. A signature in another table, or in a section that is no
+    /// the object and its symbol table. A section that a group lists which was added before gives 29,
+    /// so that a group is added once. A signature in another table, or in a section that is no
     /// table, a dynamic one or excluded, gives 6; a section that is no group, or is excluded, 1. Of
     /// the object's symbols only the table's are judged, by their numbers there. A refusal breaks
     /// nothing.
@@ -460,7 +461,9 @@ impl Link {
             marks.table,
             section,
         )
-        .map_err(|refusal| self.tell_group(refusal, marks, section))
+        .map_err(|refusal| self.tell_group(refusal, marks, section))?;
+        marks.added.push(section);
+        Ok(())
     }
 
     /// Loads a shared object, if it is needed or as-needed wasn't asked for. A refusal breaks the
@@ -602,16 +605,23 @@ impl Link {
                 let symbol = symbol.map(About::symbol);
                 refusal.about(About::one_of([object.section_about(place), symbol]))
             }
+            Cause::SectionInTwoGroups => {
+                refusal.about(object.in_two_groups(object.loaded_table(), place, 0..place))
+            }
             cause if cause.is_of_section() => refusal.about(object.section_about(place)),
             _ => self.tell_symbol(refusal, symbol),
         }
     }
 
-    /// A refusal of a group by itself: by a section. 1 may also be a symbol's, by its number in the
+    /// A refusal of a group by itself: by a section, of 29 with both groups. 1 may also be a symbol's, by its number in the
     /// table, unless the group's section is no group: that is refused with 1 for itself. 2 is the
     /// group's, or that of all marks.
     fn tell_group(&self, refusal: Refusal, marks: &GroupMarks<'_>, section: usize) -> Refusal {
         let (object, place) = (marks.object, refusal.place);
+        if refusal.cause == Cause::SectionInTwoGroups {
+            let before = marks.added.iter().copied();
+            return refusal.about(object.in_two_groups(marks.table, section, before));
+        }
         let of_symbol = refusal.cause == Cause::OutOfRange
             && (place != section || object.is_loaded_group(section));
         let symbol = object.symbol_name(marks.table, place).filter(|_| of_symbol);

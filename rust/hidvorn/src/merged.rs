@@ -34,8 +34,9 @@ impl<'l> Merged<'l> {
     }
 
     /// The id of a symbol by its number in the object's symbol table. None have symbols of type 4,
-    /// those of a section that defines a group, and absent ones. The first symbol, if it is a null
-    /// one, is `SymbolId::NULL`.
+    /// those of a section that defines a group, local ones of a section that a repeated group removed
+    /// (which are dropped in the gABI's profile, and refused with 8 in the old one), and absent ones.
+    /// The first symbol, if it is a null one, is `SymbolId::NULL`.
     pub fn symbol(&self, number: usize) -> Option<SymbolId> {
         self.ids.get(number).and_then(|cell| SymbolId::of_optional_cell(*cell))
     }

@@ -25,8 +25,8 @@ fn part<T>(all: &[T], first: u64, count: u64) -> Option<&[T]> {
     all.get(usize::try_from(first).ok()?..)?.get(..usize::try_from(count).ok()?)
 }
 
-/// A work row for each section, and for each number that a group lists: such a section is marked
-/// where the group is a repeated one, there or not.
+/// A work row for each section, and for each number that a group lists: such a section is marked,
+/// there or not.
 fn work_rows(sections: usize, listed: impl Iterator<Item = u64>) -> usize {
     let listed = listed.filter(|number| *number < OBJECT_SECTIONS as u64).max();
     sections.min(OBJECT_SECTIONS).max(listed.map_or(0, |number| number as usize + 1))
@@ -84,6 +84,48 @@ impl Object<'_> {
     pub(crate) fn loaded_table(&self) -> usize {
         let mut rows = self.headers.as_chunks::<8>().0.iter();
         rows.position(|row| row[0] == SYMBOL_TABLE && row[2] & 1 == 0).unwrap_or(usize::MAX)
+    }
+
+    /// The numbers that a group lists; none of a section that is no loaded group.
+    fn listed(&self, group: usize) -> &[u64] {
+        match self.header(group) {
+            Some(&[GROUP, _, flags, _, _, first, count, _]) if flags & 1 == 0 => {
+                part(&self.contents, first, count).unwrap_or_default()
+            }
+            _ => &[],
+        }
+    }
+
+    /// The signature of a group, in the object's table.
+    fn signature(&self, table: usize, group: usize) -> Option<Vec<u8>> {
+        let [_, _, _, link, symbol, ..] = *self.header(group)?;
+        let symbol = usize::try_from(symbol).ok().filter(|_| link == table as u64)?;
+        self.symbol_name(table, symbol).map(<[u8]>::to_vec)
+    }
+
+    /// A section that a group lists and one before it did: which one, and both signatures.
+    pub(crate) fn in_two_groups(
+        &self,
+        table: usize,
+        group: usize,
+        before: impl Iterator<Item = usize>,
+    ) -> Option<About> {
+        // The first that lists each section.
+        let mut lists = vec![None; self.section_count()];
+        for other in before {
+            for number in self.listed(other) {
+                if let Some(cell) = usize::try_from(*number).ok().and_then(|at| lists.get_mut(at)) {
+                    cell.get_or_insert(other);
+                }
+            }
+        }
+        self.listed(group).iter().find_map(|number| {
+            let number = usize::try_from(*number).ok()?;
+            let first = (*lists.get(number)?)?;
+            let section = self.section_name(number).unwrap_or_default().to_vec();
+            let signatures = [first, group].map(|group| self.signature(table, group));
+            Some(About::InTwoGroups { number, section, signatures })
+        })
     }
 
     /// How many work rows a merge needs, or the groups by themselves.

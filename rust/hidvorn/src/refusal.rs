@@ -38,13 +38,13 @@ causes! {
     UnsupportedKind = 3: "section of an unsupported kind",
     /// 4: a section group that isn't COMDAT.
     NotComdat = 4: "section group that is not COMDAT",
-    /// 5: a section group that doesn't list just one section.
-    SectionCountNotOne = 5: "section group whose section count is not one",
+    /// 5: a section group that lists no section.
+    EmptyGroup = 5: "section group that lists no section",
     /// 6: a section group without a signature symbol.
     SignatureSymbolMissing = 6: "section group whose signature symbol is missing",
     /// 7: a section group whose signature has no name.
     SignatureStringMissing = 7: "section group whose signature string is missing",
-    /// 8: a local symbol in a section that its group removed.
+    /// 8: a local symbol in a section that its group removed; the gABI's profile drops it instead.
     LocalInRemovedSection = 8: "local symbol in a removed section",
     /// 9: a symbol without a name in the string table.
     SymbolNameMissing = 9: "symbol name missing",
@@ -86,12 +86,14 @@ causes! {
     BadTable = 27: "section headers or table past the file's end, cut entry or empty group",
     /// 28: a global or weak common symbol whose alignment is zero or no power of two.
     CommonAlignment = 28: "common symbol whose alignment is zero or no power of two",
+    /// 29: a section of an object that two of its groups list.
+    SectionInTwoGroups = 29: "section that two groups of one object list",
     /// 30: more built sections than the plain collector takes.
     TooManySections = 30: "more built sections than the plain collector takes",
 }
 
 impl Cause {
-    /// The number in the table: 1 to 28, and 30.
+    /// The number in the table: 1 to 30.
     pub const fn number(self) -> u64 {
         self as u64
     }
@@ -108,7 +110,8 @@ impl Cause {
             self,
             UnsupportedKind
                 | NotComdat
-                | SectionCountNotOne
+                | EmptyGroup
+                | SectionInTwoGroups
                 | SignatureSymbolMissing
                 | SignatureStringMissing
                 | SectionNameMissing
@@ -176,7 +179,7 @@ pub struct Refusal {
     /// |---|---|
     /// | 1 | the first bad row: the object's section; else its symbol by the order of `push_symbol`, whatever table it is in; of a library its symbol or dependency; of an index its entry; of marks how many there are |
     /// | 2 | the element without room: in a merge the section or symbol, in a load the symbol or dependency; 0 for the input's row or name |
-    /// | 3 to 7, 18, 19, 24 | the section's number in the object |
+    /// | 3 to 7, 18, 19, 24, 29 | the section's number in the object; of 4 to 7 and 29 the group's, of 29 the later one's |
     /// | 8 to 14, 16, 17 | the symbol's number in its symbol table; of a library by the order of `push_symbol` |
     /// | 21 | an id: the name's for an add, also inside a merge or a load, and for a lookup by name; the symbol's for `get` and `remove`, the section's for a collection; for a walk the index' entry (`PendingArchive::entry`) |
     /// | 27 | the section's number in the file; 0 for the section headers |
@@ -205,7 +208,7 @@ impl Refusal {
         Refusal { about, ..self }
     }
 
-    /// The cause's number in the table: 1 to 28, and 30.
+    /// The cause's number in the table: 1 to 30.
     pub const fn number(&self) -> u64 {
         self.cause.number()
     }
@@ -240,6 +243,16 @@ pub enum About {
     },
     /// A section of an object.
     Section(Vec<u8>),
+    /// A section of an object that two of its groups list.
+    InTwoGroups {
+        /// Its number in the object.
+        number: usize,
+        /// Its name.
+        section: Vec<u8>,
+        /// The signatures of the group that lists it first, and of the one that was refused; nothing
+        /// where a group has none.
+        signatures: [Option<Vec<u8>>; 2],
+    },
     /// A dependency of a library.
     Dependency(Vec<u8>),
     /// A member of an archive.
@@ -300,6 +313,18 @@ impl fmt::Display for Quoted<'_> {
     }
 }
 
+/// A group's signature as it is printed.
+struct Signature<'a>(Option<&'a [u8]>);
+
+impl fmt::Display for Signature<'_> {
+    fn fmt(&self, f: &mut fmt::Formatter<'_>) -> fmt::Result {
+        match self.0 {
+            Some(name) => Quoted(name).fmt(f),
+            None => f.write_str("(without signature)"),
+        }
+    }
+}
+
 impl fmt::Display for About {
     fn fmt(&self, f: &mut fmt::Formatter<'_>) -> fmt::Result {
         match self {
@@ -309,6 +334,11 @@ impl fmt::Display for About {
                 write!(f, "symbol {}, held by {holder}", Quoted(name))
             }
             About::Section(name) => write!(f, "section {}", Quoted(name)),
+            About::InTwoGroups { number, section, signatures } => {
+                write!(f, "section {number} {}, in the groups ", Quoted(section))?;
+                let [first, second] = signatures.each_ref().map(|name| Signature(name.as_deref()));
+                write!(f, "{first} and {second}")
+            }
             About::Dependency(name) => write!(f, "dependency {}", Quoted(name)),
             About::Member { offset, name } => {
                 write!(f, "member at {offset} of the archive, for {}", Quoted(name))

@@ -54,11 +54,11 @@ module _ (o : Tabled) (t : All) where
   filter-stopped n = simp (ne_eqb _ _ n)
 
   module _ (z : t.stage.number ≡ 0) where
-    filter-local : (i : ℕ) → i ≡ filter_of t.work o.entries → i < rows_in o.entries → stop t 8 i ≡ filter_stage o t
+    filter-local : (i : ℕ) → i ≡ filter_of t.stage.link.gabi t.work o.entries → i < rows_in o.entries → stop t 8 i ≡ filter_stage o t
     unfolding filter_stage filtered_of
     filter-local i e h = simp (eq-eqb _ _ z, ← e, lt-ltb _ _ h)
 
-    filter-passed : (i : ℕ) → i ≡ filter_of t.work o.entries → rows_in o.entries ≤ i → put_symbols t (merge_table_of o t.work (symbols_in t)) ≡ filter_stage o t
+    filter-passed : (i : ℕ) → i ≡ filter_of t.stage.link.gabi t.work o.entries → rows_in o.entries ≤ i → put_symbols t (merge_table_of o t.work (symbols_in t)) ≡ filter_stage o t
     unfolding filter_stage filtered_of
     filter-passed i e h = simp (eq-eqb _ _ z, ← e, le-ltb _ _ h)
 
@@ -68,11 +68,11 @@ module _ (o : Tabled) (a t : All) (q : t ≡ grouped_in o a) where
   groups-stopped n = filter-stopped o t n ∙ ap (filter_stage o) q
 
   module _ (z : t.stage.number ≡ 0) where
-    pub groups-filtered : (i : ℕ) → i ≡ filter_of t.work o.entries → i < rows_in o.entries → stop t 8 i ≡ merge_groups_of o a
+    pub groups-filtered : (i : ℕ) → i ≡ filter_of t.stage.link.gabi t.work o.entries → i < rows_in o.entries → stop t 8 i ≡ merge_groups_of o a
     unfolding merge_groups_of
     groups-filtered i e h = filter-local o t z i e h ∙ ap (filter_stage o) q
 
-    pub groups-passed : (x : All) → rows_in o.entries ≡ filter_of t.work o.entries → x ≡ put_symbols t (merge_table_of o t.work (symbols_in t)) → x ≡ merge_groups_of o a
+    pub groups-passed : (x : All) → rows_in o.entries ≡ filter_of t.stage.link.gabi t.work o.entries → x ≡ put_symbols t (merge_table_of o t.work (symbols_in t)) → x ≡ merge_groups_of o a
     unfolding merge_groups_of
     groups-passed x e p =
         let h : rows_in o.entries ≤ rows_in o.entries = omega arith in

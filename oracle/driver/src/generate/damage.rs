@@ -1,11 +1,11 @@
 //! Damaged copies of good objects: anywhere, or so that a certain refusal is likely.
 use super::random::Random;
-use crate::rows::{ABSOLUTE, COMMON, ObjectRows, SymbolRow};
+use crate::rows::{ABSOLUTE, COMMON, ObjectRows, SectionRow, SymbolRow};
 
 /// Keeps an object inside the compared domain: one loaded symbol table (a second gives 24), symbol
 /// tables with rows that are there, and string tables with a byte (an empty one is compared with the
-/// gABI, not with the Rust).
-pub(crate) fn tidy(rows: &mut ObjectRows) {
+/// gABI, not with the Rust); where the Rust is asked, groups of one section that no other lists.
+fn tidy(random: &Random, rows: &mut ObjectRows) {
     let count = rows.symbols.len() as u64;
     let mut loaded = false;
     for row in &mut rows.sections {
@@ -23,6 +23,23 @@ pub(crate) fn tidy(rows: &mut ObjectRows) {
         }
         if row.kind == 4 && row.bytes.is_empty() {
             row.bytes.push(b'z');
+        }
+    }
+    if !random.commons {
+        one_section_each(rows);
+    }
+}
+
+/// COMDAT groups of several sections keep their first; one whose section an earlier group lists is
+/// excluded.
+fn one_section_each(rows: &mut ObjectRows) {
+    let sections = rows.sections.len() as u64;
+    let mut listed = Vec::new();
+    for row in rows.sections.iter_mut().filter(|row| row.kind == 7 && !row.exclude && row.comdat) {
+        row.items.truncate(1);
+        row.exclude = row.items.iter().any(|item| *item < sections && listed.contains(item));
+        if !row.exclude {
+            listed.extend(&row.items);
         }
     }
 }
@@ -68,7 +85,7 @@ pub(crate) fn anywhere(random: &mut Random, rows: &mut ObjectRows) {
             _ => row.value = random.value(),
         }
     }
-    tidy(rows);
+    tidy(random, rows);
 }
 
 /// Numbers that `towards` aims at.
@@ -93,7 +110,7 @@ pub(crate) fn towards(random: &mut Random, rows: &mut ObjectRows, number: u64) {
                     row.comdat = false;
                     row.items = random.pick(&[vec![], vec![1], vec![1, 2]]);
                 }
-                5 => row.items = random.pick(&[vec![], vec![1, 1], vec![1, 2, 3]]),
+                5 => row.items.clear(),
                 6 if random.chance(50) => row.info = symbols + random.below(2),
                 6 => row.link = random.below(sections + 1),
                 _ => {
@@ -106,9 +123,28 @@ pub(crate) fn towards(random: &mut Random, rows: &mut ObjectRows, number: u64) {
         8 => {
             // A local beside the group's signature; it shows where the signature is met again.
             let Some(&group) = groups.first() else { return };
-            if let [listed] = rows.sections[group].items[..] {
-                rows.symbols.push(SymbolRow { section: listed, ..SymbolRow::default() });
-                grow_table(rows);
+            let section = match rows.sections[group].items[..] {
+                [] => return,
+                [listed] => listed,
+                ref several => random.pick(several),
+            };
+            rows.symbols.push(SymbolRow { section, ..SymbolRow::default() });
+            grow_table(rows);
+        }
+        29 => {
+            // A group lists what one before it does; there is a second one, or one is made.
+            let [first, ref others @ ..] = groups[..] else { return };
+            let listed = random.pick(&rows.sections[first].items);
+            match pick(random, others) {
+                Some(&group) => {
+                    let items = &mut rows.sections[group].items;
+                    let at = random.below(items.len() as u64 + 1) as usize;
+                    items.insert(at, listed);
+                }
+                None => {
+                    let group = SectionRow { items: vec![listed], ..rows.sections[first].clone() };
+                    rows.sections.push(group);
+                }
             }
         }
         18 => {
@@ -125,7 +161,7 @@ pub(crate) fn towards(random: &mut Random, rows: &mut ObjectRows, number: u64) {
                 // Good symbols of a table that isn't the loaded one.
                 rows.sections[table].items.push(0);
                 rows.sections[table].link = random.below(sections + 1);
-                return tidy(rows);
+                return tidy(random, rows);
             }
             let file = rows.symbols.iter().position(|row| row.kind == 4);
             let beyond = symbols + random.below(3);
@@ -152,7 +188,7 @@ pub(crate) fn towards(random: &mut Random, rows: &mut ObjectRows, number: u64) {
             }
         }
     }
-    tidy(rows);
+    tidy(random, rows);
 }
 
 fn of_kind(rows: &ObjectRows, kinds: &[u64]) -> Vec<usize> {

@@ -66,8 +66,12 @@ pub(crate) fn histories(script: &mut Script, count: u64) {
 pub(crate) fn refusals(script: &mut Script, count: u64) {
     script.say(CONVERSION);
     for at in 0..count {
-        let number = damage::NUMBERS[(at % damage::NUMBERS.len() as u64) as usize];
+        let mut number = damage::NUMBERS[(at % damage::NUMBERS.len() as u64) as usize];
         script.link();
+        // The Rust has no 29.
+        if script.random.commons && number == 5 && script.random.chance(50) {
+            number = 29;
+        }
         let earlier = script.random.between(0, 1);
         let mut broken = false;
         for place in 0..earlier {
@@ -81,7 +85,7 @@ pub(crate) fn refusals(script: &mut Script, count: u64) {
             let mut plan = plan(earlier);
             plan.symbols = (2, 6);
             match number {
-                4..=8 => (plan.programs, plan.groups) = ((1, 3), (1, 2)),
+                4..=8 | 29 => (plan.programs, plan.groups) = ((1, 3), (1, 2)),
                 18 => plan.programs = (1, 3),
                 19 => (plan.programs, plan.relocations) = ((1, 2), (1, 3)),
                 17 | 21 => {

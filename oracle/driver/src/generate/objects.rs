@@ -44,16 +44,19 @@ struct Maker<'a> {
 
 pub(crate) fn object(random: &mut Random, plan: &Plan) -> ObjectRows {
     let mut kinds = Vec::new();
+    // The Rust takes groups of one section alone.
+    let more = if random.commons { 2 } else { 0 };
+    let up_to = |range: (u64, u64)| (range.0, range.1 + more);
     let mut put = |random: &mut Random, range: (u64, u64), choice: &[u64]| {
         for _ in 0..random.between(range.0, range.1) {
             kinds.push(random.pick(choice));
         }
     };
-    put(random, plan.programs, &[1]);
+    put(random, up_to(plan.programs), &[1]);
     put(random, plan.uninitialized, &[2]);
     put(random, plan.others, &[0, 8, 9, 14]);
-    put(random, plan.relocations, &[5, 6]);
-    put(random, plan.groups, &[7]);
+    put(random, up_to(plan.relocations), &[5, 6]);
+    put(random, up_to(plan.groups), &[7]);
     put(random, (1, 2), &[4]);
     let table = !random.chance(4);
     put(random, (table as u64, table as u64), &[3]);
@@ -112,47 +115,103 @@ impl Maker<'_> {
         }
     }
 
-    /// Each group lists one program section and is signed by a global or weak symbol in it.
+    /// Each group is signed by a global or weak symbol in the first section that it lists.
     fn groups(&mut self) {
         if !self.random.chance(6) {
             // Its visibility doesn't count.
             let visibility = self.random.hidden();
             self.rows.symbols.push(SymbolRow { visibility, ..SymbolRow::default() });
         }
-        let (table, programs) = (self.of_kind(&[3]), self.of_kind(&[1, 2]));
+        let table = self.of_kind(&[3]);
         for group in self.of_kind(&[7]) {
             if self.random.chance(10) {
                 self.section(group).exclude = true;
                 continue;
             }
-            let (Some(table), false) = (table.first(), programs.is_empty()) else {
+            let listed = table.first().and_then(|table| Some((*table, self.listed()?)));
+            let Some((table, listed)) = listed else {
                 // Nothing to list, or nothing to be signed by: no group after all.
                 self.section(group).kind = 8;
                 continue;
             };
-            let listed = self.random.pick(&programs);
+            let first = listed[0];
             let signature = self.random.pick(&SIGNATURES);
             let name = self.name(self.symbol_strings, signature);
             let number = self.rows.symbols.len() as u64;
+            let mut binding = self.random.pick(&[1, 2, 2]);
+            if self.random.gabi && self.random.chance(10) {
+                binding = 0;
+            }
             let symbol = SymbolRow {
                 name,
-                binding: self.random.pick(&[1, 2, 2]),
+                binding,
                 kind: 2,
-                section: self.random.pick(&[listed, listed, 0]),
-                visibility: self.random.hidden(),
+                section: self.random.pick(&[first, first, 0]),
+                visibility: if binding == 0 { 0 } else { self.random.hidden() },
                 ..SymbolRow::default()
             };
             self.rows.symbols.push(symbol);
             let row = self.section(group);
-            (row.link, row.info, row.comdat, row.items) = (*table, number, true, vec![listed]);
-            self.grouped.push(listed);
+            (row.link, row.info, row.comdat) = (table, number, true);
+            row.items.clone_from(&listed);
+            self.grouped.extend(listed);
         }
+        if self.random.commons && self.random.chance(5) {
+            let grouped = self.grouped.clone();
+            if let (Some(first), false) = (self.rows.symbols.first_mut(), grouped.is_empty()) {
+                first.section = self.random.pick(&grouped);
+            }
+        }
+        if self.random.commons {
+            for group in self.of_kind(&[7]) {
+                let mut items = std::mem::take(&mut self.section(group).items);
+                self.random.shuffle(&mut items);
+                self.section(group).items = items;
+            }
+        }
+    }
+
+    /// What a group lists: a program section that no group before it does; where the Rust isn't asked
+    /// up to four numbers more, at times one of the same group or of an earlier one, of a section that
+    /// isn't loaded, or of none.
+    fn listed(&mut self) -> Option<Vec<u64>> {
+        let mut free = self.of_kind(&[1, 2]);
+        free.retain(|number| !self.grouped.contains(number));
+        if free.is_empty() {
+            return None;
+        }
+        let mut listed = vec![self.random.pick(&free)];
+        if !self.random.commons {
+            return Some(listed);
+        }
+        let tables = self.of_kind(&[5, 6]);
+        let sections = self.rows.sections.len() as u64;
+        for _ in 0..self.random.pick(&[0, 1, 1, 2, 2, 3, 4]) {
+            let number = match self.random.below(16) {
+                0 => self.random.pick(&listed),
+                1 => self.random.below(sections + 3),
+                2 | 3 if !tables.is_empty() => self.random.pick(&tables),
+                4 if !self.grouped.is_empty() => {
+                    listed.push(self.random.pick(&self.grouped));
+                    continue;
+                }
+                _ => self.random.pick(&free),
+            };
+            if !self.grouped.contains(&number) {
+                listed.push(number);
+            }
+        }
+        Some(listed)
     }
 
     fn symbols(&mut self) {
         let built = self.of_kind(&[1, 2]);
-        let free: Vec<_> =
-            built.iter().copied().filter(|number| !self.grouped.contains(number)).collect();
+        let mut free = built.clone();
+        // What becomes of a local of a removed section is the gABI profile's matter.
+        let percent = if self.random.gabi { 60 } else { 8 };
+        if !self.random.commons || !self.random.chance(percent) {
+            free.retain(|number| !self.grouped.contains(number));
+        }
         let unloaded = self.of_kind(&[3, 4, 5, 6, 8, 9, 14]);
         let groups = self.of_kind(&[7]);
         for _ in 0..self.random.between(self.plan.symbols.0, self.plan.symbols.1) {
@@ -165,7 +224,10 @@ impl Maker<'_> {
                     // Nothing but its name counts, wherever it lies.
                     let any_section = self.random.below(self.rows.sections.len() as u64 + 1);
                     let odd = self.random.chance(25);
-                    let section = if odd { any_section } else { ABSOLUTE };
+                    let mut section = if odd { any_section } else { ABSOLUTE };
+                    if self.random.gabi && !self.grouped.is_empty() && self.random.chance(40) {
+                        section = self.random.pick(&self.grouped);
+                    }
                     let binding = if odd { self.random.pick(&[1, 2, 3]) } else { 0 };
                     let visibility = if odd { self.random.below(4) } else { 0 };
                     let name = self.random.pick(&["one.c", "two.c", ""]);
@@ -195,7 +257,10 @@ impl Maker<'_> {
                 }
                 _ => (any, 2, kind, 0, 0, 0),
             };
-            let name = self.name(self.symbol_strings, &name);
+            let mut name = self.name(self.symbol_strings, &name);
+            if self.random.gabi && self.grouped.contains(&section) && self.random.chance(8) {
+                name += 10_000;
+            }
             let row = SymbolRow { name, binding, kind, visibility, section, value, size: 0 };
             self.rows.symbols.push(row);
         }

@@ -14,6 +14,8 @@ struct Object<'a> {
     reserved: BTreeMap<u64, u64>,
     removed: BTreeSet<u64>,
     groups: BTreeSet<u64>,
+    /// A repeated group of several sections was met.
+    several: bool,
 }
 
 impl<'a> Object<'a> {
@@ -25,6 +27,7 @@ impl<'a> Object<'a> {
             reserved: BTreeMap::new(),
             removed: BTreeSet::new(),
             groups: BTreeSet::new(),
+            several: false,
         };
         let table = object.of_kind(&[3]).next();
         object.table = table;
@@ -81,6 +84,11 @@ impl<'a> Object<'a> {
         let special = [0, ABSOLUTE, COMMON].contains(&symbol.section);
         !special && self.removed.contains(&symbol.section)
     }
+
+    /// A local symbol of a removed section: 8 in the old profile, dropped in the gABI's.
+    fn is_local_there(&self, symbol: &SymbolRow) -> bool {
+        self.is_removed(symbol) && symbol.binding == 0
+    }
 }
 
 fn at(number: u64, place: u64) -> Refused {
@@ -92,8 +100,10 @@ impl Model {
         let mut object = Object::of(rows);
         self.reserve(&mut object)?;
         self.groups(&mut object)?;
-        for (number, symbol) in object.symbols.iter().enumerate() {
-            if object.is_removed(symbol) && symbol.binding == 0 {
+        if !self.table.gabi {
+            let local = object.symbols.iter().position(|symbol| object.is_local_there(symbol));
+            if let Some(number) = local {
+                self.table.see(|seen| seen.locals_8 += object.several as u64);
                 return Err(at(8, number as u64));
             }
         }
@@ -122,16 +132,35 @@ impl Model {
 
     fn groups(&mut self, object: &mut Object) -> Result<(), Refused> {
         let groups: Vec<_> = object.of_kind(&[7]).collect();
+        // The object's own sections that a group lists, however often it does.
+        let mut listed = BTreeSet::new();
         for (number, group) in groups {
             if !group.comdat {
                 return Err(at(4, number));
             }
-            let [listed] = group.items[..] else { return Err(at(5, number)) };
+            if group.items.is_empty() {
+                return Err(at(5, number));
+            }
+            let sections = 0..object.rows.sections.len() as u64;
+            let own: BTreeSet<u64> =
+                group.items.iter().copied().filter(|item| sections.contains(item)).collect();
+            if !own.is_disjoint(&listed) {
+                self.table.see(|seen| seen.groups_29 += 1);
+                return Err(at(29, number));
+            }
             let symbol = object.symbol(group.link, group.info).ok_or(at(6, number))?;
             let signature = object.symbol_name(symbol).ok_or(at(7, number))?;
             object.groups.insert(number);
-            if !self.groups.insert(signature) {
-                object.removed.insert(listed);
+            listed.extend(own);
+            let repeated = !self.groups.insert(signature);
+            let several = group.items.len() > 1;
+            self.table.see(|seen| {
+                seen.groups_several += several as u64;
+                seen.groups_several_repeated += (several && repeated) as u64;
+            });
+            if repeated {
+                object.removed.extend(&group.items);
+                object.several |= several;
             }
         }
         Ok(())
@@ -143,6 +172,17 @@ impl Model {
         let mut file = None;
         for (number, symbol) in object.symbols.iter().enumerate() {
             let number = number as u64;
+            if self.table.gabi && object.is_local_there(symbol) {
+                // No name is read, no file name taken, no id given.
+                let unnamed = object.symbol_name(symbol).is_none();
+                self.table.see(|seen| {
+                    seen.dropped += 1;
+                    seen.dropped_files += (symbol.kind == 4) as u64;
+                    seen.dropped_first += (number == 0) as u64;
+                    seen.dropped_unnamed += unnamed as u64;
+                });
+                continue;
+            }
             let name = object.symbol_name(symbol).ok_or(at(9, number))?;
             let section = object.section_of(symbol);
             if number == 0 && name.is_empty() && section == 0 && symbol.kind == 0 {
@@ -183,7 +223,11 @@ impl Model {
             let tables = object.of_kind(&[5, 6]).filter(|(_, table)| table.info == number);
             if let (1, Some((_, table))) = (kind, tables.last()) {
                 for symbol in &table.items {
-                    let there = object.symbol(table.link, *symbol).and_then(|_| ids.get(symbol));
+                    let row = object.symbol(table.link, *symbol);
+                    let there = row.and_then(|_| ids.get(symbol));
+                    let dropped =
+                        self.table.gabi && row.is_some_and(|row| object.is_local_there(row));
+                    self.table.see(|seen| seen.dropped_related += dropped as u64);
                     relocations.push(*there.ok_or(at(19, number))?);
                 }
             }

@@ -2,8 +2,9 @@
 //! beside the Rust on every list, so that a difference between the two is seen before anything is
 //! proved from the reading. Capacities, and so refusal 2, aren't in it.
 //!
-//! It also has the gABI profile of document 02's requests 2026-02 and 2026-07 and the commons of
-//! 2026-06, which the Rust doesn't: there it is what this port is compared with.
+//! It also has the gABI profile of document 02's requests 2026-02 and 2026-07, the commons of 2026-06
+//! and groups of several sections, which the Rust doesn't: there it is what this port is compared
+//! with.
 mod archive;
 mod collection;
 mod merge;
@@ -90,6 +91,19 @@ pub struct Seen {
     pub commons_replaced: u64,
     pub commons_over_weak: u64,
     pub commons_28: u64,
+    /// Groups of several sections that were taken, and the repeated ones of them; groups refused with
+    /// 29; objects with such a repeated group refused with 8, in the old profile; local symbols of
+    /// removed sections that were dropped, in the gABI's: all, those of type 4, symbol 0, those whose
+    /// name is missing, and relocations of kept sections that named one (19).
+    pub groups_several: u64,
+    pub groups_several_repeated: u64,
+    pub groups_29: u64,
+    pub locals_8: u64,
+    pub dropped: u64,
+    pub dropped_files: u64,
+    pub dropped_first: u64,
+    pub dropped_unnamed: u64,
+    pub dropped_related: u64,
 }
 
 impl Seen {
@@ -128,6 +142,23 @@ impl Seen {
             (self.commons_over_weak, "weak definitions accepted under a common"),
             (self.commons_28, "commons refused with 28"),
         ];
+        let groups = [
+            (self.groups_several, "groups of several sections taken, of them"),
+            (self.groups_several_repeated, "  repeated ones, whose sections are removed"),
+            (self.groups_29, "groups refused with 29"),
+            (
+                self.locals_8,
+                "objects with such a repeated group refused with 8, by the old profile",
+            ),
+            (
+                self.dropped,
+                "local symbols of removed sections dropped, by the gABI profile, of them",
+            ),
+            (self.dropped_files, "  of type 4"),
+            (self.dropped_first, "  symbol 0"),
+            (self.dropped_unnamed, "  whose name is missing"),
+            (self.dropped_related, "objects refused with 19 for a relocation that names one"),
+        ];
         let table = |title: &str, counts: &[(u64, &str)]| {
             if counts.iter().all(|(times, _)| *times == 0) {
                 return String::new();
@@ -135,7 +166,9 @@ impl Seen {
             let line = |(times, what): &(u64, &str)| format!("{times:>9} {what}\n");
             title.to_string() + &counts.iter().map(line).collect::<String>()
         };
-        table("beside the old profile:\n", &counts) + &table("of commons:\n", &commons)
+        table("beside the old profile:\n", &counts)
+            + &table("of commons:\n", &commons)
+            + &table("of groups of several sections:\n", &groups)
     }
 
     /// An add since then was of an object's symbol, which the group filter made undefined or not.
@@ -177,6 +210,15 @@ impl Seen {
             commons_replaced: self.commons_replaced + other.commons_replaced,
             commons_over_weak: self.commons_over_weak + other.commons_over_weak,
             commons_28: self.commons_28 + other.commons_28,
+            groups_several: self.groups_several + other.groups_several,
+            groups_several_repeated: self.groups_several_repeated + other.groups_several_repeated,
+            groups_29: self.groups_29 + other.groups_29,
+            locals_8: self.locals_8 + other.locals_8,
+            dropped: self.dropped + other.dropped,
+            dropped_files: self.dropped_files + other.dropped_files,
+            dropped_first: self.dropped_first + other.dropped_first,
+            dropped_unnamed: self.dropped_unnamed + other.dropped_unnamed,
+            dropped_related: self.dropped_related + other.dropped_related,
         }
     }
 }
