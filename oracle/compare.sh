@@ -3,7 +3,8 @@
 # refusal. Stops at the first difference with its link made short. Needs crates/hidvorn/out/libhidvorn.a.
 # The kept links come first. With `gabi` the links are of the gABI profile, with `commons` of the old
 # one with commons, and what stands for the Rust is the plain reading (driver/src/model).
-# usage: compare.sh [gabi | commons] [SEED [LINKS]], or compare.sh list < LIST
+# KIND: links of one kind alone (oracle/README.md).
+# usage: compare.sh [gabi | commons] [SEED [LINKS [KIND]]], or compare.sh list < LIST
 set -eu
 cd "$(dirname "$0")/../rust"
 cargo build -q --release -p compare --bin compare

@@ -3,7 +3,7 @@
 // when each of them is asked for, and the most that a question takes.
 #![tactic(auto)]
 
-use archive_index::Rows;
+use archive_index::{Archives, Rows};
 use archive_walk::Walk;
 use std::alloc::{AllocError, Global};
 use std::iter::successors;
@@ -47,11 +47,13 @@ enum Kind {
 }
 
 impl Kind {
-    fn offset(self, k: u16) -> u32 {
-        let k = u32::from(k % ENTRIES);
+    // The offset of entry k, of so many.
+    fn offset(self, k: u16, entries: u16) -> u32 {
+        let k = u32::from(k);
+        let entries = u32::from(entries);
         match self {
-            Kind::Multiples => k * 4096,
-            Kind::HighBits => k * 0x10_0000,
+            Kind::Multiples => k * entries,
+            Kind::HighBits => k.wrapping_shl(entries.wrapping_sub(1).leading_zeros()),
             Kind::OneName => 68,
             Kind::EqualMembers => 68 + k / 16 * 1000,
         }
@@ -67,16 +69,15 @@ impl Kind {
     }
 
     // The count of entries, their offsets, their names.
-    fn index(self, alloc: Global) -> Result<Vec<u8>, AllocError> {
-        let mut index = Vec::new(alloc);
-        index.extend_from_slice(&u32::from(ENTRIES).to_be_bytes())?;
-        for k in 0..ENTRIES {
-            index.extend_from_slice(&self.offset(k).to_be_bytes())?;
+    fn put_index(self, bytes: &mut Vec<u8>, entries: u16) -> Result<(), AllocError> {
+        bytes.extend_from_slice(&u32::from(entries).to_be_bytes())?;
+        for k in 0..entries {
+            bytes.extend_from_slice(&self.offset(k, entries).to_be_bytes())?;
         }
-        for k in 0..ENTRIES {
-            index.extend_from_slice(&name(self.name_number(k)))?;
+        for k in 0..entries {
+            bytes.extend_from_slice(&name(self.name_number(k)))?;
         }
-        Ok(index)
+        Ok(())
     }
 }
 
@@ -92,21 +93,41 @@ fn name(n: u16) -> [u8; 5] {
     ]
 }
 
-// ---- an archive
+// ---- archives
 
-// An index, and its rows of cells.
+// Their indexes, where each ends, and the rows of cells.
 #[derive(Drop)]
-struct Archive {
-    index: Vec<u8>,
+struct Indexes {
+    bytes: Vec<u8>,
+    ends: Vec<u64>,
     cells: Vec<u64>,
 }
 
-impl Archive {
-    fn new(alloc: Global, kind: Kind) -> Result<Archive, AllocError> {
-        Ok(Archive {
-            index: kind.index(alloc)?,
+impl Indexes {
+    // As many entries in each of so many archives' indexes, and the rest in the last.
+    fn new(alloc: Global, kind: Kind, archives: u16) -> Result<Indexes, AllocError> {
+        let mut bytes = Vec::new(alloc);
+        let mut ends = Vec::new(alloc);
+        let mut rest = ENTRIES;
+        let each = (ENTRIES - 1) / archives.max(1) + 1;
+        for _ in 0..archives {
+            let entries = rest.min(each);
+            kind.put_index(&mut bytes, entries)?;
+            ends.push(bytes.len() as u64)?;
+            rest -= entries;
+        }
+        Ok(Indexes {
+            bytes,
+            ends,
             cells: vec![in alloc; 0; usize::from(ENTRIES) * archive_index::ROW_WIDTH]?,
         })
+    }
+
+    fn archives(&self) -> Archives<'_> {
+        Archives {
+            bytes: &self.bytes,
+            ends: &self.ends,
+        }
     }
 
     // The entry that a cell names: 0 stands for none.
@@ -114,23 +135,38 @@ impl Archive {
         (cells::row_get(&self.cells, entry, cell) as usize).checked_sub(1)
     }
 
-    // How many entries are met on the way down the tree to the member at the offset.
-    fn depth(&self, offset: u64) -> usize {
-        let next = |(entry, key): &(usize, u64)| {
-            if archive_index::offset(&self.index, *entry) == offset {
+    fn key(&self, entry: usize) -> u64 {
+        let member = self.archives().member(entry);
+        (member.archive as u64)
+            .wrapping_mul(0x1_0000_0000)
+            .wrapping_add(member.offset)
+    }
+
+    // How many entries are met on the way down the tree to the member with that key.
+    fn depth(&self, key: u64) -> usize {
+        let next = |(entry, rest): &(usize, u64)| {
+            if cells::row_get(&self.cells, *entry, archive_index::KEY) == key {
                 return None;
             }
-            let child = archive_index::EVEN + (*key % 2) as usize;
-            Some((self.entry_in(*entry, child)?, *key / 2))
+            let child = archive_index::EVEN + (*rest % 2) as usize;
+            Some((self.entry_in(*entry, child)?, *rest / 2))
         };
-        successors(Some((0, offset)), next).take(65_536).count()
+        successors(Some((0, key)), next).take(65_536).count()
+    }
+
+    fn open(&mut self) {
+        let archives = Archives {
+            bytes: &self.bytes,
+            ends: &self.ends,
+        };
+        let _ = archive_index::open(archives, &mut self.cells);
     }
 
     fn members(&mut self) -> Tally {
-        let _ = archive_index::open(&self.index, &mut self.cells);
+        self.open();
         let mut tally = Tally::default();
         for k in 0..usize::from(ENTRIES) {
-            let depth = self.depth(archive_index::offset(&self.index, k));
+            let depth = self.depth(self.key(k));
             tally.add(depth, depth);
         }
         tally
@@ -145,10 +181,14 @@ impl Archive {
 
     // The first name of a chain takes a step, the second two, and so on.
     fn names(&mut self, key: usize) -> Tally {
-        let started = Walk::start(key, &self.index, &mut self.cells);
+        let archives = Archives {
+            bytes: &self.bytes,
+            ends: &self.ends,
+        };
+        let started = Walk::start(key, archives, &mut self.cells);
         let walk = started.unwrap_or(Walk::none());
         let mut rows = Rows {
-            index: &self.index,
+            archives,
             cells: &mut self.cells,
         };
         for k in 0..usize::from(ENTRIES) {
@@ -169,41 +209,71 @@ struct Case {
     what: &'static str,
     kind: Kind,
     key: usize,
+    archives: u16,
 }
 
-const CASES: [Case; 5] = [
+const CASES: [Case; 9] = [
     Case {
         what: "multiples of the count",
         kind: Kind::Multiples,
         key: 0,
+        archives: 1,
     },
     Case {
         what: "high bits",
         kind: Kind::HighBits,
         key: 0,
+        archives: 1,
     },
     Case {
         what: "one name",
         kind: Kind::OneName,
         key: 0,
+        archives: 1,
     },
     Case {
         what: "equal members",
         kind: Kind::EqualMembers,
         key: 0,
+        archives: 1,
     },
     Case {
         what: "equal members, another key",
         kind: Kind::EqualMembers,
         key: 12345,
+        archives: 1,
+    },
+    Case {
+        what: "16 archives, multiples of the count",
+        kind: Kind::Multiples,
+        key: 0,
+        archives: 16,
+    },
+    Case {
+        what: "16 archives, high bits",
+        kind: Kind::HighBits,
+        key: 0,
+        archives: 16,
+    },
+    Case {
+        what: "16 archives, one name",
+        kind: Kind::OneName,
+        key: 0,
+        archives: 16,
+    },
+    Case {
+        what: "16 archives, equal members",
+        kind: Kind::EqualMembers,
+        key: 0,
+        archives: 16,
     },
 ];
 
 fn main(rt: HostRuntime) -> io::Result<()> {
     for case in &CASES {
-        let mut archive = Archive::new(rt.alloc(), case.kind)?;
-        print!(rt; "{}: members {}", case.what, archive.members())?;
-        println!(rt; "; names {}", archive.names(case.key))?;
+        let mut indexes = Indexes::new(rt.alloc(), case.kind, case.archives)?;
+        print!(rt; "{}: members {}", case.what, indexes.members())?;
+        println!(rt; "; names {}", indexes.names(case.key))?;
     }
     Ok(())
 }

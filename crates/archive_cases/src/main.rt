@@ -1,7 +1,7 @@
 // Small cases of archives with their answers: the start over odd indexes, the order of offers, a pass that meets a removed name, and admission.
 #![tactic(auto)]
 
-use archive_index::Rows;
+use archive_index::{Archives, Rows};
 use archive_walk::{Offer, Table, Walk};
 use elf_object::{DYNAMIC_SYMBOLS, NULL, PROGRAM, STRING_TABLE, SYMBOL_TABLE};
 use link::{Link, Refusal, SymbolId};
@@ -19,6 +19,25 @@ const CUT_SHORT: [&[u8]; 4] = [
     b"\0\0\0",
     b"\0\0\0\x02\0\0\0\x0a",
     b"\0\0\0\x02\0\0\0\x0a\0\0\0\x14a\0b",
+];
+
+// b and c, each to a member at 10 of an archive of its own; b twice; b and d, whose row was removed.
+const TWO: &[u8] = b"\0\0\0\x01\0\0\0\x0ab\0\0\0\0\x01\0\0\0\x0ac\0";
+
+const TWICE: &[u8] = b"\0\0\0\x01\0\0\0\x0ab\0\0\0\0\x01\0\0\0\x0ab\0";
+
+const REMOVED: &[u8] = b"\0\0\0\x01\0\0\0\x0ab\0\0\0\0\x01\0\0\0\x0ad\0";
+
+// Ends of TWO that a start refuses: seventeen; below the one before; past the slice, before an empty index; an empty index, before one that is cut
+// short; a count, offsets and a name of the second that are cut short.
+const WRONG_ENDS: [&[u64]; 7] = [
+    &[5, 4, 3, 2, 1, 0, 90, 90, 90, 90, 90, 90, 90, 90, 90, 90, 90],
+    &[10, 4],
+    &[0, 10, 21],
+    &[3, 3],
+    &[10, 13],
+    &[10, 17],
+    &[10, 19],
 ];
 
 // a to 10, b to 20, c to 10.
@@ -69,7 +88,12 @@ impl Archive {
     }
 
     fn start(&mut self, rt: &impl Print, index: &'static [u8]) -> io::Result<()> {
-        let started = Walk::start(0, index, &mut self.cells);
+        let ends = [index.len() as u64];
+        let archives = Archives {
+            bytes: index,
+            ends: &ends,
+        };
+        let started = Walk::start(0, archives, &mut self.cells);
         self.index = index;
         self.walk = started.unwrap_or(Walk::none());
         match started {
@@ -79,19 +103,19 @@ impl Archive {
     }
 
     fn next(&mut self, rt: &impl Print, table: &OwnedTable) -> io::Result<()> {
+        let ends = [self.index.len() as u64];
+        let archives = Archives {
+            bytes: self.index,
+            ends: &ends,
+        };
         let mut rows = Rows {
-            index: self.index,
+            archives,
             cells: &mut self.cells,
         };
-        let lent = Table {
-            link: table.table.link,
-            bytes: &table.bytes,
-            names: &table.names,
-            symbols: &table.symbols,
-        };
-        match self.walk.next(&mut rows, lent) {
+        match self.walk.next(&mut rows, lent(table)) {
             Ok(
                 Offer::Member {
+                    archive: _,
                     offset,
                     entry: _,
                     passes,
@@ -131,6 +155,92 @@ impl Archive {
         }
         Ok(())
     }
+}
+
+// ---- several archives
+
+fn lent(table: &OwnedTable) -> Table<'_> {
+    Table {
+        link: table.table.link,
+        bytes: &table.bytes,
+        names: &table.names,
+        symbols: &table.symbols,
+    }
+}
+
+// A start over some archives' indexes; then so many calls for the next member, which are lent the same bytes and these ends.
+fn walk_several(
+    rt: &impl Print,
+    table: &OwnedTable,
+    archives: Archives<'_>,
+    ends: &[u64],
+    calls: usize,
+) -> io::Result<()> {
+    let mut cells = [7; CELLS];
+    let mut walk = match Walk::start(0, archives, &mut cells) {
+        Ok(walk) => walk,
+        Err(refusal) => return print_refusal(rt, refusal),
+    };
+    println!(rt; "ready, entries {}", walk.entries)?;
+    for _ in 0..calls {
+        let mut rows = Rows {
+            archives: Archives {
+                bytes: archives.bytes,
+                ends,
+            },
+            cells: &mut cells,
+        };
+        match walk.next(&mut rows, lent(table)) {
+            Ok(
+                Offer::Member {
+                    archive,
+                    offset,
+                    entry: _,
+                    passes,
+                },
+            ) => println!(rt; "archive {archive} member {offset} pass {passes}")?,
+            Ok(Offer::Done { passes }) => println!(rt; "done {passes}")?,
+            Err(refusal) => print_refusal(rt, refusal)?,
+        }
+    }
+    Ok(())
+}
+
+fn several(rt: &impl Print, table: &OwnedTable) -> io::Result<()> {
+    for ends in WRONG_ENDS {
+        let bytes = TWO;
+        walk_several(rt, table, Archives { bytes, ends }, ends, 1)?;
+    }
+    let ends = &[10, 20];
+    for bytes in [TWO, TWICE, REMOVED] {
+        walk_several(rt, table, Archives { bytes, ends }, ends, 3)?;
+    }
+    // Fewer ends than the start's, then none.
+    let bytes = TWICE;
+    walk_several(rt, table, Archives { bytes, ends }, &[10], 1)?;
+    walk_several(rt, table, Archives { bytes, ends }, &[], 1)?;
+    // No archive.
+    walk_several(rt, table, Archives { bytes, ends: &[] }, &[], 2)
+}
+
+// An index of 65,534 entries without names, and one of `more` behind it: the rows are too few for 65,535 entries, and 65,536 are too many.
+fn many(rt: &(impl Print + AllocGlobal), table: &OwnedTable, more: u8) -> io::Result<()> {
+    let first = 4 + 5 * 65534;
+    let mut bytes = vec![in rt.alloc(); 0; 327_700]?;
+    bytes[2] = 0xff;
+    bytes[3] = 0xfe;
+    bytes[first + 3] = more;
+    let ends = [first as u64, (first + 4 + 5 * more as usize) as u64];
+    walk_several(
+        rt,
+        table,
+        Archives {
+            bytes: &bytes,
+            ends: &ends,
+        },
+        &ends,
+        0,
+    )
 }
 
 // ---- admission
@@ -330,5 +440,8 @@ fn main(rt: HostRuntime) -> io::Result<()> {
     archive.no_entries(&rt, &table)?;
     archive.removed_name(&rt, &table)?;
     archive.tied(&rt, &table)?;
+    several(&rt, &table)?;
+    many(&rt, &table, 1)?;
+    many(&rt, &table, 2)?;
     admissions(&rt, table.table.link, &archive.cells)
 }

@@ -1,4 +1,5 @@
 pub mod Index
+pub mod Archives
 pub mod Rows
 pub mod Open
 pub mod Contract

@@ -1,4 +1,4 @@
-// The System V index of an archive, and a row of lent cells for each of its entries.
+// The System V indexes of archives, and a row of lent cells for each of their entries.
 #![tactic(auto)]
 
 ghost use Rattle.std.specs.Prelude.{◌≡◌, ◌+◌, ◌*◌, ◌<◌, length};
@@ -6,14 +6,19 @@ ghost use Rattle.archive_index.specs.Index.{word_at, count_of, offset_of, after_
 ghost use Rattle.archive_index.specs.Rows.{stored_name, rows_in, field_at, no_heads};
 
 mod opening;
+mod several;
 
 pub use opening::open;
+pub use several::{Archives, Member};
 
 // The bytes of a number of the index.
 pub const WORD_BYTES: usize = 4;
 
-// "index entries to 65,535"
+// The bound on the entries of all indexes together.
 pub const ENTRY_BOUND: usize = 65535;
+
+// So many indexes are walked as one, and no more.
+pub const ARCHIVE_BOUND: usize = 16;
 
 // ---- the cells of an entry's row (specs/Rows.antt says more)
 
@@ -42,6 +47,10 @@ pub const LENGTH: usize = 5;
 // The pass that queued its member.
 pub const PASS: usize = 6;
 
+// While the indexes are opened: the key of its member.
+pub const KEY: usize = 7;
+
+// From then on: the k-th entry of the queue.
 pub const QUEUE: usize = 7;
 
 // ---- the index
@@ -49,7 +58,8 @@ pub const QUEUE: usize = 7;
 // A big-endian number; four bytes that lie in the index are read at once.
 fn word(index: &[u8], at: usize) -> u64
     requires { at < 0xfffffffffffffffd }
-    ensures { result ≡ word_at index.now at }
+    ensures value { result ≡ word_at index.now at }
+    ensures bound { result < 0x100000000 }
 {
     if at + 3 < index.len() {
         let whole = [index[at], index[at + 1], index[at + 2], index[at + 3]];
@@ -67,7 +77,8 @@ fn word(index: &[u8], at: usize) -> u64
 // The number of entries that the index says.
 #[tactic(auto, unfolding(crate::specs::Index::count_of))]
 pub fn count(index: &[u8]) -> usize
-    ensures { result ≡ count_of index.now }
+    ensures value { result ≡ count_of index.now }
+    ensures bound { result < 0x100000000 }
 {
     word(index, 0) as usize
 }
@@ -75,7 +86,8 @@ pub fn count(index: &[u8]) -> usize
 // Entry k's member offset.
 #[tactic(auto, unfolding(crate::specs::Index::offset_of))]
 pub fn offset(index: &[u8], k: usize) -> u64
-    ensures { result ≡ offset_of index.now k }
+    ensures value { result ≡ offset_of index.now k }
+    ensures bound { result < 0x100000000 }
 {
     if k < index.len() / WORD_BYTES {
         return word(index, WORD_BYTES + WORD_BYTES * k);
@@ -93,7 +105,7 @@ pub fn after_name(index: &[u8], at: usize) -> Option<usize>
 
 // ---- the entries
 
-// An index as it is read: its bytes, and the row of each entry.
+// Indexes as they are read: their bytes, and the row of each entry.
 #[derive(Clone, Copy)]
 pub struct Entries<'i, 'c> {
     pub index: &'i [u8],
@@ -127,19 +139,19 @@ impl<'i> Entries<'i, '_> {
     }
 }
 
-// An index as it is opened and walked: its bytes, and the rows, which are written.
+// Indexes as they are walked, and the rows, which are written.
 #[derive(Drop)]
 pub struct Rows<'a> {
-    pub index: &'a [u8],
+    pub archives: Archives<'a>,
     pub cells: &'a mut [u64],
 }
 
 impl Rows<'_> {
     pub fn read(&self) -> Entries<'_, '_>
-        ensures { (result.index.now ≡ self.now.index.now) × (result.cells.now ≡ self.now.cells.now) }
+        ensures { (result.index.now ≡ self.now.archives.bytes.now) × (result.cells.now ≡ self.now.cells.now) }
     {
         Entries {
-            index: self.index,
+            index: self.archives.bytes,
             cells: self.cells,
         }
     }
@@ -153,12 +165,13 @@ pub fn name<'a>(index: &'a [u8], cells: &[u64], k: usize) -> &'a [u8]
     Entries { index, cells }.name(k)
 }
 
-// No chain of names has an entry.
+// No chain of names has an entry, and no place of the queue: a key stood there.
 #[tactic(auto, unfolding(crate::specs::Rows::no_heads))]
 pub fn clear_heads(cells: &mut [u64], entries: usize)
     ensures { cells.new ≡ no_heads entries cells.old }
 {
     for k in 0..entries {
         cells::row_put(cells, k, HEAD, 0);
+        cells::row_put(cells, k, QUEUE, 0);
     }
 }

@@ -1,7 +1,7 @@
 -- The key places names in chains, and nothing else: over the same calls two walks that differ in their keys give the same answers, whatever cells and tables
 -- are lent to them; and so does admission, over any walk that a start begins.
 -- Assumes nothing.
-use Rattle.archive_walk.specs.declared.Offer.TheVariants.{Done, Member}
+use Rattle.archive_walk.specs.declared.Offer.TheVariants.{Done}
 use Rattle.link.specs.declared.cause.Refusal.{Refusal}
 use Rattle.archive_walk.specs.declared.Offer.{Offer}
 use Prim.Native.Nat.{ℕ, zero, suc, ◌+◌, ◌*◌, ◌/◌, ◌<◌, ◌≤◌}
@@ -12,14 +12,14 @@ use Rattle.std.proofs.Math.Path.{refl}
 use Rattle.std.proofs.Math.Bool.{true, false}
 use mathlib.Core.List.{List, [], ◌∷◌}
 use Rattle.std.proofs.Math.ListN.{set, get_or-eq_default}
-use Rattle.archive_index.specs.Index.{count_of, offset_of}
+use Rattle.archive_index.specs.Archives.{Archives, last_end, entries_in}
 use Rattle.archive_index.specs.Rows.{required_at, member_at, pass_at, queue_at, stored_name, no_heads}
 use Rattle.archive_index.specs.Open.{open_of}
 use Rattle.archive_walk.specs.declared.Walk.{Walk}
 use Rattle.archive_walk.specs.Walk.{Started}
 use Rattle.archive_walk.specs.Look.{Table, judge_table, tied_name}
 use Rattle.archive_walk.specs.Names.{chained, chain_at, headed_of, noted_of, required_of}
-use Rattle.archive_walk.specs.Walk.{begun_number, fresh_walk, no_walk, begun_of, start_of, Step, step_of, step_moved, refused_move, handed_out, ended, offer_of, Queue, queue_of, marked, enqueue, tie_of, tie_all, removed_of, passed, make_of, search_of, pass_of, walk_fits, go_of, next_of}
+use Rattle.archive_walk.specs.Walk.{begun_number, fresh_walk, no_walk, begun_of, start_of, Step, step_of, step_moved, refused_move, handed_out, ended, member_offered, offer_of, Queue, queue_of, marked, enqueue, tie_of, tie_all, removed_of, passed, make_of, search_of, pass_of, walk_fits, go_of, next_of}
 use Rattle.archive_laws.proofs.Chains.{any_same}
 use Rattle.archive_laws.specs.OtherKey.{with_key, Rekeyed}
 use Rattle.archive_laws.specs.OtherKey as OtherKey
@@ -156,6 +156,10 @@ module _ (s : List ℕ) where
           all-tied n (k + 1) (tie_of key c s t p k q) (tie_of key' c s t p k q')
           (rw e.queued (both_tied k q.cells q'.cells q.queued e.cells))
 
+module _ (a : Archives) where
+  abbrev s : List ℕ
+  s = a.bytes
+
   -- ---- a call
 
   -- the same answer, and a walk and cells that differ in key and chains
@@ -165,28 +169,28 @@ module _ (s : List ℕ) where
     pub offer : x'.moved.offer ≡ x.moved.offer
 
   module _ (key : ℕ) where
-    both-offer : (l m : List ℕ) (w : Walk) → Alike l m → Steps key (offer_of s l w) (offer_of s m (with_key key w))
+    both-offer : (l m : List ℕ) (w : Walk) → Alike l m → Steps key (offer_of a l w) (offer_of a m (with_key key w))
     unfolding offer_of
-    both-offer l m w e = rw (same_queue l m e w.offered) (go (ltb w.offered w.queued))
+    both-offer l m w e = rw (same_queue s l m e w.offered) (go (ltb w.offered w.queued))
       where
         d : ℕ
         d = queue_at l w.offered
 
         go : (b : Bool)
-            → Steps key (cond b (step_of l (handed_out w) (Ok (Member (offset_of s d) d w.passes))) (step_of l (ended w) (Ok (Done w.passes))))
-            (cond b (step_of m (handed_out (with_key key w)) (Ok (Member (offset_of s d) d w.passes))) (step_of m (ended (with_key key w)) (Ok (Done w.passes))))
+            → Steps key (cond b (step_of l (handed_out w) (Ok (member_offered a d w.passes))) (step_of l (ended w) (Ok (Done w.passes))))
+            (cond b (step_of m (handed_out (with_key key w)) (Ok (member_offered a d w.passes))) (step_of m (ended (with_key key w)) (Ok (Done w.passes))))
         go true = record { cells = e; walk = refl; offer = refl }
         go false = record { cells = e; walk = refl; offer = refl }
 
-    same-fits : (l m : List ℕ) (w : Walk) → Alike l m → walk_fits s m (with_key key w) ≡ walk_fits s l w
+    same-fits : (l m : List ℕ) (w : Walk) → Alike l m → walk_fits a m (with_key key w) ≡ walk_fits a l w
     unfolding walk_fits
     same-fits l m w e = rw e.long
 
-    pub both-next : (l m : List ℕ) (w : Walk) (t : Table) → Alike l m → Steps key (next_of s l w t) (next_of s m (with_key key w) t)
+    pub both-next : (l m : List ℕ) (w : Walk) (t : Table) → Alike l m → Steps key (next_of a l w t) (next_of a m (with_key key w) t)
     unfolding next_of go_of pass_of search_of make_of
     both-next l m w t e =
-        rw (same-fits l m w e, same-removed l m e t w.entries 0)
-        (go w.done (walk_fits s l w) (ltb w.offered w.queued) (eqb (judge_table t).number 0) (ltb (removed_of s l t w.entries 0) w.entries))
+        rw (same-fits l m w e, same-removed s l m e t w.entries 0)
+        (go w.done (walk_fits a l w) (ltb w.offered w.queued) (eqb (judge_table t).number 0) (ltb (removed_of s l t w.entries 0) w.entries))
       where
         u : Queue
         u = tie_all w.key w.entries s t (w.passes + 1) w.entries 0 (queue_of l w.queued)
@@ -194,8 +198,8 @@ module _ (s : List ℕ) where
         u' : Queue
         u' = tie_all key w.entries s t (w.passes + 1) w.entries 0 (queue_of m w.queued)
 
-        tied : Queues w.key key w.entries u u'
-        tied = all-tied w.key key w.entries t (w.passes + 1) w.entries 0 (queue_of l w.queued) (queue_of m w.queued) (record { cells = e; queued = refl })
+        tied : Queues s w.key key w.entries u u'
+        tied = all-tied s w.key key w.entries t (w.passes + 1) w.entries 0 (queue_of l w.queued) (queue_of m w.queued) (record { cells = e; queued = refl })
 
         w' : Walk
         w' = with_key key w
@@ -203,7 +207,7 @@ module _ (s : List ℕ) where
         kept : (o : Result Offer Refusal) → Steps key (step_of l w o) (step_of m w' o)
         kept o = record { cells = e; walk = refl; offer = refl }
 
-        made : Steps key (offer_of s u.cells (passed w u.queued)) (offer_of s u'.cells (passed w' u'.queued))
+        made : Steps key (offer_of a u.cells (passed w u.queued)) (offer_of a u'.cells (passed w' u'.queued))
         made = rw tied.queued (both-offer u.cells u'.cells (passed w u.queued) tied.cells)
 
         at : ℕ
@@ -213,14 +217,14 @@ module _ (s : List ℕ) where
             → Steps key
             (cond d (step_of l w (Ok (Done w.passes)))
             (cond f
-            (cond g (offer_of s l w)
-            (cond j (cond x (step_moved l (refused_move w 21 at)) (offer_of s u.cells (passed w u.queued)))
+            (cond g (offer_of a l w)
+            (cond j (cond x (step_moved l (refused_move w 21 at)) (offer_of a u.cells (passed w u.queued)))
             (step_moved l (refused_move w (judge_table t).number (judge_table t).place))))
             (step_moved l (refused_move w 1 0))))
             (cond d (step_of m w' (Ok (Done w.passes)))
             (cond f
-            (cond g (offer_of s m w')
-            (cond j (cond x (step_moved m (refused_move w' 21 at)) (offer_of s u'.cells (passed w' u'.queued)))
+            (cond g (offer_of a m w')
+            (cond j (cond x (step_moved m (refused_move w' 21 at)) (offer_of a u'.cells (passed w' u'.queued)))
             (step_moved m (refused_move w' (judge_table t).number (judge_table t).place))))
             (step_moved m (refused_move w' 1 0))))
         go true f g j x = kept (Ok (Done w.passes))
@@ -237,21 +241,21 @@ module _ (s : List ℕ) where
       pub walk : r'.walk ≡ with_key key r.walk
       pub offers : r'.offers ≡ r.offers
 
-    both-step : (t : Table) (r r' : Run) → Runs r r' → Runs (step_run s t r) (step_run s t r')
+    both-step : (t : Table) (r r' : Run) → Runs r r' → Runs (step_run a t r) (step_run a t r')
     unfolding step_run
     both-step t r r' e =
         let x = both-next r.cells r'.cells r.walk t e.cells in
         rw (e.walk, e.offers) (record { cells = x.cells; walk = x.walk; offers = rw x.offer })
 
-    both-history : (ts : List Table) (r r' : Run) → Runs r r' → Runs (history s ts r) (history s ts r')
+    both-history : (ts : List Table) (r r' : Run) → Runs r r' → Runs (history a ts r) (history a ts r')
     unfolding history
     both-history [] r r' e = e
-    both-history (t ∷ ts) r r' e = both-history ts (step_run s t r) (step_run s t r') (both-step t r r' e)
+    both-history (t ∷ ts) r r' e = both-history ts (step_run a t r) (step_run a t r') (both-step t r r' e)
 
   -- ---- from a start on
 
   abbrev Agree : Run → Run → Type 0
-  Agree = OtherKey.Agree s
+  Agree = OtherKey.Agree a
 
   agree-runs : (key : ℕ) (r r' : Run) → Runs key r r' → Agree r r'
   agree-runs key r r' e = record {
@@ -259,48 +263,48 @@ module _ (s : List ℕ) where
     passes = rw e.walk;
     done = rw e.walk;
     answer = λ t. rw e.walk (both-next key r.cells r'.cells r.walk t e.cells).offer;
-    mark = same-mark r.cells r'.cells e.cells;
+    mark = same-mark s r.cells r'.cells e.cells;
   }
 
   module _ (key key' : ℕ) (l : List ℕ) where
     -- a start, by whether it is accepted
     abbrev begins : ℕ → Bool → Started
     begins k b =
-        cond {A = Started} b (record { walk = fresh_walk k (open_of s l).opened.entries (length s); begun = Ok (open_of s l).opened.entries })
-        (record { walk = no_walk; begun = Err (open_of s l).opened.refusal })
+        cond {A = Started} b (record { walk = fresh_walk k (open_of a l).opened.entries (last_end a); begun = Ok (open_of a l).opened.entries })
+        (record { walk = no_walk; begun = Err (open_of a l).opened.refusal })
 
     abbrev rows : List ℕ
-    rows = no_heads (open_of s l).opened.entries (open_of s l).cells
+    rows = no_heads (open_of a l).opened.entries (open_of a l).cells
 
     abbrev run : ℕ → Bool → Run
     run k b = begun_run rows (begins k b).walk
 
     -- the start's answer and its cells don't show the key
-    pub start-any-key : ((start_of key' s l).cells ≡ (start_of key s l).cells) × ((start_of key' s l).started.begun ≡ (start_of key s l).started.begun)
+    pub start-any-key : ((start_of key' a l).cells ≡ (start_of key a l).cells) × ((start_of key' a l).started.begun ≡ (start_of key a l).started.begun)
     unfolding start_of begun_of
-    start-any-key = (refl, go (eqb (open_of s l).opened.refusal.number 0))
+    start-any-key = (refl, go (eqb (open_of a l).opened.refusal.number 0))
       where
         go : (b : Bool) → (begins key' b).begun ≡ (begins key b).begun
         go true = refl
         go false = refl
 
     -- nor does an answer after any calls over any tables: members, passes, refusals, the marks of required names
-    pub any-key : (ts : List Table) → Agree (history s ts (start_run key s l)) (history s ts (start_run key' s l))
+    pub any-key : (ts : List Table) → Agree (history a ts (start_run key a l)) (history a ts (start_run key' a l))
     unfolding start_run start_of begun_of
-    any-key ts = go (eqb (open_of s l).opened.refusal.number 0)
+    any-key ts = go (eqb (open_of a l).opened.refusal.number 0)
       where
-        go : (b : Bool) → Agree (history s ts (run key b)) (history s ts (run key' b))
-        go true = agree-runs key' (history s ts (run key true)) (history s ts (run key' true)) (both-history key' ts (run key true) (run key' true) (record { cells = alike_same rows; walk = refl; offers = refl }))
-        go false = agree-runs 0 (history s ts (run key false)) (history s ts (run key' false)) (both-history 0 ts (run key false) (run key' false) (record { cells = alike_same rows; walk = refl; offers = refl }))
+        go : (b : Bool) → Agree (history a ts (run key b)) (history a ts (run key' b))
+        go true = agree-runs key' (history a ts (run key true)) (history a ts (run key' true)) (both-history key' ts (run key true) (run key' true) (record { cells = alike_same rows; walk = refl; offers = refl }))
+        go false = agree-runs 0 (history a ts (run key false)) (history a ts (run key' false)) (both-history 0 ts (run key false) (run key' false) (record { cells = alike_same rows; walk = refl; offers = refl }))
 
     -- nor does admission: under either key a name is required of a member just if a marked entry of the member bears it
-    pub required-any-key : begun_number (start_of key s l).started.begun ≡ 0 → (ts : List Table) (e : ℕ) → e < count_of s → (x : List ℕ)
-        → required_of s (history s ts (start_run key' s l)).cells (history s ts (start_run key' s l)).walk e x
-        ≡ required_of s (history s ts (start_run key s l)).cells (history s ts (start_run key s l)).walk e x
+    pub required-any-key : begun_number (start_of key a l).started.begun ≡ 0 → (ts : List Table) (e : ℕ) → e < entries_in a → (x : List ℕ)
+        → required_of s (history a ts (start_run key' a l)).cells (history a ts (start_run key' a l)).walk e x
+        ≡ required_of s (history a ts (start_run key a l)).cells (history a ts (start_run key a l)).walk e x
     required-any-key z ts e h x =
-        let r : Run = history s ts (start_run key s l) in
-        let r' : Run = history s ts (start_run key' s l) in
-        let c : ℕ = count_of s in
-        (walked key' s l (ap begun_number start-any-key.1 ∙ z) ts).asked e h x
-        ∙ any_same (asks s c r'.cells e x) (asks s c r.cells e x) c (λ j g. rw ((any-key ts).mark j))
-        ∙ sym ((walked key s l z ts).asked e h x)
+        let r : Run = history a ts (start_run key a l) in
+        let r' : Run = history a ts (start_run key' a l) in
+        let c : ℕ = entries_in a in
+        (walked key' a l (ap begun_number start-any-key.1 ∙ z) ts).asked e h x
+        ∙ any_same (asks a r'.cells e x) (asks a r.cells e x) c (λ j g. rw ((any-key ts).mark j))
+        ∙ sym ((walked key a l z ts).asked e h x)

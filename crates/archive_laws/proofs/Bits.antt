@@ -56,3 +56,8 @@ half-none (suc n) a h = half-none n (a / 2) (omega arith)
 pub half-word : (a : ℕ) → a < 0x100000000 → half 32 a ≡ 0
 unfolding power
 half-word a h = half-none 32 a h
+
+-- a key of one of 16 archives
+pub half-key : (a : ℕ) → a < 0x1000000000 → half 36 a ≡ 0
+unfolding power
+half-key a h = half-none 36 a h

@@ -13,7 +13,7 @@ use borrow.Author.Tests.{eqb-true, eq-eqb, ne_eqb, lt-ltb}
 use Rattle.byte_slices.specs.Bytes.{same}
 use Rattle.byte_slices.specs.Proof.Ways.{same_true, same_refl}
 use Rattle.keyed_hash.specs.Keyed.{hash_of}
-use Rattle.archive_index.specs.Rows.{required_at, member_at, next_at, head_at, stored_name, no_heads}
+use Rattle.archive_index.specs.Rows.{required_at, member_at, next_at, head_at, queue_at, stored_name, no_heads}
 use Rattle.archive_walk.specs.Names.{name_chain, along, bears_of, borne_from, chained, chain_at, headed_of, noted_of}
 use Rattle.archive_laws.specs.Members.{cnt, any_below}
 use Rattle.archive_laws.proofs.Counts.{clash, any-in, any_none, cnt-le, cnt-mono, cnt-less}
@@ -460,21 +460,40 @@ module _ (key : ℕ) (s : List ℕ) (c : ℕ) where
   pub heads-length : (n : ℕ) (l : List ℕ) → length (no_heads n l) ≡ length l
   unfolding no_heads
   heads-length zero l = refl
-  heads-length (suc n) l = length-set (no_heads n l) (n * 8 + 3) 0 ∙ heads-length n l
+  heads-length (suc n) l = length-set (set (no_heads n l) (n * 8 + 3) 0) (n * 8 + 7) 0 ∙ length-set (no_heads n l) (n * 8 + 3) 0 ∙ heads-length n l
 
-  pub heads-field : (n : ℕ) (l : List ℕ) (j g : ℕ) → g < 8 → (g ≡ 3 → ⊥) → get_or (no_heads n l) (j * 8 + g) 0 ≡ get_or l (j * 8 + g) 0
+  pub heads-field : (n : ℕ) (l : List ℕ) (j g : ℕ) → g < 7 → (g ≡ 3 → ⊥) → get_or (no_heads n l) (j * 8 + g) 0 ≡ get_or l (j * 8 + g) 0
   unfolding no_heads
   heads-field zero l j g h e = refl
-  heads-field (suc n) l j g h e = get_or-set_other (no_heads n l) (n * 8 + 3) (j * 8 + g) 0 0 (λ z. e (omega arith)) ∙ heads-field n l j g h e
+  heads-field (suc n) l j g h e =
+      get_or-set_other (set (no_heads n l) (n * 8 + 3) 0) (n * 8 + 7) (j * 8 + g) 0 0 (λ z. omega (arith, z))
+      ∙ get_or-set_other (no_heads n l) (n * 8 + 3) (j * 8 + g) 0 0 (λ z. e (omega arith)) ∙ heads-field n l j g h e
 
   heads-none : (n : ℕ) (l : List ℕ) → n * 8 ≤ length l → (b : ℕ) → b < n → head_at (no_heads n l) b ≡ 0
   unfolding no_heads
   heads-none zero l r b h = absurd (not-suc-le-zero h)
-  heads-none (suc n) l r b h = go (ℕ_discrete b n) (λ i. heads-none n l (omega arith) b i)
+  heads-none (suc n) l r b h =
+      get_or-set_other (set (no_heads n l) (n * 8 + 3) 0) (n * 8 + 7) (b * 8 + 3) 0 0 (λ z. omega (arith, z))
+      ∙ go (ℕ_discrete b n) (λ i. heads-none n l (omega arith) b i)
     where
       go : Dec (b ≡ n) → (b < n → head_at (no_heads n l) b ≡ 0) → get_or (set (no_heads n l) (n * 8 + 3) 0) (b * 8 + 3) 0 ≡ 0
       go (yes e) i = rw e (get_or-set_same (no_heads n l) (n * 8 + 3) 0 0 (omega (arith, heads-length n l)))
       go (no e) i = get_or-set_other (no_heads n l) (n * 8 + 3) (b * 8 + 3) 0 0 (λ z. e (omega arith)) ∙ i (omega arith)
+
+  -- nor has a place of the queue
+  pub queue-none : (n : ℕ) (l : List ℕ) → n * 8 ≤ length l → (b : ℕ) → b < n → queue_at (no_heads n l) b ≡ 0
+  unfolding no_heads
+  queue-none zero l r b h = absurd (not-suc-le-zero h)
+  queue-none (suc n) l r b h = go (ℕ_discrete b n) (λ i. queue-none n l (omega arith) b i)
+    where
+      go : Dec (b ≡ n) → (b < n → queue_at (no_heads n l) b ≡ 0) → get_or (set (set (no_heads n l) (n * 8 + 3) 0) (n * 8 + 7) 0) (b * 8 + 7) 0 ≡ 0
+      go (yes e) i =
+          rw e
+          (get_or-set_same (set (no_heads n l) (n * 8 + 3) 0) (n * 8 + 7) 0 0
+          (omega (arith, heads-length n l, length-set (no_heads n l) (n * 8 + 3) 0)))
+      go (no e) i =
+          get_or-set_other (set (no_heads n l) (n * 8 + 3) 0) (n * 8 + 7) (b * 8 + 7) 0 0 (λ z. e (omega arith))
+          ∙ get_or-set_other (no_heads n l) (n * 8 + 3) (b * 8 + 7) 0 0 (λ z. omega (arith, z)) ∙ i (omega arith)
 
   module _ (l : List ℕ) (room : c * 8 ≤ length l) (unmarked : (j : ℕ) → j < c → required_at l j ≡ 0) where
     nobody : (r : ℕ) (x : List ℕ) (j : ℕ) → j < c → bears_of s (no_heads c l) r x j ≡ false

@@ -1,5 +1,5 @@
 -- The reading of an index is right: of the bytes of any list of entries (the System V format, gabi/specs/ArchiveIndex.antt), whatever stands behind them, the
--- count, each offset and each name are the list's, and opening them is refused for too many entries or too few rows alone.
+-- count, each offset and each name are the list's, and they are refused for too many entries alone.
 -- Assumes nothing.
 use Prim.Native.Nat.{ℕ, suc, ◌+◌, ◌*◌, ◌/◌, ◌%◌, ◌<◌, ◌≤◌}
 use Rattle.std.proofs.Math.Nat.{div-div-eq-div-mul}
@@ -13,7 +13,8 @@ use Rattle.std.proofs.Math.Seq.{drop_at}
 use borrow.Author.Tests.{lt-ltb, le-ltb, ne_eqb}
 use Rattle.gabi.specs.StringTable.{before_zero, ended, name_at}
 use Rattle.gabi.specs.ArchiveIndex.{Entry, word, offsets, names, index_bytes, NoZero, AllFit}
-use Rattle.archive_index.specs.Open.{offsets_in, refused_as, open_rows_of, open_names_of, open_entries_of, open_of}
+use Rattle.archive_index.specs.Open.{offsets_in, judge_index}
+use Rattle.link.specs.Judge.{refused, none}
 use Rattle.archive_index.specs.Index.{word_at, count_of, offset_of, after_of, names_at, place_of, name_of, cut_of}
 use Rattle.archive_laws.specs.StartRead.{bytes_of}
 
@@ -141,22 +142,17 @@ module _ (es : List Entry) (rest : List ℕ) where
   unfolding count_of index_bytes
   count-read many = word_read bytes ((offsets es ++ names es) ++ rest) 0 (length es) many (append_assoc (word (length es)) (offsets es ++ names es) rest)
 
-  -- opening them is refused for their number, else for the rows lent (open_rows_of), and for nothing else
-  pub start-read : length es < 4294967296 → AllFit es → (cells : List ℕ)
-      → open_of bytes cells ≡ cond (ltb 65535 (length es)) (refused_as cells 1 65535) (open_rows_of bytes cells (length es) (names_at (length es)))
-  unfolding open_of open_entries_of open_names_of
-  start-read many fit cells =
+  -- as an index whose first entry is entry b of all they are refused for their number, and for nothing else
+  pub index-read : length es < 4294967296 → AllFit es → (b : ℕ) → judge_index bytes b ≡ cond (ltb 65535 (b + length es)) (refused 1 65535) none
+  unfolding judge_index
+  index-read many fit b =
       let z : 0 + length es ≡ length es = omega arith in
       let l : 4 + 4 * length es ≤ length bytes = long in
       let c : cut_of bytes (names_at (length es)) (length es) 0 ≡ length es = none-cut bytes rest (length es) es 0 (names_at (length es)) fit after-offsets ∙ z in
-      rw (
-        ne_eqb (length bytes) 0 (λ (i : length bytes ≡ 0). omega arith),
-        le-ltb (length bytes) 4 (omega arith),
-        counted many,
-        le-ltb (offsets_in (length bytes)) (length es) (omega arith),
-        c,
-        le-ltb (length es) (length es) (omega arith),
-      )
+      rw (le-ltb (length bytes) 4 (omega arith), counted many, le-ltb (offsets_in (length bytes)) (length es) (omega arith), c, le-ltb (length es) (length es) (omega arith))
+
+  pub some-bytes : length bytes ≡ 0 → ⊥
+  some-bytes z = let l : 4 + 4 * length es ≤ length bytes = long in omega arith
 
 -- the entry e behind those of a
 module _ (a b : List Entry) (e : Entry) (rest : List ℕ) (fit : AllFit (a ++ e ∷ b)) where

@@ -11,6 +11,7 @@ use mathlib.Core.List.{List, [], ◌∷◌}
 use Rattle.std.proofs.Math.Dec.{ltb}
 use borrow.Author.Tests.{ne_eqb, ltb-true, ltb-false, lt-ltb}
 use Rattle.byte_slices.specs.Bytes.{same}
+use Rattle.archive_index.specs.Archives.{Archives}
 use Rattle.archive_index.specs.Rows.{required_at, queue_at}
 use Rattle.archive_walk.specs.declared.Walk.{Walk}
 use Rattle.archive_walk.specs.Look.{Table}
@@ -29,7 +30,7 @@ use Rattle.archive_laws.proofs.Asked.{asked_is, asked-then}
 use Rattle.archive_laws.proofs.AnswersLemmas.{right}
 use Rattle.archive_laws.specs.ByKey.{tied_in, asks, queue_in, Pass, Walked}
 
-module _ (key : ℕ) (s : List ℕ) (keys : ℕ → ℕ) (named : ℕ → List ℕ) (c : ℕ) where
+module _ (key : ℕ) (s : Archives) (keys : ℕ → ℕ) (named : ℕ → List ℕ) (c : ℕ) where
   -- ---- calls
 
   told-next : (t : Table) (r : Run) → Fine key s keys named c r → Kept keys c (seen r) → Kept keys c (seen (step_run s t r))
@@ -49,7 +50,7 @@ module _ (key : ℕ) (s : List ℕ) (keys : ℕ → ℕ) (named : ℕ → List �
 
   module _ (r : Run) (f : Fine key s keys named c r) (k : Kept keys c (seen r)) where
     fits-going : r.walk.done ≡ false → walk_fits s r.cells r.walk ≡ true
-    fits-going e = subst (λ (w : Walk). walk_fits s r.cells w ≡ true) (walk-parts r.walk.key r.walk.entries r.walk.done f.keyed f.entries e) (going-fits key s keys named c r.cells r.walk.length r.walk.passes r.walk.queued r.walk.offered f.whole f.sound (subst (λ (d : Bool). Kept keys c (rounds_of (queue_in r) r.walk.offered r.walk.passes d)) e k))
+    fits-going e = subst (λ (w : Walk). walk_fits s r.cells w ≡ true) (walk-parts r.walk.key r.walk.entries r.walk.done f.keyed f.entries e) (going-fits key s keys named c r.cells r.walk.length r.walk.passes r.walk.queued r.walk.offered f.lent f.sound (subst (λ (d : Bool). Kept keys c (rounds_of (queue_in r) r.walk.offered r.walk.passes d)) e k))
       where
         parts : ℕ → ℕ → Bool → Walk
         parts k n d = record { key = k; entries = n; length = r.walk.length; passes = r.walk.passes; queued = r.walk.queued; offered = r.walk.offered; done = d }
@@ -85,7 +86,7 @@ module _ (key : ℕ) (s : List ℕ) (keys : ℕ → ℕ) (named : ℕ → List �
           all = λ j h e. rw g (pull-into keys (tied_in named t) c 0 r.offers j (omega arith) (omega arith) e);
           required = λ j h.
               written j h ∙ ap (λ (q : List ℕ). cond (tied_in named t j) (cond (among keys j q) (required_at r.cells j) 1) (required_at r.cells j)) (sym d);
-          names = λ e h o x. asked-then key s keys named c r'.cells f'.sound.rows r'.walk f'.keyed f'.entries e h x t (marked e o);
+          names = λ e h o x. asked-then key s.bytes keys named c r'.cells f'.sound.rows r'.walk f'.keyed f'.entries e h x t (marked e o);
           pulled = g;
         }
       where
@@ -98,7 +99,7 @@ module _ (key : ℕ) (s : List ℕ) (keys : ℕ → ℕ) (named : ℕ → List �
         written : (j : ℕ) → j < c → required_at r'.cells j ≡ cond (tied_in named t j) (cond (among keys j (queue_in r)) (required_at r.cells j) 1) (required_at r.cells j)
         written j h =
             rw (step-wrote key s keys named c t r f k p)
-            (required-pass key s keys named c t (r.walk.passes + 1) (λ z. omega arith) r.cells r.walk.queued f.sound (λ i e. omega (arith, f.low i e)) j h)
+            (required-pass key s.bytes keys named c t (r.walk.passes + 1) (λ z. omega arith) r.cells r.walk.queued f.sound (λ i e. omega (arith, f.low i e)) j h)
 
         marked : (e : ℕ) → among keys e r.offers ≡ false → (j : ℕ) → j < c → Same keys j e → required_at r'.cells j ≡ cond (tied_in named t j) 1 0
         marked e o j h d =
@@ -118,11 +119,11 @@ module _ (key : ℕ) (s : List ℕ) (keys : ℕ → ℕ) (named : ℕ → List �
             d.required j h ∙ rw (d.drained, e) (either (tied_in named t j) (required_at r.cells j))
         go (no p) = ap (λ (m : List ℕ). required_at m j) (step_left key s keys named c t r f k p)
 
-    names-kept : (t : Table) (e : ℕ) → e < c → among keys e (queue_in r) ≡ true → (x : List ℕ) → required_of s (step_run s t r).cells (step_run s t r).walk e x ≡ required_of s r.cells r.walk e x
+    names-kept : (t : Table) (e : ℕ) → e < c → among keys e (queue_in r) ≡ true → (x : List ℕ) → required_of s.bytes (step_run s t r).cells (step_run s t r).walk e x ≡ required_of s.bytes r.cells r.walk e x
     names-kept t e h o x =
-        asked_is key s keys named c (step_run s t r).cells f'.sound.rows (step_run s t r).walk f'.keyed f'.entries e h x
+        asked_is key s.bytes keys named c (step_run s t r).cells f'.sound.rows (step_run s t r).walk f'.keyed f'.entries e h x
         ∙ any_same (asks keys named (step_run s t r).cells e x) (asks keys named r.cells e x) c (λ j g. one j g (ℕ_discrete (keys j) (keys e)))
-        ∙ sym (asked_is key s keys named c r.cells f.sound.rows r.walk f.keyed f.entries e h x)
+        ∙ sym (asked_is key s.bytes keys named c r.cells f.sound.rows r.walk f.keyed f.entries e h x)
       where
         f' : Fine key s keys named c (step_run s t r)
         f' = (step-agrees key s keys named c t r f k).0
@@ -204,7 +205,7 @@ module _ (key : ℕ) (s : List ℕ) (keys : ℕ → ℕ) (named : ℕ → List �
           ends = end-facts r f k;
           some-pass = k.some-pass;
           last = last-facts r f k;
-          asked = λ e h x. asked_is key s keys named c r.cells f.sound.rows r.walk f.keyed f.entries e h x;
+          asked = λ e h x. asked_is key s.bytes keys named c r.cells f.sound.rows r.walk f.keyed f.entries e h x;
           chains-asked = f.sound.rows.linked.only;
           chains-apart = f.sound.rows.linked.apart;
           names-stay = names-kept r f k;

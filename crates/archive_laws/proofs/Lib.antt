@@ -17,5 +17,10 @@ pub mod KeyedWalk
 pub mod Bits
 pub mod Asked
 pub mod Entries
+pub mod Opened
+pub mod One
+pub mod Joined
+pub mod EveryIndex
+pub mod Twice
 pub mod Counts
 pub mod Required

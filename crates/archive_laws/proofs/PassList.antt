@@ -9,7 +9,7 @@ use Rattle.std.proofs.Common.{ap, subst, ◌∙◌, inl, inr, eqb-true}
 use Rattle.std.proofs.Math.Bool.{true, false, cond}
 use mathlib.Core.List.{List, [], ◌∷◌, ◌++◌, append-nil, append_assoc}
 use Rattle.cells.specs.Proof.Split.{by-test}
-use Rattle.archive_index.specs.Index.{count_of, offset_of, name_of}
+use Rattle.archive_index.specs.Archives.{Archives, entries_in, name_in, key_in}
 use Rattle.archive_walk.specs.Look.{Table}
 use Rattle.archive_walk.specs.Walk.{begun_number, start_of}
 use Rattle.archive_laws.specs.Members.{View, Rounds, pull_at, pull, round, rounds, fresh}
@@ -131,19 +131,19 @@ module _ (keys : ℕ → ℕ) (c : ℕ) where
   views-append named [] us a = refl
   views-append named (t ∷ ts) us a = views-append named ts us (round keys c (view_by named c t) a)
 
-history-append : (s : List ℕ) (ts us : List Table) (r : Run) → history s (ts ++ us) r ≡ history s us (history s ts r)
+history-append : (s : Archives) (ts us : List Table) (r : Run) → history s (ts ++ us) r ≡ history s us (history s ts r)
 unfolding history
 history-append s [] us r = refl
 history-append s (t ∷ ts) us r = history-append s ts us (step_run s t r)
 
-history-one : (s : List ℕ) (ts : List Table) (t : Table) (r : Run) → history s (ts ++ (t ∷ [])) r ≡ step_run s t (history s ts r)
+history-one : (s : Archives) (ts : List Table) (t : Table) (r : Run) → history s (ts ++ (t ∷ [])) r ≡ step_run s t (history s ts r)
 unfolding history
 history-one s ts t r = history-append s ts (t ∷ []) r
 
 -- ---- a walk
 
 -- calls from any run on, of which the promises hold
-module _ (s : List ℕ) (keys : ℕ → ℕ) (named : ℕ → List ℕ) (c : ℕ) (start : Run) (promised : (ts : List Table) → Walked s keys named c ts (history s ts start)) where
+module _ (s : Archives) (keys : ℕ → ℕ) (named : ℕ → List ℕ) (c : ℕ) (start : Run) (promised : (ts : List Table) → Walked s keys named c ts (history s ts start)) where
   abbrev run_at : List Table → Run
   run_at ts = history s ts start
 
@@ -197,10 +197,10 @@ module _ (s : List ℕ) (keys : ℕ → ℕ) (named : ℕ → List ℕ) (c : ℕ
 
 -- ---- the walk over an archive
 
-pub among_in : (s : List ℕ) (k : ℕ) (q : List ℕ) → among s k q ≡ is_in (offset_of s k) (keys_of (offset_of s) q)
-among_in s = among-keys (offset_of s)
+pub among_in : (a : Archives) (k : ℕ) (q : List ℕ) → among a k q ≡ is_in (key_in a k) (keys_of (key_in a) q)
+among_in a = among-keys (key_in a)
 
-module _ (key : ℕ) (s cells : List ℕ) (begun : begun_number (start_of key s cells).started.begun ≡ 0) where
+module _ (key : ℕ) (s : Archives) (cells : List ℕ) (begun : begun_number (start_of key s cells).started.begun ≡ 0) where
   module _ (ts : List Table) (t : Table) (us : List Table) where
     -- before the call over t, and after the calls over us that follow it
     abbrev pub run_before : Run
@@ -211,4 +211,4 @@ module _ (key : ℕ) (s cells : List ℕ) (begun : begun_number (start_of key s 
 
     pub pass-offers : (step_run s t run_before).walk.passes ≡ run_before.walk.passes + 1 → run_after.walk.passes ≡ (step_run s t run_before).walk.passes → Over key s cells begun run_after
         → offered s run_after ≡ offered s run_before ++ without (offered s run_before) (first_seen (tied_members s t))
-    pass-offers = pass-keys s (offset_of s) (name_of s (count_of s)) (count_of s) (start_run key s cells) (walked key s cells begun) ts t us
+    pass-offers = pass-keys s (key_in s) (name_in s) (entries_in s) (start_run key s cells) (walked key s cells begun) ts t us

@@ -1,17 +1,17 @@
 -- A call over the cells is a call of the definition.
 -- Assumes nothing.
-use Rattle.archive_walk.specs.declared.Offer.TheVariants.{Done, Member}
+use Rattle.archive_walk.specs.declared.Offer.TheVariants.{Done}
 use Rattle.std.specs.Prelude.{ℕ, ◌+◌, ◌≤◌, ◌≡◌, Bool, cond, length, Ok}
 use Rattle.std.proofs.Common.{add-one, arith, subst, ◌∙◌}
 use Rattle.std.proofs.Math.Path.{refl, sym, ap}
 use Rattle.std.proofs.Math.Bool.{true, false}
 use mathlib.Core.List.{List, ◌∷◌}
 use Rattle.std.proofs.Math.Dec.{eqb, ltb}
-use Rattle.archive_index.specs.Index.{offset_of}
+use Rattle.archive_index.specs.Archives.{Archives}
 use Rattle.archive_index.specs.Rows.{queue_at}
 use Rattle.archive_walk.specs.declared.Walk.{Walk}
 use Rattle.archive_walk.specs.Look.{Table, judge_table}
-use Rattle.archive_walk.specs.Walk.{step_of, step_moved, refused_move, offer_of, Queue, queue_of, tie_all, removed_of, make_of, search_of, pass_of, walk_fits, go_of, next_of}
+use Rattle.archive_walk.specs.Walk.{step_of, step_moved, refused_move, member_offered, offer_of, Queue, queue_of, tie_all, removed_of, make_of, search_of, pass_of, walk_fits, go_of, next_of}
 use Rattle.archive_walk.specs.Proof.Ways.{fits_all}
 use Rattle.archive_laws.specs.Members.{is_first, members, View, pull, Rounds, rounds_of, front_of, pass_round, round}
 use Rattle.archive_laws.proofs.Counts.{clash, cnt-le, once-members}
@@ -19,9 +19,13 @@ use Rattle.archive_laws.proofs.RoundLaws.{Kept}
 use Rattle.archive_laws.specs.Runs.{queue_list, view_by, Run, run_of, ran_of, step_run, seen}
 use Rattle.archive_laws.specs.Pass.{Sound, Low}
 use Rattle.archive_laws.proofs.Pass.{queue-length, Made, made-pass, search_is}
-use Rattle.archive_laws.specs.Steps.{Fine}
+use Rattle.archive_laws.specs.Steps.{Lent, Fine}
 
-module _ (key : ℕ) (s : List ℕ) (keys : ℕ → ℕ) (named : ℕ → List ℕ) (c : ℕ) where
+-- so far the slice is no shorter than at the start
+pub long-enough : (s : Archives) (n : ℕ) → Lent s n → n ≤ length s.bytes
+long-enough s n h = omega (arith, h.whole, h.within)
+
+module _ (key : ℕ) (s : Archives) (keys : ℕ → ℕ) (named : ℕ → List ℕ) (c : ℕ) where
   -- ---- the ways of a call of the definition
 
   module _ (v : View) (q : List ℕ) (o p : ℕ) where
@@ -52,28 +56,28 @@ module _ (key : ℕ) (s : List ℕ) (keys : ℕ → ℕ) (named : ℕ → List �
   record Agree (t : Table) (l : List ℕ) (q : ℕ) (a : Rounds) (r : Run) : Type 0 where
     fine : Fine key s keys named c r
     same : seen r ≡ round keys c (view_by named c t) a
-    wrote : r.walk.passes ≡ a.passes + 1 → r.cells ≡ (tie_all key c s t (a.passes + 1) c 0 (queue_of l q)).cells
+    wrote : r.walk.passes ≡ a.passes + 1 → r.cells ≡ (tie_all key c s.bytes t (a.passes + 1) c 0 (queue_of l q)).cells
     left : (r.walk.passes ≡ a.passes + 1 → ⊥) → r.cells ≡ l
 
   -- the counts of a walk that goes on are those of a walk
-  pub going-fits : (l : List ℕ) (n p q o : ℕ) → n ≤ length s → Sound key s keys named c l q → Kept keys c (rounds_of (queue_list l q) o p false)
+  pub going-fits : (l : List ℕ) (n p q o : ℕ) → Lent s n → Sound key s.bytes keys named c l q → Kept keys c (rounds_of (queue_list l q) o p false)
       → walk_fits s l (walk_at n p q o false) ≡ true
   going-fits l n p q o h y k =
       let long : length (queue_list l q) ≡ q = queue-length l q in
       let few : length (queue_list l q) ≤ members keys c = once-members keys c (queue_list l q) y.marks.once y.marks.below in
-      sym (fits_all s l (walk_at n p q o false) true h (omega (arith, y.rows.room)) (omega (arith, cnt-le (is_first keys) c)) (omega (arith, k.some)) (omega (arith, k.going refl)) refl)
+      sym (fits_all s l (walk_at n p q o false) true h.few h.within h.whole (omega (arith, y.rows.room)) (omega (arith, cnt-le (is_first keys) c)) (omega (arith, k.some)) (omega (arith, k.going refl)) refl)
 
-  module _ (t : Table) (l : List ℕ) (n p q o : ℕ) (os : List ℕ) (h : n ≤ length s) (y : Sound key s keys named c l q) (b : Low key s keys named c p l) (e : os ≡ queue_list l o) where
+  module _ (t : Table) (l : List ℕ) (n p q o : ℕ) (os : List ℕ) (h : Lent s n) (y : Sound key s.bytes keys named c l q) (b : Low key s.bytes keys named c p l) (e : os ≡ queue_list l o) where
     abbrev v : View
     v = view_by named c t
 
     abbrev u : Queue
-    u = tie_all key c s t (p + 1) c 0 (queue_of l q)
+    u = tie_all key c s.bytes t (p + 1) c 0 (queue_of l q)
 
-    made : Made key s keys named c (p + 1) l q (pull keys v.tied c 0 (queue_list l q)) u
-    made = made-pass key s keys named c t (p + 1) (λ z. omega arith) l q y
+    made : Made key s.bytes keys named c (p + 1) l q (pull keys v.tied c 0 (queue_list l q)) u
+    made = made-pass key s.bytes keys named c t (p + 1) (λ z. omega arith) l q y
 
-    later : Low key s keys named c (p + 1) l
+    later : Low key s.bytes keys named c (p + 1) l
     later j g = omega (arith, b j g)
 
     one-sent : (m : List ℕ) → os ≡ queue_list m o → queue_at m o ∷ os ≡ queue_list m (o + 1)
@@ -88,37 +92,37 @@ module _ (key : ℕ) (s : List ℕ) (keys : ℕ → ℕ) (named : ℕ → List �
 
     -- a refusal leaves the run
     left_alone : Fine key s keys named c (run_of l (walk_at n p q o false) os)
-    left_alone = record { keyed = refl; entries = refl; whole = h; sound = y; low = b; sent = e }
+    left_alone = record { keyed = refl; entries = refl; lent = h; sound = y; low = b; sent = e }
 
     -- the definition's test for a refusal, at each way
     judged-out : eqb (judge_table t).number 0 ≡ false → v.refused ≡ true
     judged-out f = rw f
 
-    judged-in : (b : Bool) → eqb (judge_table t).number 0 ≡ true → ltb (removed_of s l t c 0) c ≡ b → v.refused ≡ b
-    judged-in b f g = rw f (sym (search_is key s keys named c l t y.rows) ∙ g)
+    judged-in : (b : Bool) → eqb (judge_table t).number 0 ≡ true → ltb (removed_of s.bytes l t c 0) c ≡ b → v.refused ≡ b
+    judged-in b f g = rw f (sym (search_is key s.bytes keys named c l t y.rows) ∙ g)
 
     step-going : Kept keys c (rounds_of (queue_list l q) o p false) → Agree t l q (rounds_of (queue_list l q) o p false) (step_run s t (run_of l (walk_at n p q o false) os))
     unfolding step_run next_of go_of offer_of pass_of search_of make_of
     step-going k =
-        go (walk_fits s l (walk_at n p q o false)) (ltb o q) (eqb (judge_table t).number 0) (ltb (removed_of s l t c 0) c) (ltb o u.queued)
+        go (walk_fits s l (walk_at n p q o false)) (ltb o q) (eqb (judge_table t).number 0) (ltb (removed_of s.bytes l t c 0) c) (ltb o u.queued)
         (going-fits l n p q o h y k) refl refl refl refl
       where
-        go : (w f j x z : Bool) → w ≡ true → ltb o q ≡ f → eqb (judge_table t).number 0 ≡ j → ltb (removed_of s l t c 0) c ≡ x → ltb o u.queued ≡ z
+        go : (w f j x z : Bool) → w ≡ true → ltb o q ≡ f → eqb (judge_table t).number 0 ≡ j → ltb (removed_of s.bytes l t c 0) c ≡ x → ltb o u.queued ≡ z
             → Agree t l q (rounds_of (queue_list l q) o p false)
             (ran_of
             (cond w
             (cond f
-            (cond f (step_of l (walk_at n p q (o + 1) false) (Ok (Member (offset_of s (queue_at l o)) (queue_at l o) p))) (step_of l (walk_at n p q o true) (Ok (Done p))))
+            (cond f (step_of l (walk_at n p q (o + 1) false) (Ok (member_offered s (queue_at l o) p))) (step_of l (walk_at n p q o true) (Ok (Done p))))
             (cond j
-            (cond x (step_moved l (refused_move (walk_at n p q o false) 21 (removed_of s l t c 0)))
-            (cond z (step_of u.cells (walk_at n (p + 1) u.queued (o + 1) false) (Ok (Member (offset_of s (queue_at u.cells o)) (queue_at u.cells o) (p + 1))))
+            (cond x (step_moved l (refused_move (walk_at n p q o false) 21 (removed_of s.bytes l t c 0)))
+            (cond z (step_of u.cells (walk_at n (p + 1) u.queued (o + 1) false) (Ok (member_offered s (queue_at u.cells o) (p + 1))))
             (step_of u.cells (walk_at n (p + 1) u.queued o true) (Ok (Done (p + 1))))))
             (step_moved l (refused_move (walk_at n p q o false) (judge_table t).number (judge_table t).place))))
             (step_moved l (refused_move (walk_at n p q o false) 1 0)))
             os)
         go false f j x z ew ef ej ex ez = clash false ew refl
         go true true j x z ew ef ej ex ez = record {
-          fine = record { keyed = refl; entries = refl; whole = h; sound = y; low = b; sent = one-sent l e };
+          fine = record { keyed = refl; entries = refl; lent = h; sound = y; low = b; sent = one-sent l e };
           same = sym (round-sent v (queue_list l q) o p (at-pass true ef));
           wrote = λ z. absurd (omega arith);
           left = λ z. refl;
@@ -136,13 +140,13 @@ module _ (key : ℕ) (s : List ℕ) (keys : ℕ → ℕ) (named : ℕ → List �
           left = λ z. refl;
         }
         go true false true false true ew ef ej ex ez = record {
-          fine = record { keyed = refl; entries = refl; whole = h; sound = made.sound; low = made.low later; sent = one-sent u.cells (e ∙ sym (made.front o (omega (arith, k.some, queue-length l q)))) };
+          fine = record { keyed = refl; entries = refl; lent = h; sound = made.sound; low = made.low later; sent = one-sent u.cells (e ∙ sym (made.front o (omega (arith, k.some, queue-length l q)))) };
           same = sym (round-made v (queue_list l q) o p (queue_list u.cells u.queued) (at-pass false ef) (judged-in false ej ex) made.queue (at-made true ez));
           wrote = λ z. refl;
           left = λ z. absurd (z refl);
         }
         go true false true false false ew ef ej ex ez = record {
-          fine = record { keyed = refl; entries = refl; whole = h; sound = made.sound; low = made.low later; sent = e ∙ sym (made.front o (omega (arith, k.some, queue-length l q))) };
+          fine = record { keyed = refl; entries = refl; lent = h; sound = made.sound; low = made.low later; sent = e ∙ sym (made.front o (omega (arith, k.some, queue-length l q))) };
           same = sym (round-last v (queue_list l q) o p (queue_list u.cells u.queued) (at-pass false ef) (judged-in false ej ex) made.queue (at-made false ez));
           wrote = λ z. refl;
           left = λ z. absurd (z refl);
@@ -150,9 +154,9 @@ module _ (key : ℕ) (s : List ℕ) (keys : ℕ → ℕ) (named : ℕ → List �
 
     step-done : Agree t l q (rounds_of (queue_list l q) o p true) (step_run s t (run_of l (walk_at n p q o true) os))
     unfolding step_run next_of
-    step-done = record { fine = record { keyed = refl; entries = refl; whole = h; sound = y; low = b; sent = e }; same = sym (round-done v (queue_list l q) o p); wrote = λ z. absurd (omega arith); left = λ z. refl }
+    step-done = record { fine = record { keyed = refl; entries = refl; lent = h; sound = y; low = b; sent = e }; same = sym (round-done v (queue_list l q) o p); wrote = λ z. absurd (omega arith); left = λ z. refl }
 
-  step-at : (t : Table) (l : List ℕ) (n p q o : ℕ) (d : Bool) (os : List ℕ) → n ≤ length s → Sound key s keys named c l q → Low key s keys named c p l → os ≡ queue_list l o
+  step-at : (t : Table) (l : List ℕ) (n p q o : ℕ) (d : Bool) (os : List ℕ) → Lent s n → Sound key s.bytes keys named c l q → Low key s.bytes keys named c p l → os ≡ queue_list l o
       → Kept keys c (rounds_of (queue_list l q) o p d) → Agree t l q (rounds_of (queue_list l q) o p d) (step_run s t (run_of l (walk_at n p q o d) os))
   step-at t l n p q o true os h y b e k = step-done t l n p q o os h y b e
   step-at t l n p q o false os h y b e k = step-going t l n p q o os h y b e k
@@ -172,14 +176,14 @@ module _ (key : ℕ) (s : List ℕ) (keys : ℕ → ℕ) (named : ℕ → List �
   agrees t r f k =
       let w = r.walk in
       subst (λ (z : Run). Agree t r.cells w.queued (seen r) (step_run s t z)) (sym (parts r f.keyed f.entries))
-      (step-at t r.cells w.length w.passes w.queued w.offered w.done r.offers f.whole f.sound f.low f.sent k)
+      (step-at t r.cells w.length w.passes w.queued w.offered w.done r.offers f.lent f.sound f.low f.sent k)
 
   pub step-agrees : (t : Table) (r : Run) → Fine key s keys named c r → Kept keys c (seen r) → Fine key s keys named c (step_run s t r) × (seen (step_run s t r) ≡ round keys c (view_by named c t) (seen r))
   step-agrees t r f k = let x = agrees t r f k in (x.fine, x.same)
 
   -- the cells after a pass
   pub step-wrote : (t : Table) (r : Run) → Fine key s keys named c r → Kept keys c (seen r) → (step_run s t r).walk.passes ≡ r.walk.passes + 1
-      → (step_run s t r).cells ≡ (tie_all key c s t (r.walk.passes + 1) c 0 (queue_of r.cells r.walk.queued)).cells
+      → (step_run s t r).cells ≡ (tie_all key c s.bytes t (r.walk.passes + 1) c 0 (queue_of r.cells r.walk.queued)).cells
   step-wrote t r f k = (agrees t r f k).wrote
 
   -- a call that makes no pass writes nothing

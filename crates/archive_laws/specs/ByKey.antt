@@ -4,6 +4,7 @@
 -- Assumes nothing.
 use Rattle.std.specs.Prelude.{ℕ, ◌+◌, ◌<◌, ◌≤◌, ◌≡◌, Bool, true, false, cond, List, eqb}
 use Rattle.byte_slices.specs.Bytes.{same}
+use Rattle.archive_index.specs.Archives.{Archives}
 use Rattle.archive_index.specs.Rows.{required_at, head_at}
 use Rattle.archive_walk.specs.Look.{Table, tied_name}
 use Rattle.archive_walk.specs.Names.{along, required_of}
@@ -32,17 +33,17 @@ queue_in r = queue_list r.cells r.walk.queued
 
 -- a call over table t made a pass: all that was queued has been offered; what it queues are, in index order, the entries that tie a member not offered
 -- before to a name undefined at its start, one for each such member, its first
-pub record Pass (s : List ℕ) (keys : ℕ → ℕ) (named : ℕ → List ℕ) (c : ℕ) (t : Table) (r r' : Run) : Type 0 where
+pub record Pass (s : Archives) (keys : ℕ → ℕ) (named : ℕ → List ℕ) (c : ℕ) (t : Table) (r r' : Run) : Type 0 where
   pub drained : r.offers ≡ queue_in r
   pub newly : Newly keys (tied_in named t) r.offers c (queue_in r')
   pub all : (k : ℕ) → k < c → tied_in named t k ≡ true → among keys k (queue_in r') ≡ true
   -- the names that admission will ask for: those of the tied entries of the members that this pass queues; earlier ones stay
   pub required : (k : ℕ) → k < c → required_at r'.cells k ≡ cond (tied_in named t k) (cond (among keys k r.offers) (required_at r.cells k) 1) (required_at r.cells k)
   -- so of a member that was not offered before just those names are required that the index ties to it and that are undefined at the pass
-  pub names : (e : ℕ) → e < c → among keys e r.offers ≡ false → (x : List ℕ) → required_of s r'.cells r'.walk e x ≡ cond (tied_name t x) (in_index keys named c e x) false
+  pub names : (e : ℕ) → e < c → among keys e r.offers ≡ false → (x : List ℕ) → required_of s.bytes r'.cells r'.walk e x ≡ cond (tied_name t x) (in_index keys named c e x) false
   pub pulled : queue_in r' ≡ pull keys (tied_in named t) c 0 r.offers
 
-pub record Walked (s : List ℕ) (keys : ℕ → ℕ) (named : ℕ → List ℕ) (c : ℕ) (ts : List Table) (r : Run) : Type 0 where
+pub record Walked (s : Archives) (keys : ℕ → ℕ) (named : ℕ → List ℕ) (c : ℕ) (ts : List Table) (r : Run) : Type 0 where
   -- the calls are the definition's: passes, queue and "done" are those of its rounds
   pub same-rounds : seen r ≡ rounds keys c (views_by named c ts) fresh
   -- no call is refused on account of the walk or its cells
@@ -62,12 +63,12 @@ pub record Walked (s : List ℕ) (keys : ℕ → ℕ) (named : ℕ → List ℕ)
   -- the last pass: no name undefined in its table is tied to a member that was not offered
   pub last : (t : Table) → r.walk.done ≡ false → (step_run s t r).walk.done ≡ true → (k : ℕ) → k < c → tied_in named t k ≡ true → among keys k (step_run s t r).offers ≡ true
   -- admission asks for a name just if it is that of a marked entry of the member
-  pub asked : (e : ℕ) → e < c → (x : List ℕ) → required_of s r.cells r.walk e x ≡ any_below (asks keys named r.cells e x) c
+  pub asked : (e : ℕ) → e < c → (x : List ℕ) → required_of s.bytes r.cells r.walk e x ≡ any_below (asks keys named r.cells e x) c
   -- for the time that admission takes: a chain has marked entries only, no two of one member and name
   pub chains-asked : (b : ℕ) → b < c → (n : ℕ) → along r.cells (unasked r.cells) (head_at r.cells b) n ≡ false
-  pub chains-apart : (b : ℕ) → b < c → (n : ℕ) → repeats s r.cells (head_at r.cells b) n ≡ false
+  pub chains-apart : (b : ℕ) → b < c → (n : ℕ) → repeats s.bytes r.cells (head_at r.cells b) n ≡ false
   -- the names required of a queued member stay, though they may be defined since
-  pub names-stay : (t : Table) (e : ℕ) → e < c → among keys e (queue_in r) ≡ true → (x : List ℕ) → required_of s (step_run s t r).cells (step_run s t r).walk e x ≡ required_of s r.cells r.walk e x
+  pub names-stay : (t : Table) (e : ℕ) → e < c → among keys e (queue_in r) ≡ true → (x : List ℕ) → required_of s.bytes (step_run s t r).cells (step_run s t r).walk e x ≡ required_of s.bytes r.cells r.walk e x
   -- done stays done
   pub still : (t : Table) → r.walk.done ≡ true → step_run s t r ≡ r
   -- "a queued one is offered though its name is defined since": the table is not looked at

@@ -1,5 +1,6 @@
 pub mod Members
 pub mod Rounds
+pub mod Joined
 pub mod RoundLaws
 pub mod Chains
 pub mod Runs

@@ -1,6 +1,7 @@
 -- Two walks that differ in their keys: the same walk under another key, and what two runs over the same calls have in common.
 -- Assumes nothing.
 use Rattle.std.specs.Prelude.{ℕ, ◌≡◌, List}
+use Rattle.archive_index.specs.Archives.{Archives}
 use Rattle.archive_index.specs.Rows.{required_at}
 use Rattle.archive_walk.specs.declared.Walk.{Walk}
 use Rattle.archive_walk.specs.Look.{Table}
@@ -21,7 +22,7 @@ abbrev pub SameMarks : List ℕ → List ℕ → Type 0
 SameMarks l m = (k : ℕ) → required_at m k ≡ required_at l k
 
 -- what two runs have in common
-pub record Agree (s : List ℕ) (r r' : Run) : Type 0 where
+pub record Agree (s : Archives) (r r' : Run) : Type 0 where
   pub offers : r'.offers ≡ r.offers
   pub passes : r'.walk.passes ≡ r.walk.passes
   pub done : r'.walk.done ≡ r.walk.done

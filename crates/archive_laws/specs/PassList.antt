@@ -4,7 +4,7 @@ use Prim.Native.Nat.{ℕ, zero, suc, ◌+◌}
 use Rattle.std.specs.Prelude.{◌≡◌, Bool, ◌⊎◌, eqb}
 use Rattle.std.proofs.Math.Bool.{true, false, cond}
 use mathlib.Core.List.{List, [], ◌∷◌, ◌++◌}
-use Rattle.archive_index.specs.Index.{count_of, offset_of, name_of}
+use Rattle.archive_index.specs.Archives.{Archives, entries_in, name_in, key_in}
 use Rattle.archive_walk.specs.Look.{Table}
 use Rattle.archive_walk.specs.Walk.{begun_number, start_of}
 use Rattle.archive_laws.specs.Runs.{Run, step_run}
@@ -35,22 +35,22 @@ module _ (keys : ℕ → ℕ) where
   keys_of [] = []
   keys_of (k ∷ q) = keys_of q ++ (keys k ∷ [])
 
--- an archive's members, each by its offset: those of the entries from k on that f holds of
-abbrev pub members_from : List ℕ → (ℕ → Bool) → ℕ → ℕ → List ℕ
-members_from s = keys_from (offset_of s)
+-- the archives' members, each by archive and offset as one number: those of the entries from k on that f holds of
+abbrev pub members_from : Archives → (ℕ → Bool) → ℕ → ℕ → List ℕ
+members_from a = keys_from (key_in a)
 
--- those of the entries whose names tie in t (tied_name), in the index' order
-abbrev pub tied_members : List ℕ → Table → List ℕ
-tied_members s t = members_from s (tied_in (name_of s (count_of s)) t) (count_of s) 0
+-- those of the entries whose names tie in t (tied_name), in the order of the indexes
+abbrev pub tied_members : Archives → Table → List ℕ
+tied_members a t = members_from a (tied_in (name_in a) t) (entries_in a) 0
 
 -- those offered so far, in order
-abbrev pub offered : List ℕ → Run → List ℕ
-offered s r = keys_of (offset_of s) r.offers
+abbrev pub offered : Archives → Run → List ℕ
+offered a r = keys_of (key_in a) r.offers
 
 -- its members of one pass are all offered: it is done, or the next call over some table makes another pass
-abbrev pub IsOver : List ℕ → Run → Type 0
+abbrev pub IsOver : Archives → Run → Type 0
 IsOver s r = (r.walk.done ≡ true) ⊎ ((t : Table) × ((step_run s t r).walk.passes ≡ r.walk.passes + 1))
 
-module _ (key : ℕ) (s cells : List ℕ) (begun : begun_number (start_of key s cells).started.begun ≡ 0) where
+module _ (key : ℕ) (s : Archives) (cells : List ℕ) (begun : begun_number (start_of key s cells).started.begun ≡ 0) where
   abbrev pub Over : Run → Type 0
   Over = IsOver s

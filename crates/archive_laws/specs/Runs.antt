@@ -4,6 +4,7 @@ use Rattle.archive_walk.specs.declared.Offer.TheVariants.{Done, Member}
 use Rattle.link.specs.declared.cause.Refusal.{Refusal}
 use Rattle.archive_walk.specs.declared.Offer.{Offer}
 use Rattle.std.specs.Prelude.{ℕ, zero, suc, true, cond, List, [], ◌∷◌, eqb, Result, Ok, Err}
+use Rattle.archive_index.specs.Archives.{Archives}
 use Rattle.archive_index.specs.Rows.{queue_at}
 use Rattle.archive_walk.specs.declared.Walk.{Walk}
 use Rattle.archive_walk.specs.Look.{Table, judge_table, removed_name, tied_name}
@@ -36,18 +37,18 @@ abbrev pub run_of : List ℕ → Walk → List ℕ → Run
 run_of l w o = record { cells = l; walk = w; offers = o }
 
 abbrev pub answered : Result Offer Refusal → List ℕ → List ℕ
-answered (Ok (Member o e p)) q = e ∷ q
+answered (Ok (Member j o e p)) q = e ∷ q
 answered (Ok (Done p)) q = q
 answered (Err r) q = q
 
 abbrev pub ran_of : Step → List ℕ → Run
 ran_of x o = run_of x.cells x.moved.walk (answered x.moved.offer o)
 
-unfoldable pub step_run : List ℕ → Table → Run → Run
+unfoldable pub step_run : Archives → Table → Run → Run
 step_run s t r = ran_of (next_of s r.cells r.walk t) r.offers
 
 -- a call for each table
-unfoldable pub history : List ℕ → List Table → Run → Run
+unfoldable pub history : Archives → List Table → Run → Run
 history s [] r = r
 history s (t ∷ ts) r = history s ts (step_run s t r)
 
@@ -55,7 +56,7 @@ history s (t ∷ ts) r = history s ts (step_run s t r)
 abbrev pub begun_run : List ℕ → Walk → Run
 begun_run l w = run_of l w []
 
-unfoldable pub start_run : ℕ → List ℕ → List ℕ → Run
+unfoldable pub start_run : ℕ → Archives → List ℕ → Run
 start_run key s l = begun_run (start_of key s l).cells (start_of key s l).started.walk
 
 -- as rounds of the definition

@@ -4,6 +4,7 @@
 // 65,536 bytes the rest isn't read. Its status is 1 where the index is refused.
 #![tactic(auto)]
 
+use archive_index::Archives;
 use archive_walk::{Offer, Walk};
 use link::Refusal;
 use owned_table::{OwnedTable, Room};
@@ -72,6 +73,7 @@ impl Archive {
         let offer = pending_archive::next(
             &mut self.walk,
             &self.index,
+            &[self.index.len() as u64],
             &mut self.cells,
             table.table.link,
             &table.bytes,
@@ -81,6 +83,7 @@ impl Archive {
         match offer {
             Ok(
                 Offer::Member {
+                    archive: _,
                     offset,
                     entry,
                     passes,
@@ -115,7 +118,12 @@ fn list(
     table: &OwnedTable,
 ) -> io::Result<ExitCode> {
     let mut cells = vec![in alloc; 0; CELLS]?;
-    match Walk::start(0, &index, &mut cells) {
+    let ends = [index.len() as u64];
+    let archives = Archives {
+        bytes: &index,
+        ends: &ends,
+    };
+    match Walk::start(0, archives, &mut cells) {
         Ok(walk) => {
             let mut archive = Archive { index, cells, walk };
             archive.print_entries(out)?;

@@ -3,6 +3,7 @@
 -- Assumes nothing.
 use Rattle.std.specs.Prelude.{ℕ, ◌≡◌, List}
 use Rattle.cells.specs.Slice.{SliceMut}
+use Rattle.archive_index.specs.Archives.{Archives}
 use Rattle.archive_walk.specs.declared.Walk.{Walk}
 use Rattle.archive_walk.specs.Look.{Table}
 use Rattle.archive_walk.specs.Walk.{Started, Moved, start_left, start_of, step_moved, next_of}
@@ -16,8 +17,8 @@ pub record StartExit : Type 0 where
 abbrev pub start_exit : SliceMut → Started → StartExit
 start_exit cells r = record { cells = cells.exit.now; result = r }
 
-abbrev pub StartMeets : ℕ → List ℕ → List ℕ → StartExit → Type 0
-StartMeets key index cells e = start_left e.cells e.result ≡ start_of key index cells
+abbrev pub StartMeets : ℕ → Archives → List ℕ → StartExit → Type 0
+StartMeets key archives cells e = start_left e.cells e.result ≡ start_of key archives cells
 
 -- ---- `next`, by value or in place: the walk and the offer are the result
 
@@ -28,5 +29,5 @@ pub record NextExit : Type 0 where
 abbrev pub next_exit : SliceMut → Moved → NextExit
 next_exit cells r = record { cells = cells.exit.now; result = r }
 
-abbrev pub NextMeets : List ℕ → List ℕ → Walk → Table → NextExit → Type 0
-NextMeets index cells w t e = step_moved e.cells e.result ≡ next_of index cells w t
+abbrev pub NextMeets : Archives → List ℕ → Walk → Table → NextExit → Type 0
+NextMeets archives cells w t e = step_moved e.cells e.result ≡ next_of archives cells w t

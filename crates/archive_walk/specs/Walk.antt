@@ -1,4 +1,4 @@
--- Document 01, "Archives": the walk over an archive's members, call by call.
+-- Document 01, "Archives": the walk over archives' members, call by call.
 -- Assumes nothing.
 use Rattle.archive_walk.specs.declared.Offer.TheVariants.{Done, Member}
 use Rattle.archive_walk.specs.declared.Offer.{Offer}
@@ -7,9 +7,9 @@ use Rattle.std.specs.Prelude.{ℕ, zero, suc, ◌+◌, Bool, true, false, cond, 
 use Rattle.link.specs.Bounds.{not_lent}
 use Rattle.link.specs.Judge.{refused}
 use Rattle.link.specs.Said.{SaidWith}
-use Rattle.archive_index.specs.Index.{offset_of}
+use Rattle.archive_index.specs.Archives.{Archives, last_end, member_of}
 use Rattle.archive_index.specs.Rows.{member_at, pass_at, queue_at, stored_name, no_heads, pass_field, queue_field, rows_in, cell_of}
-use Rattle.archive_index.specs.Open.{Opened, open_of}
+use Rattle.archive_index.specs.Open.{Opened, archive_bound, open_of}
 use Rattle.archive_walk.specs.Names.{noted_of}
 use Rattle.archive_walk.specs.Look.{Table, judge_table, removed_name, tied_name}
 use Rattle.archive_walk.specs.declared.Walk.{Walk}
@@ -23,7 +23,7 @@ abbrev pub begun_place : Result ℕ Refusal → ℕ
 begun_place (Ok n) = 0
 begun_place (Err r) = r.place
 
--- and values: how many entries the index has
+-- and values: how many entries the indexes have
 abbrev pub begun_values : Result ℕ Refusal → List ℕ
 begun_values (Ok n) = n ∷ []
 begun_values (Err r) = []
@@ -32,18 +32,18 @@ abbrev pub begun_said : Result ℕ Refusal → SaidWith ℕ
 begun_said a = record { number = begun_number a; place = begun_place a; values = begun_values a }
 
 abbrev pub number_of : Result Offer Refusal → ℕ
-number_of (Ok (Member o e p)) = 0
+number_of (Ok (Member j o e p)) = 0
 number_of (Ok (Done p)) = 0
 number_of (Err r) = r.number
 
 abbrev pub place_of : Result Offer Refusal → ℕ
-place_of (Ok (Member o e p)) = 0
+place_of (Ok (Member j o e p)) = 0
 place_of (Ok (Done p)) = 0
 place_of (Err r) = r.place
 
--- a member's offset, the entry that queued it and the passes so far; "done" has the passes alone
+-- a member's archive and offset, the entry that queued it and the passes so far; "done" has the passes alone
 abbrev pub values_of : Result Offer Refusal → List ℕ
-values_of (Ok (Member o e p)) = o ∷ e ∷ p ∷ []
+values_of (Ok (Member j o e p)) = j ∷ o ∷ e ∷ p ∷ []
 values_of (Ok (Done p)) = p ∷ []
 values_of (Err r) = []
 
@@ -83,8 +83,8 @@ started_of (Ok w) = record { walk = w; begun = Ok w.entries }
 started_of (Err r) = record { walk = no_walk; begun = Err r }
 
 -- the entries' rows, with no name in a chain
-unfoldable pub start_of : ℕ → List ℕ → List ℕ → Start
-start_of key s l = start_left (no_heads (open_of s l).opened.entries (open_of s l).cells) (begun_of key (length s) (open_of s l).opened)
+unfoldable pub start_of : ℕ → Archives → List ℕ → Start
+start_of key a l = start_left (no_heads (open_of a l).opened.entries (open_of a l).cells) (begun_of key (last_end a) (open_of a l).opened)
 
 -- ---- a call for the next member
 
@@ -115,11 +115,13 @@ handed_out w =
 abbrev pub ended : Walk → Walk
 ended w = record { key = w.key; entries = w.entries; length = w.length; passes = w.passes; queued = w.queued; offered = w.offered; done = true }
 
-unfoldable pub offer_of : List ℕ → List ℕ → Walk → Step
-offer_of s l w =
-    cond (ltb w.offered w.queued)
-    (step_of l (handed_out w) (Ok (Member (offset_of s (queue_at l w.offered)) (queue_at l w.offered) w.passes)))
-    (step_of l (ended w) (Ok (Done w.passes)))
+-- the member of entry e
+abbrev pub member_offered : Archives → ℕ → ℕ → Offer
+member_offered a e p = Member (member_of a e).archive (member_of a e).offset e p
+
+unfoldable pub offer_of : Archives → List ℕ → Walk → Step
+offer_of a l w =
+    cond (ltb w.offered w.queued) (step_of l (handed_out w) (Ok (member_offered a (queue_at l w.offered) w.passes))) (step_of l (ended w) (Ok (Done w.passes)))
 
 -- the cells, and how many members were queued since the start
 pub record Queue : Type 0 where
@@ -165,41 +167,43 @@ removed_of s l t (suc n) k = cond (removed_name t (stored_name s l k)) k (remove
 abbrev pub passed : Walk → ℕ → Walk
 passed w n = record { key = w.key; entries = w.entries; length = w.length; passes = w.passes + 1; queued = n; offered = w.offered; done = false }
 
-abbrev pub offered_from : List ℕ → Walk → Queue → Step
-offered_from s w q = offer_of s q.cells (passed w q.queued)
+abbrev pub offered_from : Archives → Walk → Queue → Step
+offered_from a w q = offer_of a q.cells (passed w q.queued)
 
 -- a pass over all entries; then the front of what it queued
-unfoldable pub make_of : List ℕ → List ℕ → Walk → Table → Step
-make_of s l w t = offered_from s w (tie_all w.key w.entries s t (w.passes + 1) w.entries 0 (queue_of l w.queued))
+unfoldable pub make_of : Archives → List ℕ → Walk → Table → Step
+make_of a l w t = offered_from a w (tie_all w.key w.entries a.bytes t (w.passes + 1) w.entries 0 (queue_of l w.queued))
 
 -- of c entries the first whose name's row was removed is x
 abbrev pub search_judged : ℕ → ℕ → Result Unit Refusal
 search_judged x c = cond (ltb x c) (Err (refused 21 x)) (Ok tt)
 
 -- "A pass that meets a name whose row was removed gives 21", at the entry's position, before anything is queued
-unfoldable pub search_of : List ℕ → List ℕ → Walk → Table → ℕ → Step
-search_of s l w t x = cond (ltb x w.entries) (step_moved l (refused_move w 21 x)) (make_of s l w t)
+unfoldable pub search_of : Archives → List ℕ → Walk → Table → ℕ → Step
+search_of a l w t x = cond (ltb x w.entries) (step_moved l (refused_move w 21 x)) (make_of a l w t)
 
 -- the table is judged where it is first looked at, so that a queued member goes out whatever table is lent
-unfoldable pub pass_of : List ℕ → List ℕ → Walk → Table → Step
-pass_of s l w t =
-    cond (eqb (judge_table t).number 0) (search_of s l w t (removed_of s l t w.entries 0))
+unfoldable pub pass_of : Archives → List ℕ → Walk → Table → Step
+pass_of a l w t =
+    cond (eqb (judge_table t).number 0) (search_of a l w t (removed_of a.bytes l t w.entries 0))
     (step_moved l (refused_move w (judge_table t).number (judge_table t).place))
 
--- an index or rows shorter than at the start, or counts that no walk has
-unfoldable pub walk_fits : List ℕ → List ℕ → Walk → Bool
-walk_fits s l w =
-    cond (ltb (length s) w.length) false
+-- more ends than a start takes; a last end past the slice, or below the start's; fewer rows than at the start; counts that no walk has
+unfoldable pub walk_fits : Archives → List ℕ → Walk → Bool
+walk_fits a l w =
+    cond (ltb archive_bound (length a.ends)) false
+    (cond (ltb (length a.bytes) (last_end a)) false
+    (cond (ltb (last_end a) w.length) false
     (cond (ltb (rows_in l) w.entries) false
     (cond (ltb w.entries w.queued) false
-    (cond (ltb w.queued w.offered) false (cond (ltb w.queued w.passes) false true))))
+    (cond (ltb w.queued w.offered) false (cond (ltb w.queued w.passes) false true))))))
 
 -- "A pass is made only at a call for the next member that finds none queued"
-unfoldable pub go_of : List ℕ → List ℕ → Walk → Table → Step
-go_of s l w t = cond (ltb w.offered w.queued) (offer_of s l w) (pass_of s l w t)
+unfoldable pub go_of : Archives → List ℕ → Walk → Table → Step
+go_of a l w t = cond (ltb w.offered w.queued) (offer_of a l w) (pass_of a l w t)
 
 -- "After "done" it stays done"
-unfoldable pub next_of : List ℕ → List ℕ → Walk → Table → Step
-next_of s l w t =
+unfoldable pub next_of : Archives → List ℕ → Walk → Table → Step
+next_of a l w t =
     cond w.done (step_of l w (Ok (Done w.passes)))
-    (cond (walk_fits s l w) (go_of s l w t) (step_moved l (refused_move w 1 0)))
+    (cond (walk_fits a l w) (go_of a l w t) (step_moved l (refused_move w 1 0)))

@@ -73,7 +73,7 @@ impl Walk {
     #[tactic(auto, unfolding(crate::specs::Names::noted_of, crate::specs::Names::chained))]
     pub fn note(self, rows: &mut Rows<'_>, k: usize)
         ensures same { same_rows rows.old rows.new }
-        ensures cells { rows.new.cells.now ≡ noted_of self.key self.entries rows.old.index.now rows.old.cells.now k }
+        ensures cells { rows.new.cells.now ≡ noted_of self.key self.entries rows.old.archives.bytes.now rows.old.cells.now k }
     {
         let entries = rows.read();
         let asked = Asked {

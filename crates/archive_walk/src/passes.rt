@@ -1,5 +1,6 @@
 // The walk's calls for the next member, and its passes.
 ghost use Rattle.std.specs.Prelude.{◌≡◌, ◌+◌, ◌<◌, false, length, Ok, OnOk, IsTrue};
+ghost use Rattle.archive_index.specs.Archives.{archives_in};
 ghost use Rattle.archive_index.specs.Contract.{same_rows};
 ghost use Rattle.archive_walk.specs.Look.{ties};
 ghost use Rattle.archive_walk.specs.Lent.{as_table, with_queued};
@@ -7,7 +8,7 @@ ghost use Rattle.archive_walk.specs.Walk.{step_of, offer_of, queue_of, marked, e
 ghost use Rattle.archive_walk.specs.Notes.{is_noted, note_tie, Noted};
 
 use crate::{Offer, Table, Walk};
-use archive_index::{Entries, Rows};
+use archive_index::{Archives, Entries, Rows};
 use link::{Cause, Refusal};
 use symbol_resolution::Holder;
 
@@ -68,7 +69,7 @@ impl Walk {
     #[tactic(auto, unfolding(crate::specs::Walk::marked))]
     fn mark(self, rows: &mut Rows<'_>, k: usize, r: usize)
         ensures same { same_rows rows.old rows.new }
-        ensures cells { rows.new.cells.now ≡ marked self.key self.entries rows.old.index.now self.passes k r rows.old.cells.now self.queued }
+        ensures cells { rows.new.cells.now ≡ marked self.key self.entries rows.old.archives.bytes.now self.passes k r rows.old.cells.now self.queued }
     {
         self.note(rows, k);
         cells::row_put(rows.cells, r, archive_index::PASS, self.passes as u64);
@@ -83,7 +84,7 @@ impl Walk {
         ensures same { same_rows rows.old rows.new }
         ensures rest { self.new ≡ with_queued self.old self.new.queued }
         ensures queue { queue_of rows.new.cells.now self.new.queued
-            ≡ enqueue self.old.key self.old.entries rows.old.index.now self.old.passes k r (queue_of rows.old.cells.now self.old.queued) }
+            ≡ enqueue self.old.key self.old.entries rows.old.archives.bytes.now self.old.passes k r (queue_of rows.old.cells.now self.old.queued) }
     {
         let by = rows.read().field(r, archive_index::PASS) as usize;
         if by == 0 {
@@ -99,11 +100,11 @@ impl Walk {
     fn tie(&mut self, rows: &mut Rows<'_>, k: usize, table: Table<'_>, notes: &Notes)
         requires room { self.old.queued < 0xffffffffffffffff }
         requires within { k < self.old.entries }
-        requires noted { Noted rows.old.index.now rows.old.cells.now (as_table table) self.old.entries notes.now.0 }
+        requires noted { Noted rows.old.archives.bytes.now rows.old.cells.now (as_table table) self.old.entries notes.now.0 }
         ensures same { same_rows rows.old rows.new }
         ensures rest { self.new ≡ with_queued self.old self.new.queued }
         ensures queue { queue_of rows.new.cells.now self.new.queued
-            ≡ tied_at self.old (as_table table.entry) k rows.old.index.now rows.old.cells.now }
+            ≡ tied_at self.old (as_table table.entry) k rows.old.archives.bytes.now rows.old.cells.now }
     {
         if notes.has(k) && table.is_tied(rows.read().name(k)) {
             let r = rows.read().field(k, archive_index::MEMBER) as usize;
@@ -114,11 +115,11 @@ impl Walk {
     // The pass over all entries.
     fn tie_all(&mut self, rows: &mut Rows<'_>, table: Table<'_>, notes: &Notes)
         requires room { self.old.queued + self.old.entries < 0xffffffffffffffff }
-        requires noted { Noted rows.old.index.now rows.old.cells.now (as_table table) self.old.entries notes.now.0 }
+        requires noted { Noted rows.old.archives.bytes.now rows.old.cells.now (as_table table) self.old.entries notes.now.0 }
         ensures same { same_rows rows.old rows.new }
         ensures rest { self.new ≡ with_queued self.old self.new.queued }
         ensures queue { queue_of rows.new.cells.now self.new.queued
-            ≡ tied_all self.old (as_table table.entry) rows.old.index.now rows.old.cells.now }
+            ≡ tied_all self.old (as_table table.entry) rows.old.archives.bytes.now rows.old.cells.now }
     {
         for k in 0..self.entries {
             self.tie(rows, k, table, notes);
@@ -127,16 +128,18 @@ impl Walk {
 
     // The front of the queue; an empty queue ends the walk.
     #[tactic(auto, unfolding(crate::specs::Walk::offer_of))]
-    fn hand_out(&mut self, entries: Entries<'_, '_>) -> Offer
+    fn hand_out(&mut self, archives: Archives<'_>, entries: Entries<'_, '_>) -> Offer
         requires { self.old.done ≡ false }
-        ensures { step_of entries.entry.cells.now self.new (Ok result) ≡ offer_of entries.entry.index.now entries.entry.cells.now self.old }
+        ensures { step_of entries.entry.cells.now self.new (Ok result) ≡ offer_of (archives_in archives.entry) entries.entry.cells.now self.old }
     {
         let passes = self.passes;
         if self.offered < self.queued {
             let entry = entries.field(self.offered, archive_index::QUEUE) as usize;
             self.offered += 1;
+            let member = archives.member(entry);
             return Offer::Member {
-                offset: archive_index::offset(entries.index, entry),
+                archive: member.archive,
+                offset: member.offset,
                 entry,
                 passes,
             };
@@ -151,23 +154,26 @@ impl Walk {
         requires passes_bound { self.old.passes < 0xffffffffffffffff }
         requires going { self.old.done ≡ false }
         ensures same { same_rows rows.old rows.new }
-        ensures step { step_of rows.new.cells.now self.new result ≡ pass_of rows.old.index.now rows.old.cells.now self.old (as_table table.entry) }
+        ensures step { step_of rows.new.cells.now self.new result ≡ pass_of (archives_in rows.old.archives) rows.old.cells.now self.old (as_table table.entry) }
     {
         table.judge()?;
         let mut notes = Notes([0; NOTE_BYTES]);
         notes.survey(rows.read(), self.entries, table)?;
         self.passes += 1;
         self.tie_all(rows, table, &notes);
-        Ok(self.hand_out(rows.read()))
+        Ok(self.hand_out(rows.archives, rows.read()))
     }
 
-    // The index and the rows are as long as at the start, and the counts are those of a walk.
+    // The ends are no more than a start takes, the last lies in the slice and is no lower than the start's; the rows are as many as at the start, and
+    // the counts are those of a walk.
     #[tactic(auto, unfolding(crate::specs::Walk::walk_fits))]
-    pub fn fits(self, entries: Entries<'_, '_>) -> bool
-        ensures value { result ≡ walk_fits entries.entry.index.now entries.entry.cells.now self }
+    pub fn fits(self, archives: Archives<'_>, entries: Entries<'_, '_>) -> bool
+        ensures value { result ≡ walk_fits (archives_in archives.entry) entries.entry.cells.now self }
         ensures bound { IsTrue result → self.entries < 0x2000000000000000 }
     {
-        self.length <= entries.index.len()
+        archives.ends.len() <= archive_index::ARCHIVE_BOUND
+            && archives.end() <= archives.bytes.len()
+            && self.length <= archives.end()
             && self.entries <= entries.rows()
             && self.queued <= self.entries
             && self.offered <= self.queued
@@ -180,18 +186,18 @@ impl Walk {
     #[tactic(auto, unfolding(crate::specs::Walk::next_of, crate::specs::Walk::go_of))]
     pub fn next(&mut self, rows: &mut Rows<'_>, table: Table<'_>) -> Result<Offer, Refusal>
         ensures same { same_rows rows.old rows.new }
-        ensures step { step_of rows.new.cells.now self.new result ≡ next_of rows.old.index.now rows.old.cells.now self.old (as_table table.entry) }
+        ensures step { step_of rows.new.cells.now self.new result ≡ next_of (archives_in rows.old.archives) rows.old.cells.now self.old (as_table table.entry) }
     {
         if self.done {
             return Ok(Offer::Done {
                 passes: self.passes,
             });
         }
-        if !self.fits(rows.read()) {
+        if !self.fits(rows.archives, rows.read()) {
             return Err(Refusal::new(Cause::OutOfRange, 0));
         }
         if self.offered < self.queued {
-            return Ok(self.hand_out(rows.read()));
+            return Ok(self.hand_out(rows.archives, rows.read()));
         }
         self.pass(rows, table)
     }

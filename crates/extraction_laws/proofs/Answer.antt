@@ -9,6 +9,7 @@ use Rattle.cells.specs.Proof.Split.{by-test}
 use Rattle.gabi.specs.StringTable as Strings
 use Rattle.gabi.specs.Archive.{Named, extracts}
 use Rattle.link.specs.declared.Link.{Link}
+use Rattle.archive_index.specs.Archives.{Archives}
 use Rattle.archive_walk.specs.declared.Walk.{Walk}
 use Rattle.archive_walk.specs.Look.{Table, undefined_name, tied_name}
 use Rattle.archive_walk.specs.Names.{required_of}
@@ -75,13 +76,13 @@ module _ (keys : ℕ → ℕ) (c : ℕ) where
   rounds-snoc named [] v a = refl
   rounds-snoc named (t ∷ ts) v a = rounds-snoc named ts v (round keys c (view_by named c t) a)
 
-pub history-snoc : (s : List ℕ) (ts : List Table) (v : Table) (r : Run) → history s (ts ++ (v ∷ [])) r ≡ step_run s v (history s ts r)
+pub history-snoc : (s : Archives) (ts : List Table) (v : Table) (r : Run) → history s (ts ++ (v ∷ [])) r ≡ step_run s v (history s ts r)
 unfolding history
 history-snoc s [] v r = refl
 history-snoc s (t ∷ ts) v r = history-snoc s ts v (step_run s t r)
 
 -- calls from any run at its beginning whose rows say what its entries' keys and names are
-module _ (key : ℕ) (s : List ℕ) (keys : ℕ → ℕ) (named : ℕ → List ℕ) (c : ℕ) (start : Run) (fine : Fine key s keys named c start) (begins : seen start ≡ fresh) where
+module _ (key : ℕ) (s : Archives) (keys : ℕ → ℕ) (named : ℕ → List ℕ) (c : ℕ) (start : Run) (fine : Fine key s keys named c start) (begins : seen start ≡ fresh) where
   abbrev ran : List Table → Run
   ran ts = history s ts start
 
@@ -95,13 +96,13 @@ module _ (key : ℕ) (s : List ℕ) (keys : ℕ → ℕ) (named : ℕ → List �
       ap (λ (a : Rounds). among keys j a.queue) now ∙ round_keeps keys c (view_by named c v) (seen (ran ts)) j e
 
   pub names-on : (us ts : List Table) (e : ℕ) → e < c → among keys e (queue_in (ran ts)) ≡ true → (x : List ℕ)
-      → required_of s (history s us (ran ts)).cells (history s us (ran ts)).walk e x ≡ required_of s (ran ts).cells (ran ts).walk e x
+      → required_of s.bytes (history s us (ran ts)).cells (history s us (ran ts)).walk e x ≡ required_of s.bytes (ran ts).cells (ran ts).walk e x
   unfolding history
   names-on [] ts e h q x = refl
   names-on (v ∷ us) ts e h q x =
-      ap (λ (r : Run). required_of s (history s us r).cells (history s us r).walk e x) (sym (history-snoc s ts v start))
+      ap (λ (r : Run). required_of s.bytes (history s us r).cells (history s us r).walk e x) (sym (history-snoc s ts v start))
       ∙ names-on us (ts ++ (v ∷ [])) e h (queued-on ts v e q) x
-      ∙ ap (λ (r : Run). required_of s r.cells r.walk e x) (history-snoc s ts v start)
+      ∙ ap (λ (r : Run). required_of s.bytes r.cells r.walk e x) (history-snoc s ts v start)
       ∙ (walked ts).names-stay v e h q x
 
   pub fine-on : (us ts : List Table) → Fine key s keys named c (history s us (ran ts))
@@ -123,7 +124,7 @@ matches-says link headers entries contents file s l w e b j a d h q =
     answer false = refl
 
 -- any calls from such a run on, then one over t that makes a pass
-module _ (key : ℕ) (s : List ℕ) (keys : ℕ → ℕ) (named : ℕ → List ℕ) (c : ℕ) (start : Run) (fine : Fine key s keys named c start) (begins : seen start ≡ fresh)
+module _ (key : ℕ) (s : Archives) (keys : ℕ → ℕ) (named : ℕ → List ℕ) (c : ℕ) (start : Run) (fine : Fine key s keys named c start) (begins : seen start ≡ fresh)
     (ts : List Table) (t : Table) (made : (step_run s t (history s ts start)).walk.passes ≡ (history s ts start).walk.passes + 1) where
   abbrev before : Run
   before = history s ts start
@@ -148,31 +149,31 @@ module _ (key : ℕ) (s : List ℕ) (keys : ℕ → ℕ) (named : ℕ → List �
     abbrev pub answer : Bool
     answer = taken_in link.gabi (tied_name t) member
 
-    asked : has_global_symbol link.gabi headers entries file (required_of s after.cells after.walk e) ≡ answer
+    asked : has_global_symbol link.gabi headers entries file (required_of s.bytes after.cells after.walk e) ≡ answer
     asked =
         Chosen.admitted link.gabi s keys named c t before after pass e low new headers entries file listed-own
         ∙ ap (taken_in link.gabi (tied_name t)) (member_is headers entries file)
 
-    answered : (r : Run) → Fine key s keys named c r → ((x : List ℕ) → required_of s r.cells r.walk e x ≡ required_of s after.cells after.walk e x)
-        → matches_of link headers entries contents file s r.cells r.walk e ≡ says answer
+    answered : (r : Run) → Fine key s keys named c r → ((x : List ℕ) → required_of s.bytes r.cells r.walk e x ≡ required_of s.bytes after.cells after.walk e x)
+        → matches_of link headers entries contents file s.bytes r.cells r.walk e ≡ says answer
     answered r f same =
-        matches-says link headers entries contents file s r.cells r.walk e answer ranged f.whole
+        matches-says link headers entries contents file s.bytes r.cells r.walk e answer ranged (omega (arith, f.lent.whole, f.lent.within))
         (omega (arith, f.entries, f.sound.rows.room)) (rw f.entries low)
-        (object-admits link.gabi (required_of s r.cells r.walk e) headers entries file
-        ∙ some_same (λ d. admitting link.gabi d.symbol && required_of s r.cells r.walk e d.name)
-        (λ d. admitting link.gabi d.symbol && required_of s after.cells after.walk e d.name)
+        (object-admits link.gabi (required_of s.bytes r.cells r.walk e) headers entries file
+        ∙ some_same (λ d. admitting link.gabi d.symbol && required_of s.bytes r.cells r.walk e d.name)
+        (λ d. admitting link.gabi d.symbol && required_of s.bytes after.cells after.walk e d.name)
         (member_of headers entries file) (λ d. rw (same d.name))
-        ∙ sym (object-admits link.gabi (required_of s after.cells after.walk e) headers entries file) ∙ asked)
+        ∙ sym (object-admits link.gabi (required_of s.bytes after.cells after.walk e) headers entries file) ∙ asked)
 
     -- right after the pass: yes, just if a symbol that may admit the member bears a name that ties at the pass and that the member defines
-    says-answer : matches_of link headers entries contents file s after.cells after.walk e ≡ says answer
+    says-answer : matches_of link headers entries contents file s.bytes after.cells after.walk e ≡ says answer
     says-answer = answered after (subst (Fine key s keys named c) (history-snoc s ts t start) (fine-after key s keys named c start fine begins (ts ++ (t ∷ [])))) (λ x. refl)
 
-    pub answer-is : matches_of link headers entries contents file s after.cells after.walk e ≡ says answer
+    pub answer-is : matches_of link headers entries contents file s.bytes after.cells after.walk e ≡ says answer
     answer-is = answered after (subst (Fine key s keys named c) (history-snoc s ts t start) (fine-after key s keys named c start fine begins (ts ++ (t ∷ [])))) (λ x. refl)
 
     -- a member that is let in was queued by the pass
-    pub let-in-queued : matches_of link headers entries contents file s after.cells after.walk e ≡ Ok true → among keys e (queue_in after) ≡ true
+    pub let-in-queued : matches_of link headers entries contents file s.bytes after.cells after.walk e ≡ Ok true → among keys e (queue_in after) ≡ true
     let-in-queued y =
         Chosen.queued link.gabi s keys named c t before after pass e low new headers entries file listed-own
         (ap (taken_in link.gabi (tied_name t)) (member_is headers entries file) ∙ yes answer (sym says-answer ∙ y))
@@ -184,7 +185,7 @@ module _ (key : ℕ) (s : List ℕ) (keys : ℕ → ℕ) (named : ℕ → List �
     -- and for a queued member the answer is the same after any further calls, over whatever tables: "a queued one is offered though its name is
     -- defined since"
     pub answer-later : among keys e (queue_in after) ≡ true → (us : List Table)
-        → matches_of link headers entries contents file s (history s us after).cells (history s us after).walk e ≡ says answer
+        → matches_of link headers entries contents file s.bytes (history s us after).cells (history s us after).walk e ≡ says answer
     answer-later q us =
         let same : after ≡ history s (ts ++ (t ∷ [])) start = sym (history-snoc s ts t start) in
         let q' : among keys e (queue_in (history s (ts ++ (t ∷ [])) start)) ≡ true = rw same at q in

@@ -10,6 +10,7 @@ use Rattle.byte_slices.specs.Bytes.{same}
 use Rattle.byte_slices.specs.Proof.Ways.{same_true}
 use Rattle.gabi.specs.Archive.{Named}
 use Rattle.archive_walk.specs.Look.{Table, tied_name}
+use Rattle.archive_index.specs.Archives.{Archives}
 use Rattle.archive_walk.specs.Names.{required_of}
 use Rattle.archive_laws.specs.Members.{Same, among}
 use Rattle.archive_laws.proofs.Counts.{any_out, among_same}
@@ -24,20 +25,20 @@ use Rattle.extraction_laws.specs.Taken.{lists, taken_in}
 
 -- a call that made a pass over t (every such call of a walk is one: archive_laws, `Walked-by`), whatever its entries' keys and names; entry e's member was
 -- not offered before, and is this object, whose global and weak definitions the index lists; admission is asked by a link of that profile
-module _ (gabi : Bool) (s : List ℕ) (keys : ℕ → ℕ) (named : ℕ → List ℕ) (c : ℕ) (t : Table) (r r' : Run) (pass : Pass s keys named c t r r') (e : ℕ) (low : e < c) (new : among keys e r.offers ≡ false)
+module _ (gabi : Bool) (s : Archives) (keys : ℕ → ℕ) (named : ℕ → List ℕ) (c : ℕ) (t : Table) (r r' : Run) (pass : Pass s keys named c t r r') (e : ℕ) (low : e < c) (new : among keys e r.offers ≡ false)
     (headers entries file : List ℕ) (listed : (x : List ℕ) → in_index keys named c e x ≡ lists (member_of headers entries file) x) where
   abbrev member : List Named
   member = member_of headers entries file
 
   -- the names required of it
-  required-is : (x : List ℕ) → required_of s r'.cells r'.walk e x ≡ tied_name t x && lists member x
+  required-is : (x : List ℕ) → required_of s.bytes r'.cells r'.walk e x ≡ tied_name t x && lists member x
   required-is x = pass.names e low new x ∙ rw (listed x) (and-cond (tied_name t x) (lists member x))
 
   -- admission
-  pub admitted : has_global_symbol gabi headers entries file (required_of s r'.cells r'.walk e) ≡ taken_in gabi (tied_name t) member
+  pub admitted : has_global_symbol gabi headers entries file (required_of s.bytes r'.cells r'.walk e) ≡ taken_in gabi (tied_name t) member
   admitted =
-      object-admits gabi (required_of s r'.cells r'.walk e) headers entries file
-      ∙ some_same (λ d. admitting gabi d.symbol && required_of s r'.cells r'.walk e d.name) (λ d. admitting gabi d.symbol && (tied_name t d.name && lists member d.name)) member
+      object-admits gabi (required_of s.bytes r'.cells r'.walk e) headers entries file
+      ∙ some_same (λ d. admitting gabi d.symbol && required_of s.bytes r'.cells r'.walk e d.name) (λ d. admitting gabi d.symbol && (tied_name t d.name && lists member d.name)) member
       (λ d. rw (required-is d.name))
 
   -- a member that would be admitted is queued by the pass
@@ -63,10 +64,10 @@ module _ (gabi : Bool) (s : List ℕ) (keys : ℕ → ℕ) (named : ℕ → List
 
   -- the walk's choice and admission
   abbrev pub chosen : Bool
-  chosen = among keys e (queue_in r') && has_global_symbol gabi headers entries file (required_of s r'.cells r'.walk e)
+  chosen = among keys e (queue_in r') && has_global_symbol gabi headers entries file (required_of s.bytes r'.cells r'.walk e)
 
   pub chosen_is : chosen ≡ taken_in gabi (tied_name t) member
   chosen_is =
       both_ways chosen (taken_in gabi (tied_name t) member)
-      (λ h. sym admitted ∙ and_right (among keys e (queue_in r')) (has_global_symbol gabi headers entries file (required_of s r'.cells r'.walk e)) h)
-      (λ h. and_in (among keys e (queue_in r')) (has_global_symbol gabi headers entries file (required_of s r'.cells r'.walk e)) (queued h) (admitted ∙ h))
+      (λ h. sym admitted ∙ and_right (among keys e (queue_in r')) (has_global_symbol gabi headers entries file (required_of s.bytes r'.cells r'.walk e)) h)
+      (λ h. and_in (among keys e (queue_in r')) (has_global_symbol gabi headers entries file (required_of s.bytes r'.cells r'.walk e)) (queued h) (admitted ∙ h))

@@ -7,7 +7,7 @@ use Rattle.std.proofs.Common.{sym, ap, ◌∙◌}
 use Rattle.gabi.specs.StringTable as Strings
 use Rattle.gabi.specs.Archive.{Named, extracts}
 use Rattle.link.specs.declared.Link.{Link}
-use Rattle.archive_index.specs.Index.{count_of, offset_of, name_of}
+use Rattle.archive_index.specs.Archives.{Archives, entries_in, name_in, key_in}
 use Rattle.archive_walk.specs.declared.Walk.{Walk}
 use Rattle.archive_walk.specs.Look.{Table, undefined_name, tied_name}
 use Rattle.archive_walk.specs.Names.{required_of}
@@ -39,20 +39,20 @@ or_swap false false true = refl
 or_swap false false false = refl
 
 -- a start that isn't refused, any calls, then one over t that makes a pass
-module _ (key : ℕ) (s l : List ℕ) (start : begun_number (start_of key s l).started.begun ≡ 0) (ts : List Table) (t : Table)
+module _ (key : ℕ) (s : Archives) (l : List ℕ) (start : begun_number (start_of key s l).started.begun ≡ 0) (ts : List Table) (t : Table)
     (made : (step_run s t (history s ts (start_run key s l))).walk.passes ≡ (history s ts (start_run key s l)).walk.passes + 1) where
   abbrev before : Run
   before = history s ts (start_run key s l)
 
   abbrev c : ℕ
-  c = count_of s
+  c = entries_in s
 
-  pass : Pass s c t before (step_run s t before)
+  pass : Pass s t before (step_run s t before)
   pass = (walked key s l start ts).pass t made
 
   -- the member of entry e, not offered before, is this object; the index lists its global and weak definitions
   module _ (e : ℕ) (low : e < c) (new : among s e before.offers ≡ false) (headers entries file : List ℕ)
-      (listed : (x : List ℕ) → in_index s c e x ≡ lists (member_of headers entries file) x) where
+      (listed : (x : List ℕ) → in_index s e x ≡ lists (member_of headers entries file) x) where
     abbrev member : List Named
     member = member_of headers entries file
 
@@ -60,10 +60,10 @@ module _ (key : ℕ) (s l : List ℕ) (start : begun_number (start_of key s l).s
     abbrev chosen_in : Bool → Bool
     chosen_in gabi =
         among s e (queue_in (step_run s t before))
-        && has_global_symbol gabi headers entries file (required_of s (step_run s t before).cells (step_run s t before).walk e)
+        && has_global_symbol gabi headers entries file (required_of s.bytes (step_run s t before).cells (step_run s t before).walk e)
 
     chosen-in : (gabi : Bool) → chosen_in gabi ≡ taken_in gabi (tied_name t) member
-    chosen-in gabi = Chosen.chosen_is gabi s (offset_of s) (name_of s c) c t before (step_run s t before) pass e low new headers entries file listed
+    chosen-in gabi = Chosen.chosen_is gabi s (key_in s) (name_in s) c t before (step_run s t before) pass e low new headers entries file listed
 
     -- ---- the old profile
 

@@ -13,6 +13,7 @@ use Rattle.symbol.specs.Row.{row_at}
 use Rattle.symbol_laws.specs.Gabi.{sym_of}
 use Rattle.symbol_laws.specs.Differences.{elf}
 use Rattle.archive_walk.specs.Look.{Table, table_of}
+use Rattle.archive_index.specs.Archives.{one}
 use Rattle.archive_laws.specs.Runs.{Run, history, start_run}
 use Rattle.object_requirement.specs.Matches as Admits
 use Rattle.extraction_laws.specs.Member.{member_of}
@@ -38,7 +39,7 @@ index = 0 ∷ 0 ∷ 0 ∷ 1 ∷ 0 ∷ 0 ∷ 0 ∷ 10 ∷ 98 ∷ 0 ∷ []
 
 -- one call over the table
 abbrev pub ran : Table → Run
-ran t = history index (t ∷ []) (start_run 0 index (replicate {A = ℕ} 8 7))
+ran t = history (one index) (t ∷ []) (start_run 0 (one index) (replicate {A = ℕ} 8 7))
 
 -- an object with a symbol b of that binding in that section: no section, a symbol table, its string table
 abbrev headers : List ℕ

@@ -3,7 +3,8 @@
 use Rattle.archive_walk.specs.declared.Offer.TheVariants.{Member, Done}
 use Rattle.archive_walk.specs.declared.Offer.{Offer}
 use Rattle.link.specs.declared.cause.Refusal.{Refusal}
-use Rattle.std.specs.Prelude.{ℕ, Bool, cond, List, ltb, length, Result, Ok, Err, true, false}
+use Rattle.std.specs.Prelude.{ℕ, ◌+◌, min, Bool, cond, List, ltb, length, Result, Ok, Err, true, false}
+use Rattle.archive_index.specs.Archives.{Archives}
 use Rattle.archive_walk.specs.Look.{table_of}
 use Rattle.archive_walk.specs.Walk.{Start, start_of, Step, next_of}
 use Rattle.shadowed_members.specs.Shadowed as Shadowed
@@ -21,9 +22,9 @@ abbrev pub begun_reply : Result ℕ Refusal → Reply
 begun_reply (Ok entries) = result_of entries 0 0 0
 begun_reply (Err r) = refused_of r
 
--- 1, the member's offset, the entry that queued it; the passes
+-- the number of the member's archive and 1, its offset, the entry that queued it; the passes
 abbrev pub offered_reply : Result Offer Refusal → Reply
-offered_reply (Ok (Member offset entry passes)) = result_of 1 offset entry passes
+offered_reply (Ok (Member archive offset entry passes)) = result_of (min (archive + 1) 0xffffffffffffffff) offset entry passes
 offered_reply (Ok (Done passes)) = result_of 0 0 0 passes
 offered_reply (Err r) = refused_of r
 
@@ -49,10 +50,10 @@ no_walk c = ltb (length c) 7
 abbrev pub start_told : List ℕ → List ℕ → Start → WalkLeft
 start_told h c s = walk_left (answer_of h (begun_reply s.started.begun)) (walk_out c s.started.walk) s.cells
 
-unfoldable pub start_fit : List ℕ → List ℕ → ℕ → List ℕ → List ℕ → WalkLeft
+unfoldable pub start_fit : List ℕ → List ℕ → ℕ → Archives → List ℕ → WalkLeft
 start_fit h c key index rows = start_told h c (start_of key index rows)
 
-unfoldable pub start_call : List ℕ → List ℕ → ℕ → List ℕ → List ℕ → WalkLeft
+unfoldable pub start_call : List ℕ → List ℕ → ℕ → Archives → List ℕ → WalkLeft
 start_call h c key index rows =
     cond (is_short h) (walk_left (told 1 h) c rows)
     (cond (no_walk c) (walk_left (answer_of h (refusal_of 1 0)) c rows) (start_fit h c key index rows))
@@ -60,10 +61,10 @@ start_call h c key index rows =
 abbrev pub next_told : List ℕ → List ℕ → Step → WalkLeft
 next_told h c s = walk_left (answer_of h (offered_reply s.moved.offer)) (walk_out c s.moved.walk) s.cells
 
-unfoldable pub next_fit : List ℕ → List ℕ → List ℕ → List ℕ → List ℕ → List ℕ → List ℕ → WalkLeft
+unfoldable pub next_fit : List ℕ → List ℕ → Archives → List ℕ → List ℕ → List ℕ → List ℕ → WalkLeft
 next_fit h c index rows b n s = next_told h c (next_of index rows (walk_in c) (table_of (link_in h) b n s))
 
-unfoldable pub next_call : List ℕ → List ℕ → List ℕ → List ℕ → List ℕ → List ℕ → List ℕ → WalkLeft
+unfoldable pub next_call : List ℕ → List ℕ → Archives → List ℕ → List ℕ → List ℕ → List ℕ → WalkLeft
 next_call h c index rows b n s =
     cond (is_short h) (walk_left (told 1 h) c rows)
     (cond (no_walk c) (walk_left (answer_of h (refusal_of 1 0)) c rows) (next_fit h c index rows b n s))

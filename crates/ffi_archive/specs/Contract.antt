@@ -3,6 +3,7 @@
 -- Assumes nothing.
 use Rattle.std.specs.Prelude.{ℕ, ◌≡◌, List}
 use Rattle.cells.specs.Slice.{SliceMut}
+use Rattle.archive_index.specs.Archives.{Archives}
 use Rattle.ffi_cells.specs.Header.{told}
 use Rattle.ffi_cells.specs.Contract.{ToldExit}
 use Rattle.ffi_archive.specs.Calls.{walk_left, start_call, next_call, shadowed_left, shadowed_call, matches_call, would_left, would_call}
@@ -18,10 +19,10 @@ pub record WalkExit : Type 0 where
 abbrev pub walk_exit : ℕ → SliceMut → SliceMut → SliceMut → WalkExit
 walk_exit n header walk rows = record { number = n; header = header.exit.now; walk = walk.exit.now; rows = rows.exit.now }
 
-abbrev pub StartMeets : List ℕ → List ℕ → ℕ → List ℕ → List ℕ → WalkExit → Type 0
+abbrev pub StartMeets : List ℕ → List ℕ → ℕ → Archives → List ℕ → WalkExit → Type 0
 StartMeets h walk key index rows e = walk_left (told e.number e.header) e.walk e.rows ≡ start_call h walk key index rows
 
-abbrev pub NextMeets : List ℕ → List ℕ → List ℕ → List ℕ → List ℕ → List ℕ → List ℕ → WalkExit → Type 0
+abbrev pub NextMeets : List ℕ → List ℕ → Archives → List ℕ → List ℕ → List ℕ → List ℕ → WalkExit → Type 0
 NextMeets h walk index rows bytes names symbols e =
     walk_left (told e.number e.header) e.walk e.rows ≡ next_call h walk index rows bytes names symbols
 

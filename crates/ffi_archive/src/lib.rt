@@ -4,13 +4,14 @@
 #![tactic(auto)]
 
 ghost use Rattle.std.specs.Prelude.{◌≡◌};
+ghost use Rattle.archive_index.specs.Archives.{archives_lent};
 ghost use Rattle.archive_walk.specs.Walk.{started_of};
 ghost use Rattle.ffi_cells.specs.Contract.{told_exit};
 ghost use Rattle.ffi_archive.specs.Cells.{walk_in, walk_out};
 ghost use Rattle.ffi_archive.specs.Calls.{begun_reply, offered_reply, admitted_reply};
 ghost use Rattle.ffi_archive.specs.Contract.{walk_exit, StartMeets, NextMeets, shadowed_exit, ShadowedMeets, MatchesMeets, would_exit, WouldMeets};
 
-use archive_index::Entries;
+use archive_index::{Archives, Entries};
 use archive_walk::{Offer, Table, Walk};
 use elf_object::Object;
 use ffi_cells::Reply;
@@ -67,11 +68,17 @@ fn offered(a: Result<Offer, Refusal>) -> Reply
     match a {
         Ok(
             Offer::Member {
+                archive,
                 offset,
                 entry,
                 passes,
             },
-        ) => ffi_cells::result(1, offset, entry as u64, passes as u64),
+        ) => ffi_cells::result(
+            archive.saturating_add(1) as u64,
+            offset,
+            entry as u64,
+            passes as u64,
+        ),
         Ok(Offer::Done { passes }) => ffi_cells::result(0, 0, 0, passes as u64),
         Err(refusal) => ffi_cells::refused(refusal),
     }
@@ -105,9 +112,10 @@ pub fn archive_start(
     walk: &mut [u64],
     key: usize,
     index: &[u8],
+    ends: &[u64],
     rows: &mut [u64],
 ) -> u64
-    ensures { StartMeets header.old walk.old key index.now rows.old (walk_exit result header walk rows) }
+    ensures { StartMeets header.old walk.old key (archives_lent index ends) rows.old (walk_exit result header walk rows) }
 {
     if header.len() < ffi_cells::HEADER_CELLS {
         return ffi_cells::SHORT;
@@ -118,23 +126,26 @@ pub fn archive_start(
             ffi_cells::refused(Refusal::new(Cause::OutOfRange, 0)),
         );
     }
-    let started = Walk::start(key, index, rows);
+    let archives = Archives { bytes: index, ends };
+    let started = Walk::start(key, archives, rows);
     put_walk(walk, started.unwrap_or(Walk::none()));
     ffi_cells::answer(header, begun(started))
 }
 
-// The values are 1 for a member, its offset, the entry that queued it and the passes made; 0, 0, 0 and the passes where the walk is done.
+// The values are the number of a member's archive and 1, its offset, the entry that queued it and the passes made; 0, 0, 0 and the passes where the walk
+// is done.
 #[tactic(auto, unfolding(crate::specs::Calls::next_call, crate::specs::Calls::next_fit, ffi_cells::specs::Header::is_short, crate::specs::Calls::no_walk))]
 pub fn archive_next(
     header: &mut [u64],
     walk: &mut [u64],
     index: &[u8],
+    ends: &[u64],
     rows: &mut [u64],
     bytes: &[u8],
     names: &[u64],
     symbols: &[u64],
 ) -> u64
-    ensures { NextMeets header.old walk.old index.now rows.old bytes.now names.now symbols.now (walk_exit result header walk rows) }
+    ensures { NextMeets header.old walk.old (archives_lent index ends) rows.old bytes.now names.now symbols.now (walk_exit result header walk rows) }
 {
     if header.len() < ffi_cells::HEADER_CELLS {
         return ffi_cells::SHORT;
@@ -147,7 +158,7 @@ pub fn archive_next(
     }
     let link = ffi_cells::link_in(header);
     let mut moved = walk_in(walk);
-    let offer = pending_archive::next(&mut moved, index, rows, link, bytes, names, symbols);
+    let offer = pending_archive::next(&mut moved, index, ends, rows, link, bytes, names, symbols);
     put_walk(walk, moved);
     ffi_cells::answer(header, offered(offer))
 }

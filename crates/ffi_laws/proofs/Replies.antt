@@ -49,7 +49,7 @@ begun-reply (Ok n) = record { number_is = refl; place_is = refl; values-are = re
 begun-reply (Err r) = record { number_is = refl; place_is = refl; values-are = refl }
 
 pub offer-reply : (x : Result Offer Refusal) → Replies (offered_reply x) (offer_said x).number (offer_said x).place (offer_cells (offer_said x).values)
-offer-reply (Ok (Member o e p)) = record { number_is = refl; place_is = refl; values-are = refl }
+offer-reply (Ok (Member j o e p)) = record { number_is = refl; place_is = refl; values-are = refl }
 offer-reply (Ok (Done p)) = record { number_is = refl; place_is = refl; values-are = refl }
 offer-reply (Err r) = record { number_is = refl; place_is = refl; values-are = refl }
 

@@ -2,6 +2,7 @@
 -- sees of one is the number that it returns, its header and every cell lent to be written; the contracts are the predicates that stand in the `ensures` of
 -- `hidvorn`, and two exits that meet one are equal. Then, what a call replies is what it says.
 -- Assumes nothing.
+use Rattle.archive_index.specs.Archives.{Archives}
 use Rattle.archive_walk.specs.declared.Offer.{Offer}
 use Rattle.link.specs.declared.Link.{Link}
 use Rattle.link.specs.declared.SymbolId.{SymbolId}
@@ -128,11 +129,12 @@ walk-one : (z : ArchiveCalls.WalkLeft) (x y : Archive.WalkExit) → ArchiveCalls
 walk-one z x y e f = ap {B = Archive.WalkExit} (λ (o : ArchiveCalls.WalkLeft). record { number = o.told.number; header = o.told.header; walk = o.walk; rows = o.rows }) (e ∙ sym f)
 
 module _ (h walk : List ℕ) (x y : Archive.WalkExit) where
-  pub start-one-outcome : (key : ℕ) (index rows : List ℕ) → Archive.StartMeets h walk key index rows x → Archive.StartMeets h walk key index rows y → x ≡ y
-  start-one-outcome key index rows e f = walk-one (ArchiveCalls.start_call h walk key index rows) x y e f
+  pub start-one-outcome : (key : ℕ) (archives : Archives) (rows : List ℕ) → Archive.StartMeets h walk key archives rows x → Archive.StartMeets h walk key archives rows y → x ≡ y
+  start-one-outcome key archives rows e f = walk-one (ArchiveCalls.start_call h walk key archives rows) x y e f
 
-  pub next-one-outcome : (index rows bytes names symbols : List ℕ) → Archive.NextMeets h walk index rows bytes names symbols x → Archive.NextMeets h walk index rows bytes names symbols y → x ≡ y
-  next-one-outcome index rows bytes names symbols e f = walk-one (ArchiveCalls.next_call h walk index rows bytes names symbols) x y e f
+  pub next-one-outcome : (archives : Archives) (rows bytes names symbols : List ℕ) → Archive.NextMeets h walk archives rows bytes names symbols x
+      → Archive.NextMeets h walk archives rows bytes names symbols y → x ≡ y
+  next-one-outcome archives rows bytes names symbols e f = walk-one (ArchiveCalls.next_call h walk archives rows bytes names symbols) x y e f
 
 pub shadowed-one-outcome : (h walk index rows bytes names symbols cells : List ℕ) (x y : Archive.ShadowedExit) → Archive.ShadowedMeets h walk index rows bytes names symbols cells x
     → Archive.ShadowedMeets h walk index rows bytes names symbols cells y → x ≡ y

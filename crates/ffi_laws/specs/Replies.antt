@@ -2,7 +2,7 @@
 -- symbols, groups, merges, loads and collections are replied by what they say (`saying`, `refused_of`, `collected_reply`), a list of adds by number, place
 -- and position (`reply_of`, ffi_list/specs/Calls.antt); here the others, whose answers are told case by case.
 -- Assumes nothing.
-use Rattle.std.specs.Prelude.{ℕ, List, [], ◌∷◌, get_or}
+use Rattle.std.specs.Prelude.{ℕ, ◌+◌, min, List, [], ◌∷◌, get_or}
 use Rattle.std.proofs.Math.Path.{◌≡◌}
 use Rattle.link.specs.declared.SymbolId.{SymbolId}
 use Rattle.symbol.specs.declared.Symbol.{Symbol}
@@ -26,11 +26,11 @@ abbrev pub some_id : List SymbolId → List ℕ
 some_id [] = []
 some_id (id ∷ ids) = 1 ∷ id.0 ∷ []
 
--- of a call for the next member: 1, offset, entry and passes; "done" has the passes alone, in their place
+-- of a call for the next member: the archive's number and 1, as far as a cell holds it, offset, entry and passes; "done" has the passes alone, in their place
 abbrev pub offer_cells : List ℕ → List ℕ
 offer_cells [] = []
 offer_cells (p ∷ []) = 0 ∷ 0 ∷ 0 ∷ p ∷ []
-offer_cells (o ∷ e ∷ l) = 1 ∷ o ∷ e ∷ get_or l 0 0 ∷ []
+offer_cells (j ∷ o ∷ l) = min (j + 1) 0xffffffffffffffff ∷ o ∷ get_or l 0 0 ∷ get_or l 1 0 ∷ []
 
 -- a symbol that is found goes out; without one nothing does
 abbrev pub symbols_out : List ℕ → List Symbol → List ℕ

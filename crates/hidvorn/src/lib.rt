@@ -13,6 +13,7 @@ ghost use Rattle.ffi_merge.specs.Contract as Merge;
 ghost use Rattle.ffi_merge.specs.FileContract as File;
 ghost use Rattle.ffi_load.specs.Contract as Load;
 ghost use Rattle.ffi_load.specs.Contract.{LoadMeets};
+ghost use Rattle.archive_index.specs.Archives.{archives_lent};
 ghost use Rattle.ffi_archive.specs.Contract as Archive;
 ghost use Rattle.ffi_collect.specs.Calls.{entry_of};
 ghost use Rattle.ffi_collect.specs.Contract.{run_exit, RunMeets, PlainMeets};
@@ -250,11 +251,12 @@ pub extern "C" fn hidvorn_archive_start(
     walk: &mut [u64],
     key: usize,
     index: &[u8],
+    ends: &[u64],
     rows: &mut [u64],
 ) -> u64
-    ensures { Archive.StartMeets header.old walk.old key index.now rows.old (Archive.walk_exit result header walk rows) }
+    ensures { Archive.StartMeets header.old walk.old key (archives_lent index ends) rows.old (Archive.walk_exit result header walk rows) }
 {
-    ffi_archive::archive_start(header, walk, key, index, rows)
+    ffi_archive::archive_start(header, walk, key, index, ends, rows)
 }
 
 #[unsafe(no_mangle)]
@@ -262,14 +264,15 @@ pub extern "C" fn hidvorn_archive_next(
     header: &mut [u64],
     walk: &mut [u64],
     index: &[u8],
+    ends: &[u64],
     rows: &mut [u64],
     bytes: &[u8],
     names: &[u64],
     symbols: &[u64],
 ) -> u64
-    ensures { Archive.NextMeets header.old walk.old index.now rows.old bytes.now names.now symbols.now (Archive.walk_exit result header walk rows) }
+    ensures { Archive.NextMeets header.old walk.old (archives_lent index ends) rows.old bytes.now names.now symbols.now (Archive.walk_exit result header walk rows) }
 {
-    ffi_archive::archive_next(header, walk, index, rows, bytes, names, symbols)
+    ffi_archive::archive_next(header, walk, index, ends, rows, bytes, names, symbols)
 }
 
 #[unsafe(no_mangle)]

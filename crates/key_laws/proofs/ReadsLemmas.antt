@@ -18,6 +18,7 @@ use Rattle.merge_laws.proofs.Whole.{change-passed}
 use Rattle.interner.specs.Names.{Store}
 use Rattle.symbols.specs.Remove.{Rows, rows_of}
 use Rattle.sections.specs.Rows.{state_at, name_id_at, is_built}
+use Rattle.archive_index.specs.Archives.{Archives}
 use Rattle.archive_index.specs.Rows.{member_at, stored_name}
 use Rattle.archive_walk.specs.declared.Walk.{Walk}
 use Rattle.archive_walk.specs.Look as Look
@@ -44,7 +45,7 @@ use Rattle.key_laws.specs.Rekeyed.{keyed, Rekeyed}
 use Rattle.key_laws.proofs.RekeyedLemmas.{row-name-same, find-same}
 use Rattle.key_laws.proofs.Tables.{judge-keyed, change-keyed, holder-same, remove-row-keyed}
 
--- ---- the walk over an archive
+-- ---- the walk over archives
 
 abbrev pub view_under : ℕ → List ℕ → Look.Table → Look.Table
 view_under k n t = Look.table_of (keyed k t.link) t.bytes n t.symbols
@@ -79,9 +80,9 @@ module _ (k : ℕ) (t : Look.Table) (n : List ℕ) (e : Rekeyed k (record { byte
   gone_same s l zero i = refl
   gone_same s l (suc n) i = rw (removed-same (stored_name s l i), gone_same s l n (i + 1))
 
-  pub next-same : (s l : List ℕ) (w : Walk) → next_of s l w u ≡ next_of s l w t
+  pub next-same : (s : Archives) (l : List ℕ) (w : Walk) → next_of s l w u ≡ next_of s l w t
   unfolding next_of go_of pass_of search_of make_of
-  next-same s l w = rw (judge-same, gone_same s l w.entries 0, tie-same w.key w.entries s (w.passes + 1) w.entries 0 (queue_of l w.queued))
+  next-same s l w = rw (judge-same, gone_same s.bytes l w.entries 0, tie-same w.key w.entries s.bytes (w.passes + 1) w.entries 0 (queue_of l w.queued))
 
   pub shadowed-same : (s l : List ℕ) (w : Walk) (c : List ℕ) → shadowed_of s l w u c ≡ shadowed_of s l w t c
   unfolding shadowed_of Shadowed.told_at Shadowed.told_name

@@ -16,7 +16,6 @@ use Rattle.symbol.specs.declared.Words.{Words}
 use Rattle.symbol.specs.declared.Row.{Row}
 use Rattle.symbol.specs.declared.SymbolValue.{SymbolValue}
 use Rattle.symbol.specs.declared.SymbolValue.TheVariants as Val
-use Rattle.symbol.specs.Codes.{words_of}
 use Rattle.std.specs.Int.{is_power_of_two}
 use Rattle.symbol.specs.Layout.{refuses_scope, refuses_value, scope_in}
 use Rattle.symbol.specs.Row.{scope_refused, value_refused}

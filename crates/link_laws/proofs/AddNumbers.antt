@@ -11,7 +11,6 @@ use Rattle.symbol.specs.declared.Row.{Row}
 use Rattle.symbol.specs.declared.Words.{Words}
 use Rattle.symbol.specs.declared.SymbolValue.{SymbolValue}
 use Rattle.symbol.specs.declared.SymbolValue.TheVariants as Val
-use Rattle.symbol.specs.Codes.{words_of}
 use Rattle.symbol.specs.Layout.{refuses_scope, refuses_value}
 use Rattle.symbol.specs.Row.{scope_refused, scope_refusal, value_refused, value_refusal}
 use Rattle.upcoming_symbol.specs.declared.ElfSymbol.{ElfSymbol}

@@ -4,7 +4,7 @@ use Rattle.std.specs.Prelude.{ℕ, ◌+◌, ◌<◌, ◌≡◌, Bool, true, fals
 use Rattle.std.proofs.Common.{sym, ap, ◌∙◌, subst}
 use Rattle.gabi.specs.StringTable as Strings
 use Rattle.gabi.specs.Archive.{Named, extracts}
-use Rattle.archive_index.specs.Index.{count_of, offset_of, name_of}
+use Rattle.archive_index.specs.Archives.{Archives, entries_in, name_in, key_in}
 use Rattle.archive_walk.specs.Look.{Table}
 use Rattle.archive_walk.specs.Walk.{begun_number, start_of}
 use Rattle.archive_laws.specs.Rounds.{among}
@@ -21,7 +21,7 @@ use Rattle.extraction_laws.proofs.Taken.{wanted-names}
 use Rattle.extraction_laws.specs.MemberWords.{symbols_of}
 use Rattle.extraction_laws.proofs.Answer as Answer
 use Rattle.extraction_laws.specs.Answer.{says, admitted}
-use Rattle.link_laws.specs.Calls.{matches, view_in}
+use Rattle.link_laws.specs.Calls.{view_in}
 use Rattle.link_laws.specs.Walks.{next_in}
 use Rattle.link_laws.proofs.Walks.{next-is}
 use Rattle.link_laws.proofs.Undefined.{undefined-is}
@@ -29,59 +29,59 @@ use Rattle.link_laws.proofs.Ties.{OfName}
 use Rattle.link_laws.proofs.Extraction.{wanted_in, weakly_in, strongly-wanted}
 use Rattle.link_laws.specs.Admitted.{answer_in}
 
-module _ (s : Linked) (past : List Entry) (inv : Inv s.table past) (key : ℕ) (index cells : List ℕ) (begun : begun_number (start_of key index cells).started.begun ≡ 0)
+module _ (s : Linked) (past : List Entry) (inv : Inv s.table past) (key : ℕ) (archives : Archives) (cells : List ℕ) (begun : begun_number (start_of key archives cells).started.begun ≡ 0)
     (ts : List Table) where
   abbrev pub before : Run
-  before = history index ts (start_run key index cells)
+  before = history archives ts (start_run key archives cells)
 
   -- after a call for the next member that makes a pass over s
   abbrev pub after : Run
-  after = next_in index before s
+  after = next_in archives before s
 
-  module _ (made : after.walk.passes ≡ before.walk.passes + 1) (e : ℕ) (low : e < count_of index) (new : among index e before.offers ≡ false)
+  module _ (made : after.walk.passes ≡ before.walk.passes + 1) (e : ℕ) (low : e < entries_in archives) (new : among archives e before.offers ≡ false)
       (headers entries contents file : List ℕ) (ranged : (judge_of headers entries (length contents) (length file)).number ≡ 0)
-      (listed : (x : List ℕ) → in_index index (count_of index) e x ≡ lists (symbols_of headers entries file) x) where
+      (listed : (x : List ℕ) → in_index archives e x ≡ lists (symbols_of headers entries file) x) where
     abbrev pub member : List Named
     member = symbols_of headers entries file
 
-    pub passed : (step_run index (view_in s.table) before).walk.passes ≡ before.walk.passes + 1
-    passed = subst (λ (r : Run). r.walk.passes ≡ before.walk.passes + 1) (next-is index before s) made
+    pub passed : (step_run archives (view_in s.table) before).walk.passes ≡ before.walk.passes + 1
+    passed = subst (λ (r : Run). r.walk.passes ≡ before.walk.passes + 1) (next-is archives before s) made
 
-    pub let-in-queued : (on : Linked) → answer_in headers entries contents file index after e on ≡ Ok true → among index e (queue_in after) ≡ true
+    pub let-in-queued : (on : Linked) → answer_in headers entries contents file archives.bytes after e on ≡ Ok true → among archives e (queue_in after) ≡ true
     let-in-queued on y =
-        subst (λ (r : Run). among index e (queue_in r) ≡ true) (sym (next-is index before s))
-        (Answer.let-in-queued key index (offset_of index) (name_of index (count_of index)) (count_of index) (start_run key index cells) (start_fine key index cells begun) (start-begins key index cells begun) ts (view_in s.table) passed e low new headers entries contents file ranged listed on.table.link
-        (subst (λ (r : Run). answer_in headers entries contents file index r e on ≡ Ok true) (next-is index before s) y))
+        subst (λ (r : Run). among archives e (queue_in r) ≡ true) (sym (next-is archives before s))
+        (Answer.let-in-queued key archives (key_in archives) (name_in archives) (entries_in archives) (start_run key archives cells) (start_fine key archives cells begun) (start-begins key archives cells begun) ts (view_in s.table) passed e low new headers entries contents file ranged listed on.table.link
+        (subst (λ (r : Run). answer_in headers entries contents file archives.bytes r e on ≡ Ok true) (next-is archives before s) y))
 
     -- asked by any link
     module _ (on : Linked) where
       abbrev answer : Bool
-      answer = Answer.answer key index (offset_of index) (name_of index (count_of index)) (count_of index) (start_run key index cells) (start_fine key index cells begun) (start-begins key index cells begun) ts (view_in s.table) passed e low new headers entries contents file ranged listed on.table.link
+      answer = Answer.answer key archives (key_in archives) (name_in archives) (entries_in archives) (start_run key archives cells) (start_fine key archives cells begun) (start-begins key archives cells begun) ts (view_in s.table) passed e low new headers entries contents file ranged listed on.table.link
 
-      answer-now : answer_in headers entries contents file index after e on ≡ says answer
+      answer-now : answer_in headers entries contents file archives.bytes after e on ≡ says answer
       answer-now =
-          ap (λ (r : Run). answer_in headers entries contents file index r e on) (next-is index before s)
-          ∙ Answer.answer-is key index (offset_of index) (name_of index (count_of index)) (count_of index) (start_run key index cells) (start_fine key index cells begun) (start-begins key index cells begun) ts (view_in s.table) passed e low new headers entries contents file ranged listed on.table.link
+          ap (λ (r : Run). answer_in headers entries contents file archives.bytes r e on) (next-is archives before s)
+          ∙ Answer.answer-is key archives (key_in archives) (name_in archives) (entries_in archives) (start_run key archives cells) (start_fine key archives cells begun) (start-begins key archives cells begun) ts (view_in s.table) passed e low new headers entries contents file ranged listed on.table.link
 
-      answer-later : among index e (queue_in after) ≡ true → (us : List Table) → answer_in headers entries contents file index (history index us after) e on ≡ says answer
+      answer-later : among archives e (queue_in after) ≡ true → (us : List Table) → answer_in headers entries contents file archives.bytes (history archives us after) e on ≡ says answer
       answer-later q us =
-          ap (λ (r : Run). answer_in headers entries contents file index (history index us r) e on) (next-is index before s)
-          ∙ Answer.answer-later key index (offset_of index) (name_of index (count_of index)) (count_of index) (start_run key index cells) (start_fine key index cells begun) (start-begins key index cells begun) ts (view_in s.table) passed e low new headers entries contents file ranged listed on.table.link
-          (subst (λ (r : Run). among index e (queue_in r) ≡ true) (next-is index before s) q) us
+          ap (λ (r : Run). answer_in headers entries contents file archives.bytes (history archives us r) e on) (next-is archives before s)
+          ∙ Answer.answer-later key archives (key_in archives) (name_in archives) (entries_in archives) (start_run key archives cells) (start_fine key archives cells begun) (start-begins key archives cells begun) ts (view_in s.table) passed e low new headers entries contents file ranged listed on.table.link
+          (subst (λ (r : Run). among archives e (queue_in r) ≡ true) (next-is archives before s) q) us
 
     module _ (wanted : List (List ℕ)) (same : (x : List ℕ) → lists member x ≡ true → Strings.among x wanted ≡ wanted_in s past inv x) where
       -- the old profile
       module _ (old : s.table.link.gabi ≡ false) (on : Linked) (asks : on.table.link.gabi ≡ false) where
         by-gabi : answer on ≡ admitted wanted (weakly_in s past inv) member
         by-gabi =
-            Answer.by-gabi key index (offset_of index) (name_of index (count_of index)) (count_of index) (start_run key index cells) (start_fine key index cells begun) (start-begins key index cells begun) ts (view_in s.table) passed e low new headers entries contents file ranged listed on.table.link old asks wanted
+            Answer.by-gabi key archives (key_in archives) (name_in archives) (entries_in archives) (start_run key archives cells) (start_fine key archives cells begun) (start-begins key archives cells begun) ts (view_in s.table) passed e low new headers entries contents file ranged listed on.table.link old asks wanted
             (weakly_in s past inv) (λ x l. undefined-is s.table past inv x ∙ ap (λ (b : Bool). b || weakly_in s past inv x) (sym (same x l)))
 
-        pub matches-is : answer_in headers entries contents file index after e on ≡ says (admitted wanted (weakly_in s past inv) member)
+        pub matches-is : answer_in headers entries contents file archives.bytes after e on ≡ says (admitted wanted (weakly_in s past inv) member)
         matches-is = answer-now on ∙ ap says by-gabi
 
-        pub matches-later : among index e (queue_in after) ≡ true → (us : List Table)
-            → answer_in headers entries contents file index (history index us after) e on ≡ says (admitted wanted (weakly_in s past inv) member)
+        pub matches-later : among archives e (queue_in after) ≡ true → (us : List Table)
+            → answer_in headers entries contents file archives.bytes (history archives us after) e on ≡ says (admitted wanted (weakly_in s past inv) member)
         matches-later q us = answer-later on q us ∙ ap says by-gabi
 
       -- the gABI's profile
@@ -89,14 +89,14 @@ module _ (s : Linked) (past : List Entry) (inv : Inv s.table past) (key : ℕ) (
           (on : Linked) (asks : on.table.link.gabi ≡ true) where
         exactly : answer on ≡ extracts member wanted
         exactly =
-            Answer.exactly-gabi key index (offset_of index) (name_of index (count_of index)) (count_of index) (start_run key index cells) (start_fine key index cells begun) (start-begins key index cells begun) ts (view_in s.table) passed e low new headers entries contents file ranged listed on.table.link gabi asks wanted
+            Answer.exactly-gabi key archives (key_in archives) (name_in archives) (entries_in archives) (start_run key archives cells) (start_fine key archives cells begun) (start-begins key archives cells begun) ts (view_in s.table) passed e low new headers entries contents file ranged listed on.table.link gabi asks wanted
             (λ x l. strongly-wanted s past inv gabi named x ∙ sym (same x l))
 
-        pub matches-gabi : answer_in headers entries contents file index after e on ≡ says (extracts member wanted)
+        pub matches-gabi : answer_in headers entries contents file archives.bytes after e on ≡ says (extracts member wanted)
         matches-gabi = answer-now on ∙ ap says exactly
 
-        pub matches-gabi-later : among index e (queue_in after) ≡ true → (us : List Table)
-            → answer_in headers entries contents file index (history index us after) e on ≡ says (extracts member wanted)
+        pub matches-gabi-later : among archives e (queue_in after) ≡ true → (us : List Table)
+            → answer_in headers entries contents file archives.bytes (history archives us after) e on ≡ says (extracts member wanted)
         matches-gabi-later q us = answer-later on q us ∙ ap says exactly
 
     -- the wanted names that the member bears are such a list

@@ -4,12 +4,10 @@ use Rattle.std.specs.Prelude.{ℕ, ◌/◌, ◌≡◌, refl, List, ◌≢◌, eq
 use Rattle.std.proofs.Common.{ap, ◌∙◌}
 use Rattle.std.proofs.lemmas.Bool.{eqb-false}
 use Rattle.byte_slices.specs.Proof.Ways.{pick}
-use Rattle.link.specs.Bounds.{lesser}
-use Rattle.archive_index.specs.Open.{Opened}
-use Rattle.archive_index.specs.Index.{count_of, cut_of, names_at}
+use Rattle.archive_index.specs.Archives.{Archives, last_end}
 use Rattle.archive_index.specs.Rows.{no_heads}
 use Rattle.archive_index.specs.Open as Open
-use Rattle.archive_index.specs.Open.{offsets_in, open_rows_of, open_names_of, open_entries_of, open_of}
+use Rattle.archive_index.specs.Open.{Opened, judge_of, open_of}
 use Rattle.archive_walk.specs.declared.Walk.{Walk}
 use Rattle.archive_walk.specs.Walk.{Started}
 use Rattle.archive_walk.specs.Look.{Table, judge_table}
@@ -23,19 +21,19 @@ use Rattle.link_laws.proofs.NeverRemoved.{offered-number}
 
 -- ---- a refused call for the next member leaves the walk
 
-pub walk-leaves : (index cells : List ℕ) (w : Walk) (t : Table) → number_of (next_of index cells w t).moved.offer ≢ 0
-    → ((next_of index cells w t).cells ≡ cells) × ((next_of index cells w t).moved.walk ≡ w)
+pub walk-leaves : (archives : Archives) (cells : List ℕ) (w : Walk) (t : Table) → number_of (next_of archives cells w t).moved.offer ≢ 0
+    → ((next_of archives cells w t).cells ≡ cells) × ((next_of archives cells w t).moved.walk ≡ w)
 unfolding next_of go_of pass_of search_of make_of
-walk-leaves index cells w t =
+walk-leaves archives cells w t =
     pick P w.done _ _ (λ a u. (refl, refl))
     (λ a.
-    pick P (walk_fits index cells w) _ _
+    pick P (walk_fits archives cells w) _ _
     (λ b.
-    pick P (ltb w.offered w.queued) _ _ (λ c u. absurd (u (offered-number index cells w)))
+    pick P (ltb w.offered w.queued) _ _ (λ c u. absurd (u (offered-number archives cells w)))
     (λ c.
     pick P (eqb (judge_table t).number 0) _ _
     (λ d.
-    pick P (ltb (removed_of index cells t w.entries 0) w.entries) _ _ (λ e u. (refl, refl)) (λ e u. absurd (u (offered-number index _ _))))
+    pick P (ltb (removed_of archives.bytes cells t w.entries 0) w.entries) _ _ (λ e u. (refl, refl)) (λ e u. absurd (u (offered-number archives _ _))))
     (λ d u. (refl, refl))))
     (λ b u. (refl, refl)))
   where
@@ -70,36 +68,16 @@ would-leaves headers entries contents file t cells =
 
 -- ---- a refused start leaves the cells lent to it
 
--- what a refused index leaves
+-- what refused indexes leave
 pub record Unopened (cells : List ℕ) (x : Open.Left) : Type 0 where
   pub same : x.cells ≡ cells
   pub no-entry : x.opened.entries ≡ 0
 
-module _ (index cells : List ℕ) where
-  abbrev Kept : Open.Left → Type 0
-  Kept x = x.opened.refusal.number ≢ 0 → Unopened cells x
-
-  stopped : (number place : ℕ) → Kept (Open.refused_as cells number place)
-  stopped number place u = record { same = refl; no-entry = refl }
-
-  rows-leave : (c p : ℕ) → Kept (open_rows_of index cells c p)
-  unfolding open_rows_of
-  rows-leave c p = pick Kept (ltb (length cells / 8) c) _ _ (λ a. stopped 2 0) (λ a u. absurd (u refl))
-
-  names-leave : (c p : ℕ) → Kept (open_names_of index cells c p)
-  unfolding open_names_of
-  names-leave c p = pick Kept (ltb (cut_of index p c 0) c) _ _ (λ a. stopped 1 (cut_of index p c 0)) (λ a. rows-leave c p)
-
-  entries-leave : (c : ℕ) → Kept (open_entries_of index cells c)
-  unfolding open_entries_of
-  entries-leave c =
-      pick Kept (ltb (offsets_in (length index)) c) _ _ (λ a. stopped 1 (lesser 65535 (offsets_in (length index))))
-      (λ a. pick Kept (ltb 65535 c) _ _ (λ b. stopped 1 65535) (λ b. names-leave c (names_at c)))
-
-  open-leaves : Kept (open_of index cells)
-  unfolding open_of
-  open-leaves =
-      pick Kept (eqb (length index) 0) _ _ (λ a. stopped 20 0) (λ a. pick Kept (ltb (length index) 4) _ _ (λ b. stopped 1 0) (λ b. entries-leave (count_of index)))
+open-leaves : (archives : Archives) (cells : List ℕ) → (open_of archives cells).opened.refusal.number ≢ 0 → Unopened cells (open_of archives cells)
+unfolding open_of
+open-leaves archives cells =
+    pick (λ (x : Open.Left). x.opened.refusal.number ≢ 0 → Unopened cells x) (eqb (judge_of archives (length cells / 8)).number 0) _ _ (λ a u. absurd (u refl))
+    (λ a u. record { same = refl; no-entry = refl })
 
 begun-refused : (key n : ℕ) (o : Opened) → begun_number (begun_of key n o).begun ≢ 0 → o.refusal.number ≢ 0
 unfolding begun_of
@@ -110,8 +88,8 @@ no-chains : (cells : List ℕ) → no_heads 0 cells ≡ cells
 unfolding no_heads
 no-chains cells = refl
 
-pub start-leaves : (key : ℕ) (index cells : List ℕ) → begun_number (start_of key index cells).started.begun ≢ 0 → (start_of key index cells).cells ≡ cells
+pub start-leaves : (key : ℕ) (archives : Archives) (cells : List ℕ) → begun_number (start_of key archives cells).started.begun ≢ 0 → (start_of key archives cells).cells ≡ cells
 unfolding start_of
-start-leaves key index cells u =
-    let o = open-leaves index cells (begun-refused key (length index) (open_of index cells).opened u) in
-    ap (λ (c : ℕ). no_heads c (open_of index cells).cells) o.no-entry ∙ no-chains (open_of index cells).cells ∙ o.same
+start-leaves key archives cells u =
+    let o = open-leaves archives cells (begun-refused key (last_end archives) (open_of archives cells).opened u) in
+    ap (λ (c : ℕ). no_heads c (open_of archives cells).cells) o.no-entry ∙ no-chains (open_of archives cells).cells ∙ o.same

@@ -6,10 +6,8 @@ use Rattle.link.specs.declared.Link.{Link}
 use Rattle.link.specs.declared.cause.Refusal.{Refusal}
 use Rattle.link.specs.Proof.Passed.{judge-gives}
 use Rattle.elf_object.specs.Judge as Elf
-use Rattle.archive_index.specs.Open.{Opened}
-use Rattle.archive_index.specs.Index.{count_of, cut_of, names_at}
-use Rattle.archive_index.specs.Open as Open
-use Rattle.archive_index.specs.Open.{offsets_in, open_rows_of, open_names_of, open_entries_of, open_of}
+use Rattle.archive_index.specs.Archives.{Archives, last_end}
+use Rattle.archive_index.specs.Open.{Opened, is_filled, open_of}
 use Rattle.archive_walk.specs.declared.Walk.{Walk}
 use Rattle.archive_walk.specs.Walk.{Started}
 use Rattle.archive_walk.specs.Look.{judge_table}
@@ -25,44 +23,36 @@ use Rattle.object_requirement.specs.Matches.{admission, offered_in, has_global_s
 use Rattle.archive_walk.specs.Names.{required_of}
 use Rattle.merge_laws.proofs.ByNumber.{elf-gives}
 use Rattle.link_laws.proofs.Among.{Among}
+use Rattle.link_laws.proofs.ArchiveGives.{each-gives, open-gives}
 use Rattle.link_laws.specs.Table.{call_numbers}
 use Rattle.link_laws.specs.Calls.{archive_start, archive_next, archive_shadowed, matches, would_define}
 
-open-numbers : (key : ℕ) (s l : List ℕ) → Among (call_numbers (archive_start key s l)) (open_of s l).opened.refusal.number
-unfolding open_of open_entries_of open_names_of open_rows_of
+open-numbers : (key : ℕ) (s : Archives) (l : List ℕ) → Among (call_numbers (archive_start key s l)) (open_of s l).opened.refusal.number
 open-numbers key s l =
-    let c : ℕ = count_of s in
-    pick P (eqb (length s) 0) _ _ (λ a. refl)
-    (λ a.
-    pick P (ltb (length s) 4) _ _ (λ a. refl)
-    (λ a.
-    pick P (ltb (offsets_in (length s)) c) _ _ (λ a. refl)
-    (λ a.
-    pick P (ltb 65535 c) _ _ (λ a. refl)
-    (λ a. pick P (ltb (cut_of s (names_at c) c 0) c) _ _ (λ a. refl) (λ a. pick P (ltb (length l / 8) c) _ _ (λ a. refl) (λ a. refl))))))
+    open-gives P (λ k. refl) refl s (each-gives P (λ k. refl) refl (is_filled s) (length s.ends) 20 refl) refl l
   where
-    P : Open.Left → Type 0
-    P o = Among (call_numbers (archive_start key s l)) o.opened.refusal.number
+    P : Refusal → Type 0
+    P r = Among (call_numbers (archive_start key s l)) r.number
 
 begun-numbers : (xs : List ℕ) (key n : ℕ) (o : Opened) → Among xs o.refusal.number → Among xs (begun_number (begun_of key n o).begun)
 unfolding begun_of
 begun-numbers xs key n o e =
     pick (λ (x : Started). Among xs (begun_number x.begun)) (eqb o.refusal.number 0) _ _ (λ a. refl) (λ a. e)
 
-pub start-numbers : (key : ℕ) (s l : List ℕ) → Among (call_numbers (archive_start key s l)) (begun_number (start_of key s l).started.begun)
+pub start-numbers : (key : ℕ) (s : Archives) (l : List ℕ) → Among (call_numbers (archive_start key s l)) (begun_number (start_of key s l).started.begun)
 unfolding start_of
-start-numbers key s l = begun-numbers (call_numbers (archive_start key s l)) key (length s) (open_of s l).opened (open-numbers key s l)
+start-numbers key s l = begun-numbers (call_numbers (archive_start key s l)) key (last_end s) (open_of s l).opened (open-numbers key s l)
 
-offered-numbers : (s l : List ℕ) (w : Walk) → Among (call_numbers (archive_next s l w)) (number_of (offer_of s l w).moved.offer)
+offered-numbers : (s : Archives) (l : List ℕ) (w : Walk) → Among (call_numbers (archive_next s l w)) (number_of (offer_of s l w).moved.offer)
 unfolding offer_of
 offered-numbers s l w =
     pick (λ (x : Step). Among (call_numbers (archive_next s l w)) (number_of x.moved.offer)) (ltb w.offered w.queued) _ _ (λ a. refl) (λ a. refl)
 
-judged-table : (s l : List ℕ) (w : Walk) (t : Look.Table) → Among (call_numbers (archive_next s l w)) (judge_table t).number
+judged-table : (s : Archives) (l : List ℕ) (w : Walk) (t : Look.Table) → Among (call_numbers (archive_next s l w)) (judge_table t).number
 unfolding judge_table
 judged-table s l w t = judge-gives (λ (r : Refusal). Among (call_numbers (archive_next s l w)) r.number) (λ k. refl) refl t.link _
 
-pub next-numbers : (s l : List ℕ) (w : Walk) (t : Look.Table) → Among (call_numbers (archive_next s l w)) (number_of (next_of s l w t).moved.offer)
+pub next-numbers : (s : Archives) (l : List ℕ) (w : Walk) (t : Look.Table) → Among (call_numbers (archive_next s l w)) (number_of (next_of s l w t).moved.offer)
 unfolding next_of go_of pass_of search_of make_of
 next-numbers s l w t =
     pick P w.done _ _ (λ a. refl)
@@ -72,7 +62,7 @@ next-numbers s l w t =
     pick P (ltb w.offered w.queued) _ _ (λ a. offers l w)
     (λ a.
     pick P (eqb (judge_table t).number 0) _ _
-    (λ a. pick P (ltb (removed_of s l t w.entries 0) w.entries) _ _ (λ a. refl) (λ a. offers _ _)) (λ a. judges)))
+    (λ a. pick P (ltb (removed_of s.bytes l t w.entries 0) w.entries) _ _ (λ a. refl) (λ a. offers _ _)) (λ a. judges)))
     (λ a. refl))
   where
     P : Step → Type 0

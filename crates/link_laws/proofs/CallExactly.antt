@@ -39,8 +39,8 @@ call-exactly (add_group o work n) s met m = add-group-exactly o work n s m.good.
 call-exactly (merge o work ids) s met m = merge-exactly o (all_in s work ids) met m
 call-exactly (merge_file file cells work ids) s met m = file-exactly file cells work ids s met m
 call-exactly (load o marks) s met m = load-exactly o (library_in s marks) m.good
-call-exactly (reads (Read.archive_start key index cells)) s met m = start-exactly key index cells s
-call-exactly (reads (Read.archive_next index cells w)) s met m = next-exactly index cells w s m.good.chained
+call-exactly (reads (Read.archive_start key archives cells)) s met m = start-exactly key archives cells s
+call-exactly (reads (Read.archive_next archives cells w)) s met m = next-exactly archives cells w s m.good.chained
 call-exactly (reads (Read.archive_shadowed index rows w cells)) s met m = shadowed-exactly index rows w cells s
 call-exactly (reads (Read.matches headers entries contents file index cells w e)) s met m = matches-exactly headers entries contents file index cells w e s
 call-exactly (reads (Read.would_define headers entries contents file cells)) s met m = would-exactly headers entries contents file cells s
@@ -64,8 +64,8 @@ rules-numbered (merge_file file cells work ids) s =
     numbered-both (file_rules s.table.link.broken file (length cells)) (merge_rules (ElfFile.rows_of file) (all_in s work ids))
     (file-numbered s.table.link.broken file (length cells)) (merge-numbered (ElfFile.rows_of file) (all_in s work ids))
 rules-numbered (load o marks) s = load-numbered o (library_in s marks)
-rules-numbered (reads (Read.archive_start key index cells)) s = start-numbered index cells
-rules-numbered (reads (Read.archive_next index cells w)) s = next-numbered index cells w s.table
+rules-numbered (reads (Read.archive_start key archives cells)) s = start-numbered archives cells
+rules-numbered (reads (Read.archive_next archives cells w)) s = next-numbered archives cells w s.table
 rules-numbered (reads (Read.archive_shadowed index rows w cells)) s = refl
 rules-numbered (reads (Read.matches headers entries contents file index cells w e)) s = matches-numbered headers entries contents file index cells w e
 rules-numbered (reads (Read.would_define headers entries contents file cells)) s = would-numbered headers entries contents file cells s.table

@@ -4,7 +4,7 @@ use Rattle.gc_sections.specs.declared.Dropped.{Dropped}
 use Rattle.symbol.specs.declared.Symbol.{Symbol}
 use Rattle.link.specs.declared.SectionId.{SectionId}
 use Prim.Native.Nat.{ℕ, zero, suc, ◌+◌, ◌/◌, ◌<◌, ◌≤◌}
-use Rattle.std.specs.Prelude.{◌≡◌, Bool, true, not, List, ◌∷◌, ◌≢◌, eqb, ltb, leb, length, Option, Result, None, Some, Ok, Err}
+use Rattle.std.specs.Prelude.{◌≡◌, Bool, true, List, ◌∷◌, ◌≢◌, eqb, ltb, leb, length, Option, Result, None, Some, Ok, Err}
 use Rattle.std.proofs.Math.Path.{refl}
 use Rattle.std.proofs.Common.{sym, ap, ◌∙◌, subst}
 use Rattle.std.proofs.Math.Bool.{false}
@@ -44,11 +44,9 @@ use Rattle.symbols.specs.Add.{empty_at, file_of, file_issued, unissued_file, dec
 use Rattle.symbols.specs.Remove.{Rows, RemoveLeft, remove_of}
 use Rattle.symbols.specs.Lookup as Lookup
 use Rattle.symbols.specs.Lookup.{found_at, get_of, held_of, get_global_of}
-use Rattle.archive_index.specs.Open.{Opened}
-use Rattle.archive_index.specs.Index.{count_of, cut_of, names_at}
+use Rattle.archive_index.specs.Archives.{Archives, last_end}
 use Rattle.archive_index.specs.Rows.{stored_name}
-use Rattle.archive_index.specs.Open as Open
-use Rattle.archive_index.specs.Open.{offsets_in, open_rows_of, open_names_of, open_entries_of, open_of}
+use Rattle.archive_index.specs.Open.{Opened, first_not, judge_each, is_filled, open_of}
 use Rattle.archive_walk.specs.declared.Walk.{Walk}
 use Rattle.archive_walk.specs.Walk.{Started}
 use Rattle.archive_walk.specs.Look.{judge_table, removed_name}
@@ -76,7 +74,8 @@ use Rattle.link_laws.proofs.FirstRow.{first-bad}
 use Rattle.link_laws.proofs.NeverRemoved.{offered-number}
 use Rattle.link_laws.proofs.CallSteps.{head-loaded, section-is}
 use Rattle.merge_laws.specs.Table.{one_of, group_causes, group_numbers}
-use Rattle.link_laws.specs.CallPlaces.{not_removed, collect_lent}
+use Rattle.link_laws.specs.CallPlaces.{has_bytes, not_removed, collect_lent}
+use Rattle.link_laws.proofs.ArchiveGives.{each-gives, open-gives}
 
 -- two numbers
 pub differ : {P : Type 0} (m n : ℕ) → eqb m n ≡ false → m ≡ n → P
@@ -230,68 +229,85 @@ add-file-place conversion u s id e a f b = add_at (table s.table) conversion u e
 
 -- ---- archives
 
-open_at : (index cells : List ℕ) → (open_of index cells).opened.refusal.number ≢ 1 → (open_of index cells).opened.refusal.place ≡ 0
-unfolding open_of open_entries_of open_names_of open_rows_of
-open_at s l =
-    let c : ℕ = count_of s in
-    pick P (eqb (length s) 0) _ _ (λ a u. refl)
-    (λ a.
-    pick P (ltb (length s) 4) _ _ (λ a u. refl)
-    (λ a.
-    pick P (ltb (offsets_in (length s)) c) _ _ (λ a u. absurd (u refl))
-    (λ a.
-    pick P (ltb 65535 c) _ _ (λ a u. absurd (u refl))
-    (λ a.
-    pick P (ltb (cut_of s (names_at c) c 0) c) _ _ (λ a u. absurd (u refl)) (λ a. pick P (ltb (length l / 8) c) _ _ (λ a u. refl) (λ a u. refl))))))
-  where
-    P : Open.Left → Type 0
-    P o = o.opened.refusal.number ≢ 1 → o.opened.refusal.place ≡ 0
+pub first-is-bad : (f : ℕ → Bool) (n k : ℕ) → first_not f n k ≡ first_bad f k n
+unfolding first_not first_bad
+first-is-bad f zero k = refl
+first-is-bad f (suc n) k = by-test (f k) (λ a. rw a (first-is-bad f n (k + 1))) (λ a. rw a)
 
-begun-at : (key n : ℕ) (o : Opened) → (o.refusal.number ≢ 1 → o.refusal.place ≡ 0) → begun_number (begun_of key n o).begun ≢ 1 → begun_place (begun_of key n o).begun ≡ 0
+pub begun-gives : (P : Refusal → Type 0) → P (refused 0 0) → (key n : ℕ) (o : Opened) → P o.refusal → P (refused (begun_number (begun_of key n o).begun) (begun_place (begun_of key n o).begun))
 unfolding begun_of
-begun-at key n o e =
-    pick (λ (x : Started). begun_number x.begun ≢ 1 → begun_place x.begun ≡ 0) (eqb o.refusal.number 0) _ _ (λ a u. refl) (λ a. e)
+begun-gives P fine key n o h = pick (λ (x : Started). P (refused (begun_number x.begun) (begun_place x.begun))) (eqb o.refusal.number 0) _ _ (λ a. fine) (λ a. h)
 
--- 20 and 2 at 0
-pub start-place : (key : ℕ) (index cells : List ℕ) (s : Linked) → call_number (archive_start key index cells) s ≢ 1 → (call_refusal (archive_start key index cells) s).place ≡ 0
-unfolding start_of
-start-place key index cells s = begun-at key (length index) (open_of index cells).opened (open_at index cells)
+module _ (key : ℕ) (archives : Archives) (cells : List ℕ) (s : Linked) where
+  -- what holds of the refusals that there are holds of the start's
+  start-gives : (P : Refusal → Type 0) → ((k : ℕ) → P (refused 1 k)) → P (refused 0 0) → P (judge_each (is_filled archives) (length archives.ends) 20) → P (refused 2 0)
+      → P (call_refusal (archive_start key archives cells) s)
+  unfolding start_of
+  start-gives P one fine empty short =
+      begun-gives P fine key (last_end archives) (open_of archives cells).opened (open-gives P one fine archives empty short cells)
+
+  -- 2 at 0
+  pub start-place : call_number (archive_start key archives cells) s ≡ 2 → (call_refusal (archive_start key archives cells) s).place ≡ 0
+  start-place =
+      start-gives P (λ k e. differ 1 2 refl e) (λ e. differ 0 2 refl e)
+      (each-gives P (λ k e. differ 1 2 refl e) (λ e. differ 0 2 refl e) (is_filled archives) (length archives.ends) 20 (λ e. differ 20 2 refl e)) (λ e. refl)
+    where
+      P : Refusal → Type 0
+      P r = r.number ≡ 2 → r.place ≡ 0
+
+  -- 20 at the first empty index
+  pub start-empty : call_number (archive_start key archives cells) s ≡ 20 → First (has_bytes archives) (length archives.ends) (call_refusal (archive_start key archives cells) s).place
+  unfolding judge_each is_filled
+  start-empty =
+      start-gives P (λ k e. differ 1 20 refl e) (λ e. differ 0 20 refl e)
+      (pick P (ltb (first_not (has_bytes archives) n 0) n) _ _ (λ t e. found (ltb-true _ _ t)) (λ t e. differ 0 20 refl e)) (λ e. differ 2 20 refl e)
+    where
+      n : ℕ
+      n = length archives.ends
+
+      P : Refusal → Type 0
+      P r = r.number ≡ 20 → First (has_bytes archives) (length archives.ends) r.place
+
+      found : first_not (has_bytes archives) n 0 < n → First (has_bytes archives) n (first_not (has_bytes archives) n 0)
+      found h =
+          let q = first-is-bad (has_bytes archives) n 0 in
+          subst (First (has_bytes archives) n) (sym q) (first-bad (has_bytes archives) n (subst (λ (p : ℕ). p < n) q h))
 
 -- "the entry's position for a pass": of the walk's entries the first whose name's row was removed
-module _ (index cells : List ℕ) (t : Look.Table) where
-  removed-first : (n k : ℕ) → removed_of index cells t n k ≡ first_bad (not_removed index cells t) k n
+module _ (archives : Archives) (cells : List ℕ) (t : Look.Table) where
+  removed-first : (n k : ℕ) → removed_of archives.bytes cells t n k ≡ first_bad (not_removed archives.bytes cells t) k n
   unfolding removed_of first_bad
   removed-first zero k = refl
   removed-first (suc n) k =
-      by-test (removed_name t (stored_name index cells k)) (λ a. rw a) (λ a. rw (a, removed-first n (k + 1)))
+      by-test (removed_name t (stored_name archives.bytes cells k)) (λ a. rw a) (λ a. rw (a, removed-first n (k + 1)))
 
-  pass-at : (w : Walk) → number_of (next_of index cells w t).moved.offer ≡ 21 → First (not_removed index cells t) w.entries (place_of (next_of index cells w t).moved.offer)
+  pass-at : (w : Walk) → number_of (next_of archives cells w t).moved.offer ≡ 21 → First (not_removed archives.bytes cells t) w.entries (place_of (next_of archives cells w t).moved.offer)
   unfolding next_of go_of pass_of search_of make_of judge_table
   pass-at w =
       pick P w.done _ _ (λ a e. differ 0 21 refl e)
       (λ a.
-      pick P (walk_fits index cells w) _ _
+      pick P (walk_fits archives cells w) _ _
       (λ a.
-      pick P (ltb w.offered w.queued) _ _ (λ a e. differ 0 21 refl (sym (offered-number index cells w) ∙ e))
+      pick P (ltb w.offered w.queued) _ _ (λ a e. differ 0 21 refl (sym (offered-number archives cells w) ∙ e))
       (λ a.
       pick P (eqb (judge_table t).number 0) _ _
       (λ a.
-      pick P (ltb (removed_of index cells t w.entries 0) w.entries) _ _ (λ b e. found (ltb-true _ _ b))
-      (λ b e. differ 0 21 refl (sym (offered-number index _ _) ∙ e)))
-      (λ a. judge-gives (λ (r : Refusal). r.number ≡ 21 → First (not_removed index cells t) w.entries r.place) (λ k e. differ 1 21 refl e) (λ e. differ 0 21 refl e) t.link _)))
+      pick P (ltb (removed_of archives.bytes cells t w.entries 0) w.entries) _ _ (λ b e. found (ltb-true _ _ b))
+      (λ b e. differ 0 21 refl (sym (offered-number archives _ _) ∙ e)))
+      (λ a. judge-gives (λ (r : Refusal). r.number ≡ 21 → First (not_removed archives.bytes cells t) w.entries r.place) (λ k e. differ 1 21 refl e) (λ e. differ 0 21 refl e) t.link _)))
       (λ a e. differ 1 21 refl e))
     where
       P : Step → Type 0
-      P x = number_of x.moved.offer ≡ 21 → First (not_removed index cells t) w.entries (place_of x.moved.offer)
+      P x = number_of x.moved.offer ≡ 21 → First (not_removed archives.bytes cells t) w.entries (place_of x.moved.offer)
 
-      found : removed_of index cells t w.entries 0 < w.entries → First (not_removed index cells t) w.entries (removed_of index cells t w.entries 0)
+      found : removed_of archives.bytes cells t w.entries 0 < w.entries → First (not_removed archives.bytes cells t) w.entries (removed_of archives.bytes cells t w.entries 0)
       found h =
           let q = removed-first w.entries 0 in
-          subst (First (not_removed index cells t) w.entries) (sym q) (first-bad (not_removed index cells t) w.entries (subst (λ (p : ℕ). p < w.entries) q h))
+          subst (First (not_removed archives.bytes cells t) w.entries) (sym q) (first-bad (not_removed archives.bytes cells t) w.entries (subst (λ (p : ℕ). p < w.entries) q h))
 
-pub pass-place : (index cells : List ℕ) (w : Walk) (s : Linked) → call_number (archive_next index cells w) s ≡ 21
-    → First (not_removed index cells (view_in s.table)) w.entries (call_refusal (archive_next index cells w) s).place
-pass-place index cells w s = pass-at index cells (view_in s.table) w
+pub pass-place : (archives : Archives) (cells : List ℕ) (w : Walk) (s : Linked) → call_number (archive_next archives cells w) s ≡ 21
+    → First (not_removed archives.bytes cells (view_in s.table)) w.entries (call_refusal (archive_next archives cells w) s).place
+pass-place archives cells w s = pass-at archives cells (view_in s.table) w
 
 -- ---- collection: 1 of the link's own, then at the first symbol without a mark; 2 at 0
 

@@ -28,7 +28,7 @@ use Rattle.load_laws.specs.Stops.{want, ending}
 use Rattle.load_laws.specs.Whole as Loads
 use Rattle.load_laws.specs.Unbroken as Unbroken
 use Rattle.load_laws.proofs.Unbroken as UnbrokenLaws
-use Rattle.link_laws.specs.Calls.{merge, load, call_left, call_refusal}
+use Rattle.link_laws.specs.Calls.{merge, call_left, call_refusal}
 use Rattle.link_laws.proofs.LoadNumbers.{head-gives}
 use Rattle.merge_laws.specs.Table.{one_of, section_causes, early_causes, merge_head_numbers, load_head_numbers}
 use Rattle.link_laws.specs.Elements.{lent_to, number, MergeLeft, lent_load, load_number, numbers_at, named_at, row_at, name_in, id_at, LoadLeft, at-element, at_head, but-its-name}

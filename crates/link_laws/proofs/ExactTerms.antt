@@ -8,6 +8,7 @@ use Rattle.link.specs.declared.SymbolId.{SymbolId}
 use Rattle.link.specs.declared.cause.Refusal.{Refusal}
 use Rattle.link.specs.Said.{number_in}
 use Rattle.symbols.specs.New.{new_of}
+use Rattle.archive_index.specs.Archives.{Archives}
 use Rattle.archive_walk.specs.Look.{Table}
 use Rattle.archive_walk.specs.Walk.{begun_number, start_of}
 use Rattle.archive_laws.specs.Runs.{Run, history, start_run}
@@ -60,12 +61,12 @@ module _ (key : ℕ) (gabi : Bool) (bytes names symbols sections inputs lists : 
   accepted k = ap (λ (r : Refusal). eqb r.number 0) (exactly k) ∙ none-holds (rules k on) (rules-numbered k on)
 
   -- a call of a walk that an accepted start began, after calls over any tables: the same rules, with the index' own names
-  module _ (walk_key : ℕ) (index cells : List ℕ) (begun : begun_number (start_of walk_key index cells).started.begun ≡ 0) (ts : List Table) where
+  module _ (walk_key : ℕ) (archives : Archives) (cells : List ℕ) (begun : begun_number (start_of walk_key archives cells).started.begun ≡ 0) (ts : List Table) where
     abbrev pub walk : Run
-    walk = history index ts (start_run walk_key index cells)
+    walk = history archives ts (start_run walk_key archives cells)
 
-    pub exactly-next : call_refusal (archive_next index walk.cells walk.walk) on ≡ first_refusal (indexed_rules index walk.cells walk.walk on.table)
-    exactly-next = exactly (archive_next index walk.cells walk.walk) ∙ ap first_refusal (next-indexed walk_key index cells begun ts on.table)
+    pub exactly-next : call_refusal (archive_next archives walk.cells walk.walk) on ≡ first_refusal (indexed_rules on.table archives walk.cells walk.walk)
+    exactly-next = exactly (archive_next archives walk.cells walk.walk) ∙ ap first_refusal (next-indexed walk_key archives cells begun ts on.table)
 
 -- ---- the same where lists grew before calls, and where other cells are lent for symbols, sections, inputs and lists than the link's: there the rules of 1 for
 -- counts above what is lent arise

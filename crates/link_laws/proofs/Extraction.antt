@@ -4,7 +4,7 @@ use Rattle.std.specs.Prelude.{ℕ, ◌+◌, ◌<◌, ◌≡◌, Bool, true, fals
 use Rattle.std.proofs.Common.{sym, ap, ◌∙◌, subst}
 use Rattle.gabi.specs.StringTable as Strings
 use Rattle.gabi.specs.Archive.{Named, wants, extracts}
-use Rattle.archive_index.specs.Index.{count_of}
+use Rattle.archive_index.specs.Archives.{Archives, entries_in}
 use Rattle.archive_walk.specs.Look.{Table, undefined_name}
 use Rattle.archive_walk.specs.Walk.{begun_number, start_of}
 use Rattle.archive_laws.specs.Profiles.{strong_name}
@@ -42,49 +42,49 @@ module _ (s : Linked) (past : List Entry) (inv : Inv s.table past) where
       → undefined_name (view_in s.table) x && strong_name (view_in s.table) x ≡ wanted_in x
   strongly-wanted gabi named x = sym (tied-gabi (view_in s.table) x gabi) ∙ ties-is s.table past inv gabi x (named _)
 
-  module _ (key : ℕ) (index cells : List ℕ) (begun : begun_number (start_of key index cells).started.begun ≡ 0) (ts : List Table) where
+  module _ (key : ℕ) (archives : Archives) (cells : List ℕ) (begun : begun_number (start_of key archives cells).started.begun ≡ 0) (ts : List Table) where
     abbrev pub before : Run
-    before = history index ts (start_run key index cells)
+    before = history archives ts (start_run key archives cells)
 
     abbrev pub after : Run
-    after = next_in index before s
+    after = next_in archives before s
 
-    module _ (made : after.walk.passes ≡ before.walk.passes + 1) (e : ℕ) (low : e < count_of index) (new : among index e before.offers ≡ false)
-        (headers entries file : List ℕ) (listed : (x : List ℕ) → in_index index (count_of index) e x ≡ lists (member_of headers entries file) x) where
+    module _ (made : after.walk.passes ≡ before.walk.passes + 1) (e : ℕ) (low : e < entries_in archives) (new : among archives e before.offers ≡ false)
+        (headers entries file : List ℕ) (listed : (x : List ℕ) → in_index archives e x ≡ lists (member_of headers entries file) x) where
       abbrev member : List Named
       member = member_of headers entries file
 
-      passed : (step_run index (view_in s.table) before).walk.passes ≡ before.walk.passes + 1
-      passed = subst (λ (r : Run). r.walk.passes ≡ before.walk.passes + 1) (next-is index before s) made
+      passed : (step_run archives (view_in s.table) before).walk.passes ≡ before.walk.passes + 1
+      passed = subst (λ (r : Run). r.walk.passes ≡ before.walk.passes + 1) (next-is archives before s) made
 
       -- the old profile
       module _ (old : s.table.link.gabi ≡ false) where
-        own-differences : (wanted : List (List ℕ)) → ((x : List ℕ) → lists member x ≡ true → Strings.among x wanted ≡ wanted_in x) → (chosen_in false index after e headers entries file || weak_offers wanted member ≡ extracts member wanted || taken weakly_in member)
+        own-differences : (wanted : List (List ℕ)) → ((x : List ℕ) → lists member x ≡ true → Strings.among x wanted ≡ wanted_in x) → (chosen_in false archives after e headers entries file || weak_offers wanted member ≡ extracts member wanted || taken weakly_in member)
         own-differences wanted same =
-            ap (λ (r : Run). chosen_in false index r e headers entries file || weak_offers wanted member) (next-is index before s)
-            ∙ Extraction.both-differences key index cells begun ts (view_in s.table) passed e low new headers entries file listed old wanted weakly_in
+            ap (λ (r : Run). chosen_in false archives r e headers entries file || weak_offers wanted member) (next-is archives before s)
+            ∙ Extraction.both-differences key archives cells begun ts (view_in s.table) passed e low new headers entries file listed old wanted weakly_in
             (λ x l. undefined-is s.table past inv x ∙ ap (λ (b : Bool). b || weakly_in x) (sym (same x l)))
 
         pub differences : (wanted : List (List ℕ)) → ((x : List ℕ) → lists member x ≡ true → Strings.among x wanted ≡ wanted_in x)
-            → chosen_in false index after e headers entries file || weak_offers wanted member ≡ extracts member wanted || taken weakly_in member
+            → chosen_in false archives after e headers entries file || weak_offers wanted member ≡ extracts member wanted || taken weakly_in member
         differences wanted same =
-            ap (λ (r : Run). chosen_in false index r e headers entries file || weak_offers wanted member) (next-is index before s)
-            ∙ Extraction.both-differences key index cells begun ts (view_in s.table) passed e low new headers entries file listed old wanted weakly_in
+            ap (λ (r : Run). chosen_in false archives r e headers entries file || weak_offers wanted member) (next-is archives before s)
+            ∙ Extraction.both-differences key archives cells begun ts (view_in s.table) passed e low new headers entries file listed old wanted weakly_in
             (λ x l. undefined-is s.table past inv x ∙ ap (λ (b : Bool). b || weakly_in x) (sym (same x l)))
 
         pub agrees : (wanted : List (List ℕ)) → ((x : List ℕ) → lists member x ≡ true → Strings.among x wanted ≡ wanted_in x)
-            → weak_offers wanted member ≡ false → taken weakly_in member ≡ false → chosen_in false index after e headers entries file ≡ extracts member wanted
+            → weak_offers wanted member ≡ false → taken weakly_in member ≡ false → chosen_in false archives after e headers entries file ≡ extracts member wanted
         agrees wanted same d r =
-            sym (or-none (chosen_in false index after e headers entries file) (weak_offers wanted member) d)
+            sym (or-none (chosen_in false archives after e headers entries file) (weak_offers wanted member) d)
             ∙ own-differences wanted same ∙ or-none (extracts member wanted) (taken weakly_in member) r
 
       -- the gABI's profile
       pub agrees-gabi : s.table.link.gabi ≡ true → ((n : ℕ) (x : Entry) (xs : List Entry) → only n past ≡ x ∷ xs → OfName (first_by_rank true x.row (rows xs)))
           → (wanted : List (List ℕ)) → ((x : List ℕ) → lists member x ≡ true → Strings.among x wanted ≡ wanted_in x)
-          → chosen_in true index after e headers entries file ≡ extracts member wanted
+          → chosen_in true archives after e headers entries file ≡ extracts member wanted
       agrees-gabi gabi named wanted same =
-          ap (λ (r : Run). chosen_in true index r e headers entries file) (next-is index before s)
-          ∙ Extraction.exactly-gabi key index cells begun ts (view_in s.table) passed e low new headers entries file listed gabi wanted
+          ap (λ (r : Run). chosen_in true archives r e headers entries file) (next-is archives before s)
+          ∙ Extraction.exactly-gabi key archives cells begun ts (view_in s.table) passed e low new headers entries file listed gabi wanted
           (λ x l. strongly-wanted gabi named x ∙ sym (same x l))
 
       -- the wanted names that the member bears are such a list

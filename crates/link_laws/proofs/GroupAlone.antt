@@ -64,7 +64,7 @@ module _ (o : Group.Object) (t : State) (work : List ℕ) (n : ℕ) where
   loaded-is z =
       by-test (is_loaded o.headers o.table 3) (λ a. rw a) (λ a. absurd (shapeless (rw a) z))
 
-  -- one that lists sections, none of them again, in an object whose symbol table is excluded or isn't of kind 3: "signature symbol missing"
+  -- one that lists sections, none of them again, in an object whose symbol table is excluded or isn't of kind 3: 6
   pub alone-unloaded : (head_in o at n).number ≡ 0 → comdat_at o.headers n ≢ 0 → count_at o.headers n ≢ 0
       → lists_again o n (is_noted work) ≡ false → is_loaded o.headers o.table 3 ≡ false
       → (add_group_of o at n).said ≡ refused 6 n

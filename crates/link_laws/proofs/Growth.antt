@@ -14,7 +14,7 @@ use Rattle.interner_laws.proofs.Find.{found, find-known}
 use Rattle.symbol.specs.Row.{field}
 use Rattle.symbol.specs.Row.{row_at}
 use Rattle.symbol_laws.proofs.View.{lesser-first, lesser-second}
-use Rattle.symbol_laws.specs.History.{State, Entry, store, only, run, log}
+use Rattle.symbol_laws.specs.History.{State, Entry, store, only}
 use Rattle.symbol_laws.specs.Held.{Held, Inv}
 use Rattle.merge_laws.specs.Marked.{Marked}
 use Rattle.merge_laws.specs.Calls.{Linked}

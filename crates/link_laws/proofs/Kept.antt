@@ -1,6 +1,6 @@
 -- What holds after every history that removes nothing: who holds each name; and after every history: the groups' marks, the counts.
 -- Assumes nothing.
-use Rattle.std.specs.Prelude.{ℕ, ◌≤◌, ◌≡◌, refl, true, false, List, [], ◌∷◌, ◌++◌, eqb, length}
+use Rattle.std.specs.Prelude.{ℕ, ◌≤◌, ◌≡◌, refl, false, List, [], ◌∷◌, ◌++◌, eqb, length}
 use Rattle.std.proofs.Common.{arith, sym, ◌∙◌, subst, append-nil, append_assoc}
 use Rattle.std.proofs.lemmas.Bool.{false≢true}
 use Rattle.cells.specs.Proof.Split.{by-test}

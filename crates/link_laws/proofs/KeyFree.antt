@@ -263,10 +263,10 @@ module _ (key : ℕ) (s : Linked) (n : List ℕ) (e : Rekeyed key (store s.table
           named = load-named o (library_in s marks) h;
         };
       }
-  under_same (reads (Read.archive_start walk_key index cells)) = record { answer = refl; refusal = refl; next = stays }
-  under_same (reads (Read.archive_next index cells w)) =
-      let q = next-same key (view_in s.table) n e index cells w in
-      record { answer = q; refusal = ap (refusal_in (archive_next index cells w)) q; next = stays }
+  under_same (reads (Read.archive_start walk_key archives cells)) = record { answer = refl; refusal = refl; next = stays }
+  under_same (reads (Read.archive_next archives cells w)) =
+      let q = next-same key (view_in s.table) n e archives cells w in
+      record { answer = q; refusal = ap (refusal_in (archive_next archives cells w)) q; next = stays }
   under_same (reads (Read.archive_shadowed index rows w cells)) =
       let q = shadowed-same key (view_in s.table) n e index rows w cells in
       record { answer = q; refusal = ap (refusal_in (archive_shadowed index rows w cells)) q; next = stays }

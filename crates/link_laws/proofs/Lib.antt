@@ -7,6 +7,7 @@ pub mod CallExactly
 pub mod ExactTerms
 pub mod Terms
 pub mod CallDuplicates
+pub mod ArchiveGives
 pub mod ArchiveLeaves
 pub mod AddExactly
 pub mod NewTable

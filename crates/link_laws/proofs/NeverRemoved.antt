@@ -15,6 +15,7 @@ use Rattle.link.specs.Judge.{none, judge_of, judge_sections, judge_names, judge_
 use Rattle.link.specs.Proof.Ways as Link
 use Rattle.interner.specs.Names.{find_of}
 use Rattle.symbol_resolution.specs.Holder.{holder_of}
+use Rattle.archive_index.specs.Archives.{Archives}
 use Rattle.archive_index.specs.Rows.{stored_name}
 use Rattle.archive_walk.specs.declared.Walk.{Walk}
 use Rattle.archive_walk.specs.Look.{Table, lent_of, judge_table, name_holder, was_removed, removed_name}
@@ -83,7 +84,7 @@ module _ (s : State) (past : List Entry) (inv : Inv s past) (met : List (List �
 
 -- ---- a call for the next member
 
-pub offered-number : (s l : List ℕ) (w : Walk) → number_of (offer_of s l w).moved.offer ≡ 0
+pub offered-number : (s : Archives) (l : List ℕ) (w : Walk) → number_of (offer_of s l w).moved.offer ≡ 0
 unfolding offer_of
 offered-number s l w = pick (λ (x : Step). number_of x.moved.offer ≡ 0) (ltb w.offered w.queued) _ _ (λ a. refl) (λ a. refl)
 
@@ -93,11 +94,11 @@ module _ (t : Table) (whole : Whole t) where
   removed-none s l zero k = sym (add-zero k)
   removed-none s l (suc n) k = rw (whole.kept (stored_name s l k)) (removed-none s l n (k + 1) ∙ omega arith)
 
-  search-number : (s l : List ℕ) (w : Walk) → number_of (search_of s l w t (removed_of s l t w.entries 0)).moved.offer ≡ 0
+  search-number : (s : Archives) (l : List ℕ) (w : Walk) → number_of (search_of s l w t (removed_of s.bytes l t w.entries 0)).moved.offer ≡ 0
   unfolding search_of make_of
-  search-number s l w = rw (removed-none s l w.entries 0, le-ltb (0 + w.entries) w.entries (omega arith)) (offered-number s _ _)
+  search-number s l w = rw (removed-none s.bytes l w.entries 0, le-ltb (0 + w.entries) w.entries (omega arith)) (offered-number s _ _)
 
-  pub next-accepted : (s l : List ℕ) (w : Walk) → (w.done ≡ false → walk_fits s l w ≡ true) → number_of (next_of s l w t).moved.offer ≡ 0
+  pub next-accepted : (s : Archives) (l : List ℕ) (w : Walk) → (w.done ≡ false → walk_fits s l w ≡ true) → number_of (next_of s l w t).moved.offer ≡ 0
   unfolding next_of go_of pass_of
   next-accepted s l w fits =
       pick P w.done _ _ (λ a. refl)
@@ -172,7 +173,7 @@ AllWhole [] = Unit {0}
 AllWhole (t ∷ ts) = Whole t × AllWhole ts
 
 -- of entries with any keys and names: a walk over more tables than there are members is done
-module _ (s : List ℕ) (keys : ℕ → ℕ) (named : ℕ → List ℕ) (c : ℕ) where
+module _ (s : Archives) (keys : ℕ → ℕ) (named : ℕ → List ℕ) (c : ℕ) where
   views-accepted : (ts : List Table) → AllWhole ts → Unrefused keys c (views_by named c ts)
   unfolding views_by
   views-accepted [] w = tt

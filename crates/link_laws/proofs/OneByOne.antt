@@ -26,7 +26,7 @@ use Rattle.symbol_laws.specs.History.{table}
 use Rattle.symbol_laws.proofs.Calls.{call-refused}
 use Rattle.symbol_laws.proofs.Put.{noted-refused}
 use Rattle.merge_laws.specs.Calls.{Linked, linked}
-use Rattle.link_laws.specs.Calls.{Call, add, add_list, call_left, call_next, call_notes, call_number, run_calls, log_calls, adds_up_to, list_adds}
+use Rattle.link_laws.specs.Calls.{add, add_list, call_left, call_next, call_notes, call_number, run_calls, log_calls, adds_up_to, list_adds}
 use Rattle.link_laws.proofs.Rules.{taken, left_out}
 use Rattle.link_laws.proofs.ListCall.{turn-refusal, turn-table, turn-test, next-is}
 use Rattle.link_laws.specs.OneByOne.{tried, answered, first_refused, in_cells, OneByOne}

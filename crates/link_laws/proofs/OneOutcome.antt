@@ -73,20 +73,20 @@ begun-answer (Err r) (Err q) e = ap Err (refusal (Archive.begun_said (Err r)) (A
 offer-values : (a b : Result Offer Refusal) → Archive.offer_said a ≡ Archive.offer_said b → Archive.values_of a ≡ Archive.values_of b
 offer-values a b e = values (Archive.offer_said a) (Archive.offer_said b) e
 
-member-values : (o e p o' e' p' : ℕ) → o ∷ e ∷ p ∷ [] ≡ o' ∷ e' ∷ p' ∷ [] → ◌≡◌ {A = Result Offer Refusal} (Ok (Member o e p)) (Ok (Member o' e' p'))
-member-values o e p o' e' p' h = cc
+member-values : (j o e p j' o' e' p' : ℕ) → j ∷ o ∷ e ∷ p ∷ [] ≡ j' ∷ o' ∷ e' ∷ p' ∷ [] → ◌≡◌ {A = Result Offer Refusal} (Ok (Member j o e p)) (Ok (Member j' o' e' p'))
+member-values j o e p j' o' e' p' h = cc
 
-more-values : (o e p q : ℕ) → o ∷ e ∷ p ∷ [] ≡ q ∷ [] → ⊥
-more-values o e p q h = let t : e ∷ p ∷ [] ≡ [] = cc in valued e (p ∷ []) t
+more-values : (j o e p q : ℕ) → j ∷ o ∷ e ∷ p ∷ [] ≡ q ∷ [] → ⊥
+more-values j o e p q h = let t : o ∷ e ∷ p ∷ [] ≡ [] = cc in valued o (e ∷ p ∷ []) t
 
 pub offer-answer : (a b : Result Offer Refusal) → Archive.offer_said a ≡ Archive.offer_said b → a ≡ b
-offer-answer (Ok (Member o e p)) (Ok (Member o' e' p')) h = member-values o e p o' e' p' (offer-values (Ok (Member o e p)) (Ok (Member o' e' p')) h)
-offer-answer (Ok (Member o e p)) (Ok (Done q)) h = absurd (more-values o e p q (offer-values (Ok (Member o e p)) (Ok (Done q)) h))
-offer-answer (Ok (Member o e p)) (Err r) h = absurd (valued o (e ∷ p ∷ []) (offer-values (Ok (Member o e p)) (Err r) h))
-offer-answer (Ok (Done q)) (Ok (Member o e p)) h = absurd (more-values o e p q (sym (offer-values (Ok (Done q)) (Ok (Member o e p)) h)))
+offer-answer (Ok (Member j o e p)) (Ok (Member j' o' e' p')) h = member-values j o e p j' o' e' p' (offer-values (Ok (Member j o e p)) (Ok (Member j' o' e' p')) h)
+offer-answer (Ok (Member j o e p)) (Ok (Done q)) h = absurd (more-values j o e p q (offer-values (Ok (Member j o e p)) (Ok (Done q)) h))
+offer-answer (Ok (Member j o e p)) (Err r) h = absurd (valued j (o ∷ e ∷ p ∷ []) (offer-values (Ok (Member j o e p)) (Err r) h))
+offer-answer (Ok (Done q)) (Ok (Member j o e p)) h = absurd (more-values j o e p q (sym (offer-values (Ok (Done q)) (Ok (Member j o e p)) h)))
 offer-answer (Ok (Done p)) (Ok (Done q)) h = ap (λ (n : ℕ). Ok (Done n)) (one p q (offer-values (Ok (Done p)) (Ok (Done q)) h))
 offer-answer (Ok (Done q)) (Err r) h = absurd (valued q [] (offer-values (Ok (Done q)) (Err r) h))
-offer-answer (Err r) (Ok (Member o e p)) h = absurd (valued o (e ∷ p ∷ []) (sym (offer-values (Err r) (Ok (Member o e p)) h)))
+offer-answer (Err r) (Ok (Member j o e p)) h = absurd (valued j (o ∷ e ∷ p ∷ []) (sym (offer-values (Err r) (Ok (Member j o e p)) h)))
 offer-answer (Err r) (Ok (Done q)) h = absurd (valued q [] (sym (offer-values (Err r) (Ok (Done q)) h)))
 offer-answer (Err r) (Err q) h = ap Err (refusal (Archive.offer_said (Err r)) (Archive.offer_said (Err q)) h)
 

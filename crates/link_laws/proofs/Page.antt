@@ -11,23 +11,24 @@
 --   gabi          the profile: false the old one, true gABI's; hidden_by gabi l r is r, in gABI's hidden if one of l is
 --   strong b s    lookup b s is a row that is global and not weak
 --   ties b s      undefined b s, in the gABI profile undefined b s && strong b s
---   tied i s      the members of the entries of index i whose name ties in s, by their offsets, in the index' order
---   offered i w   the members that the walk w offered, by their offsets, in order; first_seen and without (archive_laws/specs/PassList.antt) on such lists
---   m             the number of members that an index names
+--   tied a s      the members of the entries of the archives a whose name ties in s, each by archive and offset as one number (key_in), in the order of the indexes
+--   offered a w   the members that the walk w offered, by such numbers, in order; first_seen and without (archive_laws/specs/PassList.antt) on such lists
+--   Offered a m q one of the entries q is of the member m, which is an archive and an offset (archive_laws/specs/Rounds.antt)
+--   m             the number of members that the archives have
 --   Before, After a section is built before a collection, after it; Reached (gc_laws/specs/Reached.antt) what relocations reach from the roots
 --   NeededIn      what makes a library needed, by lookups and by the libraries that were loaded (NeededIn.antt)
 --   Exit, Meets   what a caller sees of a call, and the call's contract (CallContracts.antt)
 --   earlier k s   s; of a list of adds, the link after those of its adds that were accepted (Calls.antt)
 --   Premises      types 0 to 3, no commons, and what else a list of adds has to be (order_laws/specs/Premises.antt)
 --   AnyOrder      every arrangement of the list is accepted, with the same content of each name with a strong definition (order_laws/specs/Order.antt)
---   told i q s k  entry k of index i, by its name's lookup in s and by whether the members offered by the entries q have its own (Shadowed.antt)
+--   told a q s k  entry k of all of the archives a, by its name's lookup in s and by whether the members offered by the entries q have its own (Shadowed.antt)
 --   would h e c f s i  symbol i of an object of the headers h, entries e, contents c and bytes f, by its entry and its name's lookup in s; defines is its half that
 --                 doesn't ask s, held_id the id of the row (Untaken.antt)
 -- WorkedLinks.antt has a history that meets the premises, and other worked links.
 -- Assumes nothing.
 use Rattle.shared_objects.specs.declared.Load.TheVariants.{NotNeeded}
 use Rattle.gc_sections.specs.Run.{dropped}
-use Rattle.std.specs.Prelude.{ℕ, ◌+◌, ◌<◌, ◌≤◌, ◌≡◌, Bool, true, false, cond, not, ◌&&◌, List, [], ◌∷◌, ◌++◌, ◌≢◌, ◌↔◌, eqb, length, Option, None, Some, Ok}
+use Rattle.std.specs.Prelude.{ℕ, ◌+◌, ◌<◌, ◌≤◌, ◌≡◌, Bool, true, false, cond, not, ◌&&◌, List, [], ◌∷◌, ◌++◌, ◌≢◌, ◌↔◌, eqb, get_or, length, Option, None, Some, Ok}
 use Rattle.std.proofs.Common.{sym, ap, ◌∙◌, subst}
 use Rattle.gabi.specs.SymbolTable.{stv_default, stv_hidden}
 use Rattle.gabi.specs.Visibility.{combined}
@@ -41,7 +42,9 @@ use Rattle.symbol.specs.RowLaws.{symbol_of}
 use Rattle.symbols.specs.New.{new_of}
 use Rattle.symbols.specs.Lookup.{not_found}
 use Rattle.shared_objects.specs.Load as Shared
-use Rattle.archive_index.specs.Index.{count_of, offset_of, name_of}
+use Rattle.archive_index.specs.Archives.{Archives, index_at, count_at, entries_in, name_in, key_in, member}
+use Rattle.archive_index.specs.Index.{offset_of, name_of}
+use Rattle.archive_laws.specs.Rounds.{Offered}
 use Rattle.archive_laws.specs.Rounds as Rounds
 use Rattle.archive_walk.specs.Look.{Table}
 use Rattle.archive_laws.specs.Runs.{Run, history, start_run}
@@ -235,40 +238,40 @@ module _ (key : ℕ) (gabi : Bool) (bytes names symbols sections inputs lists : 
           λ n. Terms.not-needed-all key gabi bytes names symbols sections inputs lists new ks quiet o marks h a (λ r. n (same.0 r)),
         )
 
-    -- ---- "Let an index name m members; then its walk over such a link": the calls for the next member stand anywhere, one behind each part of kss
+    -- ---- a walk over archives that have m members: the calls for the next member stand anywhere, one behind each part of kss
 
-    module _ (walk_key : ℕ) (index cells : List ℕ) (begun : call_number (archive_start walk_key index cells) end ≡ 0) where
+    module _ (walk_key : ℕ) (archives : Archives) (cells : List ℕ) (begun : call_number (archive_start walk_key archives cells) end ≡ 0) where
       abbrev pub m : ℕ
-      m = Rounds.members index (count_of index)
+      m = Rounds.members archives (entries_in archives)
 
       abbrev pub walk_by : List (List Call) → Run
-      walk_by kss = walk_after index kss (start_run walk_key index cells) end
+      walk_by kss = walk_after archives kss (start_run walk_key archives cells) end
 
       -- "makes at most m + 1 passes"
       pub at_most : (kss : List (List Call)) → (walk_by kss).walk.passes ≤ m + 1
-      at_most kss = (Terms.demand-3b key gabi bytes names symbols sections inputs lists new ks quiet walk_key index cells begun kss).bound
+      at_most kss = (Terms.demand-3b key gabi bytes names symbols sections inputs lists new ks quiet walk_key archives cells begun kss).bound
 
       -- "each pass offers exactly the members not yet offered that the index ties to a name undefined at its start": the call behind kss and ls makes a pass,
       -- over the link there; those behind lss make none; then it is over, since the walk is done or the next call makes another
       module _ (kss : List (List Call)) (ls : List Call) (lss : List (List Call)) (calm : RemovesNothing (joined kss ++ ls) end) where
         abbrev pub link : Linked
-        link = WalkIn.link_then index walk_key cells begun end kss ls lss
+        link = WalkIn.link_then archives walk_key cells begun end kss ls lss
 
         abbrev pub first : Run
-        first = next_in index (walk_by kss) link
+        first = next_in archives (walk_by kss) link
 
         abbrev pub after : Run
-        after = walk_after index lss first link
+        after = walk_after archives lss first link
 
         link-profile : link.table.link.gabi ≡ gabi
         link-profile = calls-profile ls (run_calls (joined kss) end) ∙ calls-profile (joined kss) end ∙ profile ks
 
-        pub exactly-3b : first.walk.passes ≡ (walk_by kss).walk.passes + 1 → after.walk.passes ≡ first.walk.passes → Over walk_key index cells begun after
-            → offered index after ≡ offered index (walk_by kss) ++ without (offered index (walk_by kss)) (first_seen (tied index link))
+        pub exactly-3b : first.walk.passes ≡ (walk_by kss).walk.passes + 1 → after.walk.passes ≡ first.walk.passes → Over walk_key archives cells begun after
+            → offered archives after ≡ offered archives (walk_by kss) ++ without (offered archives (walk_by kss)) (first_seen (tied archives link))
         exactly-3b p q o =
-            Terms.exactly-3b key gabi bytes names symbols sections inputs lists new ks quiet walk_key index cells begun kss ls lss p q o
-            ∙ ap (λ (l : List ℕ). offered index (walk_by kss) ++ without (offered index (walk_by kss)) (first_seen l))
-            (tied-seen link _ _ (WalkInLaws.reached_then index walk_key cells begun end _ _ (Terms.reached key gabi bytes names symbols sections inputs lists new ks quiet lent) kss ls lss calm) index)
+            Terms.exactly-3b key gabi bytes names symbols sections inputs lists new ks quiet walk_key archives cells begun kss ls lss p q o
+            ∙ ap (λ (l : List ℕ). offered archives (walk_by kss) ++ without (offered archives (walk_by kss)) (first_seen l))
+            (tied-seen link _ _ (WalkInLaws.reached_then archives walk_key cells begun end _ _ (Terms.reached key gabi bytes names symbols sections inputs lists new ks quiet lent) kss ls lss calm) archives)
 
         -- a name that ties is one "undefined at its start"; in the gABI profile the walk "reads "undefined and strong" for "undefined""
         pub ties-old : gabi ≡ false → (b : List ℕ) → ties b link ≡ undefined b link
@@ -278,25 +281,34 @@ module _ (key : ℕ) (gabi : Bool) (bytes names symbols sections inputs lists : 
         ties-gabi p b = ap (λ (g : Bool). cond g (undefined b link && strong b link) (undefined b link)) (link-profile ∙ p)
 
         -- "and no name undefined at the last pass is tied to an unoffered member"
-        pub last : (walk_by kss).walk.done ≡ false → first.walk.done ≡ true → (k : ℕ) → k < count_of index → ties (name_of index (count_of index) k) link ≡ true
-            → is_in (offset_of index k) (offered index first) ≡ true
+        pub last : (walk_by kss).walk.done ≡ false → first.walk.done ≡ true → (k : ℕ) → k < entries_in archives → ties (name_in archives k) link ≡ true
+            → is_in (key_in archives k) (offered archives first) ≡ true
         last d e k h u =
-            sym (among_in index k first.offers)
-            ∙ WalkInLaws.last-in index walk_key cells begun end kss ls lss d e k h
-            (ties-seen link _ _ (WalkInLaws.reached_then index walk_key cells begun end _ _ (Terms.reached key gabi bytes names symbols sections inputs lists new ks quiet lent) kss ls lss calm) (name_of index (count_of index) k)
+            sym (among_in archives k first.offers)
+            ∙ WalkInLaws.last-in archives walk_key cells begun end kss ls lss d e k h
+            (ties-seen link _ _ (WalkInLaws.reached_then archives walk_key cells begun end _ _ (Terms.reached key gabi bytes names symbols sections inputs lists new ks quiet lent) kss ls lss calm) (name_in archives k)
+            ∙ u)
+
+        -- the same of every index, by its own entries (of bytes): the member of that archive at that offset was offered
+        pub every-index : ((i : ℕ) → get_or archives.bytes i 0 < 256) → (walk_by kss).walk.done ≡ false → first.walk.done ≡ true → (j i : ℕ) → j < length archives.ends → i < count_at archives j
+            → ties (name_of (index_at archives j) (count_at archives j) i) link ≡ true → Offered archives (member j (offset_of (index_at archives j) i)) first.offers
+        every-index octets d e j i h g u =
+            WalkInLaws.every-in archives walk_key cells begun end kss ls lss octets d e j i h g
+            (ties-seen link _ _ (WalkInLaws.reached_then archives walk_key cells begun end _ _ (Terms.reached key gabi bytes names symbols sections inputs lists new ks quiet lent) kss ls lss calm)
+            (name_of (index_at archives j) (count_at archives j) i)
             ∙ u)
 
         -- no call of a walk over such a link is refused
-        pub goes : call_number (archive_next index (walk_by kss).cells (walk_by kss).walk) link ≡ 0
+        pub goes : call_number (archive_next archives (walk_by kss).cells (walk_by kss).walk) link ≡ 0
         goes =
-            subst (λ (r : Run). call_number (archive_next index r.cells r.walk) link ≡ 0) (sym (walk_is index kss (start_run walk_key index cells) end))
-            (WalkInLaws.next-goes index walk_key cells begun link _ _
-            (WalkInLaws.reached_then index walk_key cells begun end _ _ (Terms.reached key gabi bytes names symbols sections inputs lists new ks quiet lent) kss ls lss calm)
+            subst (λ (r : Run). call_number (archive_next archives r.cells r.walk) link ≡ 0) (sym (walk_is archives kss (start_run walk_key archives cells) end))
+            (WalkInLaws.next-goes archives walk_key cells begun link _ _
+            (WalkInLaws.reached_then archives walk_key cells begun end _ _ (Terms.reached key gabi bytes names symbols sections inputs lists new ks quiet lent) kss ls lss calm)
             (tables_at kss end))
 
       -- and of m + 1 calls the last answers "done"
-      pub ends : (kss : List (List Call)) → RemovesNothing (with_walk index kss (start_run walk_key index cells) end) end → m < length kss → (walk_by kss).walk.done ≡ true
-      ends = Terms.walk_ends key gabi bytes names symbols sections inputs lists new ks quiet walk_key index cells begun lent
+      pub ends : (kss : List (List Call)) → RemovesNothing (with_walk archives kss (start_run walk_key archives cells) end) end → m < length kss → (walk_by kss).walk.done ≡ true
+      ends = Terms.walk_ends key gabi bytes names symbols sections inputs lists new ks quiet walk_key archives cells begun lent
 
     -- ---- "Collection, unless refused, keeps exactly what relocations reach from the roots"
 
@@ -333,31 +345,31 @@ module _ (key : ℕ) (gabi : Bool) (bytes names symbols sections inputs lists : 
       demand-3c a c e y =
           let k = Terms.demand-3c key gabi bytes names symbols sections inputs lists new ks quiet marks entry work a c e in (k.reached y, k.kept y)
 
-  -- ---- beside the terms: what a walk over an archive passed by, told by a call of our own. After any calls, those that remove too; the walk's own were lent whatever
+  -- ---- beside the terms: what a walk over archives passed by, told by a call of our own. After any calls, those that remove too; the walk's own were lent whatever
   -- tables, those of the link as it stood among them (tables_at, Walks.antt)
 
-  module _ (ks : List Call) (walk_key : ℕ) (index cells : List ℕ) (begun : call_number (archive_start walk_key index cells) (run_calls ks s0) ≡ 0)
+  module _ (ks : List Call) (walk_key : ℕ) (archives : Archives) (cells : List ℕ) (begun : call_number (archive_start walk_key archives cells) (run_calls ks s0) ≡ 0)
       (ts : List Table) (out : List ℕ) where
     abbrev pub now : Linked
     now = run_calls ks s0
 
     abbrev pub walk : Run
-    walk = history index ts (start_run walk_key index cells)
+    walk = history archives ts (start_run walk_key archives cells)
 
     -- an entry is told just where its name's lookup answers a weak definition and no call of the walk has offered its member, or an undefined row and one has
-    pub told-exactly : call_number (archive_shadowed index walk.cells walk.walk out) now ≡ 0
-        → Tells (those_below (told index walk.offers now) (count_of index)) out (call_left (archive_shadowed index walk.cells walk.walk out) now)
-    told-exactly = Terms.shadowed-exactly key gabi bytes names symbols sections inputs lists new ks lent walk_key index cells begun ts out
+    pub told-exactly : call_number (archive_shadowed archives.bytes walk.cells walk.walk out) now ≡ 0
+        → Tells (those_below (told archives walk.offers now) (entries_in archives)) out (call_left (archive_shadowed archives.bytes walk.cells walk.walk out) now)
+    told-exactly = Terms.shadowed-exactly key gabi bytes names symbols sections inputs lists new ks lent walk_key archives cells begun ts out
 
     -- one more call, over this link, ends the walk, and nothing is told: in the old profile a name of an entry whose member was not offered is held strongly, or
     -- the link doesn't know it
     abbrev pub walk_end : Run
-    walk_end = next_in index walk now
+    walk_end = next_in archives walk now
 
-    pub passed-by-held : gabi ≡ false → walk.walk.done ≡ false → walk_end.walk.done ≡ true → (call_left (archive_shadowed index walk_end.cells walk_end.walk out) now).answer ≡ Ok 0
-        → (k : ℕ) → k < count_of index → Rounds.among index k walk_end.offers ≡ false → knows (name_of index (count_of index) k) now ≡ true
-        → strongly_defined (name_of index (count_of index) k) now ≡ true
-    passed-by-held = Terms.passed-by-held key gabi bytes names symbols sections inputs lists new ks lent walk_key index cells begun ts out
+    pub passed-by-held : gabi ≡ false → walk.walk.done ≡ false → walk_end.walk.done ≡ true → (call_left (archive_shadowed archives.bytes walk_end.cells walk_end.walk out) now).answer ≡ Ok 0
+        → (k : ℕ) → k < entries_in archives → Rounds.among archives k walk_end.offers ≡ false → knows (name_in archives k) now ≡ true
+        → strongly_defined (name_in archives k) now ≡ true
+    passed-by-held = Terms.passed-by-held key gabi bytes names symbols sections inputs lists new ks lent walk_key archives cells begun ts out
 
   -- and what a member that was not taken would have defined, told by another: any object, over the link after any calls
   module _ (ks : List Call) (headers entries contents file : List ℕ) where

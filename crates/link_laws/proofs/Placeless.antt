@@ -64,7 +64,7 @@ use Rattle.link_laws.specs.Leaves.{by_elements}
 use Rattle.link_laws.specs.Broken.{changes}
 use Rattle.link_laws.proofs.Broken.{broken-refused}
 use Rattle.link_laws.proofs.Places.{add-place}
-use Rattle.link_laws.proofs.CallPlaces.{differ, intern-place, resolve-place, start-place, global-at, group-of-head}
+use Rattle.link_laws.proofs.CallPlaces.{differ, intern-place, resolve-place, global-at, group-of-head}
 use Rattle.link_laws.specs.Starred.{head_refusal}
 use Rattle.link_laws.proofs.Starred.{Stopped, at_head, at-element, stopped, some}
 use Rattle.merge_laws.specs.Table.{one_of, within, group_numbers, binding_causes, value_causes, type_causes, starred, placeless}
@@ -265,8 +265,8 @@ broken-only (add_group o work n) s e = (refl, group-only o s.table work n e)
 broken-only (merge o work ids) s e = (refl, stopped-only (merge o work ids) s refl (merge-head-only o (all_in s work ids)) e)
 broken-only (merge_file file cells work ids) s e = (refl, file-only file cells work ids s e)
 broken-only (load o marks) s e = (refl, stopped-only (load o marks) s refl (load-head-only o (library_in s marks)) e)
-broken-only (reads (Read.archive_start key index cells)) s e = never (archive_start key index cells) s 22 refl e
-broken-only (reads (Read.archive_next index cells w)) s e = never (archive_next index cells w) s 22 refl e
+broken-only (reads (Read.archive_start key archives cells)) s e = never (archive_start key archives cells) s 22 refl e
+broken-only (reads (Read.archive_next archives cells w)) s e = never (archive_next archives cells w) s 22 refl e
 broken-only (reads (Read.archive_shadowed index rows w cells)) s e = never (archive_shadowed index rows w cells) s 22 refl e
 broken-only (reads (Read.matches headers entries contents file index cells w x)) s e = never (matches headers entries contents file index cells w x) s 22 refl e
 broken-only (reads (Read.would_define headers entries contents file cells)) s e = never (would_define headers entries contents file cells) s 22 refl e
@@ -340,8 +340,8 @@ zero-places (add_group o work n) s p = only-22 (add_group o work n) s (0 ∷ 1 �
 zero-places (merge o work ids) s p = only-22 (merge o work ids) s (0 ∷ 1 ∷ 2 ∷ starred) refl refl p
 zero-places (merge_file file cells work ids) s p = file-at file cells work ids s p
 zero-places (load o marks) s p = load_at o marks s p
-zero-places (reads (Read.archive_start key index cells)) s p = start-place key index cells s (other (call_number (archive_start key index cells) s) 1 refl p)
-zero-places (reads (Read.archive_next index cells w)) s p = none_of (archive_next index cells w) s refl p
+zero-places (reads (Read.archive_start key archives cells)) s p = none_of (archive_start key archives cells) s refl p
+zero-places (reads (Read.archive_next archives cells w)) s p = none_of (archive_next archives cells w) s refl p
 zero-places (reads (Read.archive_shadowed index rows w cells)) s p = none_of (archive_shadowed index rows w cells) s refl p
 zero-places (reads (Read.matches headers entries contents file index cells w e)) s p = none_of (matches headers entries contents file index cells w e) s refl p
 zero-places (reads (Read.would_define headers entries contents file cells)) s p = none_of (would_define headers entries contents file cells) s refl p

@@ -1,6 +1,6 @@
 -- 1 at the "first such row" of the lists that a call is lent; where the link's own counts are past what is lent, that comes first.
 -- Assumes nothing.
-use Rattle.std.specs.Prelude.{ℕ, ◌/◌, ◌≡◌, true, false, List, ◌∷◌, ◌≢◌, eqb, ltb, length}
+use Rattle.std.specs.Prelude.{ℕ, ◌/◌, ◌≡◌, true, List, ◌∷◌, ◌≢◌, eqb, ltb, length}
 use Rattle.std.proofs.Math.Path.{refl}
 use Rattle.std.proofs.Common.{sym, ap, ◌∙◌, subst, eq-eqb, ne_eqb, eqb-true, ltb-true, ltb-false}
 use Rattle.std.proofs.lemmas.Bool.{false≢true, eqb-false}

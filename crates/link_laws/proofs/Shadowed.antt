@@ -22,22 +22,21 @@ use Rattle.symbol_resolution.specs.declared.rows.Holder.{Holder}
 use Rattle.symbol_resolution.specs.declared.rows.Holder.TheVariants.{Unissued, Nobody, Removed, Known}
 use Rattle.symbol_resolution.specs.Proof.DecideWays.{weak_same}
 use Rattle.symbols.specs.Lookup.{held_of}
+use Rattle.archive_index.specs.Archives.{Archives, entries_in, name_in, key_in}
 use Rattle.archive_index.specs.Rows.{member_at, queue_at}
 use Rattle.archive_walk.specs.Look as Look
 use Rattle.archive_walk.specs.Look.{judge_table, name_holder, tied_name}
 use Rattle.archive_walk.specs.Walk.{begun_number, start_of}
-use Rattle.archive_index.specs.Index.{count_of, offset_of, name_of, names_at}
-use Rattle.archive_index.specs.Open.{refused_as, offsets_in, open_names_of, open_entries_of, open_of}
-use Rattle.link.specs.Bounds.{lesser}
 use Rattle.archive_laws.specs.Members.{among, is_first, fresh}
 use Rattle.archive_laws.specs.Counts.{Below, one_more}
 use Rattle.archive_laws.proofs.Counts.{first_one, once-members, cnt-le}
 use Rattle.archive_laws.proofs.RoundLaws.{Kept, kept_fresh}
 use Rattle.archive_laws.proofs.Pass.{queue-length}
 use Rattle.archive_laws.specs.Runs.{queue_list, views_by, Run, history, start_run, seen}
-use Rattle.archive_laws.proofs.AcceptedStart.{walk_fine}
+use Rattle.archive_laws.proofs.AcceptedStart.{accepted, walk_fine}
 use Rattle.archive_laws.proofs.Terms.{walked}
 use Rattle.archive_laws.specs.Steps.{Fine}
+use Rattle.archive_laws.proofs.Steps.{long-enough}
 use Rattle.shadowed_members.specs.Shadowed as Shadowed
 use Rattle.shadowed_members.specs.Shadowed.{offered_among, weak_definition, told_row, told_holder, told_name, told_at, those, listed, told_of, fits_index, shadowed_of}
 use Rattle.shadowed_members.specs.Proof.Ways.{any-more}
@@ -93,7 +92,7 @@ module _ (s : Linked) (f : Fits s.table) (w : Within s.table.link s.table.names)
 
 -- ---- the members that were offered
 
-module _ (key : ℕ) (index : List ℕ) (keys : ℕ → ℕ) (named : ℕ → List ℕ) (c : ℕ) (r : Run) (fine : Fine key index keys named c r) (few : c ≤ 65535) where
+module _ (key : ℕ) (archives : Archives) (keys : ℕ → ℕ) (named : ℕ → List ℕ) (c : ℕ) (r : Run) (fine : Fine key archives keys named c r) (few : c ≤ 65535) where
   -- entries of one member have one representative, and no others have
   same-member : (j k : ℕ) → j < c → k < c → eqb (member_at r.cells j) (member_at r.cells k) ≡ eqb (keys j) (keys k)
   same-member j k h g =
@@ -135,7 +134,7 @@ module _ (key : ℕ) (index : List ℕ) (keys : ℕ → ℕ) (named : ℕ → Li
 
     module _ (s : Linked) (f : Fits s.table) (w : Within s.table.link s.table.names) where
       abbrev tells : ℕ → Bool
-      tells = told_at index r.cells (view_in s.table) (offered_among r.cells r.walk.offered)
+      tells = told_at archives.bytes r.cells (view_in s.table) (offered_among r.cells r.walk.offered)
 
       entry-told : (k : ℕ) → k < c → tells k ≡ told_by keys named r.offers s k
       unfolding told_at
@@ -177,30 +176,30 @@ module _ (p q : ℕ → Bool) where
 
 -- ---- the call
 
-module _ (key : ℕ) (index : List ℕ) (keys : ℕ → ℕ) (named : ℕ → List ℕ) (c : ℕ) (r : Run) (fine : Fine key index keys named c r) (few : c ≤ 65535) (going : r.walk.offered ≤ r.walk.queued)
+module _ (key : ℕ) (archives : Archives) (keys : ℕ → ℕ) (named : ℕ → List ℕ) (c : ℕ) (r : Run) (fine : Fine key archives keys named c r) (few : c ≤ 65535) (going : r.walk.offered ≤ r.walk.queued)
     (s : Linked) (f : Fits s.table) (w : Within s.table.link s.table.names) (cells : List ℕ) where
   abbrev positions : List ℕ
   positions = those_below (told_by keys named r.offers s) c
 
-  listed-tells : r.walk.entries ≤ length cells → Tells positions cells (listed cells (told_of index r.cells r.walk (view_in s.table)))
+  listed-tells : r.walk.entries ≤ length cells → Tells positions cells (listed cells (told_of archives.bytes r.cells r.walk (view_in s.table)))
   listed-tells room =
-      let test : ℕ → Bool = tells key index keys named c r fine few going s f w in
-      let a : told_of index r.cells r.walk (view_in s.table) ≡ positions =
+      let test : ℕ → Bool = tells key archives keys named c r fine few going s f w in
+      let a : told_of archives.bytes r.cells r.walk (view_in s.table) ≡ positions =
       ap (those test 0) fine.entries
-      ∙ those-are test (told_by keys named r.offers s) c (λ j h. entry-told key index keys named c r fine few going s f w j h) in
+      ∙ those-are test (told_by keys named r.offers s) c (λ j h. entry-told key archives keys named c r fine few going s f w j h) in
       let b : length positions ≤ length cells = omega (arith, ap length a, those-few test test r.walk.entries 0) in
       record {
         answer = ap (λ (x : List ℕ). Ok (length x)) a;
         cells-left = ap (sets cells 0) a ∙ sets-eq positions cells 0 (omega arith) ∙ ap (λ (n : ℕ). positions ++ drop n cells) (zero-add (length positions));
       }
 
-  pub tells-them : call_number (archive_shadowed index r.cells r.walk cells) s ≡ 0
-      → Tells positions cells (call_left (archive_shadowed index r.cells r.walk cells) s)
+  pub tells-them : call_number (archive_shadowed archives.bytes r.cells r.walk cells) s ≡ 0
+      → Tells positions cells (call_left (archive_shadowed archives.bytes r.cells r.walk cells) s)
   unfolding shadowed_of
   tells-them =
       pick P (eqb (judge_table (view_in s.table)).number 0) _ _
       (λ a.
-      pick P (fits_index index r.cells r.walk) _ _
+      pick P (fits_index archives.bytes r.cells r.walk) _ _
       (λ b.
       pick P (ltb (length cells) r.walk.entries) _ _ (λ d e. absurd (omega (arith, e)))
       (λ d e. listed-tells (ltb-false _ _ d)))
@@ -211,12 +210,12 @@ module _ (key : ℕ) (index : List ℕ) (keys : ℕ → ℕ) (named : ℕ → Li
       P x = begun_number x.answer ≡ 0 → Tells positions cells x
 
   -- it is accepted where cells are lent for all entries
-  pub tells-goes : (met : List (List ℕ)) → Marked s.table met → r.walk.queued ≤ c → c ≤ length cells → call_number (archive_shadowed index r.cells r.walk cells) s ≡ 0
+  pub tells-goes : (met : List (List ℕ)) → Marked s.table met → r.walk.queued ≤ c → c ≤ length cells → call_number (archive_shadowed archives.bytes r.cells r.walk cells) s ≡ 0
   unfolding shadowed_of fits_index
   tells-goes met marked short room =
       rw (
         table-judged s.table f met marked w,
-        le-ltb _ _ fine.whole,
+        le-ltb _ _ (long-enough archives r.walk.length fine.lent),
         le-ltb (length r.cells / 8) r.walk.entries (omega (arith, fine.entries, fine.sound.rows.room)),
         le-ltb r.walk.entries r.walk.queued (omega (arith, fine.entries)),
         le-ltb _ _ going,
@@ -266,12 +265,12 @@ module _ (keys : ℕ → ℕ) (named : ℕ → List ℕ) (q : List ℕ) (s : Lin
       by-profile : {g : Bool} → s.table.link.gabi ≡ g → ties b s ≡ cond g (undefined b s && strong b s) (undefined b s)
       by-profile e = ap (λ (g : Bool). cond g (undefined b s && strong b s) (undefined b s)) e
 
-module _ (key : ℕ) (index : List ℕ) (keys : ℕ → ℕ) (named : ℕ → List ℕ) (c : ℕ) (r : Run) (fine : Fine key index keys named c r) (few : c ≤ 65535) (going : r.walk.offered ≤ r.walk.queued)
+module _ (key : ℕ) (archives : Archives) (keys : ℕ → ℕ) (named : ℕ → List ℕ) (c : ℕ) (r : Run) (fine : Fine key archives keys named c r) (few : c ≤ 65535) (going : r.walk.offered ≤ r.walk.queued)
     (s : Linked) (f : Fits s.table) (w : Within s.table.link s.table.names) (cells : List ℕ) where
-  pub nothing-told : (call_left (archive_shadowed index r.cells r.walk cells) s).answer ≡ Ok 0
+  pub nothing-told : (call_left (archive_shadowed archives.bytes r.cells r.walk cells) s).answer ≡ Ok 0
       → ((k : ℕ) → k < c → tied_name (view_in s.table) (named k) ≡ true → among keys k r.offers ≡ true) → (k : ℕ) → k < c → knows (named k) s ≡ true → Settled keys named r.offers s k
   nothing-told e closed k h known =
-      let t = tells-them key index keys named c r fine few going s f w cells (ap begun_number e) in
+      let t = tells-them key archives keys named c r fine few going s f w cells (ap begun_number e) in
       let n : length (those_below (told_by keys named r.offers s) c) ≡ 0 = ap value (sym t.answer ∙ e) in
       settled keys named r.offers s k (none-below (told_by keys named r.offers s) c n k h) (λ u. closed k h (ties-held s f w (named k) ∙ u)) known
     where
@@ -281,36 +280,25 @@ module _ (key : ℕ) (index : List ℕ) (keys : ℕ → ℕ) (named : ℕ → Li
 
 -- ---- an archive's walk: an accepted start, then any calls, each over any table
 
-module _ (walk_key : ℕ) (index rows : List ℕ) (begun : begun_number (start_of walk_key index rows).started.begun ≡ 0) where
+module _ (walk_key : ℕ) (archives : Archives) (rows : List ℕ) (begun : begun_number (start_of walk_key archives rows).started.begun ≡ 0) where
   abbrev c : ℕ
-  c = count_of index
+  c = entries_in archives
 
   -- "index entries to 65,535"
   few-entries : c ≤ 65535
-  unfolding open_of open_entries_of
-  few-entries = go (eqb (length index) 0) (ltb (length index) 4) (ltb (offsets_in (length index)) c) (ltb 65535 c) refl (opened walk_key index rows begun)
-    where
-      go : (a b d e : Bool) → ltb 65535 c ≡ e
-          → (cond a (refused_as rows 20 0) (cond b (refused_as rows 1 0)
-          (cond d (refused_as rows 1 (lesser 65535 (offsets_in (length index)))) (cond e (refused_as rows 1 65535) (open_names_of index rows c (names_at c)))))).opened.refusal.number ≡ 0
-          → c ≤ 65535
-      go true b d e h z = absurd (omega arith)
-      go false true d e h z = absurd (omega arith)
-      go false false true e h z = absurd (omega arith)
-      go false false false true h z = absurd (omega arith)
-      go false false false false h z = ltb-false 65535 c h
+  few-entries = (accepted archives rows (opened walk_key archives rows begun)).bound
 
   module _ (ts : List Look.Table) where
     abbrev pub walk : Run
-    walk = history index ts (start_run walk_key index rows)
+    walk = history archives ts (start_run walk_key archives rows)
 
-    fine : Fine walk_key index (offset_of index) (name_of index c) c walk
-    fine = walk_fine walk_key index rows begun ts
+    fine : Fine walk_key archives (key_in archives) (name_in archives) c walk
+    fine = walk_fine walk_key archives rows begun ts
 
-    kept : Kept (offset_of index) c (seen walk)
+    kept : Kept (key_in archives) c (seen walk)
     kept =
-        subst (Kept (offset_of index) c) (sym (walked walk_key index rows begun ts).same-rounds)
-        (rounds-kept (offset_of index) c (views_by (name_of index c) c ts) fresh (kept_fresh (offset_of index) c))
+        subst (Kept (key_in archives) c) (sym (walked walk_key archives rows begun ts).same-rounds)
+        (rounds-kept (key_in archives) c (views_by (name_in archives) c ts) fresh (kept_fresh (key_in archives) c))
 
     going : walk.walk.offered ≤ walk.walk.queued
     going = omega (arith, kept.some, queue-length walk.cells walk.walk.queued)
@@ -319,43 +307,43 @@ module _ (walk_key : ℕ) (index rows : List ℕ) (begun : begun_number (start_o
     short =
         omega (
           arith,
-          once-members (offset_of index) c (queue_list walk.cells walk.walk.queued) kept.once kept.below,
+          once-members (key_in archives) c (queue_list walk.cells walk.walk.queued) kept.once kept.below,
           queue-length walk.cells walk.walk.queued,
-          cnt-le (is_first (offset_of index)) c,
+          cnt-le (is_first (key_in archives)) c,
         )
 
     module _ (s : Linked) (f : Fits s.table) (w : Within s.table.link s.table.names) (cells : List ℕ) where
-      pub told-exactly : call_number (archive_shadowed index walk.cells walk.walk cells) s ≡ 0
-          → Tells (those_below (told index walk.offers s) c) cells (call_left (archive_shadowed index walk.cells walk.walk cells) s)
-      told-exactly = tells-them walk_key index (offset_of index) (name_of index c) c walk fine few-entries going s f w cells
+      pub told-exactly : call_number (archive_shadowed archives.bytes walk.cells walk.walk cells) s ≡ 0
+          → Tells (those_below (told archives walk.offers s) c) cells (call_left (archive_shadowed archives.bytes walk.cells walk.walk cells) s)
+      told-exactly = tells-them walk_key archives (key_in archives) (name_in archives) c walk fine few-entries going s f w cells
 
-      pub goes : (met : List (List ℕ)) → Marked s.table met → c ≤ length cells → call_number (archive_shadowed index walk.cells walk.walk cells) s ≡ 0
-      goes met marked = tells-goes walk_key index (offset_of index) (name_of index c) c walk fine few-entries going s f w cells met marked short
+      pub goes : (met : List (List ℕ)) → Marked s.table met → c ≤ length cells → call_number (archive_shadowed archives.bytes walk.cells walk.walk cells) s ≡ 0
+      goes met marked = tells-goes walk_key archives (key_in archives) (name_in archives) c walk fine few-entries going s f w cells met marked short
 
   -- one more call, over this link, ends the walk; then nothing is told over it
   module _ (ts : List Look.Table) (s : Linked) (f : Fits s.table) (w : Within s.table.link s.table.names) (cells : List ℕ) where
     abbrev pub ended : Run
-    ended = next_in index (walk ts) s
+    ended = next_in archives (walk ts) s
 
-    pub all-settled : (walk ts).walk.done ≡ false → ended.walk.done ≡ true → (call_left (archive_shadowed index ended.cells ended.walk cells) s).answer ≡ Ok 0
-        → (k : ℕ) → k < c → knows (name_of index c k) s ≡ true → Settled (offset_of index) (name_of index c) ended.offers s k
+    pub all-settled : (walk ts).walk.done ≡ false → ended.walk.done ≡ true → (call_left (archive_shadowed archives.bytes ended.cells ended.walk cells) s).answer ≡ Ok 0
+        → (k : ℕ) → k < c → knows (name_in archives k) s ≡ true → Settled (key_in archives) (name_in archives) ended.offers s k
     all-settled d e =
         let t : Look.Table = view_in s.table in
-        let same : walk (ts ++ t ∷ []) ≡ ended = history-snoc index ts t (start_run walk_key index rows) ∙ sym (next-is index (walk ts) s) in
+        let same : walk (ts ++ t ∷ []) ≡ ended = history-snoc archives ts t (start_run walk_key archives rows) ∙ sym (next-is archives (walk ts) s) in
         subst
-        (λ (r : Run). (call_left (archive_shadowed index r.cells r.walk cells) s).answer ≡ Ok 0 → (k : ℕ) → k < c → knows (name_of index c k) s ≡ true
-        → Settled (offset_of index) (name_of index c) r.offers s k)
+        (λ (r : Run). (call_left (archive_shadowed archives.bytes r.cells r.walk cells) s).answer ≡ Ok 0 → (k : ℕ) → k < c → knows (name_in archives k) s ≡ true
+        → Settled (key_in archives) (name_in archives) r.offers s k)
         same
         (λ told.
-        nothing-told walk_key index (offset_of index) (name_of index c) c (walk (ts ++ t ∷ [])) (fine (ts ++ t ∷ [])) few-entries (going (ts ++ t ∷ [])) s f w cells told
+        nothing-told walk_key archives (key_in archives) (name_in archives) c (walk (ts ++ t ∷ [])) (fine (ts ++ t ∷ [])) few-entries (going (ts ++ t ∷ [])) s f w cells told
         (λ k h u.
-        subst (λ (r : Run). among (offset_of index) k r.offers ≡ true) (sym same)
-        (subst (λ (r : Run). among (offset_of index) k r.offers ≡ true) (sym (next-is index (walk ts) s))
-        ((walked walk_key index rows begun ts).last t d (ap (λ (r : Run). r.walk.done) (sym (next-is index (walk ts) s)) ∙ e) k h u))))
+        subst (λ (r : Run). among (key_in archives) k r.offers ≡ true) (sym same)
+        (subst (λ (r : Run). among (key_in archives) k r.offers ≡ true) (sym (next-is archives (walk ts) s))
+        ((walked walk_key archives rows begun ts).last t d (ap (λ (r : Run). r.walk.done) (sym (next-is archives (walk ts) s)) ∙ e) k h u))))
 
 -- in the old profile a settled name whose member was not offered is held strongly
-pub held-strongly : (index q : List ℕ) (s : Linked) (k : ℕ) → s.table.link.gabi ≡ false → among (offset_of index) k q ≡ false
-    → Settled (offset_of index) (name_of index (count_of index)) q s k → strongly_defined (name_of index (count_of index) k) s ≡ true
-held-strongly index q s k old free (strongly e) = e
-held-strongly index q s k old free (weakly e a) = absurd (apart (sym free ∙ a))
-held-strongly index q s k old free (refers_weakly g u e) = absurd (apart (sym old ∙ g))
+pub held-strongly : (archives : Archives) (q : List ℕ) (s : Linked) (k : ℕ) → s.table.link.gabi ≡ false → among (key_in archives) k q ≡ false
+    → Settled (key_in archives) (name_in archives) q s k → strongly_defined (name_in archives k) s ≡ true
+held-strongly archives q s k old free (strongly e) = e
+held-strongly archives q s k old free (weakly e a) = absurd (apart (sym free ∙ a))
+held-strongly archives q s k old free (refers_weakly g u e) = absurd (apart (sym old ∙ g))

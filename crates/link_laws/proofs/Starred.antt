@@ -10,7 +10,7 @@ use Rattle.link.specs.declared.Link.{Link}
 use Rattle.link.specs.declared.SymbolId.{SymbolId}
 use Rattle.link.specs.declared.cause.Refusal.{Refusal}
 use Rattle.link.specs.Bounds.{section_slots}
-use Rattle.link.specs.Judge.{none, change_of}
+use Rattle.link.specs.Judge.{change_of}
 use Rattle.link.specs.Said.{number_in}
 use Rattle.interner.specs.Names.{Store, find_of, fits_of}
 use Rattle.interner.specs.Calls as Names

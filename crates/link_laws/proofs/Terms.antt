@@ -52,8 +52,7 @@ use Rattle.shared_objects.specs.Load as Shared
 use Rattle.shared_objects.specs.Need.{input_kind_at}
 use Rattle.load_laws.specs.Needed.{library_kind, Needed}
 use Rattle.load_laws.proofs.Unneeded as Unneeded
-use Rattle.archive_index.specs.Index.{count_of, offset_of}
-use Rattle.archive_index.specs.Index as Index
+use Rattle.archive_index.specs.Archives.{Archives, entries_in, name_in, key_in}
 use Rattle.archive_walk.specs.declared.Offer.{Offer}
 use Rattle.archive_walk.specs.declared.Walk.{Walk}
 use Rattle.archive_walk.specs.Walk as Archive
@@ -93,7 +92,8 @@ use Rattle.symbol_laws.proofs.Gabi.{means-own, all-mean-own}
 use Rattle.symbol_laws.proofs.Duplicate as Duplicate
 use Rattle.symbol_laws.proofs.HiddenLemmas as HiddenLaws
 use Rattle.symbol_laws.specs.Hidden.{is_hidden, some_hidden, not_passed_on}
-use Rattle.symbol_laws.specs.ObjectWords.{sections_in, entries_in, program, uninitialized, loaded_as}
+use Rattle.symbol_laws.specs.ObjectWords.{sections_in, program, uninitialized, loaded_as}
+use Rattle.symbol_laws.specs.ObjectWords.{entries_in as object_entries}
 use Rattle.symbol_laws.specs.Agreement as Agreement
 use Rattle.symbol_laws.proofs.Agreement as AgreementLaws
 use Rattle.extraction_laws.specs.Member.{member_of}
@@ -164,7 +164,7 @@ use Rattle.link_laws.specs.Starred.{head_refusal}
 use Rattle.link_laws.proofs.Places as Places
 use Rattle.link_laws.specs.FirstRow.{First, BadRow}
 use Rattle.link_laws.proofs.CallPlaces as CallPlaces
-use Rattle.link_laws.specs.CallPlaces.{not_removed, collect_lent}
+use Rattle.link_laws.specs.CallPlaces.{has_bytes, not_removed, collect_lent}
 use Rattle.link_laws.proofs.Placeless as Placeless
 use Rattle.link_laws.specs.RowPlaces as RowPlaces
 use Rattle.link_laws.proofs.RowPlaces as RowPlacesLaws
@@ -260,17 +260,22 @@ new-answers = Numbers.new-numbers
 pub add-place : (conversion : List ℕ) (u : UpcomingSymbol) (s : Linked) → call_number (add conversion u) s ≢ 21 → (call_refusal (add conversion u) s).place ≡ 0
 add-place = Places.add-place
 
--- the table's column "Returned": 20, 22, 23, 25, and document 02's 26 and 30, at 0
+-- the table's column "Returned": 22, 23, 25, and document 02's 26 and 30, at 0
 pub zero-places : (k : Call) (s : Linked) → one_of (call_number k s) placeless ≡ true → (call_refusal k s).place ≡ 0
 zero-places = Placeless.zero-places
 
--- 2 at 0 where no element is met: an intern, a start over an index, a collection, a merge's work cells, a load's marks; a new
+-- 2 at 0 where no element is met: an intern, a start over indexes, a collection, a merge's work cells, a load's marks; a new
 -- table's is in new-leaves
 pub intern-place : (x : List ℕ) (s : Linked) → call_number (intern x) s ≢ 1 → (call_refusal (intern x) s).place ≡ 0
 intern-place = CallPlaces.intern-place
 
-pub start-place : (key : ℕ) (index cells : List ℕ) (s : Linked) → call_number (archive_start key index cells) s ≢ 1 → (call_refusal (archive_start key index cells) s).place ≡ 0
+pub start-place : (key : ℕ) (archives : Archives) (cells : List ℕ) (s : Linked) → call_number (archive_start key archives cells) s ≡ 2 → (call_refusal (archive_start key archives cells) s).place ≡ 0
 start-place = CallPlaces.start-place
+
+-- 20 at the first empty index
+pub start-empty : (key : ℕ) (archives : Archives) (cells : List ℕ) (s : Linked) → call_number (archive_start key archives cells) s ≡ 20
+    → First (has_bytes archives) (length archives.ends) (call_refusal (archive_start key archives cells) s).place
+start-empty = CallPlaces.start-empty
 
 pub collect-work-place : (marks : List ℕ) (entry : Option SymbolId) (work : List ℕ) (s : Linked) → call_number (collect marks entry work) s ≡ 2
     → (call_refusal (collect marks entry work) s).place ≡ 0
@@ -304,8 +309,8 @@ pub collect-section-place : (marks : List ℕ) (entry : Option SymbolId) (work :
 collect-section-place = CallPlaces.collect-section-place
 
 -- "the entry's position for a pass": of the walk's entries the first whose name's row was removed
-pub pass-place : (index cells : List ℕ) (w : Walk) (s : Linked) → call_number (archive_next index cells w) s ≡ 21
-    → First (not_removed index cells (view_in s.table)) w.entries (call_refusal (archive_next index cells w) s).place
+pub pass-place : (archives : Archives) (cells : List ℕ) (w : Walk) (s : Linked) → call_number (archive_next archives cells w) s ≡ 21
+    → First (not_removed archives.bytes cells (view_in s.table)) w.entries (call_refusal (archive_next archives cells w) s).place
 pass-place = CallPlaces.pass-place
 
 -- 4 to 7 of a group that is added by itself: its section; past the head, 2 too
@@ -332,7 +337,7 @@ pub matches-row : (headers entries contents file index cells : List ℕ) (w : Wa
     → BadRow headers entries (length contents) (length file) (call_refusal (matches headers entries contents file index cells w e) s).place
 matches-row = RowPlacesLaws.matches-row
 
--- what admission answers where it isn't refused, over any link, walk and entry, also where the index lies. The old profile: "some symbol of binding 1,
+-- what admission answers where it isn't refused, over any link, walk and entry, also where the indexes lie. The old profile: "some symbol of binding 1,
 -- defined or not, bears a required name". The gABI's: "a weak or global definition, and nothing else, admits one"
 module _ (s : Linked) (headers entries contents file index cells : List ℕ) (w : Walk) (e : ℕ)
     (ranged : (Elf.judge_of headers entries (length contents) (length file)).number ≡ 0) (whole : w.length ≤ length index) (rowed : w.entries ≤ length cells / 8)
@@ -359,10 +364,11 @@ pub collect-link-place : (marks : List ℕ) (entry : Option SymbolId) (work : Li
     → call_refusal (collect marks entry work) s ≡ change_of s.table.link (collect_lent s)
 collect-link-place = CallPlaces.collect-link-place
 
--- an index "of 1 to 3 bytes gives 1 at 0, a longer one at the first entry whose offset, else whose name, is cut short"
-pub start-row : (key : ℕ) (index cells : List ℕ) (s : Linked) → call_number (archive_start key index cells) s ≡ 1
-    → CutShort.CutShort index (call_refusal (archive_start key index cells) s).place
-start-row key index cells s = CutShortLaws.start-row index key cells s
+-- a seventeenth index, an end below the one before it or past the slice; and an index "of 1 to 3 bytes gives 1 at 0, a longer one at the first entry whose
+-- offset, else whose name, is cut short", where entries are counted over all indexes
+pub start-row : (key : ℕ) (archives : Archives) (cells : List ℕ) (s : Linked) → call_number (archive_start key archives cells) s ≡ 1
+    → CutShort.CutShort archives (call_refusal (archive_start key archives cells) s).place
+start-row key archives cells s = CutShortLaws.start-row archives key cells s
 
 -- "and leaves behind what that table says": a refused call leaves every row, name, mark and count of the link, and a list of adds those of the adds
 -- before the refused one (`earlier` is the link as it was for every other call); a merge and a load may leave "that call's earlier elements"
@@ -379,12 +385,12 @@ new-leaves = NewTable.new-leaves
 pub group-leaves : (o : Group.Object) (work : List ℕ) (n : ℕ) (s : Linked) → call_number (add_group o work n) s ≢ 0 → (call_left (add_group o work n) s).work ≡ work
 group-leaves o work n s u = (LeavesLaws.group-refused o s.table work n u).1
 
-pub start-leaves : (key : ℕ) (index cells : List ℕ) (s : Linked) → call_number (archive_start key index cells) s ≢ 0 → (call_left (archive_start key index cells) s).cells ≡ cells
-start-leaves key index cells s = ArchiveLeaves.start-leaves key index cells
+pub start-leaves : (key : ℕ) (archives : Archives) (cells : List ℕ) (s : Linked) → call_number (archive_start key archives cells) s ≢ 0 → (call_left (archive_start key archives cells) s).cells ≡ cells
+start-leaves key archives cells s = ArchiveLeaves.start-leaves key archives cells
 
-pub walk-leaves : (index cells : List ℕ) (w : Walk) (s : Linked) → call_number (archive_next index cells w) s ≢ 0
-    → ((call_left (archive_next index cells w) s).cells ≡ cells) × ((call_left (archive_next index cells w) s).moved.walk ≡ w)
-walk-leaves index cells w s = ArchiveLeaves.walk-leaves index cells w _
+pub walk-leaves : (archives : Archives) (cells : List ℕ) (w : Walk) (s : Linked) → call_number (archive_next archives cells w) s ≢ 0
+    → ((call_left (archive_next archives cells w) s).cells ≡ cells) × ((call_left (archive_next archives cells w) s).moved.walk ≡ w)
+walk-leaves archives cells w s = ArchiveLeaves.walk-leaves archives cells w _
 
 pub shadowed-leaves : (index rows : List ℕ) (w : Walk) (cells : List ℕ) (s : Linked) → call_number (archive_shadowed index rows w cells) s ≢ 0
     → (call_left (archive_shadowed index rows w cells) s).cells ≡ cells
@@ -567,18 +573,18 @@ module _ (key other : ℕ) (gabi : Bool) (bytes names symbols sections inputs li
 
 -- ---- a group that is added by itself, and what a walk over an archive passed by: over any link
 
--- "signature symbol missing": one that lists sections, none that a group added before lists, in an object whose symbol table is excluded or isn't of kind 3
+-- 6: one that lists sections, none that a group added before lists, in an object whose symbol table is excluded or isn't of kind 3
 pub alone-unloaded : (o : Group.Object) (work : List ℕ) (n : ℕ) (s : Linked) → (AddGroup.head_in o (group_in s.table work) n).number ≡ 0 → comdat_at o.headers n ≢ 0
     → count_at o.headers n ≢ 0 → lists_again o n (is_noted work) ≡ false → is_loaded o.headers o.table 3 ≡ false → call_refusal (add_group o work n) s ≡ refused 6 n
 alone-unloaded o work n s = GroupAloneLaws.alone-unloaded o s.table work n
 
 -- by entries and a member's key, of whatever they are the entries of: of a run whose rows say so (Fine), and a link whose rows are lent
-pub tells-them : (walk_key : ℕ) (index : List ℕ) (keys : ℕ → ℕ) (named : ℕ → List ℕ) (c : ℕ) (r : Run) → Fine walk_key index keys named c r → c ≤ 65535
+pub tells-them : (walk_key : ℕ) (archives : Archives) (keys : ℕ → ℕ) (named : ℕ → List ℕ) (c : ℕ) (r : Run) → Fine walk_key archives keys named c r → c ≤ 65535
     → r.walk.offered ≤ r.walk.queued → (s : Linked) → s.table.link.symbols ≤ 65535 → s.table.link.symbols * 8 ≤ length s.table.symbols
-    → Within.Within s.table.link s.table.names → (cells : List ℕ) → call_number (archive_shadowed index r.cells r.walk cells) s ≡ 0
-    → Tells (those_below (told_by keys named r.offers s) c) cells (call_left (archive_shadowed index r.cells r.walk cells) s)
-tells-them walk_key index keys named c r fine few going s counted room =
-    ShadowedLaws.tells-them walk_key index keys named c r fine few going s (record { few = counted; room = room })
+    → Within.Within s.table.link s.table.names → (cells : List ℕ) → call_number (archive_shadowed archives.bytes r.cells r.walk cells) s ≡ 0
+    → Tells (those_below (told_by keys named r.offers s) c) cells (call_left (archive_shadowed archives.bytes r.cells r.walk cells) s)
+tells-them walk_key archives keys named c r fine few going s counted room =
+    ShadowedLaws.tells-them walk_key archives keys named c r fine few going s (record { few = counted; room = room })
 
 -- ---- worked links: what follows is not said of nothing. A list of them, each computed, in both profiles
 
@@ -819,7 +825,7 @@ module _ (key : ℕ) (gabi : Bool) (bytes names symbols sections inputs lists : 
 
         -- the ids that it gave the symbols stand for them after any calls: of a local one the row has what the symbol's entry says, any other is its name's
         pub cell-stands : (ls : List Call) (k id : ℕ)
-            → k < entries_in (ObjectWords.symbols_of o.headers o.entries o.contents o.image) → get_or (call_left (merge o work ids) after).cells.ids k 0 ≡ id + 1
+            → k < object_entries (ObjectWords.symbols_of o.headers o.entries o.contents o.image) → get_or (call_left (merge o work ids) after).cells.ids k 0 ≡ id + 1
             → Stands o after (signatures ks start) (run_calls ls (call_next (merge o work ids) after)) k id
         cell-stands = GivenRows.cell-stands after _ lasting ready shown some-symbol o work ids ok
 
@@ -860,39 +866,39 @@ module _ (key : ℕ) (gabi : Bool) (bytes names symbols sections inputs lists : 
       fits : Fits after.table
       fits = record { few = ready.below.few; room = ready.room }
 
-      module _ (walk_key : ℕ) (index rows : List ℕ) (begun : call_number (archive_start walk_key index rows) after ≡ 0) (passed : List Table) (cells : List ℕ) where
+      module _ (walk_key : ℕ) (archives : Archives) (rows : List ℕ) (begun : call_number (archive_start walk_key archives rows) after ≡ 0) (passed : List Table) (cells : List ℕ) where
         abbrev pub walk_so_far : Run
-        walk_so_far = history index passed (start_run walk_key index rows)
+        walk_so_far = history archives passed (start_run walk_key archives rows)
 
         abbrev pub shadowed_by : Run → Call
-        shadowed_by r = archive_shadowed index r.cells r.walk cells
+        shadowed_by r = archive_shadowed archives.bytes r.cells r.walk cells
 
         -- an entry is told just where its name's lookup answers a weak definition and no call of the walk has offered its member, or an undefined row and one has
         pub shadowed-exactly : call_number (shadowed_by walk_so_far) after ≡ 0
-            → Tells (those_below (told index walk_so_far.offers after) (count_of index)) cells (call_left (shadowed_by walk_so_far) after)
-        shadowed-exactly = ShadowedLaws.told-exactly walk_key index rows begun passed after fits (lasting-within after _ lasting) cells
+            → Tells (those_below (told archives walk_so_far.offers after) (entries_in archives)) cells (call_left (shadowed_by walk_so_far) after)
+        shadowed-exactly = ShadowedLaws.told-exactly walk_key archives rows begun passed after fits (lasting-within after _ lasting) cells
 
         -- the call is accepted where cells are lent for all entries
-        pub shadowed-goes : count_of index ≤ length cells → call_number (shadowed_by walk_so_far) after ≡ 0
-        shadowed-goes = ShadowedLaws.goes walk_key index rows begun passed after fits (lasting-within after _ lasting) cells (signatures ks start) marked
+        pub shadowed-goes : entries_in archives ≤ length cells → call_number (shadowed_by walk_so_far) after ≡ 0
+        shadowed-goes = ShadowedLaws.goes walk_key archives rows begun passed after fits (lasting-within after _ lasting) cells (signatures ks start) marked
 
         -- the walk after one more call, over this link
         abbrev pub walk_next : Run
-        walk_next = next_in index walk_so_far after
+        walk_next = next_in archives walk_so_far after
 
         -- where that call ends the walk and nothing is told then, each name of the index that the link knows is held strongly (a global common counts), or weakly
         -- where the members of all its entries were offered; in the gABI profile a weak reference, which "ties no member", may hold it
         pub all-settled : walk_so_far.walk.done ≡ false → walk_next.walk.done ≡ true → (call_left (shadowed_by walk_next) after).answer ≡ Ok 0
-            → (k : ℕ) → k < count_of index → knows (Index.name_of index (count_of index) k) after ≡ true
-            → Settled (offset_of index) (Index.name_of index (count_of index)) walk_next.offers after k
-        all-settled = ShadowedLaws.all-settled walk_key index rows begun passed after fits (lasting-within after _ lasting) cells
+            → (k : ℕ) → k < entries_in archives → knows (name_in archives k) after ≡ true
+            → Settled (key_in archives) (name_in archives) walk_next.offers after k
+        all-settled = ShadowedLaws.all-settled walk_key archives rows begun passed after fits (lasting-within after _ lasting) cells
 
         -- so in the old profile, where a member was not offered, the link holds its name strongly or as a global common, or doesn't know it. Of a member that was
         -- offered and not merged it says nothing
         pub passed-by-held : gabi ≡ false → walk_so_far.walk.done ≡ false → walk_next.walk.done ≡ true → (call_left (shadowed_by walk_next) after).answer ≡ Ok 0
-            → (k : ℕ) → k < count_of index → among index k walk_next.offers ≡ false → knows (Index.name_of index (count_of index) k) after ≡ true
-            → strongly_defined (Index.name_of index (count_of index) k) after ≡ true
-        passed-by-held old d e told k h free known = ShadowedLaws.held-strongly index walk_next.offers after k (profile ∙ old) free (all-settled d e told k h known)
+            → (k : ℕ) → k < entries_in archives → among archives k walk_next.offers ≡ false → knows (name_in archives k) after ≡ true
+            → strongly_defined (name_in archives k) after ≡ true
+        passed-by-held old d e told k h free known = ShadowedLaws.held-strongly archives walk_next.offers after k (profile ∙ old) free (all-settled d e told k h known)
 
       -- ---- what a member that was not taken would have defined: over this link, whatever was removed from it. The member is any object
 
@@ -901,7 +907,7 @@ module _ (key : ℕ) (gabi : Bool) (bytes names symbols sections inputs lists : 
         asked = would_define headers entries contents file
 
         abbrev pub count : ℕ
-        count = entries_in (ObjectWords.symbols_of headers entries contents file)
+        count = object_entries (ObjectWords.symbols_of headers entries contents file)
 
         -- a symbol of the table that a merge would load is told just where it has a name and is a definition, global or weak, and no file symbol; and a lookup of the
         -- name answers an undefined row, a common where the symbol is a global definition that is none, or a weak definition where it is a global one or a common.
@@ -993,23 +999,23 @@ module _ (key : ℕ) (gabi : Bool) (bytes names symbols sections inputs lists : 
         (AgreementLaws.accepted grown_end.table _ some.reached.held n x xs e _ _ (all-mean-own (rows (x ∷ xs))))
 
     -- demand 3b: Walked is over every sequence of tables, those of such a history too; no call of a walk over it is refused
-    pub grown-walk : (walk_key : ℕ) (index cells : List ℕ) → call_number (archive_start walk_key index cells) grown_end ≡ 0 → (us : List Table)
-        → let r = history index us (start_run walk_key index cells) in
-        Walked index (count_of index) us r × (call_number (archive_next index r.cells r.walk) grown_end ≡ 0)
-    grown-walk walk_key index cells begun us = (walked walk_key index cells begun us, WalkInLaws.next-goes index walk_key cells begun grown_end _ _ some.reached us)
+    pub grown-walk : (walk_key : ℕ) (archives : Archives) (cells : List ℕ) → call_number (archive_start walk_key archives cells) grown_end ≡ 0 → (us : List Table)
+        → let r = history archives us (start_run walk_key archives cells) in
+        Walked archives us r × (call_number (archive_next archives r.cells r.walk) grown_end ≡ 0)
+    grown-walk walk_key archives cells begun us = (walked walk_key archives cells begun us, WalkInLaws.next-goes archives walk_key cells begun grown_end _ _ some.reached us)
 
     -- and what a walk passed by is told of such a link too
-    pub grown-shadowed : (walk_key : ℕ) (index rows : List ℕ) → call_number (archive_start walk_key index rows) grown_end ≡ 0 → (us : List Table) (cells : List ℕ)
-        → let r = history index us (start_run walk_key index rows) in
-        call_number (archive_shadowed index r.cells r.walk cells) grown_end ≡ 0
-        → Tells (those_below (told index r.offers grown_end) (count_of index)) cells (call_left (archive_shadowed index r.cells r.walk cells) grown_end)
-    grown-shadowed walk_key index rows begun us cells =
-        ShadowedLaws.told-exactly walk_key index rows begun us grown_end (WithinLaws.inv-fits grown_end.table _ some.reached.held) (reached-within grown_end _ _ some.reached) cells
+    pub grown-shadowed : (walk_key : ℕ) (archives : Archives) (rows : List ℕ) → call_number (archive_start walk_key archives rows) grown_end ≡ 0 → (us : List Table) (cells : List ℕ)
+        → let r = history archives us (start_run walk_key archives rows) in
+        call_number (archive_shadowed archives.bytes r.cells r.walk cells) grown_end ≡ 0
+        → Tells (those_below (told archives r.offers grown_end) (entries_in archives)) cells (call_left (archive_shadowed archives.bytes r.cells r.walk cells) grown_end)
+    grown-shadowed walk_key archives rows begun us cells =
+        ShadowedLaws.told-exactly walk_key archives rows begun us grown_end (WithinLaws.inv-fits grown_end.table _ some.reached.held) (reached-within grown_end _ _ some.reached) cells
 
     -- and so is what a member would have defined
     pub grown-untaken : (headers entries contents file cells : List ℕ) → call_number (would_define headers entries contents file cells) grown_end ≡ 0
         → TellsPairs (held_id headers entries contents file grown_end)
-        (those_below (would headers entries contents file grown_end) (entries_in (ObjectWords.symbols_of headers entries contents file))) cells
+        (those_below (would headers entries contents file grown_end) (object_entries (ObjectWords.symbols_of headers entries contents file))) cells
         (call_left (would_define headers entries contents file cells) grown_end)
     grown-untaken headers entries contents file cells =
         UntakenLaws.tells-them headers entries contents file grown_end (WithinLaws.inv-fits grown_end.table _ some.reached.held) (reached-within grown_end _ _ some.reached) cells
@@ -1346,48 +1352,48 @@ module _ (key : ℕ) (gabi : Bool) (bytes names symbols sections inputs lists : 
         → (s : Sym) (ss : List Sym) → AllMean (rows (x ∷ xs)) (s ∷ ss) → tied_name (view_in end.table) b ≡ wants (s ∷ ss)
     ties-wanted p b x xs e = Ties.ties-wanted end.table _ held (profile ks ∙ p) b x xs e (of-name p _ x xs e)
 
-    module _ (walk_key : ℕ) (index cells : List ℕ) (begun : call_number (archive_start walk_key index cells) end ≡ 0) where
+    module _ (walk_key : ℕ) (archives : Archives) (cells : List ℕ) (begun : call_number (archive_start walk_key archives cells) end ≡ 0) where
       -- its calls for the next member stand anywhere: the history goes on in parts, with such a call behind each (with_walk). "makes at most m + 1
       -- passes, each pass offers exactly the members not yet offered that the index ties to a name undefined at its start, and no name undefined
       -- at the last pass is tied to an unoffered member" (bound, pass, last; the tables are the link's at those calls); in the gABI profile "undefined and strong"
       -- (ties-old, ties-is)
-      pub demand-3b : (kss : List (List Call)) → Walked index (count_of index) (tables_at kss end) (walk_after index kss (start_run walk_key index cells) end)
-      demand-3b = WalkInLaws.walked-in index walk_key cells begun end
+      pub demand-3b : (kss : List (List Call)) → Walked archives (tables_at kss end) (walk_after archives kss (start_run walk_key archives cells) end)
+      demand-3b = WalkInLaws.walked-in archives walk_key cells begun end
 
       -- the same as one equation of lists, by members' offsets: what one pass offered, behind what was offered before it, are the members that the index ties
       -- to a name that ties in the link at its first call, in first-seen order, without those offered before. The call behind the parts kss and the
       -- calls ks makes the pass, those behind the parts lss none, and then it is over: the walk is done, or the next call makes another pass
       pub exactly-3b : (kss : List (List Call)) (ks : List Call) (lss : List (List Call))
-          → let before = WalkIn.run_before index walk_key cells begun end kss ks lss in
-          let link = WalkIn.link_then index walk_key cells begun end kss ks lss in
-          let then = WalkIn.run_then index walk_key cells begun end kss ks lss in
-          let after = WalkIn.run_after index walk_key cells begun end kss ks lss in
-          then.walk.passes ≡ before.walk.passes + 1 → after.walk.passes ≡ then.walk.passes → Over walk_key index cells begun after
-          → offered index after ≡ offered index before ++ without (offered index before) (first_seen (tied_members index (view_in link.table)))
-      exactly-3b = WalkInLaws.pass-in index walk_key cells begun end
+          → let before = WalkIn.run_before archives walk_key cells begun end kss ks lss in
+          let link = WalkIn.link_then archives walk_key cells begun end kss ks lss in
+          let then = WalkIn.run_then archives walk_key cells begun end kss ks lss in
+          let after = WalkIn.run_after archives walk_key cells begun end kss ks lss in
+          then.walk.passes ≡ before.walk.passes + 1 → after.walk.passes ≡ then.walk.passes → Over walk_key archives cells begun after
+          → offered archives after ≡ offered archives before ++ without (offered archives before) (first_seen (tied_members archives (view_in link.table)))
+      exactly-3b = WalkInLaws.pass-in archives walk_key cells begun end
 
       -- "walks don't change a link": the history with its calls leads where the history without them does
-      pub walk-aside : (kss : List (List Call)) → run_calls (with_walk index kss (start_run walk_key index cells) end) end ≡ run_calls (joined kss) end
-      walk-aside kss = WalksLaws.walk-aside index kss (start_run walk_key index cells) end
+      pub walk-aside : (kss : List (List Call)) → run_calls (with_walk archives kss (start_run walk_key archives cells) end) end ≡ run_calls (joined kss) end
+      walk-aside kss = WalksLaws.walk-aside archives kss (start_run walk_key archives cells) end
 
       -- against the gABI: one more call for the next member, over this link, that makes a pass. The walk's earlier calls were lent whatever tables; where
       -- they stand in the history, those are tables_at, and before is walk_after (walk-is, Walks.antt). The member of entry e, not offered before, is this
       -- object; the index lists its global and weak definitions, as an archive's index does
       module _ (ts : List Table) where
         abbrev pub before : Run
-        before = history index ts (start_run walk_key index cells)
+        before = history archives ts (start_run walk_key archives cells)
 
         abbrev pub stepped : Run
-        stepped = next_in index before end
+        stepped = next_in archives before end
 
-        module _ (made : stepped.walk.passes ≡ before.walk.passes + 1) (e : ℕ) (low : e < count_of index) (unoffered : among index e before.offers ≡ false)
-            (headers entries file : List ℕ) (listed : (x : List ℕ) → in_index index (count_of index) e x ≡ Taken.lists (member_of headers entries file) x) where
+        module _ (made : stepped.walk.passes ≡ before.walk.passes + 1) (e : ℕ) (low : e < entries_in archives) (unoffered : among archives e before.offers ≡ false)
+            (headers entries file : List ℕ) (listed : (x : List ℕ) → in_index archives e x ≡ Taken.lists (member_of headers entries file) x) where
           abbrev pub member : List Named
           member = member_of headers entries file
 
           -- the pass queues it to be offered, and admission over its required names says yes
           abbrev pub chosen : Bool
-          chosen = Extraction.chosen_in gabi index stepped e headers entries file
+          chosen = Extraction.chosen_in gabi archives stepped e headers entries file
 
           -- the names that the gABI wants by the symbols accepted under them, as a list; wanted-names has one for every member
           module _ (wanted : List (List ℕ)) (same : (x : List ℕ) → Taken.lists member x ≡ true → Strings.among x wanted ≡ wants (symbols_under x)) where
@@ -1395,75 +1401,75 @@ module _ (key : ℕ) (gabi : Bool) (bytes names symbols sections inputs lists : 
             -- references pull members"
             pub extraction-differs : gabi ≡ false → chosen || weak_offers wanted member ≡ extracts member wanted || taken (λ x. weak_references (symbols_under x)) member
             extraction-differs old =
-                ap (λ (g : Bool). Extraction.chosen_in g index stepped e headers entries file || weak_offers wanted member) old
-                ∙ ExtractionLaws.differences end _ held walk_key index cells begun ts made e low unoffered headers entries file listed (profile ks ∙ old) wanted same
+                ap (λ (g : Bool). Extraction.chosen_in g archives stepped e headers entries file || weak_offers wanted member) old
+                ∙ ExtractionLaws.differences end _ held walk_key archives cells begun ts made e low unoffered headers entries file listed (profile ks ∙ old) wanted same
 
             -- so without these just where the gABI extracts it
             pub extraction-agrees : gabi ≡ false → weak_offers wanted member ≡ false → taken (λ x. weak_references (symbols_under x)) member ≡ false
                 → chosen ≡ extracts member wanted
             extraction-agrees old d r =
-                ap (λ (g : Bool). Extraction.chosen_in g index stepped e headers entries file) old
-                ∙ ExtractionLaws.agrees end _ held walk_key index cells begun ts made e low unoffered headers entries file listed (profile ks ∙ old) wanted same d r
+                ap (λ (g : Bool). Extraction.chosen_in g archives stepped e headers entries file) old
+                ∙ ExtractionLaws.agrees end _ held walk_key archives cells begun ts made e low unoffered headers entries file listed (profile ks ∙ old) wanted same d r
 
             -- the gABI's profile: just where the gABI extracts it
             pub extraction-gabi : gabi ≡ true → chosen ≡ extracts member wanted
             extraction-gabi p =
-                ap (λ (g : Bool). Extraction.chosen_in g index stepped e headers entries file) p
-                ∙ ExtractionLaws.agrees-gabi end _ held walk_key index cells begun ts made e low unoffered headers entries file listed (profile ks ∙ p) (of-name p) wanted same
+                ap (λ (g : Bool). Extraction.chosen_in g archives stepped e headers entries file) p
+                ∙ ExtractionLaws.agrees-gabi end _ held walk_key archives cells begun ts made e low unoffered headers entries file listed (profile ks ∙ p) (of-name p) wanted same
 
           pub wanted-names : (x : List ℕ) → Taken.lists member x ≡ true
               → Strings.among x (wanted_names (λ y. wants (symbols_under y)) member) ≡ wants (symbols_under x)
-          wanted-names = ExtractionLaws.own-names end _ held walk_key index cells begun ts made e low unoffered headers entries file listed
+          wanted-names = ExtractionLaws.own-names end _ held walk_key archives cells begun ts made e low unoffered headers entries file listed
 
         -- what `matches` itself answers about it, after the pass, and if it is queued after any further calls: exactly what the gABI extracts, but in the old
         -- profile for the two known places, each a term: only_weakly_offered, pulled_weakly. The object's fields are in range; its symbols in document 01's
         -- words. It may be asked by any link of the profile
-        module _ (made : stepped.walk.passes ≡ before.walk.passes + 1) (e : ℕ) (low : e < count_of index) (unoffered : among index e before.offers ≡ false)
+        module _ (made : stepped.walk.passes ≡ before.walk.passes + 1) (e : ℕ) (low : e < entries_in archives) (unoffered : among archives e before.offers ≡ false)
             (headers entries contents file : List ℕ) (ranged : (Elf.judge_of headers entries (length contents) (length file)).number ≡ 0)
-            (listed : (x : List ℕ) → in_index index (count_of index) e x ≡ Taken.lists (symbols_of headers entries file) x) where
+            (listed : (x : List ℕ) → in_index archives e x ≡ Taken.lists (symbols_of headers entries file) x) where
           module _ (wanted : List (List ℕ)) (same : (x : List ℕ) → Taken.lists (symbols_of headers entries file) x ≡ true → Strings.among x wanted ≡ wants (symbols_under x)) where
-            pub matches-exactly : gabi ≡ false → (on : Linked) → on.table.link.gabi ≡ gabi → answer_in headers entries contents file index stepped e on
+            pub matches-exactly : gabi ≡ false → (on : Linked) → on.table.link.gabi ≡ gabi → answer_in headers entries contents file archives.bytes stepped e on
                 ≡ says (admitted wanted (λ x. weak_references (symbols_under x)) (symbols_of headers entries file))
             matches-exactly old on asks =
-                Admitted.matches-is end _ held walk_key index cells begun ts made e low unoffered headers entries contents file ranged listed wanted same (profile ks ∙ old) on (asks ∙ old)
+                Admitted.matches-is end _ held walk_key archives cells begun ts made e low unoffered headers entries contents file ranged listed wanted same (profile ks ∙ old) on (asks ∙ old)
 
-            pub matches-stays : gabi ≡ false → among index e (queue_in stepped) ≡ true → (us : List Table) (on : Linked) → on.table.link.gabi ≡ gabi
-                → answer_in headers entries contents file index (history index us stepped) e on
+            pub matches-stays : gabi ≡ false → among archives e (queue_in stepped) ≡ true → (us : List Table) (on : Linked) → on.table.link.gabi ≡ gabi
+                → answer_in headers entries contents file archives.bytes (history archives us stepped) e on
                 ≡ says (admitted wanted (λ x. weak_references (symbols_under x)) (symbols_of headers entries file))
             matches-stays old q us on asks =
-                Admitted.matches-later end _ held walk_key index cells begun ts made e low unoffered headers entries contents file ranged listed wanted same (profile ks ∙ old) on (asks ∙ old) q us
+                Admitted.matches-later end _ held walk_key archives cells begun ts made e low unoffered headers entries contents file ranged listed wanted same (profile ks ∙ old) on (asks ∙ old) q us
 
             -- the gABI's profile
             pub matches-gabi : gabi ≡ true → (on : Linked) → on.table.link.gabi ≡ gabi
-                → answer_in headers entries contents file index stepped e on ≡ says (extracts (symbols_of headers entries file) wanted)
+                → answer_in headers entries contents file archives.bytes stepped e on ≡ says (extracts (symbols_of headers entries file) wanted)
             matches-gabi p on asks =
-                Admitted.matches-gabi end _ held walk_key index cells begun ts made e low unoffered headers entries contents file ranged listed wanted same (profile ks ∙ p) (of-name p) on (asks ∙ p)
+                Admitted.matches-gabi end _ held walk_key archives cells begun ts made e low unoffered headers entries contents file ranged listed wanted same (profile ks ∙ p) (of-name p) on (asks ∙ p)
 
-            pub matches-gabi-stays : gabi ≡ true → among index e (queue_in stepped) ≡ true → (us : List Table) (on : Linked) → on.table.link.gabi ≡ gabi
-                → answer_in headers entries contents file index (history index us stepped) e on ≡ says (extracts (symbols_of headers entries file) wanted)
+            pub matches-gabi-stays : gabi ≡ true → among archives e (queue_in stepped) ≡ true → (us : List Table) (on : Linked) → on.table.link.gabi ≡ gabi
+                → answer_in headers entries contents file archives.bytes (history archives us stepped) e on ≡ says (extracts (symbols_of headers entries file) wanted)
             matches-gabi-stays p q us on asks =
-                Admitted.matches-gabi-later end _ held walk_key index cells begun ts made e low unoffered headers entries contents file ranged listed wanted same (profile ks ∙ p) (of-name p) on
+                Admitted.matches-gabi-later end _ held walk_key archives cells begun ts made e low unoffered headers entries contents file ranged listed wanted same (profile ks ∙ p) (of-name p) on
                 (asks ∙ p) q us
 
           -- a member that is let in was queued by the pass, so it is offered
-          pub let-in-queued : (on : Linked) → answer_in headers entries contents file index stepped e on ≡ Ok true → among index e (queue_in stepped) ≡ true
-          let-in-queued = Admitted.let-in-queued end _ held walk_key index cells begun ts made e low unoffered headers entries contents file ranged listed
+          pub let-in-queued : (on : Linked) → answer_in headers entries contents file archives.bytes stepped e on ≡ Ok true → among archives e (queue_in stepped) ≡ true
+          let-in-queued = Admitted.let-in-queued end _ held walk_key archives cells begun ts made e low unoffered headers entries contents file ranged listed
 
           pub wanted-own : (x : List ℕ) → Taken.lists (symbols_of headers entries file) x ≡ true
               → Strings.among x (wanted_names (λ y. wants (symbols_under y)) (symbols_of headers entries file)) ≡ wants (symbols_under x)
-          wanted-own = Admitted.own-names end _ held walk_key index cells begun ts made e low unoffered headers entries contents file ranged listed
+          wanted-own = Admitted.own-names end _ held walk_key archives cells begun ts made e low unoffered headers entries contents file ranged listed
 
       module _ (lent : length lists ≤ not_lent) where
         -- no such call is refused, whatever tables the walk's earlier ones were lent: no 1, and no 21, since no row was removed
         pub walk-goes : (ts : List Table)
-            → let r = history index ts (start_run walk_key index cells) in
-            call_number (archive_next index r.cells r.walk) end ≡ 0
-        walk-goes = WalkInLaws.next-goes index walk_key cells begun end _ _ (reached lent)
+            → let r = history archives ts (start_run walk_key archives cells) in
+            call_number (archive_next archives r.cells r.walk) end ≡ 0
+        walk-goes = WalkInLaws.next-goes archives walk_key cells begun end _ _ (reached lent)
 
         -- and it ends: of m + 1 calls the last answers "done"
-        pub walk_ends : (kss : List (List Call)) → RemovesNothing (with_walk index kss (start_run walk_key index cells) end) end → members index (count_of index) < length kss
-            → (walk_after index kss (start_run walk_key index cells) end).walk.done ≡ true
-        walk_ends = WalkInLaws.walk-done index walk_key cells begun end _ _ (reached lent)
+        pub walk_ends : (kss : List (List Call)) → RemovesNothing (with_walk archives kss (start_run walk_key archives cells) end) end → members archives (entries_in archives) < length kss
+            → (walk_after archives kss (start_run walk_key archives cells) end).walk.done ≡ true
+        walk_ends = WalkInLaws.walk-done archives walk_key cells begun end _ _ (reached lent)
 
     -- ---- "Collection, unless refused, keeps exactly what relocations reach from the roots"
 

@@ -1,7 +1,8 @@
 -- Laws of the definitions of Walks.antt.
 -- Assumes nothing.
-use Rattle.std.specs.Prelude.{ℕ, ◌≡◌, refl, List, [], ◌∷◌}
+use Rattle.std.specs.Prelude.{◌≡◌, refl, List, [], ◌∷◌}
 use Rattle.std.proofs.Common.{sym, ap, ◌∙◌}
+use Rattle.archive_index.specs.Archives.{Archives}
 use Rattle.archive_laws.specs.Runs.{Run, step_run, history}
 use Rattle.symbol_laws.proofs.History.{run-append}
 use Rattle.merge_laws.specs.Calls.{Linked}
@@ -10,21 +11,21 @@ use Rattle.link_laws.specs.Walks.{next_in, with_walk, walk_after, tables_at, joi
 
 -- ---- it is the walk over those tables
 
-pub next-is : (index : List ℕ) (r : Run) (s : Linked) → next_in index r s ≡ step_run index (view_in s.table) r
+pub next-is : (archives : Archives) (r : Run) (s : Linked) → next_in archives r s ≡ step_run archives (view_in s.table) r
 unfolding step_run
-next-is index r s = refl
+next-is archives r s = refl
 
-pub walk_is : (index : List ℕ) (kss : List (List Call)) (r : Run) (s : Linked) → walk_after index kss r s ≡ history index (tables_at kss s) r
+pub walk_is : (archives : Archives) (kss : List (List Call)) (r : Run) (s : Linked) → walk_after archives kss r s ≡ history archives (tables_at kss s) r
 unfolding history
-walk_is index [] r s = refl
-walk_is index (ks ∷ kss) r s =
-    walk_is index kss (next_in index r (run_calls ks s)) (run_calls ks s)
-    ∙ ap (history index (tables_at kss (run_calls ks s))) (next-is index r (run_calls ks s))
+walk_is archives [] r s = refl
+walk_is archives (ks ∷ kss) r s =
+    walk_is archives kss (next_in archives r (run_calls ks s)) (run_calls ks s)
+    ∙ ap (history archives (tables_at kss (run_calls ks s))) (next-is archives r (run_calls ks s))
 
-pub walk-aside : (index : List ℕ) (kss : List (List Call)) (r : Run) (s : Linked) → run_calls (with_walk index kss r s) s ≡ run_calls (joined kss) s
-walk-aside index [] r s = refl
-walk-aside index (ks ∷ kss) r s =
+pub walk-aside : (archives : Archives) (kss : List (List Call)) (r : Run) (s : Linked) → run_calls (with_walk archives kss r s) s ≡ run_calls (joined kss) s
+walk-aside archives [] r s = refl
+walk-aside archives (ks ∷ kss) r s =
     let t : Linked = run_calls ks s in
-    run-append call_next call_notes ks (archive_next index r.cells r.walk ∷ with_walk index kss (next_in index r t) t) s
-    ∙ walk-aside index kss (next_in index r t) t
+    run-append call_next call_notes ks (archive_next archives r.cells r.walk ∷ with_walk archives kss (next_in archives r t) t) s
+    ∙ walk-aside archives kss (next_in archives r t) t
     ∙ sym (run-append call_next call_notes ks (joined kss) s)

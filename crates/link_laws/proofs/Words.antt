@@ -9,7 +9,7 @@ use Rattle.symbol.specs.Row.{symbol_at, value_words_at, scope_at}
 use Rattle.symbol_resolution.specs.declared.rows.Holder.{Holder}
 use Rattle.symbol_resolution.specs.declared.rows.Holder.TheVariants.{Unissued, Nobody, Removed, Known}
 use Rattle.symbols.specs.Lookup.{held_of}
-use Rattle.archive_index.specs.Index.{count_of, name_of}
+use Rattle.archive_index.specs.Archives.{Archives, entries_in, name_in}
 use Rattle.archive_walk.specs.Look as Look
 use Rattle.archive_walk.specs.Look.{name_holder, undefined_name, tied_name}
 use Rattle.archive_laws.specs.Profiles as Profiles
@@ -29,9 +29,9 @@ use Rattle.link_laws.specs.Words.{id_of, lookup, is_undefined, undefined, is_str
 
 -- ---- these are what the calls go by
 
-members-same : (index : List ℕ) (f g : ℕ → Bool) → ((k : ℕ) → f k ≡ g k) → (n k : ℕ) → members_from index f n k ≡ members_from index g n k
-members-same index f g e zero k = refl
-members-same index f g e (suc n) k = rw (e k, members-same index f g e n (k + 1))
+members-same : (archives : Archives) (f g : ℕ → Bool) → ((k : ℕ) → f k ≡ g k) → (n k : ℕ) → members_from archives f n k ≡ members_from archives g n k
+members-same archives f g e zero k = refl
+members-same archives f g e (suc n) k = rw (e k, members-same archives f g e n (k + 1))
 
 -- over any link, also one from which something was removed
 module _ (s : Linked) (f : Fits s.table) (w : Within s.table.link s.table.names) where
@@ -84,7 +84,7 @@ module _ (s : Linked) (past : List Entry) (met : List (List ℕ)) (r : Reached s
   pub ties-seen : (b : List ℕ) → tied_name (view_in s.table) b ≡ ties b s
   ties-seen = ties-held s (record { few = r.held.few; room = r.held.room }) (reached-within s past met r)
 
-  pub tied-seen : (index : List ℕ) → tied_members index (view_in s.table) ≡ tied index s
-  tied-seen index =
-      members-same index (tied_in index (count_of index) (view_in s.table)) (λ k. ties (name_of index (count_of index) k) s)
-      (λ k. ties-seen (name_of index (count_of index) k)) (count_of index) 0
+  pub tied-seen : (archives : Archives) → tied_members archives (view_in s.table) ≡ tied archives s
+  tied-seen archives =
+      members-same archives (tied_in archives (view_in s.table)) (λ k. ties (name_in archives k) s)
+      (λ k. ties-seen (name_in archives k)) (entries_in archives) 0

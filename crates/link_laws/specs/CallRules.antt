@@ -31,8 +31,8 @@ rules (merge o work ids) s = merge_rules o (all_in s work ids)
 -- "then" its rows' own
 rules (merge_file file cells work ids) s = file_rules s.table.link.broken file (length cells) ++ merge_rules (ElfFile.rows_of file) (all_in s work ids)
 rules (load o marks) s = load_rules o (library_in s marks)
-rules (reads (Read.archive_start key index cells)) s = start_rules index cells
-rules (reads (Read.archive_next index cells w)) s = next_rules index cells w s.table
+rules (reads (Read.archive_start key archives cells)) s = start_rules archives cells
+rules (reads (Read.archive_next archives cells w)) s = next_rules archives cells w s.table
 rules (reads (Read.archive_shadowed index rows w cells)) s = shadowed_rules index rows w s.table cells
 rules (reads (Read.matches headers entries contents file index cells w e)) s = matches_rules headers entries contents file index cells w e
 rules (reads (Read.would_define headers entries contents file cells)) s = would_rules headers entries contents file s.table cells

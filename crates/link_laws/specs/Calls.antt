@@ -26,6 +26,7 @@ use Rattle.elf_laws.specs.Object as ElfFile
 use Rattle.merge_file.specs.MergeFile.{FileLeft, file_head_of, merge_file_of}
 use Rattle.shared_objects.specs.Load as Shared
 use Rattle.shared_objects.specs.Load.{load_of}
+use Rattle.archive_index.specs.Archives.{Archives}
 use Rattle.archive_walk.specs.declared.Walk.{Walk}
 use Rattle.gc_sections.specs.Run as Collection
 use Rattle.gc_sections.specs.Run.{lists_of, run_of}
@@ -78,11 +79,11 @@ get_global name = reads (Read.get_global name)
 abbrev pub section_symbol : SectionId → Call
 section_symbol section = reads (Read.section_symbol section)
 
-abbrev pub archive_start : ℕ → List ℕ → List ℕ → Call
-archive_start key index cells = reads (Read.archive_start key index cells)
+abbrev pub archive_start : ℕ → Archives → List ℕ → Call
+archive_start key archives cells = reads (Read.archive_start key archives cells)
 
-abbrev pub archive_next : List ℕ → List ℕ → Walk → Call
-archive_next index cells w = reads (Read.archive_next index cells w)
+abbrev pub archive_next : Archives → List ℕ → Walk → Call
+archive_next archives cells w = reads (Read.archive_next archives cells w)
 
 abbrev pub archive_shadowed : List ℕ → List ℕ → Walk → List ℕ → Call
 archive_shadowed index rows w cells = reads (Read.archive_shadowed index rows w cells)

@@ -1,6 +1,6 @@
 -- Histories whose lists grow, as the Rust crate lends them: before each call cells may be put behind any list of the link.
 -- Assumes nothing.
-use Rattle.std.specs.Prelude.{ℕ, ◌+◌, ◌≤◌, List, [], ◌∷◌, ◌++◌, length}
+use Rattle.std.specs.Prelude.{ℕ, ◌≤◌, List, [], ◌∷◌, ◌++◌, length}
 use Rattle.link.specs.Bounds.{not_lent}
 use Rattle.symbol_laws.specs.History.{State, Entry, run, log}
 use Rattle.merge_laws.specs.Calls.{Linked, linked}

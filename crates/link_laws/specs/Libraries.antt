@@ -1,7 +1,7 @@
 -- What a link remembers of a library that was loaded, after later calls: its row of ids, and the names for which they stand.
 -- Assumes nothing.
 use Rattle.std.specs.Prelude.{ℕ, ◌<◌, ◌≡◌, length}
-use Rattle.interner_laws.specs.Good.{Issued, name}
+use Rattle.interner_laws.specs.Good.{Issued}
 use Rattle.elf_object.specs.Rows.{rows_in, field}
 use Rattle.shared_objects.specs.Need.{input_kind_at, dependencies_at, undefined_at}
 use Rattle.shared_objects.specs.Load as Shared

@@ -6,7 +6,6 @@ use mathlib.Core.List.{List, [], ◌∷◌, ◌++◌}
 use Rattle.gabi.specs.SymbolTable.{Sym, stb_global, stv_default, stv_hidden, shn_undef, shn_abs, shn_common, shn_loreserve}
 use Rattle.gabi.specs.Groups.{undefine}
 use Rattle.symbol.specs.declared.Row.{Row}
-use Rattle.symbol.specs.declared.Words.{Words}
 use Rattle.upcoming_symbol.specs.declared.UpcomingSymbol.{UpcomingSymbol}
 use Rattle.symbol_laws.specs.Rank as Rank
 use Rattle.symbol_laws.specs.ObjectWords.{entry}

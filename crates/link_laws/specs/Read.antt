@@ -12,6 +12,7 @@ use Rattle.interner.specs.Calls as Names
 use Rattle.interner.specs.Calls.{resolve_of}
 use Rattle.symbols.specs.Lookup as Lookup
 use Rattle.symbols.specs.Lookup.{get_of, get_global_of, section_symbol_of}
+use Rattle.archive_index.specs.Archives.{Archives}
 use Rattle.archive_walk.specs.declared.Walk.{Walk}
 use Rattle.archive_walk.specs.Look as Look
 use Rattle.archive_walk.specs.Walk as Archive
@@ -29,12 +30,12 @@ pub data ReadCall : Type 0 where
   get : SymbolId → ReadCall
   get_global : Interned → ReadCall
   section_symbol : SectionId → ReadCall
-  -- the index, and cells for its entries
-  archive_start : ℕ → List ℕ → List ℕ → ReadCall
-  archive_next : List ℕ → List ℕ → Walk → ReadCall
-  -- the index, its rows, the walk, and cells for the entries that are told
+  -- the indexes, and cells for their entries
+  archive_start : ℕ → Archives → List ℕ → ReadCall
+  archive_next : Archives → List ℕ → Walk → ReadCall
+  -- the indexes' bytes, their rows, the walk, and cells for the entries that are told
   archive_shadowed : List ℕ → List ℕ → Walk → List ℕ → ReadCall
-  -- headers, entries, contents and bytes of the object; index, cells, walk; the entry that was offered
+  -- headers, entries, contents and bytes of the object; the indexes' bytes, cells, walk; the entry that was offered
   matches : List ℕ → List ℕ → List ℕ → List ℕ → List ℕ → List ℕ → Walk → ℕ → ReadCall
   -- of an object the same; cells for the symbols that are told, and their rows
   would_define : List ℕ → List ℕ → List ℕ → List ℕ → List ℕ → ReadCall
@@ -52,8 +53,8 @@ ReadLeft (resolve id) = Names.Resolved
 ReadLeft (get id) = (Result Symbol Refusal)
 ReadLeft (get_global name) = (Result Symbol Refusal)
 ReadLeft (section_symbol section) = (Option SymbolId)
-ReadLeft (archive_start key index cells) = Archive.Start
-ReadLeft (archive_next index cells w) = Archive.Step
+ReadLeft (archive_start key archives cells) = Archive.Start
+ReadLeft (archive_next archives cells w) = Archive.Step
 ReadLeft (archive_shadowed index rows w cells) = Shadowed.Left
 ReadLeft (matches headers entries contents file index cells w e) = (Result Bool Refusal)
 ReadLeft (would_define headers entries contents file cells) = Untaken.Left
@@ -64,8 +65,8 @@ read_left (resolve id) t = resolve_of (store t) id
 read_left (get id) t = get_of t.link t.symbols id
 read_left (get_global name) t = get_global_of t.link t.names t.symbols name
 read_left (section_symbol section) t = section_symbol_of t.link t.sections section
-read_left (archive_start key index cells) t = start_of key index cells
-read_left (archive_next index cells w) t = next_of index cells w (view_in t)
+read_left (archive_start key archives cells) t = start_of key archives cells
+read_left (archive_next archives cells w) t = next_of archives cells w (view_in t)
 read_left (archive_shadowed index rows w cells) t = shadowed_of index rows w (view_in t) cells
 read_left (matches headers entries contents file index cells w e) t = matches_of t.link headers entries contents file index cells w e
 read_left (would_define headers entries contents file cells) t = would_of headers entries contents file (view_in t) cells
@@ -76,8 +77,8 @@ read_refusal (resolve id) o = o.refusal
 read_refusal (get id) o = refusal_with (Lookup.said o)
 read_refusal (get_global name) o = refusal_with (Lookup.said o)
 read_refusal (section_symbol section) o = refusal_with (Lookup.section_symbol_said o)
-read_refusal (archive_start key index cells) o = refusal_with (Archive.begun_said o.started.begun)
-read_refusal (archive_next index cells w) o = refusal_with (Archive.offer_said o.moved.offer)
+read_refusal (archive_start key archives cells) o = refusal_with (Archive.begun_said o.started.begun)
+read_refusal (archive_next archives cells w) o = refusal_with (Archive.offer_said o.moved.offer)
 read_refusal (archive_shadowed index rows w cells) o = refusal_with (Archive.begun_said o.answer)
 read_refusal (matches headers entries contents file index cells w e) o = refusal_with (Matches.said o)
 read_refusal (would_define headers entries contents file cells) o = refusal_with (Archive.begun_said o.answer)

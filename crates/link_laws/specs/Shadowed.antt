@@ -6,7 +6,7 @@ use Rattle.link.specs.declared.cause.Refusal.{Refusal}
 use Rattle.symbol.specs.declared.Symbol.{Symbol}
 use Rattle.symbol.specs.declared.SymbolVisibility.{SymbolVisibility}
 use Rattle.symbol.specs.declared.SymbolVisibility.TheVariants.{Local, Global}
-use Rattle.archive_index.specs.Index.{count_of, offset_of, name_of}
+use Rattle.archive_index.specs.Archives.{Archives, name_in, key_in}
 use Rattle.archive_laws.specs.Members.{among}
 use Rattle.load_laws.specs.Own as Need
 use Rattle.shadowed_members.specs.Shadowed.{Left}
@@ -60,8 +60,8 @@ module _ (keys : ℕ → ℕ) (named : ℕ → List ℕ) (q : List ℕ) (s : Lin
     refers_weakly : s.table.link.gabi ≡ true → undefined (named k) s ≡ true → strong (named k) s ≡ false → Settled k
 
 -- of an archive's index
-abbrev pub told : List ℕ → List ℕ → Linked → ℕ → Bool
-told index = told_by (offset_of index) (name_of index (count_of index))
+abbrev pub told : Archives → List ℕ → Linked → ℕ → Bool
+told archives = told_by (key_in archives) (name_in archives)
 
 -- ---- the answer
 

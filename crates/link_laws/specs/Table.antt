@@ -43,9 +43,9 @@ call_numbers (merge o work ids) = merge_numbers
 -- then as the merge of its rows
 call_numbers (merge_file file cells work ids) = file_head_numbers ++ (1 ∷ element_numbers)
 call_numbers (load o marks) = load_numbers
--- "An empty index slice gives 20 before 1"; "Fewer cells lent than entries give 2"
-call_numbers (reads (Read.archive_start key index cells)) = 20 ∷ 1 ∷ 2 ∷ []
-call_numbers (reads (Read.archive_next index cells w)) = 1 ∷ 21 ∷ []
+-- too many indexes, and their ends, before an empty one; then their contents; then the cells
+call_numbers (reads (Read.archive_start key archives cells)) = 1 ∷ 20 ∷ 2 ∷ []
+call_numbers (reads (Read.archive_next archives cells w)) = 1 ∷ 21 ∷ []
 -- a call of our own
 call_numbers (reads (Read.archive_shadowed index rows w cells)) = 1 ∷ 2 ∷ []
 call_numbers (reads (Read.matches headers entries contents file index cells w e)) = 1 ∷ []

@@ -1,25 +1,26 @@
--- A walk over an archive within a history: its calls for the next member stand anywhere among the others.
+-- A walk over archives within a history: its calls for the next member stand anywhere among the others.
 -- Assumes nothing.
-use Rattle.std.specs.Prelude.{ℕ, List, [], ◌∷◌, ◌++◌}
+use Rattle.std.specs.Prelude.{List, [], ◌∷◌, ◌++◌}
+use Rattle.archive_index.specs.Archives.{Archives}
 use Rattle.archive_walk.specs.Look.{Table}
 use Rattle.archive_laws.specs.Runs.{Run, ran_of}
 use Rattle.merge_laws.specs.Calls.{Linked}
 use Rattle.link_laws.specs.Calls.{Call, archive_next, view_in, call_left, run_calls}
 
 -- the walk after one more call for the next member
-abbrev pub next_in : List ℕ → Run → Linked → Run
-next_in index r s = ran_of (call_left (archive_next index r.cells r.walk) s) r.offers
+abbrev pub next_in : Archives → Run → Linked → Run
+next_in archives r s = ran_of (call_left (archive_next archives r.cells r.walk) s) r.offers
 
 -- a history in parts, with a call for the next member behind each, lent the cells and the walk that the one before it left
-abbrev pub with_walk : List ℕ → List (List Call) → Run → Linked → List Call
-with_walk index [] r s = []
-with_walk index (ks ∷ kss) r s =
-    ks ++ (archive_next index r.cells r.walk ∷ with_walk index kss (next_in index r (run_calls ks s)) (run_calls ks s))
+abbrev pub with_walk : Archives → List (List Call) → Run → Linked → List Call
+with_walk archives [] r s = []
+with_walk archives (ks ∷ kss) r s =
+    ks ++ (archive_next archives r.cells r.walk ∷ with_walk archives kss (next_in archives r (run_calls ks s)) (run_calls ks s))
 
 -- the walk after that history
-abbrev pub walk_after : List ℕ → List (List Call) → Run → Linked → Run
-walk_after index [] r s = r
-walk_after index (ks ∷ kss) r s = walk_after index kss (next_in index r (run_calls ks s)) (run_calls ks s)
+abbrev pub walk_after : Archives → List (List Call) → Run → Linked → Run
+walk_after archives [] r s = r
+walk_after archives (ks ∷ kss) r s = walk_after archives kss (next_in archives r (run_calls ks s)) (run_calls ks s)
 
 -- the tables over which its calls are made
 abbrev pub tables_at : List (List Call) → Linked → List Table

@@ -5,7 +5,7 @@ use Rattle.symbol.specs.declared.Symbol.{Symbol}
 use Rattle.std.specs.Prelude.{ℕ, Bool, false, cond, ◌&&◌, List, Result, Ok, Err}
 use Rattle.link.specs.declared.Interned.{Interned}
 use Rattle.interner_laws.specs.Good.{find}
-use Rattle.archive_index.specs.Index.{count_of, name_of}
+use Rattle.archive_index.specs.Archives.{Archives, entries_in, name_in}
 use Rattle.archive_laws.specs.PassList.{members_from}
 use Rattle.load_laws.specs.Own as Need
 use Rattle.symbol_laws.specs.History.{Entry, store, only}
@@ -46,6 +46,6 @@ adds b ks s = only (find (store (run_calls ks s).table) b) (log_calls ks s)
 
 -- ---- an archive's index
 
--- the members, by their offsets, of those entries whose name ties in s, in the index' order
-abbrev pub tied : List ℕ → Linked → List ℕ
-tied index s = members_from index (λ k. ties (name_of index (count_of index) k) s) (count_of index) 0
+-- the members, by their keys, of those entries whose name ties in s, in the order of the entries
+abbrev pub tied : Archives → Linked → List ℕ
+tied archives s = members_from archives (λ k. ties (name_in archives k) s) (entries_in archives) 0

@@ -15,6 +15,7 @@ use Rattle.upcoming_symbol.specs.declared.UpcomingSymbol.TheVariants.{GlobalUnkn
 use Rattle.section_groups.specs.Group as Group
 use Rattle.merge_stages.specs.Stages as Stages
 use Rattle.shared_objects.specs.Load as Shared
+use Rattle.archive_index.specs.Archives.{one}
 use Rattle.archive_walk.specs.Walk as Archive
 use Rattle.symbol_laws.specs.History.{opened}
 use Rattle.merge_laws.specs.Calls.{Linked, linked}
@@ -91,7 +92,7 @@ abbrev pub index : List ℕ
 index = 0 ∷ 0 ∷ 0 ∷ 1 ∷ 0 ∷ 0 ∷ 0 ∷ 8 ∷ 102 ∷ 0 ∷ []
 
 abbrev pub begun : Archive.Start
-begun = Archive.start_of 0 index (zeros 8)
+begun = Archive.start_of 0 (one index) (zeros 8)
 
 -- ---- the history, in either profile: `f` is interned, added as undefined and looked up; the index offers its member for it, which is admitted and merged; then the rest
 
@@ -102,15 +103,15 @@ s0 gabi = linked (opened (new_of key gabi bytes names symbols sections)) inputs 
 abbrev pub front : List Call
 front =
     intern (102 ∷ []) ∷ resolve (record { 0 = 1 }) ∷ add [] (GlobalUnknown (record { 0 = 1 })) ∷ get (record { 0 = 1 }) ∷ get_global (record { 0 = 1 })
-    ∷ archive_start 0 index (zeros 8) ∷ []
+    ∷ archive_start 0 (one index) (zeros 8) ∷ []
 
 -- its first call
 abbrev pub taken : Bool → Archive.Step
-taken gabi = Archive.next_of index begun.cells begun.started.walk (view_in (run_calls front (s0 gabi)).table)
+taken gabi = Archive.next_of (one index) begun.cells begun.started.walk (view_in (run_calls front (s0 gabi)).table)
 
 abbrev pub middle : Bool → List Call
 middle gabi =
-    archive_next index begun.cells begun.started.walk ∷ matches headers entries (1 ∷ []) file index (taken gabi).cells (taken gabi).moved.walk 0
+    archive_next (one index) begun.cells begun.started.walk ∷ matches headers entries (1 ∷ []) file index (taken gabi).cells (taken gabi).moved.walk 0
     ∷ archive_shadowed index (taken gabi).cells (taken gabi).moved.walk (zeros 1) ∷ []
 
 abbrev pub back : Bool → List Call
@@ -155,7 +156,7 @@ defined binding gabi = run_calls (intern (102 ∷ []) ∷ add [] (ExternallyDefi
 
 -- the walk after one call over that link, and what it passed by
 abbrev pub passing : Linked → Run
-passing s = next_in index (start_run 0 index (zeros 8)) s
+passing s = next_in (one index) (start_run 0 (one index) (zeros 8)) s
 
 abbrev pub told : Linked → Shadowed.Left
 told s = call_left (archive_shadowed index (passing s).cells (passing s).walk (9 ∷ [])) s
@@ -200,10 +201,10 @@ pub record WorkedLinks (gabi : Bool) : Type 0 where
   pub once : length (adds (103 ∷ []) (ks gabi) (s0 gabi)) ≡ 1
   pub never : adds (104 ∷ []) (ks gabi) (s0 gabi) ≡ []
   -- the index ties its member to `f`, which is undefined when the walk begins; the pass offers it, and is over
-  pub ties : tied index (run_calls front (s0 gabi)) ≡ 8 ∷ []
+  pub ties : tied (one index) (run_calls front (s0 gabi)) ≡ 8 ∷ []
   pub pass : (taken gabi).moved.walk.passes ≡ 1
-  pub offers : offered index (next_in index (start_run 0 index (zeros 8)) (run_calls front (s0 gabi))) ≡ 8 ∷ []
-  pub over : (next_in index (next_in index (start_run 0 index (zeros 8)) (run_calls front (s0 gabi))) (run_calls (ks gabi) (s0 gabi))).walk.done ≡ true
+  pub offers : offered (one index) (next_in (one index) (start_run 0 (one index) (zeros 8)) (run_calls front (s0 gabi))) ≡ 8 ∷ []
+  pub over : (next_in (one index) (next_in (one index) (start_run 0 (one index) (zeros 8)) (run_calls front (s0 gabi))) (run_calls (ks gabi) (s0 gabi))).walk.done ≡ true
   -- weakly defined: no member is offered, the walk is over, and the entry is told; strongly: nothing is; undefined though offered: it is told
   pub shadows : ((passing (defined 2 gabi)).offers ≡ []) × ((passing (defined 2 gabi)).walk.done ≡ true) × (told (defined 2 gabi) ≡ Shadowed.left (0 ∷ []) (Ok 1))
   pub strong-untold : ((passing (defined 1 gabi)).walk.done ≡ true) × (told (defined 1 gabi) ≡ Shadowed.left (9 ∷ []) (Ok 0))

@@ -65,7 +65,7 @@ module _ (headers entries contents file : List ℕ) where
     pub found : is_named i ≡ true
     pub bytes : symbol_name i ≡ b
 
-  -- of the group at section g the name of its signature symbol, and the one section that it lists
+  -- of the group at section g the name of its signature symbol, and the sections that it lists
   abbrev pub group_signature : ℕ → List ℕ
   group_signature g = symbol_name (info_of headers g)
 

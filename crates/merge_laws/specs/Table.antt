@@ -94,7 +94,7 @@ starred = early_causes ++ (new_numbers ++ (9 ∷ 17 ∷ 18 ∷ 19 ∷ 21 ∷ [])
 
 -- those that the column "Returned" has at 0
 abbrev pub placeless : List ℕ
-placeless = 20 ∷ 22 ∷ 23 ∷ 25 ∷ 26 ∷ 30 ∷ []
+placeless = 22 ∷ 23 ∷ 25 ∷ 26 ∷ 30 ∷ []
 
 -- "one of the refusals 1 to 25 of its table"; document 02: "Demand 1 and the table gain these and all later numbers"
 abbrev pub refusals : List ℕ

@@ -3,7 +3,7 @@ use crate::dump::Dump;
 use crate::line::{Input, Operation, Step};
 use crate::memory::Memory;
 use crate::told::Told;
-use archive_index::Rows;
+use archive_index::{Archives, Rows};
 use archive_walk::{Offer, Table, Walk};
 use link::{Link, Refusal};
 use replay_archive::Entries;
@@ -99,7 +99,17 @@ impl State {
 
     fn start(&mut self, out: &mut Writer<'_>) {
         let index = cells::part_of(&self.told.index, 0, self.told.archive.length);
-        let started = Walk::start(0, index, &mut self.told.walk_cells);
+        let ends = [index.len() as u64];
+        self.start_over(out, &ends);
+    }
+
+    // The index told last, which ends there.
+    fn start_over(&mut self, out: &mut Writer<'_>, ends: &[u64]) {
+        let archives = Archives {
+            bytes: cells::part_of(&self.told.index, 0, self.told.archive.length),
+            ends,
+        };
+        let started = Walk::start(0, archives, &mut self.told.walk_cells);
         self.told.walk = started.unwrap_or(Walk::none());
         match started {
             Ok(_) => out.put(b"started"),
@@ -113,8 +123,13 @@ impl State {
         let index = cells::part_of(&told.index, 0, told.archive.length);
         let names = self.memory.names.lent(lend);
         let symbols = replay_words::rows(lend.symbols, self.memory.symbols.len());
+        let ends = [index.len() as u64];
+        let archives = Archives {
+            bytes: index,
+            ends: &ends,
+        };
         let mut rows = Rows {
-            index,
+            archives,
             cells: &mut told.walk_cells,
         };
         let table = Table {

@@ -75,6 +75,6 @@ unfoldable pub member_text : List ℕ → List ℕ → ℕ → ℕ → ℕ → �
 member_text s l c o e p = (numbered member_word o ++ numbered space_word p) ++ required_text s l c (member_at l e)
 
 unfoldable pub offer_text : List ℕ → List ℕ → ℕ → Result Offer Refusal → Pieces
-offer_text s l c (Ok (Member o e p)) = member_text s l c o e p
+offer_text s l c (Ok (Member j o e p)) = member_text s l c o e p
 offer_text s l c (Ok (Done p)) = numbered done_word p
 offer_text s l c (Err r) = refusal_text r

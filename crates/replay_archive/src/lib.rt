@@ -117,6 +117,7 @@ pub fn put_offer(out: &mut Writer<'_>, entries: Entries<'_>, offer: Result<Offer
     match offer {
         Ok(
             Offer::Member {
+                archive: _,
                 offset,
                 entry,
                 passes,

@@ -12,6 +12,8 @@ pub(crate) struct Announced {
     pub(crate) object: ObjectRows,
     pub(crate) library: LibraryRows,
     pub(crate) archive: ArchiveRows,
+    /// In place of an archive: several, by their indexes.
+    pub(crate) indexes: Option<Indexes>,
 }
 
 /// What the rows that come belong to.
@@ -28,6 +30,13 @@ pub(crate) struct ArchiveRows {
     pub(crate) count: u64,
     pub(crate) entries: Vec<(u64, String)>,
     pub(crate) members: BTreeMap<u64, ObjectRows>,
+}
+
+/// The indexes of several archives as they lie in one slice, and where each ends.
+#[derive(Clone, Default)]
+pub(crate) struct Indexes {
+    pub(crate) bytes: Vec<u8>,
+    pub(crate) ends: Vec<u64>,
 }
 
 impl Announced {
@@ -78,6 +87,11 @@ impl Announced {
                     count: words.number()?,
                     ..ArchiveRows::default()
                 };
+                self.indexes = None;
+            }
+            "indexes" => {
+                self.archive = ArchiveRows::default();
+                self.indexes = Some(Indexes { bytes: words.bytes()?, ends: words.numbers()? });
             }
             "entry" => {
                 let entry = (words.below(1 << 32)?, words.name()?);

@@ -40,6 +40,9 @@ impl Machine {
     }
 
     pub(crate) fn start(&mut self) -> Result<String, Fault> {
+        if self.rows.indexes.is_some() {
+            return Err("the Rust walks one archive".into());
+        }
         let archive = self.rows.archive.archive()?;
         self.walk = None;
         self.required = None;

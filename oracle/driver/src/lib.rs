@@ -38,7 +38,7 @@ use std::io::{Read, Write};
 
 pub use broken::{breaks, changes};
 pub use count::count;
-pub use generate::{KINDS, Random, Said, histories, list};
+pub use generate::{KINDS, READ_KINDS, Random, Said, histories, list};
 pub use machine::Machine;
 pub use model::Seen;
 pub use reference::{Reference, begins};
@@ -57,7 +57,8 @@ const USAGE: &str = "usage: oracle COMMAND
   selftest                      the worked examples on the Rust, a line each, and how many differ
   help                          this text
 KIND: adds, merges, refusals, shared, archives, walks, collections or mixed; gabi- before it: links of the gABI
-profile, commons- before it: links of the old one with commons; short-adds 0 0: every short sequence of adds; limits 0 0, examples 0 0: those written by hand.
+profile, commons- before it: links of the old one with commons; with either also several: walks over several
+archives; short-adds 0 0: every short sequence of adds; limits 0 0, examples 0 0: those written by hand.
 oracle/README.md has the form of a list.
 ";
 

@@ -43,7 +43,7 @@ impl Machine {
         let mut words = Words::of(line);
         let keyword = words.word()?;
         let mut answers = Vec::new();
-        if keyword == "archive" {
+        if keyword == "archive" || keyword == "indexes" {
             self.walk = None;
             self.required = None;
         }

@@ -24,6 +24,8 @@ pub struct Ours {
     /// Symbol rows belong to the library.
     in_library: bool,
     archive: ArchiveRows,
+    /// In place of it several archives: their indexes, and where each ends.
+    indexes: Option<(Vec<u8>, Vec<u64>)>,
     members: BTreeMap<u64, ObjectRows>,
     walk: Option<PendingArchive<'static>>,
     offered: Option<Member>,
@@ -77,6 +79,7 @@ impl Ours {
             library: LibraryRows::default(),
             in_library: false,
             archive: ArchiveRows::default(),
+            indexes: None,
             members: BTreeMap::new(),
             walk: None,
             offered: None,
@@ -151,6 +154,13 @@ impl Ours {
             "load" => return vec![told(self.load())],
             "archive" => {
                 self.archive = ArchiveRows { has_index: words.flag(), entries: Vec::new() };
+                self.indexes = None;
+                (self.walk, self.offered, self.required) = (None, None, None);
+                self.members.clear();
+            }
+            "indexes" => {
+                self.indexes = Some((words.bytes(), words.numbers()));
+                self.archive = ArchiveRows::default();
                 (self.walk, self.offered, self.required) = (None, None, None);
                 self.members.clear();
             }
@@ -180,6 +190,7 @@ impl Ours {
         self.alone.clear();
         (self.object, self.library) = (ObjectRows::default(), LibraryRows::default());
         (self.archive, self.in_library) = (ArchiveRows::default(), false);
+        self.indexes = None;
         (self.walk, self.offered, self.required) = (None, None, None);
         self.members.clear();
     }
@@ -276,7 +287,10 @@ impl Ours {
 
     fn start(&mut self) -> Result<String, Refusal> {
         (self.walk, self.offered, self.required) = (None, None, None);
-        self.walk = Some(PendingArchive::new(self.archive.index())?);
+        self.walk = Some(match &self.indexes {
+            None => PendingArchive::new(self.archive.index())?,
+            Some((bytes, ends)) => start_over(bytes, ends)?,
+        });
         Ok("started".into())
     }
 
@@ -288,7 +302,11 @@ impl Ours {
                 self.offered = Some(member);
                 self.required = None;
                 let names: BTreeSet<_> = walk.required(&member).map(text).map(shown).collect();
-                format!("member {} {} {}", member.offset, member.passes, counted(names))
+                let whose = match self.indexes {
+                    Some(_) => format!("of {} ", member.archive),
+                    None => String::new(),
+                };
+                format!("{whose}member {} {} {}", member.offset, member.passes, counted(names))
             }
         })
     }
@@ -585,6 +603,35 @@ pub fn object(rows: &ObjectRows) -> Object<'static> {
         object.push_section(SectionHeader { name, exclude, retain, read, content });
     }
     object
+}
+
+/// A walk over indexes by their ends. Where these leave no byte out, the indexes by themselves are to
+/// be answered alike, and walked; one alone too.
+fn start_over(bytes: &[u8], ends: &[u64]) -> Result<PendingArchive<'static>, Refusal> {
+    let by_ends = PendingArchive::with_ends(7, bytes.to_vec(), ends);
+    let starts = [0].iter().chain(ends);
+    let part = |(start, end): (&u64, &u64)| bytes.get(*start as usize..*end as usize);
+    let parts: Option<Vec<&[u8]>> = starts.zip(ends).map(part).collect();
+    let Some(parts) = parts.filter(|_| ends.last().is_none_or(|end| *end == bytes.len() as u64))
+    else {
+        return by_ends;
+    };
+    let told = |walk: &PendingArchive| {
+        let entries = (0..walk.entry_count()).map(|at| {
+            let entry = walk.entry(at).expect("an entry");
+            (entry.archive, entry.offset, entry.name.to_vec())
+        });
+        (walk.archive_count(), entries.collect::<Vec<_>>())
+    };
+    let by_parts = PendingArchive::of(&parts);
+    assert_eq!(by_parts.as_ref().map(told), by_ends.as_ref().map(told), "by parts and by ends");
+    if let [one] = parts[..] {
+        let alone = PendingArchive::new(one);
+        assert_eq!(alone.as_ref().map(told), by_ends.as_ref().map(told), "alone and by ends");
+    }
+    // It may borrow the parts; the walk is to live on.
+    by_parts?;
+    by_ends
 }
 
 /// Whether a merge tells each section's id: they ascend over what is loaded, excluded ones have none.

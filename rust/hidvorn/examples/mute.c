@@ -136,16 +136,18 @@ static void link_title(const struct symbol *core, size_t count)
     uint64_t walk[HIDVORN_WALK], rows[3 * 8], found[HIDVORN_FOUND];
     bool taken[2] = {false, false};
     memset(l.holder, 0, sizeof l.holder);
+    /* One archive: its index ends where the bytes do. */
+    const uint64_t ends[] = {sizeof archive};
     hidvorn_new(CELLS(l.header), 1, HIDVORN_OLD, CELLS(l.bytes), CELLS(l.names), CELLS(l.symbols), CELLS(l.sections));
     must(&l, "new");
     add(&l, "core.o", core, count);
 
-    hidvorn_archive_start(CELLS(l.header), CELLS(walk), 1, CELLS(archive), CELLS(rows));
+    hidvorn_archive_start(CELLS(l.header), CELLS(walk), 1, CELLS(archive), CELLS(ends), CELLS(rows));
     must(&l, "archive_start");
     for (;;) {
         hidvorn_archive_next(
-            CELLS(l.header), CELLS(walk), CELLS(archive), CELLS(rows), CELLS(l.bytes), CELLS(l.names),
-            CELLS(l.symbols));
+            CELLS(l.header), CELLS(walk), CELLS(archive), CELLS(ends), CELLS(rows), CELLS(l.bytes),
+            CELLS(l.names), CELLS(l.symbols));
         must(&l, "archive_next");
         if (l.header[HIDVORN_VALUE] == 0)
             break;

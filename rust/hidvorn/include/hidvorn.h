@@ -112,7 +112,7 @@ extern "C" {
 #define HIDVORN_DUPLICATE_STRONG 17          /* who holds the name: hidvorn_get_global */
 #define HIDVORN_SECTION_NAME_MISSING 18
 #define HIDVORN_RELOCATION_WITHOUT_ID 19
-#define HIDVORN_NO_INDEX 20
+#define HIDVORN_NO_INDEX 20                  /* the archive */
 #define HIDVORN_ABSENT_ID 21                 /* the name's id, for an add too; else the id asked for; a collection's
                                                 section; a walk's entry */
 #define HIDVORN_BROKEN_LINK 22
@@ -291,21 +291,26 @@ uint64_t hidvorn_load_shared_object(
     size_t needs_len, const uint8_t *path, size_t path_len, bool archived, bool sonamed, size_t soname,
     bool asneeded);
 
-/* Opens the System V index of an archive: index has the bytes of its member "/". Key: any number, best a random
-   one; no answer depends on it. Rows: 8 cells for each entry (2 at 0 if there are fewer). Walk: 7 cells, to be
-   handed on as they are, with the same index and rows (1 at 0 else). No bytes give 20, an entry cut short 1 at
-   its number. Value: the number of entries. */
+/* Opens the System V indexes of up to 16 archives, which are walked as one: the bytes of their members "/" lie one
+   behind the other, each begins where the one before it ends, and bytes behind the last end belong to none. One
+   archive has one end, the index's length; without ends the walk is done after one pass. Key: any number, best a
+   random one; no answer depends on it. Entries are counted over all indexes. Rows: 8 cells for each entry (2 at 0
+   if there are fewer). Walk: 7 cells, to be handed on as they are, with the same indexes, ends and rows. 1 at 16
+   for more archives; 1 at the archive whose end is below the one before it or past the indexes; 20 at the archive
+   whose index is empty; 1 at an entry that is cut short. Value: the number of entries. */
 uint64_t hidvorn_archive_start(
     uint64_t *header, size_t header_len, uint64_t *walk, size_t walk_len, size_t key, const uint8_t *index,
-    size_t index_len, uint64_t *rows, size_t rows_len);
+    size_t index_len, const uint64_t *ends, size_t ends_len, uint64_t *rows, size_t rows_len);
 
-/* The next member to look at. Values: 1, its offset, the entry of the index that queued it and the passes so far;
-   or 0, 0, 0 and the passes, if the walk is done. The link's rows are only read. 21 at an entry whose name's
-   symbol was removed. */
+/* The next member to look at. Values: the number of its archive and 1, its offset there, its entry and the passes
+   so far; or 0, 0, 0 and the passes, if the walk is done. The link's rows are only read.
+   The indexes and their ends are those of the start; lent others, it gives a result or 1 at 0. 21 at an entry whose
+   name's symbol was removed. */
 uint64_t hidvorn_archive_next(
     uint64_t *header, size_t header_len, uint64_t *walk, size_t walk_len, const uint8_t *index,
-    size_t index_len, uint64_t *rows, size_t rows_len, const uint8_t *bytes, size_t bytes_len,
-    const uint64_t *names, size_t names_len, const uint64_t *symbols, size_t symbols_len);
+    size_t index_len, const uint64_t *ends, size_t ends_len, uint64_t *rows, size_t rows_len,
+    const uint8_t *bytes, size_t bytes_len, const uint64_t *names, size_t names_len, const uint64_t *symbols,
+    size_t symbols_len);
 
 /* What the walk passed by so far, meant for its end: the entries whose name a weak definition holds though
    their member was not offered, and those whose name is undefined although it was. Told: a cell for each

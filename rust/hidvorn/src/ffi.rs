@@ -16,7 +16,7 @@ use crate::{Cause, Refusal};
 /// to 14), the key of its names (15) and its profile (16); the others are left as they are.
 pub(crate) type Header = [u64; 24];
 
-/// Key, entries, length of the index, passes, queued, offered, done.
+/// Key, entries, length of the indexes, passes, queued, offered, done.
 pub(crate) type Walk = [u64; 7];
 
 /// The first value of an answer in a header.
@@ -290,6 +290,8 @@ unsafe extern "C" {
         key: usize,
         index: *const u8,
         index_len: usize,
+        ends: *const u64,
+        ends_len: usize,
         rows: *mut u64,
         rows_len: usize,
     ) -> u64;
@@ -301,6 +303,8 @@ unsafe extern "C" {
         walk_len: usize,
         index: *const u8,
         index_len: usize,
+        ends: *const u64,
+        ends_len: usize,
         rows: *mut u64,
         rows_len: usize,
         bytes: *const u8,
@@ -900,6 +904,7 @@ pub(crate) fn archive_start(
     walk: &mut Walk,
     key: usize,
     index: &[u8],
+    ends: &[u64],
     rows: &mut [u64],
 ) -> Result<(), Refusal> {
     // SAFETY: see the module.
@@ -912,6 +917,8 @@ pub(crate) fn archive_start(
             key,
             index.as_ptr(),
             index.len(),
+            ends.as_ptr(),
+            ends.len(),
             rows.as_mut_ptr(),
             rows.len(),
         );
@@ -919,10 +926,12 @@ pub(crate) fn archive_start(
     answer(header)
 }
 
+#[allow(clippy::too_many_arguments)]
 pub(crate) fn archive_next(
     header: &mut Header,
     walk: &mut Walk,
     index: &[u8],
+    ends: &[u64],
     rows: &mut [u64],
     bytes: &[u8],
     names: &[u64],
@@ -937,6 +946,8 @@ pub(crate) fn archive_next(
             walk.len(),
             index.as_ptr(),
             index.len(),
+            ends.as_ptr(),
+            ends.len(),
             rows.as_mut_ptr(),
             rows.len(),
             bytes.as_ptr(),

@@ -68,7 +68,7 @@ causes! {
     SectionNameMissing = 18: "section name missing",
     /// 19: a relocation by a symbol that has no id.
     RelocationSymbolWithoutId = 19: "relocation by a symbol without id",
-    /// 20: an archive without an index.
+    /// 20: an archive without an index: its index is an empty slice.
     NoIndex = 20: "archive without index",
     /// 21: an id that is absent or removed, or a section that was never built.
     AbsentId = 21: "absent or removed id, or section never built",
@@ -144,7 +144,6 @@ impl Cause {
         !matches!(
             self,
             FileSymbol
-                | NoIndex
                 | BrokenLink
                 | UnknownGlobalName
                 | ArchivedLibraryWithoutSoname
@@ -177,11 +176,12 @@ pub struct Refusal {
     ///
     /// | cause | place |
     /// |---|---|
-    /// | 1 | the first bad row: the object's section; else its symbol by the order of `push_symbol`, whatever table it is in; of a library its symbol or dependency; of an index its entry; of marks how many there are |
+    /// | 1 | the first bad row: the object's section; else its symbol by the order of `push_symbol`, whatever table it is in; of a library its symbol or dependency; of archives' indexes their entry, counted over all, or the archive whose end is bad, or 16 where there are more archives; of marks how many there are |
     /// | 2 | the element without room: in a merge the section or symbol, in a load the symbol or dependency; 0 for the input's row or name |
     /// | 3 to 7, 18, 19, 24, 29 | the section's number in the object; of 4 to 7 and 29 the group's, of 29 the later one's |
     /// | 8 to 14, 16, 17 | the symbol's number in its symbol table; of a library by the order of `push_symbol` |
-    /// | 21 | an id: the name's for an add, also inside a merge or a load, and for a lookup by name; the symbol's for `get` and `remove`, the section's for a collection; for a walk the index' entry (`PendingArchive::entry`) |
+    /// | 20 | the archive, by the order in which they were given |
+    /// | 21 | an id: the name's for an add, also inside a merge or a load, and for a lookup by name; the symbol's for `get` and `remove`, the section's for a collection; for a walk the indexes' entry (`PendingArchive::entry`) |
     /// | 27 | the section's number in the file; 0 for the section headers |
     ///
     /// 0 for the others, and for a direct add, also one of a list, but 21. For a group by itself symbols have their
@@ -255,8 +255,12 @@ pub enum About {
     },
     /// A dependency of a library.
     Dependency(Vec<u8>),
+    /// One of several archives that are walked as one, by the order in which they were given.
+    Archive(usize),
     /// A member of an archive.
     Member {
+        /// The archive, by the order in which they were given.
+        archive: usize,
         /// Its offset in the archive.
         offset: u64,
         /// A name that the archive's index ties to it: that of the entry.
@@ -340,8 +344,9 @@ impl fmt::Display for About {
                 write!(f, "{first} and {second}")
             }
             About::Dependency(name) => write!(f, "dependency {}", Quoted(name)),
-            About::Member { offset, name } => {
-                write!(f, "member at {offset} of the archive, for {}", Quoted(name))
+            About::Archive(archive) => write!(f, "archive {archive}"),
+            About::Member { archive, offset, name } => {
+                write!(f, "member at {offset} of archive {archive}, for {}", Quoted(name))
             }
             About::OneOf(all) => all.iter().enumerate().try_for_each(|(at, about)| {
                 let or = if at == 0 { "" } else { " or " };

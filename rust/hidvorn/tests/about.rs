@@ -192,7 +192,7 @@ fn members() {
     assert_eq!(
         told(walk.admits(&link, &member, &bad)),
         "field out of range, list over its bound, index or mark list cut short, place 2, member at \
-         60 of the archive, for `mute` (refusal 1)"
+         60 of archive 0, for `mute` (refusal 1)"
     );
 }
 

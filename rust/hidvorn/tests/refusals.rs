@@ -470,8 +470,10 @@ fn a_walk_that_meets_a_removed_name() {
     let mut walk = PendingArchive::new(&b"\0\0\0\x02\0\0\0\x08\0\0\0\x10a\0b\0"[..]).unwrap();
     let refusal = walk.next(&link).unwrap_err();
     assert_eq!((refusal.cause, refusal.place), (Cause::AbsentId, 1));
-    assert_eq!(refusal.about.as_deref(), Some(&About::Member { offset: 16, name: b"b".to_vec() }));
-    assert_eq!(walk.entry(refusal.place), Some(IndexEntry { offset: 16, name: b"b" }));
+    let (archive, offset) = (0, 16);
+    let about = About::Member { archive, offset, name: b"b".to_vec() };
+    assert_eq!(refusal.about.as_deref(), Some(&about));
+    assert_eq!(walk.entry(refusal.place), Some(IndexEntry { archive, offset, name: b"b" }));
     assert_eq!(walk.passes(), 0);
 }
 

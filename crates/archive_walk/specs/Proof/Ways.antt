@@ -7,6 +7,7 @@ use Rattle.link.specs.declared.cause.Refusal.{Refusal}
 use Rattle.link.specs.Judge.{refused, judged}
 use Rattle.link.specs.Proof.Judged.{judged-err, judged-refused, judged-fine}
 use Rattle.byte_slices.specs.Proof.Ways.{pick, apart}
+use Rattle.archive_index.specs.Archives.{Archives, last_end}
 use Rattle.archive_index.specs.Rows.{member_at, pass_at, next_at, no_heads}
 use Rattle.archive_index.specs.Open.{Opened, answer_in, open_of}
 use Rattle.archive_index.specs.Proof.Ways.{one_more, open-none}
@@ -48,15 +49,15 @@ module _ (key n : ℕ) (o : Opened) where
       go true e = absurd cc
       go false e = let h : o.refusal ≡ r = cc in rw h refl
 
-module _ (key : ℕ) (s l m : List ℕ) where
-  pub start-made : (c : ℕ) (n : List ℕ) → m ≡ (open_of s l).cells → Ok c ≡ answer_in (open_of s l).opened → n ≡ no_heads c m
-      → start_left n (started_of (Ok (fresh_walk key c (length s)))) ≡ start_of key s l
+module _ (key : ℕ) (s : Archives) (l m : List ℕ) where
+  pub start-made : (c : ℕ) (n : List ℕ) (last : ℕ) → m ≡ (open_of s l).cells → Ok c ≡ answer_in (open_of s l).opened → n ≡ no_heads c m → last ≡ last_end s
+      → start_left n (started_of (Ok (fresh_walk key c last))) ≡ start_of key s l
   unfolding start_of
-  start-made c n e a f = let h = begun-ready key (length s) (open_of s l).opened c a in rw (f, e, h.0, h.1) refl
+  start-made c n last e a f g = let h = begun-ready key (last_end s) (open_of s l).opened c a in rw (g, f, e, h.0, h.1) refl
 
   pub start-refused : (r : Refusal) → m ≡ (open_of s l).cells → Err r ≡ answer_in (open_of s l).opened → start_left m (started_of (Err r)) ≡ start_of key s l
   unfolding start_of no_heads
-  start-refused r e a = rw (e, open-none s l r a, begun-refused key (length s) (open_of s l).opened r a) refl
+  start-refused r e a = rw (e, open-none s l r a, begun-refused key (last_end s) (open_of s l).opened r a) refl
 
 -- ---- a pass
 
@@ -111,7 +112,7 @@ search-whole x c u = go (ltb x c) refl
     go true h e = absurd cc
     go false h e = h
 
-module _ (s l : List ℕ) (w : Walk) (b : Table) where
+module _ (s : Archives) (l : List ℕ) (w : Walk) (b : Table) where
   pub pass-judged : (r : Refusal) → Err r ≡ judged (judge_table b) → step_of l w (Err r) ≡ pass_of s l w b
   unfolding pass_of
   pass-judged r e =
@@ -122,43 +123,54 @@ module _ (s l : List ℕ) (w : Walk) (b : Table) where
     judge-fine : eqb (judge_table b).number 0 ≡ true
     judge-fine = eq-eqb _ _ (judged-fine (judge_table b) u (sym e))
 
-    pub pass-removed : (r : Refusal) → Err r ≡ search_judged (removed_of s l b w.entries 0) w.entries → step_of l w (Err r) ≡ pass_of s l w b
+    pub pass-removed : (r : Refusal) → Err r ≡ search_judged (removed_of s.bytes l b w.entries 0) w.entries → step_of l w (Err r) ≡ pass_of s l w b
     unfolding pass_of search_of
     pass-removed r f = let h = search-cut _ _ r f in rw (h.1) (sym (rw (judge-fine, h.0)))
 
-    pub pass-made : (m : List ℕ) (n : ℕ) (a z : Walk) (o : Offer) (v : Unit {0}) → Ok v ≡ search_judged (removed_of s l b w.entries 0) w.entries → w.done ≡ false
-        → queue_of m n ≡ tie_all w.key w.entries s b (w.passes + 1) w.entries 0 (queue_of l w.queued)
+    pub pass-made : (m : List ℕ) (n : ℕ) (a z : Walk) (o : Offer) (v : Unit {0}) → Ok v ≡ search_judged (removed_of s.bytes l b w.entries 0) w.entries → w.done ≡ false
+        → queue_of m n ≡ tie_all w.key w.entries s.bytes b (w.passes + 1) w.entries 0 (queue_of l w.queued)
         → a ≡ record { key = w.key; entries = w.entries; length = w.length; passes = w.passes + 1; queued = n; offered = w.offered; done = w.done }
         → step_of m z (Ok o) ≡ offer_of s m a → step_of m z (Ok o) ≡ pass_of s l w b
     unfolding pass_of search_of make_of
     pass-made m n a z o v f d g i q = q ∙ rw (i, d) (sym (rw (judge-fine, search-whole _ _ v f, ← g)))
 
 -- what the test gives
-pub record Room (s l : List ℕ) (w : Walk) : Type 0 where
-  pub whole : w.length ≤ length s
+pub record Room (a : Archives) (l : List ℕ) (w : Walk) : Type 0 where
+  pub few : length a.ends ≤ 16
+  pub within : last_end a ≤ length a.bytes
+  pub whole : w.length ≤ last_end a
   pub rows : w.entries ≤ length l / 8
   pub members : w.queued ≤ w.entries
   pub going : w.offered ≤ w.queued
   pub passed : w.passes ≤ w.queued
 
-module _ (s l : List ℕ) (w : Walk) where
-  pub fits_all : (t : Bool) → w.length ≤ length s → w.entries ≤ length l / 8 → w.queued ≤ w.entries → w.offered ≤ w.queued → w.passes ≤ w.queued → t ≡ true
-      → t ≡ walk_fits s l w
+module _ (a : Archives) (l : List ℕ) (w : Walk) where
+  pub fits_all : (t : Bool) → length a.ends ≤ 16 → last_end a ≤ length a.bytes → w.length ≤ last_end a → w.entries ≤ length l / 8 → w.queued ≤ w.entries → w.offered ≤ w.queued → w.passes ≤ w.queued
+      → t ≡ true → t ≡ walk_fits a l w
   unfolding walk_fits
-  fits_all t a b c d e q = q ∙ sym (rw (le-ltb _ _ a, le-ltb _ _ b, le-ltb _ _ c, le-ltb _ _ d, le-ltb _ _ e))
+  fits_all t f g h b c d e q = q ∙ sym (rw (le-ltb _ _ f, le-ltb _ _ g, le-ltb _ _ h, le-ltb _ _ b, le-ltb _ _ c, le-ltb _ _ d, le-ltb _ _ e))
 
-  pub fits-room : walk_fits s l w ≡ true → Room s l w
+  pub fits-room : walk_fits a l w ≡ true → Room a l w
   unfolding walk_fits
-  fits-room e = go (ltb (length s) w.length) (ltb (length l / 8) w.entries) (ltb w.entries w.queued) (ltb w.queued w.offered)
-      (ltb w.queued w.passes) refl refl refl refl refl e
+  fits-room e = go (ltb 16 (length a.ends)) (ltb (length a.bytes) (last_end a)) (ltb (last_end a) w.length) (ltb (length l / 8) w.entries) (ltb w.entries w.queued)
+      (ltb w.queued w.offered) (ltb w.queued w.passes) refl refl refl refl refl refl refl e
     where
-      go : (a b c d f : Bool) → ltb (length s) w.length ≡ a → ltb (length l / 8) w.entries ≡ b → ltb w.entries w.queued ≡ c
-          → ltb w.queued w.offered ≡ d → ltb w.queued w.passes ≡ f
-          → cond a false (cond b false (cond c false (cond d false (cond f false true)))) ≡ true → Room s l w
-      go true b c d f ea eb ec ed ef h = absurd (apart h)
-      go false true c d f ea eb ec ed ef h = absurd (apart h)
-      go false false true d f ea eb ec ed ef h = absurd (apart h)
-      go false false false true f ea eb ec ed ef h = absurd (apart h)
-      go false false false false true ea eb ec ed ef h = absurd (apart h)
-      go false false false false false ea eb ec ed ef h =
-          record { whole = ltb-false _ _ ea; rows = ltb-false _ _ eb; members = ltb-false _ _ ec; going = ltb-false _ _ ed; passed = ltb-false _ _ ef }
+      go : (x y z b c d f : Bool) → ltb 16 (length a.ends) ≡ x → ltb (length a.bytes) (last_end a) ≡ y → ltb (last_end a) w.length ≡ z → ltb (length l / 8) w.entries ≡ b
+          → ltb w.entries w.queued ≡ c → ltb w.queued w.offered ≡ d → ltb w.queued w.passes ≡ f
+          → cond x false (cond y false (cond z false (cond b false (cond c false (cond d false (cond f false true)))))) ≡ true → Room a l w
+      go true y z b c d f ex ey ez eb ec ed ef h = absurd (apart h)
+      go false true z b c d f ex ey ez eb ec ed ef h = absurd (apart h)
+      go false false true b c d f ex ey ez eb ec ed ef h = absurd (apart h)
+      go false false false true c d f ex ey ez eb ec ed ef h = absurd (apart h)
+      go false false false false true d f ex ey ez eb ec ed ef h = absurd (apart h)
+      go false false false false false true f ex ey ez eb ec ed ef h = absurd (apart h)
+      go false false false false false false true ex ey ez eb ec ed ef h = absurd (apart h)
+      go false false false false false false false ex ey ez eb ec ed ef h = record {
+        few = ltb-false _ _ ex;
+        within = ltb-false _ _ ey;
+        whole = ltb-false _ _ ez;
+        rows = ltb-false _ _ eb;
+        members = ltb-false _ _ ec;
+        going = ltb-false _ _ ed;
+        passed = ltb-false _ _ ef;
+      }

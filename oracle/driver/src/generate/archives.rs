@@ -1,9 +1,11 @@
-//! Archives: walks step by step, and through `ObjectsReader`.
+//! Archives: walks step by step, and through `ObjectsReader`; walks over several archives, which the
+//! Rust doesn't have.
 use super::merges::{self, refused};
 use super::objects::{Plan, object, offset};
 use super::random::Random;
 use super::references;
 use super::script::Script;
+use crate::announced::ArchiveRows;
 use crate::form;
 use crate::rows::{ABSOLUTE, COMMON, ObjectRows, SectionRow, SymbolRow};
 use std::collections::BTreeMap;
@@ -12,6 +14,7 @@ const NAMES: [&str; 7] = ["a", "b", "c", "d", "e", "mute", "clear"];
 const OFFSETS: [u64; 7] = [8, 100, 102, 4000, 70_000, 0, u32::MAX as u64];
 
 /// An index, and for each of its members an object that mostly bears what the index says.
+#[derive(Clone, Default)]
 pub(super) struct Made {
     entries: Vec<(u64, String)>,
     members: BTreeMap<u64, ObjectRows>,
@@ -35,6 +38,12 @@ fn chain(random: &mut Random) -> Made {
 }
 
 impl Made {
+    /// The System V index: count, offsets, zero-ended names.
+    fn index(&self) -> Vec<u8> {
+        let entries = self.entries.clone();
+        ArchiveRows { has_index: true, entries, ..ArchiveRows::default() }.index()
+    }
+
     pub(super) fn members(&mut self) -> impl Iterator<Item = &mut ObjectRows> {
         self.members.values_mut()
     }
@@ -44,6 +53,11 @@ pub(super) fn archive(random: &mut Random) -> Made {
     if random.chance(25) {
         return chain(random);
     }
+    one(random, &mut NAMES.into())
+}
+
+/// An archive; what its members define strongly is taken from these names.
+fn one(random: &mut Random, strong: &mut Vec<&'static str>) -> Made {
     let mut offsets = OFFSETS;
     random.shuffle(&mut offsets);
     let offsets = &offsets[..random.pick(&[1, 2, 3, 4, 5, 6])];
@@ -53,7 +67,6 @@ pub(super) fn archive(random: &mut Random) -> Made {
         entries.push((random.pick(offsets), random.pick(&NAMES).to_string()));
     }
     let mut members = BTreeMap::new();
-    let mut strong: Vec<&str> = NAMES.into();
     for (offset, _) in &entries {
         members.entry(*offset).or_insert_with(|| {
             let names: Vec<&str> = entries
@@ -61,7 +74,7 @@ pub(super) fn archive(random: &mut Random) -> Made {
                 .filter(|(other, _)| other == offset)
                 .map(|(_, name)| name.as_str())
                 .collect();
-            member(random, &names, &mut strong)
+            member(random, &names, strong)
         });
     }
     Made { entries, members }
@@ -69,7 +82,7 @@ pub(super) fn archive(random: &mut Random) -> Made {
 
 /// One program section and a symbol for each name: strong (once in the archive, mostly), weak, or
 /// undefined; and references to other names, which the next pass may tie.
-fn member<'a>(random: &mut Random, names: &[&'a str], strong: &mut Vec<&'a str>) -> ObjectRows {
+fn member(random: &mut Random, names: &[&str], strong: &mut Vec<&'static str>) -> ObjectRows {
     if random.chance(5) {
         return object(random, &Plan { symbols: (1, 4), ..merges::plan(0) });
     }
@@ -198,21 +211,143 @@ pub(crate) fn steps(script: &mut Script, count: u64) {
         if script.random.chance(30) {
             references(script);
         }
+        walk_in_steps(script, &[made]);
+        script.say("dump");
+    }
+}
+
+/// Archives that need each other: each name is defined by a member that refers to the next, which is
+/// mostly another archive's, at the same offsets.
+fn ring(random: &mut Random, count: usize) -> Vec<Made> {
+    let mut names = NAMES;
+    random.shuffle(&mut names);
+    let names = &names[..random.between(2, 7) as usize];
+    let mut all = vec![Made::default(); count];
+    for (at, name) in names.iter().enumerate() {
+        let next = names[(at + 1) % names.len()];
+        let archive =
+            if random.chance(80) { at % count } else { random.below(count as u64) as usize };
+        let offset = random.pick(&OFFSETS[..3]);
+        let made = &mut all[archive];
+        if !made.members.contains_key(&offset) {
+            made.entries.push((offset, name.to_string()));
+            let rows = one_section(random, &[(name, 1, 1), (next, 1, 0)]);
+            made.members.insert(offset, rows);
+        }
+    }
+    all
+}
+
+/// Up to 16 archives, rarely 17, some of them given twice.
+fn group(random: &mut Random) -> Vec<Made> {
+    let any = random.between(4, 16) as usize;
+    let count = random.pick(&[0, 1, 1, 2, 2, 2, 2, 3, 3, 3, 4, 5, any, any, any, 16]);
+    let mut all = match random.chance(35) && count > 0 {
+        true => ring(random, count),
+        false => {
+            // Of few names not every archive can define one strongly.
+            let mut strong: Vec<&'static str> = [NAMES, NAMES].concat();
+            random.shuffle(&mut strong);
+            (0..count).map(|_| one(random, &mut strong)).collect()
+        }
+    };
+    while !all.is_empty() && all.len() < 17 && random.chance(20) {
+        let twin = random.pick(&all);
+        let at = random.below(all.len() as u64 + 1) as usize;
+        all.insert(at, twin);
+    }
+    while !all.is_empty() && all.len() < 17 && random.chance(2) {
+        all.push(Made::default());
+    }
+    if random.chance(1) {
+        all.resize(17, Made::default());
+    }
+    all
+}
+
+/// The indexes as they lie in one slice, and where each ends; at times damaged.
+fn indexes(random: &mut Random, all: &[Made]) -> (Vec<u8>, Vec<u64>) {
+    let mut parts: Vec<Vec<u8>> = all.iter().map(Made::index).collect();
+    let damaged = random.chance(30);
+    if damaged && !parts.is_empty() {
+        for _ in 0..random.between(1, 2) {
+            let at = random.below(parts.len() as u64) as usize;
+            contents(random, &mut parts[at]);
+        }
+    }
+    let mut end = 0;
+    let mut ends: Vec<u64> = parts
+        .iter()
+        .map(|part| {
+            end += part.len() as u64;
+            end
+        })
+        .collect();
+    let mut bytes = parts.concat();
+    if random.chance(10) {
+        // What no index has.
+        bytes.extend([b'a', 0, 0]);
+    }
+    if damaged && !ends.is_empty() && random.chance(30) {
+        let at = random.below(ends.len() as u64) as usize;
+        let some = random.below(end + 8);
+        ends[at] = random.pick(&[some, some, end, end + 1, 0, u64::MAX, ends[at].wrapping_sub(1)]);
+    }
+    (bytes, ends)
+}
+
+/// An index is cut, its count another, or a byte of it.
+fn contents(random: &mut Random, index: &mut Vec<u8>) {
+    let len = index.len() as u64;
+    if len < 4 {
+        return;
+    }
+    match random.below(8) {
+        0 => index.clear(),
+        1 => index.truncate(random.below(4) as usize),
+        2 | 3 => index.truncate(random.below(len) as usize),
+        4 => index[3] = index[3].wrapping_add(random.pick(&[1, 1, 2, 255])),
+        5 => index[random.below(4) as usize] = random.pick(&[1, 16, 255]),
+        6 => drop(index.pop()),
+        _ => index[random.below(len) as usize] = random.pick(&[0, b'a', b'e']),
+    }
+}
+
+/// Walks over several archives, for links that the Rust isn't asked.
+pub(crate) fn several(script: &mut Script, count: u64) {
+    for _ in 0..count {
+        script.link();
+        references(script);
+        let made = group(&mut script.random);
+        let (bytes, ends) = indexes(&mut script.random, &made);
+        script.say(format!("indexes {} {}", form::hex(&bytes), form::counted(ends)));
+        if refused(script.say("start")) {
+            continue;
+        }
+        if script.random.chance(30) {
+            references(script);
+        }
         walk_in_steps(script, &made);
         script.say("dump");
     }
 }
 
 /// Answers whether a merge broke the link.
-pub(super) fn walk_in_steps(script: &mut Script, made: &Made) -> bool {
+pub(super) fn walk_in_steps(script: &mut Script, all: &[Made]) -> bool {
     let mut broken = false;
+    // What was merged from an archive that is given twice.
+    let mut merged: Vec<(u64, &Vec<(u64, String)>)> = Vec::new();
     let mut done = 0;
     let mut steps = 0;
     while done < 2 && steps < 24 {
         steps += 1;
         let answer = script.say("next");
         let words: Vec<_> = answer.split(' ').collect();
-        match words[..] {
+        let (archive, words) = match words[..] {
+            ["of", archive, ref words @ ..] => (archive.parse().expect("a number"), words),
+            ref words => (0, words),
+        };
+        match *words {
             ["done", ..] => {
                 done += 1;
                 // Undefined names that come too late change nothing.
@@ -235,10 +370,18 @@ pub(super) fn walk_in_steps(script: &mut Script, made: &Made) -> bool {
                 if broken {
                     continue;
                 }
-                script.object(&made.members[&offset]);
+                let none = ObjectRows::default();
+                let made = &all[archive];
+                // A damaged index may name a member that isn't there.
+                script.object(made.members.get(&offset).unwrap_or(&none));
                 let admitted = script.say("admit") == "yes";
+                let again = merged.contains(&(offset, &made.entries));
+                if again && script.random.chance(80) {
+                    continue;
+                }
                 if admitted && script.random.chance(92) || script.random.chance(4) {
                     broken = refused(script.say("merge"));
+                    merged.push((offset, &made.entries));
                 }
             }
             _ => panic!("oracle: {answer}"),

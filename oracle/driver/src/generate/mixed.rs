@@ -85,7 +85,7 @@ fn walk(script: &mut Script) -> bool {
         }
     }
     archives::describe(script, &made);
-    !refused(script.say("start")) && archives::walk_in_steps(script, &made)
+    !refused(script.say("start")) && archives::walk_in_steps(script, &[made])
 }
 
 /// Each is refused with 22; the rows at the link's end show that it changed nothing.

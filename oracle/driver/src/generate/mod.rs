@@ -23,6 +23,19 @@ const LIMITS: &str = include_str!("../../limits.txt");
 pub const KINDS: [&str; 8] =
     ["adds", "merges", "refusals", "shared", "archives", "walks", "collections", "mixed"];
 
+/// Where the Rust isn't asked.
+pub const READ_KINDS: [&str; 9] = [
+    "adds",
+    "merges",
+    "refusals",
+    "shared",
+    "archives",
+    "walks",
+    "collections",
+    "mixed",
+    "several",
+];
+
 /// The operations of a list, without answers.
 pub fn list(kind: &str, seed: u64, count: u64) -> Option<String> {
     match kind {
@@ -51,6 +64,7 @@ pub fn histories(kind: &str, seed: u64, count: u64) -> Option<(Vec<Said>, Seen)>
         "shared" => libraries::links,
         "archives" => archives::steps,
         "walks" => archives::walks,
+        "several" if script.random.commons => archives::several,
         "collections" => collections::links,
         "mixed" => mixed::links,
         _ => return None,

@@ -3,8 +3,8 @@
 //! proved from the reading. Capacities, and so refusal 2, aren't in it.
 //!
 //! It also has the gABI profile of document 02's requests 2026-02 and 2026-07, the commons of 2026-06
-//! and groups of several sections, which the Rust doesn't: there it is what this port is compared
-//! with.
+//! groups of several sections and walks over several archives, which the Rust doesn't: there it is
+//! what this port is compared with.
 mod archive;
 mod collection;
 mod merge;
@@ -104,6 +104,15 @@ pub struct Seen {
     pub dropped_first: u64,
     pub dropped_unnamed: u64,
     pub dropped_related: u64,
+    /// Walks over several archives that were started: with none, with one, with two to 16; members
+    /// offered; of them such at an offset at which another archive's was offered before; passes that
+    /// queued members of several archives.
+    pub walks_over_none: u64,
+    pub walks_over_one: u64,
+    pub walks_over_several: u64,
+    pub several_offers: u64,
+    pub several_same_offset: u64,
+    pub several_mixed_passes: u64,
 }
 
 impl Seen {
@@ -166,9 +175,18 @@ impl Seen {
             let line = |(times, what): &(u64, &str)| format!("{times:>9} {what}\n");
             title.to_string() + &counts.iter().map(line).collect::<String>()
         };
+        let several = [
+            (self.walks_over_none, "walks over no archive"),
+            (self.walks_over_one, "walks over one, given by its end"),
+            (self.walks_over_several, "walks over two to 16"),
+            (self.several_offers, "members offered by them, of them"),
+            (self.several_same_offset, "  at the offset of another archive's that was offered"),
+            (self.several_mixed_passes, "passes that queued members of several archives"),
+        ];
         table("beside the old profile:\n", &counts)
             + &table("of commons:\n", &commons)
             + &table("of groups of several sections:\n", &groups)
+            + &table("of several archives:\n", &several)
     }
 
     /// An add since then was of an object's symbol, which the group filter made undefined or not.
@@ -219,6 +237,12 @@ impl Seen {
             dropped_first: self.dropped_first + other.dropped_first,
             dropped_unnamed: self.dropped_unnamed + other.dropped_unnamed,
             dropped_related: self.dropped_related + other.dropped_related,
+            walks_over_none: self.walks_over_none + other.walks_over_none,
+            walks_over_one: self.walks_over_one + other.walks_over_one,
+            walks_over_several: self.walks_over_several + other.walks_over_several,
+            several_offers: self.several_offers + other.several_offers,
+            several_same_offset: self.several_same_offset + other.several_same_offset,
+            several_mixed_passes: self.several_mixed_passes + other.several_mixed_passes,
         }
     }
 }
@@ -280,7 +304,7 @@ impl Model {
     fn answers(&mut self, line: &str, rows: &mut Announced) -> Result<Vec<String>, Fault> {
         let mut words = Words::of(line);
         let keyword = words.word()?;
-        if keyword == "archive" {
+        if keyword == "archive" || keyword == "indexes" {
             (self.walk, self.required) = (None, None);
         }
         if rows.takes(line)? {
@@ -330,12 +354,22 @@ impl Model {
             "start" => {
                 rows.archive.whole()?;
                 (self.walk, self.required) = (None, None);
-                refused_or(Walk::start(&rows.archive).map(|walk| {
+                let walk = match &rows.indexes {
+                    Some(indexes) => Walk::over(indexes),
+                    None => Walk::start(&rows.archive),
+                };
+                refused_or(walk.map(|walk| {
+                    self.table.see(|seen| match rows.indexes.as_ref().map(|all| all.ends.len()) {
+                        Some(0) => seen.walks_over_none += 1,
+                        Some(1) => seen.walks_over_one += 1,
+                        Some(_) => seen.walks_over_several += 1,
+                        None => {}
+                    });
                     self.walk = Some(walk);
                     "started".into()
                 }))
             }
-            "next" => refused_or(self.next(&rows.archive)?),
+            "next" => refused_or(self.next()?),
             "require" => {
                 self.required = Some(words.names()?.into_iter().collect());
                 Vec::new()
@@ -345,6 +379,9 @@ impl Model {
                 vec![self.admit(&rows.object)?]
             }
             "walk" => {
+                if rows.indexes.is_some() {
+                    return Err("several archives are walked step by step".into());
+                }
                 rows.archive.whole()?;
                 self.whole_walk(&rows.archive)?
             }

@@ -1,13 +1,14 @@
 //! Random links of every kind on the Rust and on this port, in one process.
 //!
-//! `compare [SEED [LINKS]]`: so many links; stops at the first difference, makes its link short
-//! and prints it. `compare gabi [SEED [LINKS]]`: links of the gABI profile, in which a plain reading
-//! of the documents stands for the Rust; `compare commons [SEED [LINKS]]`: links of the old profile
-//! with commons, in which it does too. `compare list`: compares on the list that comes by standard
-//! input, each link with what its profile is compared with.
+//! `compare [SEED [LINKS [KIND]]]`: so many links, of every kind or of one; stops at the first
+//! difference, makes its link short and prints it. `compare gabi [SEED [LINKS [KIND]]]`: links of the
+//! gABI profile, in which a plain reading of the documents stands for the Rust; `compare commons [SEED
+//! [LINKS [KIND]]]`: links of the old profile with what the Rust doesn't have, commons, groups of
+//! several sections and walks over several archives, in which it does too. `compare list`: compares on
+//! the list that comes by standard input, each link with what its profile is compared with.
 use compare::minimise::{difference, minimise};
 use compare::{Outcome, Sides};
-use oracle::{KINDS, Reference, Said, Seen, begins, histories};
+use oracle::{KINDS, READ_KINDS, Reference, Said, Seen, begins, histories};
 use std::collections::BTreeMap;
 use std::io::Read;
 use std::process::exit;
@@ -46,17 +47,25 @@ fn main() {
         None => default,
     };
     let (seed, links): (u64, u64) = (number(0, 1), number(1, 100_000));
+    let kinds = if read.is_empty() { &KINDS[..] } else { &READ_KINDS };
+    let kinds: Vec<&str> = match words.get(2) {
+        None => kinds.into(),
+        Some(word) => kinds.iter().copied().filter(|kind| kind == word).collect(),
+    };
+    if kinds.is_empty() {
+        usage();
+    }
     let started = Instant::now();
     let mut counts = Counts::default();
     let mut sides = Sides::default();
     let mut chunk = 0;
-    if !read.is_empty() {
+    if !read.is_empty() && words.get(2).is_none() {
         // Every short word over small alphabets: the seed plays no part.
         run(&format!("{read}short-adds"), 0, 0, &mut sides, &mut counts);
     }
     let links = links + counts.links;
     while counts.links < links {
-        let kind = KINDS[(chunk % KINDS.len() as u64) as usize];
+        let kind = kinds[(chunk % kinds.len() as u64) as usize];
         let kind = format!("{read}{kind}");
         // Every chunk can be made again by itself: oracle gen KIND SEED COUNT.
         let own = seed.wrapping_mul(1_000_003).wrapping_add(chunk);
@@ -77,7 +86,7 @@ fn run(kind: &str, seed: u64, count: u64, sides: &mut Sides, counts: &mut Counts
 }
 
 fn usage() -> ! {
-    eprintln!("usage: compare [gabi | commons] [SEED [LINKS]], or compare list");
+    eprintln!("usage: compare [gabi | commons] [SEED [LINKS [KIND]]], or compare list");
     exit(2);
 }
 

@@ -16,6 +16,6 @@ returns-in_err-survey-clause-step c =
 pub returns-clause-step : goal.returns-clause-step
 returns-clause-step c =
     let s = c.in_ok-survey.ensures {u = tt} in
-    let h = rw (c.read-2.ensures.0, c.tie_all.ensures.same.1, c.read-2.ensures.1) at c.hand_out.ensures in
+    let h = rw (c.tie_all.ensures.same.1, c.tie_all.ensures.same.2, c.read-2.ensures.1) at c.hand_out.ensures in
     pass-made _ _ c.args.self.now _ _ (c.in_ok-judge.ensures {u = tt}) _ _ _ _ _ _ (rw (c.read.ensures.0, c.read.ensures.1) at s.value)
     c.requires.going c.tie_all.ensures.queue c.tie_all.ensures.rest h

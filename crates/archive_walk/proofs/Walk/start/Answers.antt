@@ -8,4 +8,4 @@ returns-in_err-entries c =
     rw (p.1, p.2) (start-refused _ _ _ _ _ c.open.ensures.cells c.in_err-entries.ensures.answer)
 
 pub returns : goal.returns
-returns c = start-made _ _ _ _ _ _ c.open.ensures.cells c.in_ok-entries.ensures.answer c.clear_heads.ensures
+returns c = start-made _ _ _ _ _ _ _ c.open.ensures.cells c.in_ok-entries.ensures.answer c.clear_heads.ensures c.end.ensures

@@ -10,9 +10,9 @@ invariant-loop-k l = record {
   same : same_rows l.initial.rows l.rows;
   rest : l.self ≡ with_queued l.initial.self l.self.queued;
   room : l.self.queued ≤ l.initial.self.queued + l.k;
-  queue : tie_all l.initial.self.key l.initial.self.entries l.initial.rows.index.now (as_table l.table) l.initial.self.passes l.initial.self.entries 0
+  queue : tie_all l.initial.self.key l.initial.self.entries l.initial.rows.archives.bytes.now (as_table l.table) l.initial.self.passes l.initial.self.entries 0
       (queue_of l.initial.rows.cells.now l.initial.self.queued)
-      ≡ tie_all l.initial.self.key l.initial.self.entries l.initial.rows.index.now (as_table l.table) l.initial.self.passes (l.initial.self.entries - l.k) l.k
+      ≡ tie_all l.initial.self.key l.initial.self.entries l.initial.rows.archives.bytes.now (as_table l.table) l.initial.self.passes (l.initial.self.entries - l.k) l.k
       (queue_of l.rows.cells.now l.self.queued);
-  noted : Noted l.initial.rows.index.now l.rows.cells.now (as_table l.table) l.initial.self.entries l.notes.0;
+  noted : Noted l.initial.rows.archives.bytes.now l.rows.cells.now (as_table l.table) l.initial.self.entries l.notes.0;
 }

@@ -1,5 +1,5 @@
 use Rattle.archive_index.specs.Proof.Ways.{descend-on}
-use Rattle.archive_index.proofs.Entries.search.Goals as goal
+use Rattle.archive_index.proofs.opening.search.Goals as goal
 
 pub loop-step-preserved : goal.loop-step-preserved
 loop-step-preserved c = search descend-on
