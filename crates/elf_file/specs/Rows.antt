@@ -99,4 +99,4 @@ count_of h = cond (excluded h) 0 (cond (eqb h.kind sht_symtab) (entries_in h) (c
 
 unfoldable pub header_row_of : List ℕ → List ℕ → Header → ℕ → ℕ → List ℕ
 header_row_of file names h e c =
-    named_kind names h ∷ h.name ∷ flags_of file h ∷ h.link ∷ h.info ∷ first_row_of h e c ∷ count_of h ∷ 0 ∷ []
+    named_kind names h ∷ h.name ∷ flags_of file h ∷ h.link ∷ h.info ∷ first_row_of h e c ∷ count_of h ∷ h.size ∷ []

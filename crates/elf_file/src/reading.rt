@@ -46,7 +46,7 @@ impl<'a> ObjectFile<'a> {
         cells::row_store(
             rows,
             i,
-            [kind, h.name, flags, h.link, h.info, first, count, 0],
+            [kind, h.name, flags, h.link, h.info, first, count, h.size],
         );
     }
 

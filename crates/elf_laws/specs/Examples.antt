@@ -104,15 +104,15 @@ pub record HeaderRow : Type 0 where
 abbrev header_row : List ℕ → Header → List ℕ → HeaderRow
 header_row f h r = record { file = f; header = h; row = r }
 
--- type, first, count
+-- type, first, count, size
 abbrev pub header_rows : List HeaderRow
 header_rows =
     -- a symbol table, an excluded one, a dynamic one
-    header_row [] (section 2 0 100 48) (3 ∷ 1 ∷ 0 ∷ 7 ∷ 9 ∷ 5 ∷ 2 ∷ 0 ∷ [])
-    ∷ header_row [] (section 2 0x80000000 100 48) (3 ∷ 1 ∷ 1 ∷ 7 ∷ 9 ∷ 0 ∷ 0 ∷ 0 ∷ [])
-    ∷ header_row [] (section 11 2 100 48) (10 ∷ 1 ∷ 4 ∷ 7 ∷ 9 ∷ 0 ∷ 0 ∷ 0 ∷ [])
+    header_row [] (section 2 0 100 48) (3 ∷ 1 ∷ 0 ∷ 7 ∷ 9 ∷ 5 ∷ 2 ∷ 48 ∷ [])
+    ∷ header_row [] (section 2 0x80000000 100 48) (3 ∷ 1 ∷ 1 ∷ 7 ∷ 9 ∷ 0 ∷ 0 ∷ 48 ∷ [])
+    ∷ header_row [] (section 11 2 100 48) (10 ∷ 1 ∷ 4 ∷ 7 ∷ 9 ∷ 0 ∷ 0 ∷ 48 ∷ [])
     -- a COMDAT group
-    ∷ header_row (1 ∷ 0 ∷ 0 ∷ 0 ∷ 3 ∷ 0 ∷ 0 ∷ 0 ∷ []) (section 17 0x200000 0 8) (7 ∷ 1 ∷ 10 ∷ 7 ∷ 9 ∷ 8 ∷ 1 ∷ 0 ∷ [])
+    ∷ header_row (1 ∷ 0 ∷ 0 ∷ 0 ∷ 3 ∷ 0 ∷ 0 ∷ 0 ∷ []) (section 17 0x200000 0 8) (7 ∷ 1 ∷ 10 ∷ 7 ∷ 9 ∷ 8 ∷ 1 ∷ 8 ∷ [])
     ∷ []
 
 abbrev pub rows_read : List HeaderRow → List (List ℕ)

@@ -62,7 +62,7 @@ own_row names x at e c =
     ∷ x.info
     ∷ first_row_of (placed x at) e c
     ∷ count_of (placed x 0)
-    ∷ 0
+    ∷ length x.bytes
     ∷ []
 
 unfoldable pub own_headers : List ℕ → ℕ → ℕ → ℕ → List Section → List ℕ

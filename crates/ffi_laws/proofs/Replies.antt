@@ -5,8 +5,8 @@ use Rattle.archive_walk.specs.declared.Offer.{Offer}
 use Rattle.link.specs.declared.cause.Refusal.{Refusal}
 use Rattle.symbol.specs.declared.Symbol.{Symbol}
 use Rattle.link.specs.declared.SymbolId.{SymbolId}
-use Rattle.std.specs.Prelude.{ℕ, zero, suc, ◌+◌, ◌*◌, ◌<◌, ◌≤◌, Bool, List, [], ◌∷◌, ◌≢◌, eqb, ltb, get_or, take, drop, length, Option, Result, None, Some, Ok, Err, true, false}
-use Rattle.std.proofs.Common.{arith, le_refl, sym, ap, ◌∙◌, drop_of_length-le}
+use Rattle.std.specs.Prelude.{ℕ, zero, suc, ◌+◌, ◌*◌, ◌<◌, ◌≤◌, Bool, ◌||◌, List, [], ◌∷◌, ◌≢◌, eqb, ltb, get_or, set, take, drop, length, Option, Result, None, Some, Ok, Err, true, false}
+use Rattle.std.proofs.Common.{arith, le_refl, sym, ap, ◌∙◌, drop_of_length-le, ext_get_or}
 use Rattle.std.proofs.Math.Path.{◌≡◌, refl}
 use Rattle.std.proofs.Math.Bool.{true, false}
 use Rattle.std.proofs.Math.ListN.{length-set}
@@ -31,6 +31,10 @@ use Rattle.ffi_symbols.specs.LookupCalls.{found_left, found_of, section_symbol_r
 use Rattle.elf_file.specs.declared.counts.Counts.{Counts}
 use Rattle.ffi_merge.specs.FileCalls as FileCalls
 use Rattle.ffi_archive.specs.Calls.{begun_reply, offered_reply, admitted_reply}
+use Rattle.lot_report.specs.declared.Figures.{Figures}
+use Rattle.lot_report.specs.declared.Report.{Report}
+use Rattle.lot_report.specs.Report.{add_title_of}
+use Rattle.ffi_report.specs.Calls.{title_told, title_in, title_call, report_in, figures_in, put_from, reported}
 use Rattle.ffi_laws.specs.Replies.{Holds, Replies, offer_cells, some_id, symbols_out}
 
 -- ---- the replies
@@ -206,3 +210,114 @@ module _ (a : List ℕ) (room : 8 ≤ length a) where
   pub count-refusal : (r : Refusal) → let told = FileCalls.count_told a (Err r) in (told.number ≡ r.number) × (get_or told.answer 0 0 ≡ r.place)
   unfolding FileCalls.count_told
   count-refusal r = (refl, cell (r.place ∷ 0 ∷ 0 ∷ 0 ∷ 0 ∷ 0 ∷ 0 ∷ 0 ∷ []) 0 refl (omega arith))
+
+-- ---- a title of a report
+
+-- cells from a place on
+put-before : (cells xs : List ℕ) (at k : ℕ) → k < at → get_or (put_from cells at xs) k 0 ≡ get_or cells k 0
+unfolding put_from
+put-before cells [] at k h = refl
+put-before cells (x ∷ xs) at k h = put-before (set cells at x) xs (at + 1) k (omega (arith, h)) ∙ get_or-set_other cells at k x 0 (λ z. omega (arith, h, z))
+
+put-at : (cells xs : List ℕ) (at k : ℕ) → k < length xs → at + length xs ≤ length cells → get_or (put_from cells at xs) (at + k) 0 ≡ get_or xs k 0
+unfolding put_from
+put-at cells [] at k h room = absurd (omega (arith, h))
+put-at cells (x ∷ xs) at zero h room =
+    let e : at + zero ≡ at = omega arith in
+    rw e (put-before (set cells at x) xs (at + 1) at (omega arith) ∙ get_or-set_same cells at x 0 (omega (arith, room)))
+put-at cells (x ∷ xs) at (suc k) h room =
+    let e : at + suc k ≡ at + 1 + k = omega arith in
+    rw e (put-at (set cells at x) xs (at + 1) k (omega (arith, h)) (omega (arith, room, length-set cells at x)))
+
+module _ (h : List ℕ) where
+  told-leaves : (report figures : List ℕ) (r : Report) (a : Result Figures Refusal) → (title_told h report figures r a).told.number ≢ 0
+      → ((title_told h report figures r a).report ≡ report) × ((title_told h report figures r a).figures ≡ figures)
+  unfolding reported answer_of
+  told-leaves report figures r (Ok f) z = absurd (z refl)
+  told-leaves report figures r (Err e) z = (refl, refl)
+
+  pub title-refusal : (walk symbols sections report figures : List ℕ) → (title_call h walk symbols sections report figures).told.number ≢ 0
+      → ((title_call h walk symbols sections report figures).report ≡ report) × ((title_call h walk symbols sections report figures).figures ≡ figures)
+  unfolding title_call
+  title-refusal walk symbols sections report figures =
+      by-test (is_short h) (λ a. rw a (λ z. (refl, refl)))
+      (λ a.
+      by-test (ltb (length walk) 7 || (ltb (length report) 14 || ltb (length figures) 13)) (λ b. rw (a, b) (λ z. (refl, refl)))
+      (λ b.
+      let x = add_title_of (report_in report) (title_in h walk symbols sections) in
+      rw (a, b) (told-leaves report figures x.report x.answer)))
+
+  module _ (report figures : List ℕ) (roomy : 14 ≤ length report) (wide : 13 ≤ length figures) (r : Report) (f : Figures) (totals : length r.totals.0 ≡ 13)
+      (line : length f.0 ≡ 13) where
+    abbrev counted : List ℕ
+    counted = set report 0 r.titles
+
+    total-cell : (k : ℕ) → k < 13 → get_or (put_from counted 1 r.totals.0) (1 + k) 0 ≡ get_or r.totals.0 k 0
+    total-cell k g = put-at counted r.totals.0 1 k (omega (arith, g, totals)) (omega (arith, roomy, totals, length-set report 0 r.titles))
+
+    titles-cell : get_or (put_from counted 1 r.totals.0) 0 0 ≡ r.titles
+    titles-cell = put-before counted r.totals.0 1 0 (omega arith) ∙ get_or-set_same report 0 r.titles 0 (omega (arith, roomy))
+
+    -- thirteen cells, one by one
+    abbrev cells : List ℕ → List ℕ
+    cells xs =
+        get_or xs 0 0
+        ∷ get_or xs 1 0
+        ∷ get_or xs 2 0
+        ∷ get_or xs 3 0
+        ∷ get_or xs 4 0
+        ∷ get_or xs 5 0
+        ∷ get_or xs 6 0
+        ∷ get_or xs 7 0
+        ∷ get_or xs 8 0
+        ∷ get_or xs 9 0
+        ∷ get_or xs 10 0
+        ∷ get_or xs 11 0
+        ∷ get_or xs 12 0
+        ∷ []
+
+    of-place : (xs : List ℕ) (k : ℕ) → k < 13 → get_or (cells xs) k 0 ≡ get_or xs k 0
+    of-place xs zero g = refl
+    of-place xs (suc zero) g = refl
+    of-place xs (suc (suc zero)) g = refl
+    of-place xs (suc (suc (suc zero))) g = refl
+    of-place xs (suc (suc (suc (suc zero)))) g = refl
+    of-place xs (suc (suc (suc (suc (suc zero))))) g = refl
+    of-place xs (suc (suc (suc (suc (suc (suc zero)))))) g = refl
+    of-place xs (suc (suc (suc (suc (suc (suc (suc zero))))))) g = refl
+    of-place xs (suc (suc (suc (suc (suc (suc (suc (suc zero)))))))) g = refl
+    of-place xs (suc (suc (suc (suc (suc (suc (suc (suc (suc zero))))))))) g = refl
+    of-place xs (suc (suc (suc (suc (suc (suc (suc (suc (suc (suc zero)))))))))) g = refl
+    of-place xs (suc (suc (suc (suc (suc (suc (suc (suc (suc (suc (suc zero))))))))))) g = refl
+    of-place xs (suc (suc (suc (suc (suc (suc (suc (suc (suc (suc (suc (suc zero)))))))))))) g = refl
+    of-place xs (suc (suc (suc (suc (suc (suc (suc (suc (suc (suc (suc (suc (suc k))))))))))))) g = absurd (omega (arith, g))
+
+    thirteen : (xs : List ℕ) → length xs ≡ 13 → cells xs ≡ xs
+    thirteen xs e = ext_get_or 0 _ _ (sym e) (of-place xs)
+
+    pub title-report : report_in (title_told h report figures r (Ok f)).report ≡ r
+    unfolding report_in figures_in reported
+    title-report =
+        rw (
+          titles-cell,
+          total-cell 0 (omega arith),
+          total-cell 1 (omega arith),
+          total-cell 2 (omega arith),
+          total-cell 3 (omega arith),
+          total-cell 4 (omega arith),
+          total-cell 5 (omega arith),
+          total-cell 6 (omega arith),
+          total-cell 7 (omega arith),
+          total-cell 8 (omega arith),
+          total-cell 9 (omega arith),
+          total-cell 10 (omega arith),
+          total-cell 11 (omega arith),
+          total-cell 12 (omega arith),
+        )
+        (ap {B = Report} (λ (xs : List ℕ). record { titles = r.titles; totals = record { 0 = xs } }) (thirteen r.totals.0 totals))
+
+    pub title-figures : (k : ℕ) → k < 13 → get_or (title_told h report figures r (Ok f)).figures k 0 ≡ get_or f.0 k 0
+    unfolding reported
+    title-figures k g =
+        let e : 0 + k ≡ k = omega arith in
+        ap (λ (j : ℕ). get_or (put_from figures 0 f.0) j 0) (sym e) ∙ put-at figures f.0 0 k (omega (arith, g, line)) (omega (arith, wide, line))

@@ -8,7 +8,7 @@ use Rattle.link.specs.declared.Link.{Link}
 use Rattle.link.specs.declared.SymbolId.{SymbolId}
 use Rattle.link.specs.declared.cause.Refusal.{Refusal}
 use Rattle.symbol.specs.declared.Symbol.{Symbol}
-use Rattle.std.specs.Prelude.{ℕ, ◌≡◌, ◌≤◌, Bool, false, List, ◌≢◌, get_or, length, Option, Result, Ok, Err}
+use Rattle.std.specs.Prelude.{ℕ, ◌≡◌, ◌<◌, ◌≤◌, Bool, false, List, ◌≢◌, get_or, length, Option, Result, Ok, Err}
 use Rattle.std.proofs.Common.{sym, ap, ◌∙◌}
 use Rattle.byte_slices.specs.Bytes.{part}
 use Rattle.interner.specs.Names.{store_of}
@@ -36,6 +36,10 @@ use Rattle.ffi_merge.specs.Calls as MergeCalls
 use Rattle.ffi_merge.specs.Contract as Merge
 use Rattle.ffi_merge.specs.FileCalls as FileCalls
 use Rattle.ffi_merge.specs.FileContract as File
+use Rattle.lot_report.specs.declared.Figures.{Figures}
+use Rattle.lot_report.specs.declared.Report.{Report}
+use Rattle.ffi_report.specs.Calls as ReportCalls
+use Rattle.ffi_report.specs.Contract as TitleContract
 use Rattle.ffi_load.specs.Calls as LoadCalls
 use Rattle.ffi_load.specs.Contract as Load
 use Rattle.ffi_archive.specs.Calls as ArchiveCalls
@@ -156,6 +160,11 @@ pub plain-one-outcome : (h : List ℕ) (c : Lists) (symbols sections : List ℕ)
     → Collect.PlainMeets h c symbols sections entry work y → x ≡ y
 plain-one-outcome h c symbols sections entry work x y e f = ap {B = Collect.RunExit} (λ (o : CollectCalls.RunLeft). record { number = o.told.number; header = o.told.header; symbols = o.symbols; sections = o.sections; work = o.work }) (e ∙ sym f)
 
+-- a title of a report
+pub report-one-outcome : (h walk symbols sections report figures : List ℕ) (x y : ReportCalls.TitleLeft)
+    → TitleContract.TitleMeets h walk symbols sections report figures x → TitleContract.TitleMeets h walk symbols sections report figures y → x ≡ y
+report-one-outcome h walk symbols sections report figures x y e f = e ∙ sym f
+
 -- ---- a call replies what it says: number, place and values, told case by case
 
 pub found-reply : (h out : List ℕ) (f : Result Symbol Refusal)
@@ -184,6 +193,23 @@ module _ (a : List ℕ) (room : 8 ≤ length a) where
 
   pub count-refusal : (r : Refusal) → let told = FileCalls.count_told a (Err r) in (told.number ≡ r.number) × (get_or told.answer 0 0 ≡ r.place)
   count-refusal = RepliesLaws.count-refusal a room
+
+-- a title: a refusal leaves the report's cells and the line's; else the report that is handed back is read there again, and the line stands in its cells
+module _ (h : List ℕ) where
+  pub title-refusal : (walk symbols sections report figures : List ℕ) → (ReportCalls.title_call h walk symbols sections report figures).told.number ≢ 0
+      → ((ReportCalls.title_call h walk symbols sections report figures).report ≡ report) × ((ReportCalls.title_call h walk symbols sections report figures).figures ≡ figures)
+  title-refusal = RepliesLaws.title-refusal h
+
+  module _ (report figures : List ℕ) (roomy : 14 ≤ length report) (wide : 13 ≤ length figures) (r : Report) (f : Figures) (totals : length r.totals.0 ≡ 13)
+      (line : length f.0 ≡ 13) where
+    abbrev title_line : ReportCalls.TitleLeft
+    title_line = ReportCalls.title_told h report figures r (Ok f)
+
+    pub title-report : ReportCalls.report_in title_line.report ≡ r
+    title-report = RepliesLaws.title-report h report figures roomy wide r f totals line
+
+    pub title-figures : (k : ℕ) → k < 13 → get_or title_line.figures k 0 ≡ get_or f.0 k 0
+    title-figures = RepliesLaws.title-figures h report figures roomy wide r f totals line
 
 -- `resolve`: number and place; the part of the lent bytes that the reply tells is the name
 module _ (b n : List ℕ) (id : ℕ) (l : Link) where

@@ -23,7 +23,7 @@ in_section s = 1 ∷ 0 ∷ 3 ∷ 0 ∷ 0 ∷ 2 ∷ s ∷ 0 ∷ []
 
 -- a built program section: read or not, with one relocation at a place of the lists
 abbrev pub section : ℕ → ℕ → List ℕ
-section read first = section_cells built_state 0 program 0 read first 1
+section read first = section_cells built_state 0 program 0 read first 1 0
 
 abbrev pub reserved : List ℕ
 reserved = reserved_cells

@@ -17,6 +17,7 @@ ghost use Rattle.archive_index.specs.Archives.{archives_lent};
 ghost use Rattle.ffi_archive.specs.Contract as Archive;
 ghost use Rattle.ffi_collect.specs.Calls.{entry_of};
 ghost use Rattle.ffi_collect.specs.Contract.{run_exit, RunMeets, PlainMeets};
+ghost use Rattle.ffi_report.specs.Contract.{title_exit, TitleMeets};
 ghost use Rattle.gc_sections.specs.Run.{lists_in};
 ghost use Rattle.shared_objects.specs.Load.{library_in};
 
@@ -367,4 +368,18 @@ pub extern "C" fn hidvorn_plain_run(
     ffi_collect::plain_run(
         header, bytes, names, symbols, sections, lists, marks, entered, entry, work,
     )
+}
+
+#[unsafe(no_mangle)]
+pub extern "C" fn hidvorn_report_title(
+    header: &mut [u64],
+    walk: &[u64],
+    symbols: &[u64],
+    sections: &[u64],
+    report: &mut [u64],
+    figures: &mut [u64],
+) -> u64
+    ensures { TitleMeets header.old walk.now symbols.now sections.now report.old figures.old (title_exit result header report figures) }
+{
+    ffi_report::report_title(header, walk, symbols, sections, report, figures)
 }

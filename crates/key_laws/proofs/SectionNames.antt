@@ -26,7 +26,7 @@ use Rattle.symbol_resolution.specs.Proof.Outcomes.{decision-left}
 use Rattle.sections.specs.Rows as Sections
 use Rattle.sections.specs.Rows.{state_at, name_id_at, reserve_of}
 use Rattle.symbols.specs.Remove.{Rows, drop_section, remove_row_of}
-use Rattle.elf_object.specs.Rows.{rows_in, field, name_offset_at, retain_at, read_at, name_in, conversion_at}
+use Rattle.elf_object.specs.Rows.{rows_in, field, name_offset_at, retain_at, read_at, section_size_at, name_in, conversion_at}
 use Rattle.merge_sections.specs.Reserve as Reserve
 use Rattle.merge_sections.specs.Reserve.{take_row_of, reserve_class_of, reserve_one_of, reserve_all_of}
 use Rattle.section_groups.specs.Filter.{dropped_at}
@@ -87,10 +87,10 @@ reserve-named l rows h i a b c d =
     lower i n u h = by-test (ltb i n) (λ t. ltb-true i n t) (λ t. absurd (u (omega (arith, ltb-false i n t))))
 
 -- a row built
-built-named : (l : Link) (rows : List ℕ) (id name a2 a3 a4 a5 a6 : ℕ) → name < l.chains → Named l rows
-    → Named l (put_row rows id (2 ∷ name ∷ a2 ∷ a3 ∷ a4 ∷ a5 ∷ a6 ∷ 0 ∷ []))
-built-named l rows id name a2 a3 a4 a5 a6 low h i a b c d =
-    let row : List ℕ = 2 ∷ name ∷ a2 ∷ a3 ∷ a4 ∷ a5 ∷ a6 ∷ 0 ∷ [] in
+built-named : (l : Link) (rows : List ℕ) (id name a2 a3 a4 a5 a6 a7 : ℕ) → name < l.chains → Named l rows
+    → Named l (put_row rows id (2 ∷ name ∷ a2 ∷ a3 ∷ a4 ∷ a5 ∷ a6 ∷ a7 ∷ []))
+built-named l rows id name a2 a3 a4 a5 a6 a7 low h i a b c d =
+    let row : List ℕ = 2 ∷ name ∷ a2 ∷ a3 ∷ a4 ∷ a5 ∷ a6 ∷ a7 ∷ [] in
     let c' : i * 8 + 8 ≤ length rows = omega (arith, length-put_row rows id row) in
     by-test (eqb i id)
     (λ t.
@@ -267,7 +267,7 @@ section-named o kind s n h =
     rw (a, b, c, d, f)
     (record {
       named = built-named k.link s.sections (section_id_of (conversion_at o.work n)).0 q.id.0 kind (retain_at o.headers n) (read_at o.headers n)
-          k.link.lists (length relocations) low g.named;
+          k.link.lists (length relocations) (section_size_at o.headers n) low g.named;
       low = g.low;
     }))
     (λ f. rw (a, b, c, d, f) g))

@@ -34,3 +34,4 @@ number_of Cause.BadTable = 27
 number_of Cause.CommonAlignment = 28
 number_of Cause.SectionInTwoGroups = 29
 number_of Cause.TooManySections = 30
+number_of Cause.SumTooLarge = 31

@@ -38,6 +38,7 @@ pub enum Cause {
     CommonAlignment = 28,
     SectionInTwoGroups = 29,
     TooManySections = 30,
+    SumTooLarge = 31,
 }
 
 impl From<Cause> for u64 {

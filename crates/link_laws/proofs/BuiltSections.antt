@@ -96,9 +96,9 @@ more_rows k s = go (call_steps k s) (call_next k s).table (call-leads k s)
 
 -- ---- a built section, through one call and through any
 
-module _ (r : ℕ) (x : List ℕ) (kind retain read : ℕ) (ids : List ℕ) where
+module _ (r : ℕ) (x : List ℕ) (kind retain read size : ℕ) (ids : List ℕ) where
   abbrev In : Linked → Type 0
-  In t = SectionIn t r x kind retain read ids
+  In t = SectionIn t r x kind retain read size ids
 
   module _ (k : Call) (s : Linked) (met : List (List ℕ)) (g : Lasting s met) (b : In s) (q : Spares k s r) where
     cell : (f : ℕ) → f < 8 → field (call_next k s).table.sections r f ≡ field s.table.sections r f
@@ -119,6 +119,7 @@ module _ (r : ℕ) (x : List ℕ) (kind retain read : ℕ) (ids : List ℕ) wher
           kind-is = cell 2 (omega arith) ∙ b.kind-is;
           retains = cell 3 (omega arith) ∙ b.retains;
           reads = cell 4 (omega arith) ∙ b.reads;
+          sized = cell 7 (omega arith) ∙ b.sized;
           inside = omega (arith, b.inside, l.lists.more);
           ids-are =
               ap (λ (n : ℕ). part t.lists n (count_at t.table.sections r)) first ∙ ap (λ (n : ℕ). part t.lists (first_at s.table.sections r) n) count

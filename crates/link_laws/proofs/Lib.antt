@@ -99,3 +99,4 @@ pub mod CollectRounds
 pub mod ArchiveNumbers
 pub mod ArchiveIndexed
 pub mod Walks
+pub mod Figures

@@ -59,7 +59,7 @@ module _ (s : Linked) (met : List (List ℕ)) (g : Lasting s met)
       record {
         given = ids_of (added o a).ids ks;
         gives = Names.program-names o a ok g.below met g.marked g.inside n e kept;
-        section = calls-keep (section_id o s n) _ program _ _ _ ls then _ after (Built.program-built o a ok met g.marked g.inside n e kept) spared;
+        section = calls-keep (section_id o s n) _ program _ _ _ _ ls then _ after (Built.program-built o a ok met g.marked g.inside n e kept) spared;
       }
 
   pub uninitialized-built : loaded_as o.headers n uninitialized ≡ true → ObjectSection o work ids s (run_calls ls then) n uninitialized []
@@ -68,7 +68,7 @@ module _ (s : Linked) (met : List (List ℕ)) (g : Lasting s met)
       record {
         given = [];
         gives = tt;
-        section = calls-keep (section_id o s n) _ uninitialized _ _ _ ls then _ after (Built.uninitialized-built o a ok met g.marked g.inside n e kept) spared;
+        section = calls-keep (section_id o s n) _ uninitialized _ _ _ _ ls then _ after (Built.uninitialized-built o a ok met g.marked g.inside n e kept) spared;
       }
 
 -- a row for each of them, and no more

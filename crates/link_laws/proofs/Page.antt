@@ -22,6 +22,7 @@
 --   Premises      types 0 to 3, no commons, and what else a list of adds has to be (order_laws/specs/Premises.antt)
 --   AnyOrder      every arrangement of the list is accepted, with the same content of each name with a strong definition (order_laws/specs/Order.antt)
 --   told a q s k  entry k of all of the archives a, by its name's lookup in s and by whether the members offered by the entries q have its own (Shadowed.antt)
+--   FiguresAre    what each figure of a title counts: lookups, members and passes of its walk, section rows; title_of s w is the title of link s and walk w (Figures.antt)
 --   would h e c f s i  symbol i of an object of the headers h, entries e, contents c and bytes f, by its entry and its name's lookup in s; defines is its half that
 --                 doesn't ask s, held_id the id of the row (Untaken.antt)
 -- WorkedLinks.antt has a history that meets the premises, and other worked links.
@@ -90,6 +91,7 @@ use Rattle.link_laws.specs.NeededIn.{NeededIn}
 use Rattle.link_laws.specs.Words.{id_of, lookup, undefined, strong, ties, adds, tied}
 use Rattle.link_laws.proofs.Words.{ties-seen, tied-seen}
 use Rattle.link_laws.specs.Shadowed.{knows, strongly_defined, told, those_below, Tells}
+use Rattle.link_laws.specs.Figures.{title_of, FiguresAre, NoneLost}
 use Rattle.link_laws.specs.Untaken.{defines, would, held_id, as_added, TellsPairs}
 use Rattle.link_laws.specs.Rules as Rules
 use Rattle.link_laws.specs.CallRules.{rules}
@@ -407,6 +409,21 @@ module _ (key : ℕ) (gabi : Bool) (bytes names symbols sections inputs lists : 
       untold-stays d h e =
           Terms.untold-stays key gabi bytes names symbols sections inputs lists new ks lent headers entries contents file i conversion source ok d h e
           ∙ ap (λ (g : Bool). pass_hidden g its_row.scope (Apply.joined row_then its_row)) (Terms.profile key gabi bytes names symbols sections inputs lists new ks)
+
+  -- ---- the figures of a title: of the link after any calls, those that remove too, and a walk that was begun, its calls lent whatever tables
+
+  module _ (ks : List Call) where
+    abbrev pub reported : Linked
+    reported = run_calls ks s0
+
+    pub figures-are : (walk_key : ℕ) (archives : Archives) (cells : List ℕ) → call_number (archive_start walk_key archives cells) reported ≡ 0 → (ts : List Table)
+        → FiguresAre reported archives ts (start_run walk_key archives cells)
+    figures-are = Terms.figures-are key gabi bytes names symbols sections inputs lists new ks lent
+
+    -- an accepted collection moves sections and bytes from kept to dropped, and loses none
+    pub none-lost : (marks : List ℕ) (entry : Option SymbolId) (work : List ℕ) (a c : ℕ) → (call_left (collect marks entry work) reported).answer ≡ Ok (dropped a c)
+        → (walk : Run) → NoneLost (title_of reported walk) (title_of (call_next (collect marks entry work) reported) walk)
+    none-lost = Terms.none-lost key gabi bytes names symbols sections inputs lists new ks lent
 
   -- ---- where lists grow between the calls, as the Rust crate lends them: the profile, demand 3a
 

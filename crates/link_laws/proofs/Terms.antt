@@ -209,6 +209,8 @@ use Rattle.link_laws.specs.WalkIn as WalkIn
 use Rattle.link_laws.proofs.WalkIn as WalkInLaws
 use Rattle.link_laws.specs.Shadowed.{knows, strongly_defined, told_by, told, Settled, those_below, Tells}
 use Rattle.link_laws.proofs.Shadowed as ShadowedLaws
+use Rattle.link_laws.specs.Figures.{title_of, FiguresAre, NoneLost}
+use Rattle.link_laws.proofs.Figures as FiguresLaws
 use Rattle.link_laws.specs.Untaken.{defines, would, held_id, as_added, TellsPairs}
 use Rattle.link_laws.proofs.Untaken as UntakenLaws
 use Rattle.link_laws.proofs.Taking as Taking
@@ -899,6 +901,22 @@ module _ (key : ℕ) (gabi : Bool) (bytes names symbols sections inputs lists : 
             → (k : ℕ) → k < entries_in archives → among archives k walk_next.offers ≡ false → knows (name_in archives k) after ≡ true
             → strongly_defined (name_in archives k) after ≡ true
         passed-by-held old d e told k h free known = ShadowedLaws.held-strongly archives walk_next.offers after k (profile ∙ old) free (all-settled d e told k h known)
+
+      -- ---- the figures of a title: of this link and a walk that an accepted start began and whose calls were lent whatever tables
+
+      rows-lent : Sectioned after.table
+      rows-lent =
+          FiguresLaws.calls-lent ks start (inv-below start.table [] (new-inv key gabi bytes names symbols sections new))
+          (new-sectioned key gabi bytes names symbols sections new)
+
+      pub figures-are : (walk_key : ℕ) (archives : Archives) (rows : List ℕ) → call_number (archive_start walk_key archives rows) after ≡ 0 → (passed : List Table)
+          → FiguresAre after archives passed (start_run walk_key archives rows)
+      figures-are = FiguresLaws.figures-are after fits (lasting-within after _ lasting) rows-lent
+
+      -- a collection that isn't refused moves sections and bytes from kept to dropped, and loses none
+      pub none-lost : (marks : List ℕ) (entry : Option SymbolId) (work : List ℕ) (a b : ℕ) → (call_left (collect marks entry work) after).answer ≡ Ok (dropped a b)
+          → (walk : Run) → NoneLost (title_of after walk) (title_of (call_next (collect marks entry work) after) walk)
+      none-lost = FiguresLaws.none-lost after fits (lasting-within after _ lasting)
 
       -- ---- what a member that was not taken would have defined: over this link, whatever was removed from it. The member is any object
 

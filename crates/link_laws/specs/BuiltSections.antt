@@ -8,10 +8,10 @@ use Rattle.merge_laws.specs.Calls.{Linked}
 use Rattle.link_laws.specs.Calls.{Call, intern, add, remove, add_group, merge, merge_file, load, collect, plain_collect, lists_in, call_left, call_next, reads, add_list}
 use Rattle.gc_sections.specs.Run.{dropped}
 
--- row r of a link is a built section of that name, kind, flags, and names these symbols
-abbrev pub SectionIn : Linked → ℕ → List ℕ → ℕ → ℕ → ℕ → List ℕ → Type 0
-SectionIn t r x kind retain read ids =
-    BuiltAs t.table.bytes t.table.names t.table.sections t.lists t.table.link r x kind retain read ids
+-- row r of a link is a built section of that name, kind, flags, size, and names these symbols
+abbrev pub SectionIn : Linked → ℕ → List ℕ → ℕ → ℕ → ℕ → ℕ → List ℕ → Type 0
+SectionIn t r x kind retain read size ids =
+    BuiltAs t.table.bytes t.table.names t.table.sections t.lists t.table.link r x kind retain read size ids
 
 -- what a collection over the link reaches
 abbrev pub ReachedIn : Linked → List ℕ → Option SymbolId → ℕ → Type 0

@@ -55,3 +55,4 @@ pub mod Starred
 pub mod Undefined
 pub mod WalkIn
 pub mod WorkedLinks
+pub mod Figures

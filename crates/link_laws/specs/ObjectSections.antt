@@ -5,7 +5,7 @@ use Rattle.gabi.specs.StringTable.{name_at}
 use Rattle.gc_laws.specs.Reached as Relocations
 use Rattle.merge_stages.specs.Stages as Stages
 use Rattle.symbol_laws.specs.ObjectWords.{name_offset, retains, reads}
-use Rattle.merge_laws.specs.MergeWords.{rowed_below}
+use Rattle.merge_laws.specs.MergeWords.{rowed_below, size_of}
 use Rattle.merge_laws.specs.Built.{section_names}
 use Rattle.merge_laws.specs.BuiltNames.{AllGive}
 use Rattle.merge_laws.specs.Calls.{Linked, all_in}
@@ -16,12 +16,12 @@ use Rattle.link_laws.specs.BuiltSections.{SectionIn}
 abbrev pub section_id : Stages.Object → Linked → ℕ → ℕ
 section_id o s n = s.table.link.sections + rowed_below o.headers n
 
--- section n of the object, merged into s, in a later link: built, with the bytes of its name, its kind and flags; it names, in order, the ids that the merge gave
+-- section n of the object, merged into s, in a later link: built, with the bytes of its name, its kind, flags and size; it names, in order, the ids that the merge gave
 -- the symbols ks
 pub record ObjectSection (o : Stages.Object) (work ids : List ℕ) (s t : Linked) (n kind : ℕ) (ks : List ℕ) : Type 0 where
   pub given : List ℕ
   pub gives : AllGive o (all_in s work ids) ks given
-  pub section : SectionIn t (section_id o s n) (name_at (section_names o) (name_offset o.headers n)) kind (retains o.headers n) (reads o.headers n) given
+  pub section : SectionIn t (section_id o s n) (name_at (section_names o) (name_offset o.headers n)) kind (retains o.headers n) (reads o.headers n) (size_of o.headers n) given
 
 module _ (o : Stages.Object) (work ids : List ℕ) (s t : Linked) (n kind : ℕ) (ks : List ℕ) (inside : t.table.link.lists ≤ length t.lists)
     (x : ObjectSection o work ids s t n kind ks) (marks : List ℕ) (z : ℕ) where

@@ -36,6 +36,14 @@ pub fn cause(number: u64) -> &'static str {
     }
 }
 
+// The words of a number of the report's.
+pub fn report_cause(number: u64) -> &'static str {
+    match number {
+        1 => "more titles than a report takes",
+        _ => cause(number),
+    }
+}
+
 // What a refusal's place counts, in an object.
 pub enum About<'a> {
     Nothing,
@@ -75,7 +83,7 @@ fn symbol_name(object: Object<'_>, i: usize) -> Option<&[u8]> {
 
 pub fn about_place(object: Object<'_>, number: u64, place: usize) -> About<'_> {
     match number {
-        3..=7 | 18 | 19 | 24 | 27 | 29 => match section_name(object, place) {
+        3..=7 | 18 | 19 | 24 | 29 => match section_name(object, place) {
             Some(name) => About::Section(name),
             None => About::Nothing,
         },

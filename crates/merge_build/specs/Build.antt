@@ -14,7 +14,7 @@ use Rattle.sections.specs.declared.Section.{Section}
 use Rattle.sections.specs.Rows.{built_of}
 use Rattle.elf_object.specs.Judge.{range_ok}
 use Rattle.elf_object.specs.declared.Object as Elf
-use Rattle.elf_object.specs.Rows.{rows_in, name_offset_at, retain_at, read_at, is_loaded, name_in, conversion_at, id_base, mark_at, removed_mark}
+use Rattle.elf_object.specs.Rows.{rows_in, name_offset_at, retain_at, read_at, section_size_at, is_loaded, name_in, conversion_at, id_base, mark_at, removed_mark}
 use Rattle.merge_build.specs.declared.Source.{Source}
 use Rattle.merge_build.specs.declared.Builder.{Builder}
 use Rattle.merge_build.specs.Relocations.{table_for, limit_of, relocations_of, symbols_ok, append_from}
@@ -122,7 +122,7 @@ section_id_of cell = cond (ltb cell id_base) (record { 0 = 0 }) (record { 0 = ce
 
 abbrev pub section_row : List ℕ → ℕ → ℕ → Interned → ℕ → ℕ → Section
 section_row headers n kind id first count =
-    record { name = id; kind = kind; retain = retain_at headers n; read = read_at headers n; first = first; count = count }
+    record { name = id; kind = kind; retain = retain_at headers n; read = read_at headers n; first = first; count = count; size = section_size_at headers n }
 
 unfoldable pub build_row_of : List ℕ → List ℕ → List ℕ → RowState → List ℕ → Interned → ℕ → ℕ → RowState
 build_row_of headers work ids s relocations id n kind =

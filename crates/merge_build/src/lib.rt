@@ -173,6 +173,7 @@ fn section_row(
         read: flags / elf_object::READ_FLAG % 2,
         first: first as u64,
         count: count as u64,
+        size: cells::row_get(object.headers, n, elf_object::HEADER_SIZE),
     }
 }
 

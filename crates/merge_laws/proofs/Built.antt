@@ -31,7 +31,7 @@ use Rattle.merge_stages.specs.Stages.{All, Object, group_object, symbols_in, put
 use Rattle.merge_elf.specs.Merge.{head_in, lent, finished_of, merge_of, ended_as}
 use Rattle.symbol_laws.specs.History as History
 use Rattle.symbol_laws.specs.ObjectWords.{sections_in, program, uninitialized, group, name_offset, retains, reads, loaded_as}
-use Rattle.merge_laws.specs.MergeWords.{is_rowed, rowed_below, named_by, own_signatures, is_removed}
+use Rattle.merge_laws.specs.MergeWords.{size_of, is_rowed, rowed_below, named_by, own_signatures, is_removed}
 use Rattle.link.specs.declared.Interned.{Interned}
 use Rattle.link.specs.Counts.{with_symbols}
 use Rattle.section_groups.specs.Group as Group
@@ -103,10 +103,10 @@ rowed-own headers m n e h =
     omega (arith, rowed-more headers (suc m) n h, one)
 
 -- another link with the same counts
-as-relinked : (bytes names sections lists : List ℕ) (l m : Link) (r : ℕ) (x : List ℕ) (kind retain read : ℕ) (ids : List ℕ) → Good (store_of bytes names l)
+as-relinked : (bytes names sections lists : List ℕ) (l m : Link) (r : ℕ) (x : List ℕ) (kind retain read size : ℕ) (ids : List ℕ) → Good (store_of bytes names l)
     → m.names ≡ l.names → m.bytes ≡ l.bytes → m.chains ≡ l.chains → m.key ≡ l.key → m.sections ≡ l.sections → m.lists ≡ l.lists
-    → BuiltAs bytes names sections lists l r x kind retain read ids → BuiltAs bytes names sections lists m r x kind retain read ids
-as-relinked bytes names sections lists l m r x kind retain read ids g a b u v c d q =
+    → BuiltAs bytes names sections lists l r x kind retain read size ids → BuiltAs bytes names sections lists m r x kind retain read size ids
+as-relinked bytes names sections lists l m r x kind retain read size ids g a b u v c d q =
     record {
       counted = rw c q.counted;
       built = q.built;
@@ -114,6 +114,7 @@ as-relinked bytes names sections lists l m r x kind retain read ids g a b u v c 
       kind-is = q.kind-is;
       retains = q.retains;
       reads = q.reads;
+      sized = q.sized;
       inside = rw d q.inside;
       ids-are = q.ids-are;
     }
@@ -266,9 +267,9 @@ module _ (o : Object) (a : All) (ok : (merge_of o a).said.number ≡ 0) (met : L
 
   -- ---- one section through its stage
 
-  module _ (n : ℕ) (w : List ℕ) (k retain read : ℕ) (ids : List ℕ) (low : n < rows) (rowed : is_rowed headers n ≡ true) where
+  module _ (n : ℕ) (w : List ℕ) (k retain read size : ℕ) (ids : List ℕ) (low : n < rows) (rowed : is_rowed headers n ≡ true) where
     abbrev As : Build.State → Type 0
-    As t = BuiltAs t.bytes t.names t.sections t.lists t.stage.link (row_of work n) w k retain read ids
+    As t = BuiltAs t.bytes t.names t.sections t.lists t.stage.link (row_of work n) w k retain read size ids
 
     others_apart : (m : ℕ) → m ≢ n → m < rows → is_rowed headers m ≡ true → row_of work n ≢ row_of work m
     others_apart m u h e q =
@@ -283,7 +284,7 @@ module _ (o : Object) (a : All) (ok : (merge_of o a).said.number ≡ 0) (met : L
     other-stage kind f s q h =
         rw (build-loop (builder o a) kind rows 0 s)
         (loop-holds number_of (λ (t : Build.State) (j : ℕ). section_of (builder o a) t j kind) (λ (t : Build.State). Stands cells taken t × As t)
-        (λ t j p. (section-stands (builder o a) kind cells taken t j p.0, section-keeps (builder o a) kind cells taken t j p.0 (row_of work n) w k retain read ids (λ b. let (u, v, e) = f j b in others_apart j u v e) p.1))
+        (λ t j p. (section-stands (builder o a) kind cells taken t j p.0, section-keeps (builder o a) kind cells taken t j p.0 (row_of work n) w k retain read size ids (λ b. let (u, v, e) = f j b in others_apart j u v e) p.1))
         rows 0 s (q, h)).1
 
     -- its own
@@ -297,7 +298,7 @@ module _ (o : Object) (a : All) (ok : (merge_of o a).said.number ≡ 0) (met : L
         rw (build-loop (builder o a) kind rows 0 s)
         (loop-since number_of next (λ (t : Build.State). Stands cells taken t × As t) n
         (λ t j h p.
-        (section-stands (builder o a) kind cells taken t j p.0, section-keeps (builder o a) kind cells taken t j p.0 (row_of work n) w k retain read ids (λ b. let (v, r) = f j b in others_apart j (λ x. omega arith) v r) p.1))
+        (section-stands (builder o a) kind cells taken t j p.0, section-keeps (builder o a) kind cells taken t j p.0 (row_of work n) w k retain read size ids (λ b. let (v, r) = f j b in others_apart j (λ x. omega arith) v r) p.1))
         rows 0 n s (zero-add n) z (ap number_of (sym (build-loop (builder o a) kind rows 0 s)) ∙ e) low
         (λ x. (section-stands (builder o a) kind cells taken (loop number_of next n 0 s) n before, here (loop number_of next n 0 s) before x))).1
 
@@ -327,30 +328,30 @@ module _ (o : Object) (a : All) (ok : (merge_of o a).said.number ≡ 0) (met : L
     room = omega (arith, row_is n low rowed, own_below n low rowed, full, slots own-slots, slots_lent)
 
     abbrev Here : Build.State → Type 0
-    Here t = BuiltAs t.bytes t.names t.sections t.lists t.stage.link (row_of work n) (name_at (section_names o) (name_offset headers n)) kind (retains headers n) (reads headers n) (ids_of (added o a).ids ks)
+    Here t = BuiltAs t.bytes t.names t.sections t.lists t.stage.link (row_of work n) (name_at (section_names o) (name_offset headers n)) kind (retains headers n) (reads headers n) (size_of headers n) (ids_of (added o a).ids ks)
 
     builds-here : (t : Build.State) → Stands cells taken t → (section_of (builder o a) t n kind).stage.number ≡ 0 → Here (section_of (builder o a) t n kind)
     builds-here t q z =
         let b = builds (builder o a) kind t n q.good (is-built n kind e r) z (omega (arith, room, q.long)) (omega (arith, row_is n low rowed, own_below n low rowed, q.counted)) in
         let u : Build.State = section_of (builder o a) t n kind in
-        subst (λ (l : List ℕ). BuiltAs u.bytes u.names u.sections u.lists u.stage.link (row_of work n) (name_at (section_names o) (name_offset headers n)) kind (retains headers n) (reads headers n) (ids_of (added o a).ids l)) named
-        (subst (λ (x : List ℕ). BuiltAs u.bytes u.names u.sections u.lists u.stage.link (row_of work n) x kind (retains headers n) (reads headers n) (ids_of (added o a).ids (relocations_of headers o.contents (table_for work n kind)))) (name-is n) b)
+        subst (λ (l : List ℕ). BuiltAs u.bytes u.names u.sections u.lists u.stage.link (row_of work n) (name_at (section_names o) (name_offset headers n)) kind (retains headers n) (reads headers n) (size_of headers n) (ids_of (added o a).ids l)) named
+        (subst (λ (x : List ℕ). BuiltAs u.bytes u.names u.sections u.lists u.stage.link (row_of work n) x kind (retains headers n) (reads headers n) (size_of headers n) (ids_of (added o a).ids (relocations_of headers o.contents (table_for work n kind)))) (name-is n) b)
 
     through : (s : Build.State) → s.stage.number ≡ 0 → Stands cells taken s → (build_of (builder o a) s kind).stage.number ≡ 0 → Here (build_of (builder o a) s kind)
     through s z q y =
-        own-stage n _ _ _ _ _ low rowed kind (λ m b. let l = built-loaded m kind b in ((loaded-in m kind l).0, kinds m l)) s z q builds-here y
+        own-stage n _ _ _ _ _ _ low rowed kind (λ m b. let l = built-loaded m kind b in ((loaded-in m kind l).0, kinds m l)) s z q builds-here y
 
     -- from the end of the last stage to the end of the call
     pub at-the-end : Here (building (before0 o a)) → Stands cells taken (building (before0 o a))
         → let t = (merge_of o a).cells in
-        BuiltAs t.bytes t.names t.sections t.lists t.stage.link (id_of a headers n) (name_at (section_names o) (name_offset headers n)) kind (retains headers n) (reads headers n) (ids_of (added o a).ids ks)
+        BuiltAs t.bytes t.names t.sections t.lists t.stage.link (id_of a headers n) (name_at (section_names o) (name_offset headers n)) kind (retains headers n) (reads headers n) (size_of headers n) (ids_of (added o a).ids ks)
     unfolding merge_of finished_of ended_as input_row_of
     at-the-end q s =
         let l : Link = (before0 o a).stage.link in
         let e : end o a ≡ with_build o a (with_input (before0 o a) (input_row_of (before0 o a).inputs l)) = after-symbols ∙ ap (with_build o a) (program-pass o a second-goes ∙ input-pass o a third-goes) in
-        let p = subst (λ (k : ℕ). BuiltAs (before0 o a).bytes (before0 o a).names (before0 o a).sections (before0 o a).lists l k (name_at (section_names o) (name_offset headers n)) kind (retains headers n) (reads headers n) (ids_of (added o a).ids ks)) (row_is n low rowed) q in
-        let f : (m : Link) → m.names ≡ l.names → m.bytes ≡ l.bytes → m.chains ≡ l.chains → m.key ≡ l.key → m.sections ≡ l.sections → m.lists ≡ l.lists → BuiltAs (before0 o a).bytes (before0 o a).names (before0 o a).sections (before0 o a).lists m (id_of a headers n) (name_at (section_names o) (name_offset headers n)) kind (retains headers n) (reads headers n) (ids_of (added o a).ids ks) =
-        λ m x y u v z w. as-relinked (before0 o a).bytes (before0 o a).names (before0 o a).sections (before0 o a).lists l m (id_of a headers n) _ kind _ _ _ s.good x y u v z w p in
+        let p = subst (λ (k : ℕ). BuiltAs (before0 o a).bytes (before0 o a).names (before0 o a).sections (before0 o a).lists l k (name_at (section_names o) (name_offset headers n)) kind (retains headers n) (reads headers n) (size_of headers n) (ids_of (added o a).ids ks)) (row_is n low rowed) q in
+        let f : (m : Link) → m.names ≡ l.names → m.bytes ≡ l.bytes → m.chains ≡ l.chains → m.key ≡ l.key → m.sections ≡ l.sections → m.lists ≡ l.lists → BuiltAs (before0 o a).bytes (before0 o a).names (before0 o a).sections (before0 o a).lists m (id_of a headers n) (name_at (section_names o) (name_offset headers n)) kind (retains headers n) (reads headers n) (size_of headers n) (ids_of (added o a).ids ks) =
+        λ m x y u v z w. as-relinked (before0 o a).bytes (before0 o a).names (before0 o a).sections (before0 o a).lists l m (id_of a headers n) _ kind _ _ _ _ s.good x y u v z w p in
         rw (eq-eqb (head_in o a).number 0 head, eq-eqb (number o a) 0 whole, e)
         (by-test (ltb l.inputs (input_rows (length (before0 o a).inputs))) (λ t. rw t (f _ refl refl refl refl refl refl)) (λ t. rw t (f _ refl refl refl refl refl refl)))
 
@@ -364,7 +365,7 @@ module _ (o : Object) (a : All) (ok : (merge_of o a).said.number ≡ 0) (met : L
   abbrev pub SectionBuilt : ℕ → ℕ → List ℕ → Type 0
   SectionBuilt n kind ks =
       let t = (merge_of o a).cells in
-      BuiltAs t.bytes t.names t.sections t.lists t.stage.link (id_of a headers n) (name_at (section_names o) (name_offset headers n)) kind (retains headers n) (reads headers n) (ids_of (added o a).ids ks)
+      BuiltAs t.bytes t.names t.sections t.lists t.stage.link (id_of a headers n) (name_at (section_names o) (name_offset headers n)) kind (retains headers n) (reads headers n) (size_of headers n) (ids_of (added o a).ids ks)
 
   pub program-built : (n : ℕ) → loaded_as headers n program ≡ true → removed n ≡ false → SectionBuilt n program (named_by headers o.contents n rows)
   unfolding table_for
@@ -380,7 +381,7 @@ module _ (o : Object) (a : All) (ok : (merge_of o a).said.number ≡ 0) (met : L
       let h = loaded-in n uninitialized e in
       let one = through n uninitialized e r (uninitialized-rowed n e) uninitialized-rowed [] refl (building (before2 o a)) refl first-stands second-goes in
       at-the-end n uninitialized e r (uninitialized-rowed n e) uninitialized-rowed [] refl
-      (other-stage n _ _ _ _ _ h.0 (uninitialized-rowed n e) program
+      (other-stage n _ _ _ _ _ _ h.0 (uninitialized-rowed n e) program
       (λ m b.
       let l = built-loaded m program b in
       (λ q. other-kind (sym h.1 ∙ ap (Elf.kind_at headers) (sym q) ∙ (loaded-in m program l).1), (loaded-in m program l).0, program-rowed m l))

@@ -22,7 +22,7 @@ use Rattle.interner_laws.proofs.Histories.{issued-stays}
 use Rattle.interner_laws.proofs.Terms.{keeps-good, keeps-names, keeps-issued, same_good, same_names}
 use Rattle.sections.specs.Rows as Sections
 use Rattle.sections.specs.Rows.{first_at, count_at, built_of}
-use Rattle.elf_object.specs.Rows.{name_offset_at, retain_at, read_at, name_in, conversion_at}
+use Rattle.elf_object.specs.Rows.{name_offset_at, retain_at, read_at, section_size_at, name_in, conversion_at}
 use Rattle.elf_object.specs.Judge.{range_ok}
 use Rattle.merge_build.specs.Build.{Plan}
 use Rattle.merge_build.specs.Relocations.{table_for, limit_of, relocations_of, symbols_ok, id_in, append_from}
@@ -205,7 +205,7 @@ module _ (o : Object) (kind : ℕ) (s : State) (n : ℕ) where
     module _ (built : built_from o.headers o.work n kind ≡ true) (ok : (section_of o s n kind).stage.number ≡ 0)
         (room : row_of o.work n * 8 + 8 ≤ length s.sections) (low : row_of o.work n < s.stage.link.sections) where
       abbrev Built : State → Type 0
-      Built t = BuiltAs t.bytes t.names t.sections t.lists t.stage.link (row_of o.work n) x.name kind (retain_at o.headers n) (read_at o.headers n) (ids_of o.ids relocations)
+      Built t = BuiltAs t.bytes t.names t.sections t.lists t.stage.link (row_of o.work n) x.name kind (retain_at o.headers n) (read_at o.headers n) (section_size_at o.headers n) (ids_of o.ids relocations)
 
       row_is : Planned → (sections : List ℕ) → sections ≡ built_of s.sections (Build.section_id_of (conversion_at o.work n)) (Build.section_row o.headers n kind own kept.link.lists (length relocations))
           → (lists : List ℕ) → lists ≡ append_from o.ids s.lists kept.link.lists relocations
@@ -227,6 +227,7 @@ module _ (o : Object) (kind : ℕ) (s : State) (n : ℕ) where
             kind-is = cell 2 (omega arith);
             retains = cell 3 (omega arith);
             reads = cell 4 (omega arith);
+            sized = cell 7 (omega arith);
             inside = omega arith;
             ids-are =
                 ap (λ (k : ℕ). part lists k (count_at sections r)) first ∙ ap (λ (k : ℕ). part lists kept.link.lists k) count
@@ -288,9 +289,9 @@ module _ (o : Object) (kind : ℕ) (cells rows : ℕ) (s : State) (n : ℕ) (sta
   section-stands = stand-by (section_of o s n kind) (leaves o kind s n stands.good)
 
   -- another row stays as it was built
-  module _ (r : ℕ) (w : List ℕ) (k retain read : ℕ) (ids : List ℕ) (apart : built_from o.headers o.work n kind ≡ true → r ≢ mine) where
+  module _ (r : ℕ) (w : List ℕ) (k retain read size : ℕ) (ids : List ℕ) (apart : built_from o.headers o.work n kind ≡ true → r ≢ mine) where
     abbrev As : State → Type 0
-    As t = BuiltAs t.bytes t.names t.sections t.lists t.stage.link r w k retain read ids
+    As t = BuiltAs t.bytes t.names t.sections t.lists t.stage.link r w k retain read size ids
 
     stays_by : As s → (t : State) → left t → As t
     unfolding built_of
@@ -304,6 +305,7 @@ module _ (o : Object) (kind : ℕ) (cells rows : ℕ) (s : State) (n : ℕ) (sta
           kind-is = q.kind-is;
           retains = q.retains;
           reads = q.reads;
+          sized = q.sized;
           inside = rw (kept-count o kind s n stands.good) q.inside;
           ids-are = q.ids-are;
         })
@@ -324,6 +326,7 @@ module _ (o : Object) (kind : ℕ) (cells rows : ℕ) (s : State) (n : ℕ) (sta
           kind-is = cell 2 (omega arith) ∙ q.kind-is;
           retains = cell 3 (omega arith) ∙ q.retains;
           reads = cell 4 (omega arith) ∙ q.reads;
+          sized = cell 7 (omega arith) ∙ q.sized;
           inside = omega (arith, q.inside);
           ids-are =
               ap (λ (k : ℕ). part t.lists k (count_at t.sections r)) first ∙ ap (λ (k : ℕ). part t.lists (first_at s.sections r) k) count

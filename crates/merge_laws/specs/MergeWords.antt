@@ -1,7 +1,7 @@
 -- What an object gives a merge, in document 01's words: which of its sections get rows, what its relocation tables name, its loaded symbol table. Words
 -- for statements: no function and no contract has them.
 -- Assumes nothing.
-use Rattle.std.specs.Prelude.{ℕ, zero, suc, ◌≡◌, Bool, true, false, cond, not, ◌&&◌, ◌||◌, List, [], ◌∷◌, ◌++◌, eqb, ltb, get_or, length}
+use Rattle.std.specs.Prelude.{ℕ, zero, suc, ◌≡◌, Bool, true, false, cond, not, ◌&&◌, ◌||◌, List, [], ◌∷◌, ◌++◌, eqb, ltb, get_or, length, ◌+◌, ◌*◌}
 use Rattle.cells.specs.Search.{any_from}
 use Rattle.gabi.specs.StringTable.{has_name, name_at, among}
 use Rattle.gabi.specs.SymbolTable.{stb_local, stt_file, shn_undef, shn_loreserve}
@@ -10,6 +10,10 @@ use Rattle.symbol_laws.specs.ObjectWords.{part_from, sections_in, program, unini
 -- the number m is in the list
 abbrev pub is_listed : ℕ → List ℕ → Bool
 is_listed m xs = any_from (λ i. eqb (get_or xs i 0) m) 0 (length xs)
+
+-- how many bytes section n has
+abbrev pub size_of : List ℕ → ℕ → ℕ
+size_of headers n = get_or headers (n * 8 + 7) 0
 
 module _ (headers : List ℕ) where
   -- a program or an uninitialized section

@@ -86,7 +86,7 @@ file_head_numbers = 22 ∷ 26 ∷ 27 ∷ 2 ∷ []
 
 -- those not marked *; each leaves "all"
 abbrev pub unstarred : List ℕ
-unstarred = 1 ∷ 15 ∷ 20 ∷ 22 ∷ 23 ∷ 25 ∷ 26 ∷ 27 ∷ 30 ∷ []
+unstarred = 1 ∷ 15 ∷ 20 ∷ 22 ∷ 23 ∷ 25 ∷ 26 ∷ 27 ∷ 30 ∷ 31 ∷ []
 
 -- "Those marked *" that an element gives alone; 2, marked too, comes also where the cells for a call's own work are too few
 abbrev pub starred : List ℕ

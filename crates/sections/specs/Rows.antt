@@ -1,4 +1,4 @@
--- Section rows: "rows in lent slices". A row is reserved for each program and uninitialized section, then built, and maybe dropped.
+-- Section rows: "rows in lent slices". A row is reserved for each program and uninitialized section, then built, and maybe dropped; it keeps its size then.
 -- Assumes nothing.
 use Rattle.std.specs.Prelude.{ℕ, ◌+◌, ◌*◌, Bool, true, false, cond, List, [], ◌∷◌, eqb, ltb, leb, get_or, set, length}
 use Rattle.cells.specs.Rows.{put_row, row_width}
@@ -58,19 +58,23 @@ first_at rows i = field rows i 5
 abbrev pub count_at : List ℕ → ℕ → ℕ
 count_at rows i = field rows i 6
 
+-- how many bytes the section has; of a dropped one too
+abbrev pub size_at : List ℕ → ℕ → ℕ
+size_at rows i = field rows i 7
+
 -- "section rows [..] to 65,535; always also the lent length", of a new table and of this call
 unfoldable pub room_of : Link → List ℕ → Bool
 room_of l rows = cond (ltb l.sections (section_rows (lesser l.slots (section_slots (length rows))))) true false
 
--- a row's cells, in the fields' order; the last is unused
-abbrev pub section_cells : ℕ → ℕ → ℕ → ℕ → ℕ → ℕ → ℕ → List ℕ
-section_cells state name kind retain read first count = state ∷ name ∷ kind ∷ retain ∷ read ∷ first ∷ count ∷ 0 ∷ []
+-- a row's cells, in the fields' order
+abbrev pub section_cells : ℕ → ℕ → ℕ → ℕ → ℕ → ℕ → ℕ → ℕ → List ℕ
+section_cells state name kind retain read first count size = state ∷ name ∷ kind ∷ retain ∷ read ∷ first ∷ count ∷ size ∷ []
 
 abbrev pub reserved_cells : List ℕ
-reserved_cells = section_cells reserved_state 0 0 0 0 0 0
+reserved_cells = section_cells reserved_state 0 0 0 0 0 0 0
 
 abbrev pub built_cells : Section → List ℕ
-built_cells s = section_cells built_state s.name.0 s.kind s.retain s.read s.first s.count
+built_cells s = section_cells built_state s.name.0 s.kind s.retain s.read s.first s.count s.size
 
 unfoldable pub reserve_of : Sections → Sections
 reserve_of s =

@@ -1,5 +1,5 @@
 // Section rows: reserved, built, dropped. A row is 8 lent cells: state, name, kind, retain, read, and where its relocations' symbols lie in
-// the lists: the first and how many. One is unused.
+// the lists: the first and how many; its size in bytes, which stays when it is dropped.
 #![tactic(auto)]
 
 ghost use Rattle.std.specs.Prelude.{◌≡◌};
@@ -21,6 +21,8 @@ pub const READ: usize = 4;
 pub const FIRST: usize = 5;
 
 pub const COUNT: usize = 6;
+
+pub const SIZE: usize = 7;
 
 // Its states; 0 is free.
 pub const RESERVED: u64 = 1;
@@ -44,6 +46,7 @@ pub struct Section {
     pub read: u64,
     pub first: u64,
     pub count: u64,
+    pub size: u64,
 }
 
 // Is there a free row?
@@ -83,7 +86,7 @@ pub fn build(sections: &mut [u64], id: SectionId, s: Section)
             s.read,
             s.first,
             s.count,
-            0,
+            s.size,
         ],
     );
 }

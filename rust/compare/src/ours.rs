@@ -435,10 +435,10 @@ impl Ours {
     fn section(&self, id: usize, section: &Section) -> String {
         match section {
             Section::Reserved => format!("section {id} reserved"),
-            Section::Dropped { name } => {
+            Section::Dropped { name, .. } => {
                 format!("section {id} dropped {}", shown(self.name(*name)))
             }
-            Section::Built { name, program, retain, read, relocations } => format!(
+            Section::Built { name, program, retain, read, relocations, .. } => format!(
                 "section {id} built {} {} {} {} {}",
                 shown(self.name(*name)),
                 if *program { 1 } else { 2 },
@@ -490,7 +490,7 @@ fn text(bytes: &[u8]) -> &str {
 fn section_name(section: &Section) -> Option<Interned> {
     match section {
         Section::Reserved => None,
-        Section::Built { name, .. } | Section::Dropped { name } => Some(*name),
+        Section::Built { name, .. } | Section::Dropped { name, .. } => Some(*name),
     }
 }
 
@@ -600,7 +600,14 @@ pub fn object(rows: &ObjectRows) -> Object<'static> {
             other => panic!("no section kind {other}"),
         };
         let SectionRow { exclude, retain, read, .. } = *row;
-        object.push_section(SectionHeader { name, exclude, retain, read, content });
+        object.push_section(SectionHeader {
+            name,
+            exclude,
+            retain,
+            read,
+            content,
+            ..Default::default()
+        });
     }
     object
 }

@@ -31,7 +31,7 @@
  * An object is given by rows of 8 cells over its file's bytes:
  *
  *   headers   a row for each section: kind (HIDVORN_NULL_SECTION ..), offset of its name, flags
- *             (HIDVORN_EXCLUDE ..), link, info, and where its contents lie: the first and how many; 0.
+ *             (HIDVORN_EXCLUDE ..), link, info, where its contents lie (the first and how many), and size.
  *             Contents are entries for a symbol table, bytes of the file for a string table, and cells of
  *             contents for relocations (the symbols' numbers) and groups (the sections' numbers). Link is
  *             a symbol table's strings, a relocation table's or a group's symbol table; info the section
@@ -49,8 +49,8 @@
  *
  * After calls the rows of the lent storage are the link's: symbols state (1, or 2 for a removed one),
  * name, size, 0 or the file's name id and 1, scope and 8 times the type, kind of the value and its two words;
- * sections state (1 reserved, 2 built, 3 dropped), name, kind, retain, read, and where the symbols of its
- * relocations lie in the lists, the first and how many; inputs 1 for an object, or 2, name, first and how many
+ * sections state (1 reserved, 2 built, 3 dropped), name, kind, retain, read, where the symbols of its
+ * relocations lie in the lists, the first and how many, and size; inputs 1 for an object, or 2, name, first and how many
  * dependencies, first and how many undefined names. Names are read by hidvorn_resolve. As many rows as the
  * header counts belong to the link.
  *
@@ -74,6 +74,8 @@ extern "C" {
 #define HIDVORN_WALK 7
 #define HIDVORN_ITEM 9
 #define HIDVORN_FOUND 10
+#define HIDVORN_REPORT 14
+#define HIDVORN_FIGURES 13
 
 /* cells of the header */
 #define HIDVORN_NAMES 0
@@ -124,6 +126,7 @@ extern "C" {
 #define HIDVORN_COMMON_ALIGNMENT 28
 #define HIDVORN_SECTION_IN_TWO_GROUPS 29     /* the later group */
 #define HIDVORN_TOO_MANY_SECTIONS 30
+#define HIDVORN_SUM_TOO_LARGE 31            /* how many titles the report had */
 
 /* kinds of an object's section */
 #define HIDVORN_NULL_SECTION 0
@@ -364,6 +367,18 @@ uint64_t hidvorn_plain_run(
     size_t names_len, uint64_t *symbols, size_t symbols_len, uint64_t *sections, size_t sections_len,
     const uint64_t *lists, size_t lists_len, const uint8_t *marks, size_t marks_len, bool entered,
     size_t entry, uint64_t *work, size_t work_len);
+
+/* Adds a title to a report: the link as it stands and its walk (HIDVORN_WALK cells), or zeros for none. The
+   report's cells (HIDVORN_REPORT) are how many titles were added and the sums of their figures; zeros are a
+   new report. The title's figures (HIDVORN_FIGURES) are its symbols that weren't removed, by value: null,
+   absolute, of a section, at a place in one, undefined, common, others; members offered and passes made by
+   the walk; sections kept and dropped, and the bytes of each. 31 at how many titles there were, if a sum is
+   2^64 or more; 1 at 1,000 for a title more than that; 1 at 0 for fewer cells of a walk, a report or figures.
+   A refused title leaves report and figures; a broken link is reported. */
+uint64_t hidvorn_report_title(
+    uint64_t *header, size_t header_len, const uint64_t *walk, size_t walk_len, const uint64_t *symbols,
+    size_t symbols_len, const uint64_t *sections, size_t sections_len, uint64_t *report, size_t report_len,
+    uint64_t *figures, size_t figures_len);
 
 #ifdef __cplusplus
 }

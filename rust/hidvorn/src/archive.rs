@@ -181,6 +181,11 @@ impl<'a> PendingArchive<'a> {
         Ok(PendingArchive { indexes, ends: ends.to_vec(), rows, walk })
     }
 
+    /// The cells of the walk, for a report.
+    pub(crate) fn walk_cells(&self) -> &Walk {
+        &self.walk
+    }
+
     /// How many archives are walked.
     pub fn archive_count(&self) -> usize {
         self.ends.len()

@@ -396,6 +396,21 @@ unsafe extern "C" {
         work_len: usize,
     ) -> u64;
 
+    fn hidvorn_report_title(
+        header: *mut u64,
+        header_len: usize,
+        walk: *const u64,
+        walk_len: usize,
+        symbols: *const u64,
+        symbols_len: usize,
+        sections: *const u64,
+        sections_len: usize,
+        report: *mut u64,
+        report_len: usize,
+        figures: *mut u64,
+        figures_len: usize,
+    ) -> u64;
+
     fn hidvorn_plain_run(
         header: *mut u64,
         header_len: usize,
@@ -1066,6 +1081,34 @@ pub(crate) fn would_define(
             file.len(),
             told.as_mut_ptr(),
             told.len(),
+        );
+    }
+    answer(header)
+}
+
+pub(crate) fn report_title(
+    header: &mut Header,
+    walk: &Walk,
+    symbols: &[u64],
+    sections: &[u64],
+    report: &mut [u64],
+    figures: &mut [u64],
+) -> Result<(), Refusal> {
+    // SAFETY: see the module.
+    unsafe {
+        hidvorn_report_title(
+            header.as_mut_ptr(),
+            header.len(),
+            walk.as_ptr(),
+            walk.len(),
+            symbols.as_ptr(),
+            symbols.len(),
+            sections.as_ptr(),
+            sections.len(),
+            report.as_mut_ptr(),
+            report.len(),
+            figures.as_mut_ptr(),
+            figures.len(),
         );
     }
     answer(header)

@@ -163,7 +163,7 @@ fn read(file: &[u8]) -> Result<Rows, Refused> {
             section.info,
             first,
             number,
-            0,
+            section.size as u64,
         ]);
     }
     let cells = rows.headers.len() + rows.entries.len() + rows.contents.len();

@@ -58,6 +58,7 @@ mod merged;
 mod names;
 mod object;
 mod refusal;
+mod report;
 mod rows;
 mod symbol;
 mod untaken;
@@ -75,6 +76,7 @@ pub use link::{Capacity, Collected, Link, ListRefused, LookupRefused, Profile};
 pub use merged::Merged;
 pub use object::{Object, Relocations, SectionContent, SectionHeader};
 pub use refusal::{About, Cause, Holder, Refusal};
+pub use report::{Figures, Report};
 pub use rows::{Ids, Input, Names, Relocations as SectionRelocations, Section};
 pub use symbol::{
     Converted, ElfSymbol, ListedSymbol, SectionConversion, Symbol, SymbolType, SymbolValue,

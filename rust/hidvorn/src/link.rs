@@ -667,7 +667,7 @@ impl Link {
     fn holder(&self, symbol: Symbol) -> Holder {
         let bytes = |name| self.resolve(name).ok().map(<[u8]>::to_vec);
         let section = match symbol.value.section().and_then(|id| self.section(id)) {
-            Some(Section::Built { name, .. } | Section::Dropped { name }) => bytes(name),
+            Some(Section::Built { name, .. } | Section::Dropped { name, .. }) => bytes(name),
             _ => None,
         };
         let file = symbol.file.and_then(bytes);

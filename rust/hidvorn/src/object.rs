@@ -13,6 +13,8 @@ pub struct SectionHeader<'c> {
     pub retain: bool,
     /// It is readable at run time: no root of a collection by itself.
     pub read: bool,
+    /// How many bytes it has, in the file or, uninitialized, in memory.
+    pub size: u64,
     /// Its kind and contents.
     pub content: SectionContent<'c>,
 }
@@ -24,6 +26,7 @@ impl Default for SectionHeader<'_> {
             exclude: false,
             retain: false,
             read: false,
+            size: 0,
             content: SectionContent::Null,
         }
     }
@@ -168,7 +171,7 @@ impl<'a> Object<'a> {
             | (row.comdat as u64) << 3;
         let [name, link, info, first, count] =
             [section.name, row.link, row.info, row.first, row.count].map(|number| number as u64);
-        self.headers.extend([row.kind, name, flags, link, info, first, count, 0]);
+        self.headers.extend([row.kind, name, flags, link, info, first, count, section.size]);
         self.section_count() - 1
     }
 

@@ -90,10 +90,12 @@ causes! {
     SectionInTwoGroups = 29: "section that two groups of one object list",
     /// 30: more built sections than the plain collector takes.
     TooManySections = 30: "more built sections than the plain collector takes",
+    /// 31: a figure of a report, or a total, of 2^64 or more.
+    SumTooLarge = 31: "sum of 2^64 or more",
 }
 
 impl Cause {
-    /// The number in the table: 1 to 30.
+    /// The number in the table: 1 to 31.
     pub const fn number(self) -> u64 {
         self as u64
     }
@@ -183,6 +185,7 @@ pub struct Refusal {
     /// | 20 | the archive, by the order in which they were given |
     /// | 21 | an id: the name's for an add, also inside a merge or a load, and for a lookup by name; the symbol's for `get` and `remove`, the section's for a collection; for a walk the indexes' entry (`PendingArchive::entry`) |
     /// | 27 | the section's number in the file; 0 for the section headers |
+    /// | 31 | how many titles the report had |
     ///
     /// 0 for the others, and for a direct add, also one of a list, but 21. For a group by itself symbols have their
     /// number in the table that was named.
@@ -208,7 +211,7 @@ impl Refusal {
         Refusal { about, ..self }
     }
 
-    /// The cause's number in the table: 1 to 30.
+    /// The cause's number in the table: 1 to 31.
     pub const fn number(&self) -> u64 {
         self.cause.number()
     }

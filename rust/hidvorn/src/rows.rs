@@ -16,6 +16,8 @@ pub enum Section<'a> {
         retain: bool,
         /// Readable at run time.
         read: bool,
+        /// How many bytes it has.
+        size: u64,
         /// The symbols of its relocations, one for each of them in the order of its relocation
         /// table; of several tables the last counts.
         relocations: Relocations<'a>,
@@ -24,6 +26,8 @@ pub enum Section<'a> {
     Dropped {
         /// Its name.
         name: Interned,
+        /// How many bytes it had.
+        size: u64,
     },
 }
 
@@ -128,7 +132,7 @@ impl Link {
     }
 
     fn section_of(&self, row: &[u64; 8]) -> Section<'_> {
-        let [state, name, kind, retain, read, first, count, _] = *row;
+        let [state, name, kind, retain, read, first, count, size] = *row;
         let name = Interned::of_cell(name);
         match state {
             2 => Section::Built {
@@ -136,9 +140,10 @@ impl Link {
                 program: kind == 1,
                 retain: retain != 0,
                 read: read != 0,
+                size,
                 relocations: Relocations(self.list(first, count)),
             },
-            3 => Section::Dropped { name },
+            3 => Section::Dropped { name, size },
             _ => Section::Reserved,
         }
     }

@@ -454,9 +454,9 @@ fn refusals_are_told_in_words() {
     assert_eq!(Cause::DuplicateStrong.to_string(), "duplicate strong definition");
     let cut = "section headers or table past the file's end, cut entry or empty group, place 2 (refusal 27)";
     assert_eq!(told(Cause::BadTable, 2), cut);
-    let known = |number: &u64| (1..=30).contains(number);
-    assert!((1..=30).filter(known).eq(Cause::ALL.iter().map(|cause| cause.number())));
-    for number in 0..=31 {
+    let known = |number: &u64| (1..=31).contains(number);
+    assert!((1..=31).filter(known).eq(Cause::ALL.iter().map(|cause| cause.number())));
+    for number in 0..=32 {
         let cause = Cause::of_number(number);
         assert_eq!(cause.map(Cause::number), known(&number).then_some(number));
     }

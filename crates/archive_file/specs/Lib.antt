@@ -1,0 +1,3 @@
+pub mod Members
+pub mod Proof
+pub mod Writer

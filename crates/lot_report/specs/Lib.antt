@@ -1,0 +1,4 @@
+pub mod Count
+pub mod Figures
+pub mod Report
+pub mod Proof

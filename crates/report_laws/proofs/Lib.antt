@@ -1,0 +1,9 @@
+pub mod Added
+pub mod Collected
+pub mod Columns
+pub mod Counts
+pub mod Listed
+pub mod Passes
+pub mod Terms
+pub mod TitleExactly
+pub mod Totals

@@ -1,0 +1,5 @@
+pub mod Kept
+pub mod Listed
+pub mod Lot
+pub mod TitleRules
+pub mod Walks
