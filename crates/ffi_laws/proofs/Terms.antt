@@ -36,6 +36,9 @@ use Rattle.ffi_merge.specs.Calls as MergeCalls
 use Rattle.ffi_merge.specs.Contract as Merge
 use Rattle.ffi_merge.specs.FileCalls as FileCalls
 use Rattle.ffi_merge.specs.FileContract as File
+use Rattle.preview.specs.Preview.{Tables}
+use Rattle.ffi_preview.specs.Calls as PreviewCalls
+use Rattle.ffi_preview.specs.Contract as Preview
 use Rattle.lot_report.specs.declared.Figures.{Figures}
 use Rattle.lot_report.specs.declared.Report.{Report}
 use Rattle.ffi_report.specs.Calls as ReportCalls
@@ -46,7 +49,7 @@ use Rattle.ffi_archive.specs.Calls as ArchiveCalls
 use Rattle.ffi_archive.specs.Contract as Archive
 use Rattle.ffi_collect.specs.Calls as CollectCalls
 use Rattle.ffi_collect.specs.Contract as Collect
-use Rattle.ffi_laws.specs.Exits.{MergeExit, merge_rows, FileExit, file_lent, LoadExit, load_rows}
+use Rattle.ffi_laws.specs.Exits.{MergeExit, merge_rows, PreviewExit, preview_rows, FileExit, file_lent, LoadExit, load_rows}
 use Rattle.ffi_laws.specs.Replies.{Holds, Replies, offer_cells, some_id, symbols_out}
 use Rattle.ffi_laws.proofs.Replies as RepliesLaws
 
@@ -113,6 +116,12 @@ group-one-outcome h o bytes names work n x y e f = ap {B = Merge.GroupExit} (λ 
 -- merge_elf
 pub merge-one-outcome : (h : List ℕ) (o : Stages.Object) (c : MergeCalls.Rows) (x y : MergeExit) → Merge.MergeMeets h o (merge_rows c x) x.told → Merge.MergeMeets h o (merge_rows c y) y.told → x ≡ y
 merge-one-outcome h o c x y e f = ap {B = MergeExit} (λ (o : MergeCalls.MergeLeft). record { told = record { number = o.told.number; header = o.told.header }; rows = o.rows }) (e ∙ sym f)
+
+-- preview_elf
+pub preview-one-outcome : (h c : List ℕ) (o : Stages.Object) (t : Tables) (r : MergeCalls.Rows) (x y : PreviewExit)
+    → Preview.PreviewMeets h c o t (preview_rows r x) x.exit → Preview.PreviewMeets h c o t (preview_rows r y) y.exit → x ≡ y
+preview-one-outcome h c o t r x y e f =
+    ap {B = PreviewExit} (λ (o : PreviewCalls.PreviewLeft). record { exit = record { number = o.told.number; header = o.told.header; copy = o.copy }; rows = o.rows }) (e ∙ sym f)
 
 -- count_file, read_file and merge_file
 pub count-one-outcome : (a file : List ℕ) (x y : FileCalls.CountLeft) → File.CountMeets a file x → File.CountMeets a file y → x ≡ y

@@ -5,6 +5,7 @@ use denote.Triple.Both.{Both}
 use Rattle.ffi_cells.specs.Contract.{ToldExit}
 use Rattle.ffi_merge.specs.Calls as MergeCalls
 use Rattle.ffi_merge.specs.FileCalls as FileCalls
+use Rattle.ffi_preview.specs.Contract as Preview
 use Rattle.ffi_load.specs.Calls as LoadCalls
 
 -- ---- merge_elf
@@ -15,6 +16,15 @@ pub record MergeExit : Type 0 where
 
 abbrev pub merge_rows : MergeCalls.Rows → MergeExit → Both MergeCalls.Rows MergeCalls.Rows
 merge_rows c e = record { entry = c; exit = e.rows }
+
+-- ---- preview_elf
+
+pub record PreviewExit : Type 0 where
+  pub exit : Preview.PreviewExit
+  pub rows : MergeCalls.Rows
+
+abbrev pub preview_rows : MergeCalls.Rows → PreviewExit → Both MergeCalls.Rows MergeCalls.Rows
+preview_rows c e = record { entry = c; exit = e.rows }
 
 -- ---- merge_file
 

@@ -11,6 +11,7 @@ ghost use Rattle.ffi_list.specs.Contract as Adds;
 ghost use Rattle.ffi_symbols.specs.LookupContract as Lookup;
 ghost use Rattle.ffi_merge.specs.Contract as Merge;
 ghost use Rattle.ffi_merge.specs.FileContract as File;
+ghost use Rattle.ffi_preview.specs.Contract as Preview;
 ghost use Rattle.ffi_load.specs.Contract as Load;
 ghost use Rattle.ffi_load.specs.Contract.{LoadMeets};
 ghost use Rattle.archive_index.specs.Archives.{archives_lent};
@@ -189,6 +190,58 @@ pub extern "C" fn hidvorn_count_file(answer: &mut [u64], file: &[u8]) -> u64
     ensures { File.CountMeets answer.old file.now (File.count_exit result answer) }
 {
     ffi_merge::count_file(answer, file)
+}
+
+#[unsafe(no_mangle)]
+pub extern "C" fn hidvorn_preview_elf(
+    header: &mut [u64],
+    bytes: &[u8],
+    names: &[u64],
+    symbols: &[u64],
+    sections: &[u64],
+    inputs: &[u64],
+    lists: &[u64],
+    copy: &mut [u64],
+    copy_bytes: &mut [u8],
+    copy_names: &mut [u64],
+    copy_symbols: &mut [u64],
+    copy_sections: &mut [u64],
+    copy_inputs: &mut [u64],
+    copy_lists: &mut [u64],
+    work: &mut [u64],
+    ids: &mut [u64],
+    headers: &[u64],
+    entries: &[u64],
+    contents: &[u64],
+    image: &[u8],
+    shstrndx: usize,
+) -> u64
+    ensures { Preview.PreviewMeets header.old copy.old (Preview.preview_object headers entries contents image shstrndx) (Preview.tables_in bytes names symbols sections inputs lists)
+        (Preview.copy_rows copy_bytes copy_names copy_symbols copy_sections copy_inputs copy_lists work ids) (Preview.preview_exit result header copy) }
+{
+    ffi_preview::preview_elf(
+        header,
+        bytes,
+        names,
+        symbols,
+        sections,
+        inputs,
+        lists,
+        copy,
+        copy_bytes,
+        copy_names,
+        copy_symbols,
+        copy_sections,
+        copy_inputs,
+        copy_lists,
+        work,
+        ids,
+        headers,
+        entries,
+        contents,
+        image,
+        shstrndx,
+    )
 }
 
 #[unsafe(no_mangle)]

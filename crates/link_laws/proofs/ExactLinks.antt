@@ -20,6 +20,10 @@ use Rattle.link_laws.proofs.Rules.{none-holds}
 use Rattle.link_laws.specs.CallRules.{rules}
 use Rattle.link_laws.proofs.CallExactly.{call-exactly, rules-numbered}
 use Rattle.link_laws.specs.ExactLinks.{on}
+use Rattle.merge_stages.specs.Stages.{Object}
+use Rattle.preview_laws.specs.Shown.{previewed}
+use Rattle.link_laws.specs.PreviewRules.{preview_rules}
+use Rattle.link_laws.proofs.PreviewExactly as PreviewExactly
 
 -- some signatures were met
 record Met (s : Linked) : Type 0 where
@@ -45,3 +49,8 @@ module _ (key : ℕ) (gabi : Bool) (bytes names symbols sections inputs lists : 
 
   pub accepted-any : (k : Call) → eqb (call_number k (on key gabi bytes names symbols sections inputs lists new ts symbols' sections' inputs' lists')) 0 ≡ not (some_holds (rules k (on key gabi bytes names symbols sections inputs lists new ts symbols' sections' inputs' lists')))
   accepted-any k = ap (λ (r : Refusal). eqb r.number 0) (exactly-any k) ∙ none-holds (rules k (on key gabi bytes names symbols sections inputs lists new ts symbols' sections' inputs' lists')) (rules-numbered k (on key gabi bytes names symbols sections inputs lists new ts symbols' sections' inputs' lists'))
+
+  pub preview-any : (o : Object) (work ids : List ℕ) (p : Linked) → (previewed o work ids (on key gabi bytes names symbols sections inputs lists new ts symbols' sections' inputs' lists') p).said ≡ first_refusal (preview_rules o work ids (on key gabi bytes names symbols sections inputs lists new ts symbols' sections' inputs' lists') p)
+  preview-any o work ids p =
+      PreviewExactly.preview-exactly o work ids (on key gabi bytes names symbols sections inputs lists new ts symbols' sections' inputs' lists') p last.met
+      (record { good = last.marked.good; marks = last.marked.marks; known = last.marked.known })

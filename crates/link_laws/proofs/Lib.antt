@@ -99,4 +99,5 @@ pub mod CollectRounds
 pub mod ArchiveNumbers
 pub mod ArchiveIndexed
 pub mod Walks
+pub mod PreviewExactly
 pub mod Figures

@@ -29,7 +29,7 @@
 -- Assumes nothing.
 use Rattle.shared_objects.specs.declared.Load.TheVariants.{NotNeeded}
 use Rattle.gc_sections.specs.Run.{dropped}
-use Rattle.std.specs.Prelude.{ℕ, ◌+◌, ◌<◌, ◌≤◌, ◌≡◌, Bool, true, false, cond, not, ◌&&◌, List, [], ◌∷◌, ◌++◌, ◌≢◌, ◌↔◌, eqb, get_or, length, Option, None, Some, Ok}
+use Rattle.std.specs.Prelude.{ℕ, ◌+◌, ◌<◌, ◌≤◌, ◌≡◌, Bool, true, false, cond, not, ◌&&◌, List, [], ◌∷◌, ◌++◌, ◌≢◌, ◌↔◌, eqb, get_or, length, Option, None, Some, Ok, Err}
 use Rattle.std.proofs.Common.{sym, ap, ◌∙◌, subst}
 use Rattle.gabi.specs.SymbolTable.{stv_default, stv_hidden}
 use Rattle.gabi.specs.Visibility.{combined}
@@ -61,7 +61,12 @@ use Rattle.symbol.specs.Row.{row_at}
 use Rattle.symbol_laws.specs.ObjectWords.{sections_in, program, loaded_as}
 use Rattle.symbol_laws.specs.Agreement as Agreement
 use Rattle.symbol_laws.specs.History.{Entry, opened, rows}
-use Rattle.merge_laws.specs.Calls.{Linked, linked}
+use Rattle.link.specs.Judge.{refused}
+use Rattle.merge_elf.specs.Merge.{leave}
+use Rattle.merge_laws.specs.Calls.{Linked, linked, all_in, link_in}
+use Rattle.preview_laws.specs.Shown.{previewed, Enough, ShowsLink, SameBehind}
+use Rattle.preview_laws.proofs.Terms as Previews
+use Rattle.link_laws.specs.PreviewRules.{lacks_cells, preview_rules}
 use Rattle.merge_laws.specs.Origin.{from_objects}
 use Rattle.merge_laws.specs.MergeWords.{named_by, is_removed}
 use Rattle.merge_laws.specs.MergeWords as ObjectWords
@@ -424,6 +429,35 @@ module _ (key : ℕ) (gabi : Bool) (bytes names symbols sections inputs lists : 
     pub none-lost : (marks : List ℕ) (entry : Option SymbolId) (work : List ℕ) (a c : ℕ) → (call_left (collect marks entry work) reported).answer ≡ Ok (dropped a c)
         → (walk : Run) → NoneLost (title_of reported walk) (title_of (call_next (collect marks entry work) reported) walk)
     none-lost = Terms.none-lost key gabi bytes names symbols sections inputs lists new ks lent
+
+  -- ---- a preview of an object, after any calls: p are the preview cells, lent as another link's. It is no call: it has the link by its cells alone, which stay
+
+  module _ (ks : List Call) (o : Stages.Object) (work ids : List ℕ) (p : Linked) where
+    abbrev pub before : Linked
+    before = run_calls ks s0
+
+    -- number and place are those of the first of its rules that holds (PreviewRules.antt)
+    pub preview-exactly : (previewed o work ids before p).said ≡ Rules.first_refusal (preview_rules o work ids before p)
+    preview-exactly = ExactTerms.preview-exactly key gabi bytes names symbols sections inputs lists new ks o work ids p
+
+    -- the answer is what the merge into the link would answer, and the first cells of each sort and the counts are the link's after that merge
+    pub preview-answers : Enough before p → (previewed o work ids before p).answer ≡ (call_left (merge o work ids) before).answer
+    preview-answers = Previews.preview-answers o work ids before p
+
+    pub preview-shows : Enough before p → (Previews.head o work ids before p).number ≡ 0 → ShowsLink (call_next (merge o work ids) before) (link_in (previewed o work ids before p).cells)
+    preview-shows = Previews.preview-shows o work ids before p
+
+    -- a refusal of the head, and too few cells, leave the preview cells; what lies behind the copy stays in any case
+    pub preview-leaves : (Previews.head o work ids before p).number ≢ 0 → previewed o work ids before p ≡ leave (all_in p work ids) p.table.link (Err (Previews.head o work ids before p))
+    preview-leaves = Previews.preview-head o work ids before p
+
+    pub preview-two : (Previews.head o work ids before p).number ≡ 0 → lacks_cells before p ≡ true → previewed o work ids before p ≡ leave (all_in p work ids) p.table.link (Err (refused 2 0))
+    preview-two z e = ExactTerms.preview-two o work ids before p z e
+
+    pub preview-behind : SameBehind before p (link_in (previewed o work ids before p).cells)
+    preview-behind =
+        Previews.preview-behind o work ids before p
+        (Terms.past-the-count key gabi bytes names symbols sections inputs lists new ks (merge o work ids))
 
   -- ---- where lists grow between the calls, as the Rust crate lends them: the profile, demand 3a
 

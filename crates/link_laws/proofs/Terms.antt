@@ -245,8 +245,8 @@ use Rattle.link_laws.specs.OneByOne as OneByOne
 use Rattle.link_laws.proofs.OneByOne as OneByOneLaws
 use Rattle.add_list.specs.AddList.{items_of, list_left}
 
--- ---- 1. "The answer to every call is a result or, exactly where document 01's rules in their order give it, one of the refusals 1 to 25"; document 02 adds
--- 26, 27, 28 and 30
+-- ---- 1. "The answer to every call is a result or, exactly where document 01's rules in their order give it, one of the refusals 1 to 25"; later calls and
+-- rules add 26 to 31
 
 -- which, and at which place, is what the definition gives that the call's contract cites; it is 0, a result, or a number that document 01 gives the call
 pub answers : (k : Call) (s : Linked) → one_of (call_number k s) (0 ∷ call_numbers k) ≡ true
@@ -402,7 +402,7 @@ pub untaken-leaves : (headers entries contents file cells : List ℕ) (s : Linke
     → (call_left (would_define headers entries contents file cells) s).cells ≡ cells
 untaken-leaves headers entries contents file cells s = ArchiveLeaves.would-leaves headers entries contents file _ cells
 
--- 1, 15, 20, 22, 23, 25, 26, 27 and 30 leave "all", whichever call gives them, but what the earlier adds of a list made
+-- 1, 15, 20, 22, 23, 25, 26, 27, 30 and 31 leave "all", whichever call gives them, but what the earlier adds of a list made
 pub leaves_all : (k : Call) (s : Linked) → one_of (call_number k s) unstarred ≡ true → call_next k s ≡ earlier k s
 leaves_all = Starred.leaves_all
 

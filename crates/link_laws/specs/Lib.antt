@@ -55,4 +55,5 @@ pub mod Starred
 pub mod Undefined
 pub mod WalkIn
 pub mod WorkedLinks
+pub mod PreviewRules
 pub mod Figures

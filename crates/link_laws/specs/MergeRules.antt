@@ -289,10 +289,13 @@ module _ (o : Stages.Object) (a : Stages.All) where
   program_list =
       in_turn (build_rules k is_identified d 1) (λ s n. Build.section_of (builder o a) s n 1) (length o.headers / 8) 0 (building (before1 o a))
 
-  abbrev pub merge_rules : List Rule
-  merge_rules =
-      head_list
-      ++ (section_list
+  -- what follows the head
+  abbrev pub stage_list : List Rule
+  stage_list =
+      section_list
       ++ (group_list
       ++ (filter_rules k d.entries
-      ++ (symbol_list ++ (uninitialized_list ++ (program_list ++ input_rules (before0 o a).stage.link (before0 o a).inputs))))))
+      ++ (symbol_list ++ (uninitialized_list ++ (program_list ++ input_rules (before0 o a).stage.link (before0 o a).inputs)))))
+
+  abbrev pub merge_rules : List Rule
+  merge_rules = head_list ++ stage_list

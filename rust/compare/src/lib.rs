@@ -15,7 +15,7 @@ pub fn same_answers(rust: &[String], ours: &[String]) -> bool {
     rust.len() == ours.len() && rust.iter().zip(ours).all(|(rust, ours)| same_answer(rust, ours))
 }
 
-/// What docs/DIFFERENCES.md leaves out of the comparison, by rule; and whether the link is broken,
+/// What oracle/README.md leaves out of the comparison, by rule; and whether the link is broken,
 /// which the Rust doesn't know. A changing call on a broken link is compared with the oracle's 22,
 /// for which the Rust isn't asked.
 #[derive(Default)]

@@ -18,6 +18,8 @@ pub struct Ours {
     other: Link,
     /// Has the groups of the merged objects, each added by itself.
     alone: Link,
+    /// What previews write into, over whatever the last one left.
+    place: Link,
     conversion: SectionConversion,
     object: ObjectRows,
     library: LibraryRows,
@@ -72,6 +74,7 @@ impl Ours {
         Ours {
             empty: link.intern(b"").expect("the empty name"),
             alone: link.clone(),
+            place: new(Profile::Old),
             link,
             other: new(Profile::Gabi),
             conversion: SectionConversion::new(),
@@ -139,7 +142,10 @@ impl Ours {
             "section" => self.object.sections.push(SectionRow::read(&mut words)),
             "symbol" if self.in_library => self.library.symbols.push(SymbolRow::read(&mut words)),
             "symbol" => self.object.symbols.push(SymbolRow::read(&mut words)),
-            "merge" => return vec![merge(&mut self.link, &mut self.alone, &self.object)],
+            "merge" => {
+                let Ours { link, alone, place, object, .. } = self;
+                return vec![previewed_merge(link, alone, place, object)];
+            }
             "library" => {
                 self.library = LibraryRows {
                     as_needed: words.flag(),
@@ -343,7 +349,7 @@ impl Ours {
             let rows = &self.members[&member.offset];
             let outcome = match walk.admits(&self.link, &member, &object(rows)) {
                 Ok(false) => "no".into(),
-                Ok(true) => merge(&mut self.link, &mut self.alone, rows),
+                Ok(true) => previewed_merge(&mut self.link, &mut self.alone, &mut self.place, rows),
                 Err(refusal) => refused(refusal),
             };
             let ends = outcome.starts_with("refused");
@@ -655,6 +661,44 @@ fn told_ids(merged: &Merged, rows: &ObjectRows, first: usize) -> bool {
         };
         merged.section(number) == expected
     })
+}
+
+/// All that a link tells of itself.
+fn everything(link: &Link) -> String {
+    format!(
+        "{link:?} {:?} {:?} {:?} {:?} {:?} {:?}",
+        link.symbols().collect::<Vec<_>>(),
+        link.sections().collect::<Vec<_>>(),
+        link.inputs().collect::<Vec<_>>(),
+        link.global_names().map(|(name, id)| (link.resolve(name), id)).collect::<Vec<_>>(),
+        link.group_signatures().collect::<Vec<_>>(),
+        link.section_symbols().collect::<Vec<_>>(),
+    )
+}
+
+/// Previews the object, then merges it: the preview's answer and rows have to be the merge's, and
+/// the link stays as it was until then.
+fn previewed_merge(
+    link: &mut Link,
+    alone: &mut Link,
+    place: &mut Link,
+    rows: &ObjectRows,
+) -> String {
+    let (before, untouched) = (everything(link), everything(place));
+    let shown = told(link.preview_in(&object(rows), place).map(|()| "merged".into()));
+    if everything(link) != before {
+        return "the preview changed the link".into();
+    }
+    let answer = merge(link, alone, rows);
+    let expected = match shown.split(' ').nth(1) {
+        Some("22" | "1") => untouched,
+        _ => everything(link),
+    };
+    match (shown == answer, everything(place) == expected) {
+        (true, true) => answer,
+        (false, _) => format!("{answer}, but previewed as {shown}"),
+        (true, false) => format!("{answer}, but the preview shows another link"),
+    }
 }
 
 /// Merges, and adds the object's groups by themselves to the other link. They must be refused as

@@ -101,7 +101,7 @@ static void warn(struct link *l, const char *member, const struct symbol *object
     headers[2 * ROW + 6] = end;
     hidvorn_would_define(
         CELLS(l->header), CELLS(l->bytes), CELLS(l->names), CELLS(l->symbols), CELLS(headers), entries,
-        (count + 1) * ROW, NULL, 0, names, end, CELLS(told));
+        (count + 1) * ROW, entries, 0, names, end, CELLS(told));
     must(l, "would_define");
     uint64_t many = l->header[HIDVORN_VALUE];
     for (uint64_t i = 0; i < many; i++) {

@@ -95,7 +95,8 @@ extern "C" {
 
 /* refusals; behind each, what its place is inside a merge or a load; 0 where it says nothing, and for a call by
    itself but where the call says so. A group added by itself has the places of a merge */
-#define HIDVORN_OUT_OF_RANGE 1               /* the first bad row: section, else symbol among all; dependency; entry */
+#define HIDVORN_OUT_OF_RANGE 1               /* the first bad row: section, else symbol among all; dependency; an
+                                                end of archives; entry */
 #define HIDVORN_NO_ROOM 2                    /* the section or symbol without room */
 #define HIDVORN_UNSUPPORTED_KIND 3           /* the section; so 4 to 7, 18, 19, 24 */
 #define HIDVORN_NOT_COMDAT 4
@@ -231,7 +232,7 @@ uint64_t hidvorn_section_symbol_id(
 /* Adds one COMDAT group of an object by itself: section is the group, table the object's symbol table. Work: as
    for a merge; it holds what the object's groups say of its sections, and is all 0 before the first of them: the
    second cell of a row is 1 for a group, 2 for a section that is removed, the fourth 1 for one that a group
-   lists, which gives the next such group 29. Entries: those of the symbol table that
+   lists, which gives the next such group 29, the same one added again too. Entries: those of the symbol table that
    is section `table`, whose first row the headers have at 0, with no rows in other tables. 1 at the section if it
    is no group or is excluded; 6 if its signature is in another table than `table`, or that is no symbol table or
    is excluded. */
@@ -243,7 +244,7 @@ uint64_t hidvorn_add_group(
 
 /* Merges an object given by rows. Work: a row of 8 cells for each section (2 at 0 if there are fewer), and one up
    to the greatest section number below 65,280 that a group lists, if that is above: a repeated group's section
-   without one gives 2 at the group, which breaks the link, as always from 65,280 on. Ids: a cell for each symbol
+   without one gives 2 at the group, which breaks the link. Ids: a cell for each symbol
    of the object (2 at 0). Both are left with what each became: of a section's row the first cell (0 nothing, 1
    not loaded, else its id and 2), of a symbol of the loaded table, by its number there, its id and 1, 0 for none (as for a
    local one of a removed section in the gABI's profile). */
@@ -252,6 +253,25 @@ uint64_t hidvorn_merge_elf(
     uint64_t *symbols, size_t symbols_len, uint64_t *sections, size_t sections_len, uint64_t *inputs,
     size_t inputs_len, uint64_t *lists, size_t lists_len, uint64_t *work, size_t work_len, uint64_t *ids,
     size_t ids_len, const uint64_t *headers, size_t headers_len, const uint64_t *entries, size_t entries_len,
+    const uint64_t *contents, size_t contents_len, const uint8_t *file, size_t file_len, size_t strings);
+
+/* What merging an object would do: the same merge, into a copy of the link. The link's cells are only
+   read, and of its header the answer alone is written. Copy: a header, and cells of each sort, at least as
+   many as the link is lent (2 at 0 else, after 22 and 1). As many as the link is lent are written with the
+   copy, as the merge leaves it; those behind stay. So does all of it at 22, 1 and that 2, but for the answer,
+   which is told in both headers (flags of the copy that are neither 0 nor 1 become 1 with it). The copy has the room
+   of the link. It can be used as a link of its own,
+   lent as many cells as the link was. Work and ids as for hidvorn_merge_elf; lists have to have room for
+   the object's relocations in the link too. */
+uint64_t hidvorn_preview_elf(
+    uint64_t *header, size_t header_len, const uint8_t *bytes, size_t bytes_len, const uint64_t *names,
+    size_t names_len, const uint64_t *symbols, size_t symbols_len, const uint64_t *sections,
+    size_t sections_len, const uint64_t *inputs, size_t inputs_len, const uint64_t *lists, size_t lists_len,
+    uint64_t *copy, size_t copy_len, uint8_t *copy_bytes, size_t copy_bytes_len, uint64_t *copy_names,
+    size_t copy_names_len, uint64_t *copy_symbols, size_t copy_symbols_len, uint64_t *copy_sections,
+    size_t copy_sections_len, uint64_t *copy_inputs, size_t copy_inputs_len, uint64_t *copy_lists,
+    size_t copy_lists_len, uint64_t *work, size_t work_len, uint64_t *ids, size_t ids_len,
+    const uint64_t *headers, size_t headers_len, const uint64_t *entries, size_t entries_len,
     const uint64_t *contents, size_t contents_len, const uint8_t *file, size_t file_len, size_t strings);
 
 /* How many rows an ELF object file has, which is what has to be lent for it. Answer, 8 cells: place, sections,
@@ -300,7 +320,8 @@ uint64_t hidvorn_load_shared_object(
    random one; no answer depends on it. Entries are counted over all indexes. Rows: 8 cells for each entry (2 at 0
    if there are fewer). Walk: 7 cells, to be handed on as they are, with the same indexes, ends and rows. 1 at 16
    for more archives; 1 at the archive whose end is below the one before it or past the indexes; 20 at the archive
-   whose index is empty; 1 at an entry that is cut short. Value: the number of entries. */
+   whose index is empty; 1 at an entry that is cut short, and at
+   65,535 for more entries than that together. Value: the number of entries. */
 uint64_t hidvorn_archive_start(
     uint64_t *header, size_t header_len, uint64_t *walk, size_t walk_len, size_t key, const uint8_t *index,
     size_t index_len, const uint64_t *ends, size_t ends_len, uint64_t *rows, size_t rows_len);
@@ -317,7 +338,7 @@ uint64_t hidvorn_archive_next(
 
 /* What the walk passed by so far, meant for its end: the entries whose name a weak definition holds though
    their member was not offered, and those whose name is undefined although it was. Told: a cell for each
-   entry (2 at 0 if there are fewer); their positions in the index go into the first of them. Value: how many. */
+   entry (2 at 0 if there are fewer); their positions over all indexes go into the first of them. Value: how many. */
 uint64_t hidvorn_shadowed(
     uint64_t *header, size_t header_len, const uint64_t *walk, size_t walk_len, const uint8_t *index,
     size_t index_len, const uint64_t *rows, size_t rows_len, const uint8_t *bytes, size_t bytes_len,
@@ -334,13 +355,13 @@ uint64_t hidvorn_matches(
     size_t headers_len, const uint64_t *entries, size_t entries_len, const uint64_t *contents,
     size_t contents_len, const uint8_t *file, size_t file_len);
 
-/* What an object that wasn't merged, an archive's member that no walk took, would have defined: its global
-   and weak definitions whose name's row would have been theirs. That is a row that is undefined; one
-   that is weak, under a strong definition or a common; one that is common, under a strong definition
-   that is none. Meant for the end of a link, of each member that hidvorn_shadowed names. The object as
-   for hidvorn_matches; its symbols are those of the table that a merge loads, each by its own entry.
-   Told: two cells for each of them. Value: how many are told; in the first cells stand pairs, a
-   symbol's number in its table and the id of the row that holds its name. */
+/* What an object that wasn't merged, an archive's member that no walk took, would have defined: its global and
+   weak definitions whose name's row would have been theirs. That is a row that is undefined; one that is weak,
+   under a strong definition or a common; one that is common, under a strong definition that is none. Meant for the
+   end of a link, of each member of the indexes that no walk took. The object as for hidvorn_matches; its symbols
+   are those of the table that a merge loads, each by its own entry. Told: two cells for each symbol of that table
+   (2 at 0 if there are fewer); in the first cells stand pairs, a symbol's number in its table and the id of the
+   row that holds its name. Value: how many are told. */
 uint64_t hidvorn_would_define(
     uint64_t *header, size_t header_len, const uint8_t *bytes, size_t bytes_len, const uint64_t *names,
     size_t names_len, const uint64_t *symbols, size_t symbols_len, const uint64_t *headers,

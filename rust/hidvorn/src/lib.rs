@@ -10,6 +10,9 @@
 //! | `intern`, `Interned::resolve` | [`Link::intern`], [`Link::resolve`]; [`Link::find`] issues no name and works on a broken link |
 //! | `merge_elf` | [`Link::merge_elf`] of an [`Object`]; [`Merged`] has the ids of its sections and symbols |
 //! | reading an object file | [`Link::merge_file`]; [`Object::read`] for its rows alone |
+//! | nothing | [`Link::would_define`]: what a member that was not taken would have defined |
+//! | nothing | [`Report`] of [`Figures`]: the figures of titles, and their totals |
+//! | nothing | [`Link::preview`], [`Link::preview_file`]: what a merge would do, without doing it |
 //! | `SectionGroupsForObject::add_group` | [`Link::add_group`] with the object's [`GroupMarks`] |
 //! | `load_shared_object` | [`Link::load_shared_object`] of a [`SharedObject`] |
 //! | `PendingArchive::{new, next}`, `ObjectRequirement::matches` | [`PendingArchive::new`], [`PendingArchive::next`], [`PendingArchive::admits`] |
@@ -57,6 +60,7 @@ mod link;
 mod merged;
 mod names;
 mod object;
+mod preview;
 mod refusal;
 mod report;
 mod rows;
@@ -75,6 +79,7 @@ pub use library::{LibraryName, Load, SharedObject};
 pub use link::{Capacity, Collected, Link, ListRefused, LookupRefused, Profile};
 pub use merged::Merged;
 pub use object::{Object, Relocations, SectionContent, SectionHeader};
+pub use preview::{Change, Preview};
 pub use refusal::{About, Cause, Holder, Refusal};
 pub use report::{Figures, Report};
 pub use rows::{Ids, Input, Names, Relocations as SectionRelocations, Section};

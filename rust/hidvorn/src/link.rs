@@ -95,9 +95,9 @@ pub struct Link {
     /// For a merge: what each symbol of the object became.
     pub(crate) ids: Vec<u64>,
     /// For the merge of a file: its rows.
-    rows: Vec<u64>,
+    pub(crate) rows: Vec<u64>,
     /// For a load: a mark for each name.
-    marks: Vec<u64>,
+    pub(crate) marks: Vec<u64>,
 }
 
 /// What a collection did.
@@ -389,7 +389,7 @@ impl Link {
         let work = 8 * object.work_rows();
         self.make_room(object.contents.len());
         self.make_work(work);
-        grow(&mut self.ids, object.symbol_count());
+        self.make_ids(object.symbol_count());
         ffi::merge_elf(
             &mut self.header,
             &mut self.bytes,
@@ -558,13 +558,23 @@ impl Link {
     fn make_room(&mut self, more: usize) {
         let needed = self.header[5] as usize + more;
         if self.lists.len() < needed {
-            self.lists.resize(needed.max(2 * self.lists.len()), 0);
+            self.make_lists(needed.max(2 * self.lists.len()));
         }
     }
 
+    /// So many cells of lists at least.
+    pub(crate) fn make_lists(&mut self, cells: usize) {
+        grow(&mut self.lists, cells);
+    }
+
     /// So many work cells at least.
-    fn make_work(&mut self, cells: usize) {
+    pub(crate) fn make_work(&mut self, cells: usize) {
         grow(&mut self.work, cells);
+    }
+
+    /// A cell for each of so many symbols at least.
+    pub(crate) fn make_ids(&mut self, symbols: usize) {
+        grow(&mut self.ids, symbols);
     }
 
     // ---- what a refusal is about
@@ -643,7 +653,7 @@ impl Link {
     }
 
     /// The same of a file. Its rows are read again.
-    fn tell_file(&self, refusal: Refusal, file: &[u8]) -> Refusal {
+    pub(crate) fn tell_file(&self, refusal: Refusal, file: &[u8]) -> Refusal {
         match Object::read(file) {
             Ok(object) => self.tell_object(refusal, &object),
             Err(Refusal { cause: Cause::BadTable, .. }) => {
@@ -664,7 +674,7 @@ impl Link {
         About::Symbol { name: name.to_vec(), holder: holder.map(|symbol| self.holder(symbol)) }
     }
 
-    fn holder(&self, symbol: Symbol) -> Holder {
+    pub(crate) fn holder(&self, symbol: Symbol) -> Holder {
         let bytes = |name| self.resolve(name).ok().map(<[u8]>::to_vec);
         let section = match symbol.value.section().and_then(|id| self.section(id)) {
             Some(Section::Built { name, .. } | Section::Dropped { name, .. }) => bytes(name),

@@ -181,6 +181,15 @@ impl<'a> Object<'a> {
         loaded_symbols(&self.headers)
     }
 
+    /// Of each symbol of the loaded table that is global or weak the section field.
+    pub(crate) fn global_sections(&self) -> Vec<Option<u64>> {
+        let headers = self.headers.as_chunks::<8>().0;
+        let table = headers.iter().find(|row| row[0] == 3 && row[2] & 1 == 0);
+        let [first, count] = table.map_or([0, 0], |row| [row[5] as usize, row[6] as usize]);
+        let rows = &self.entries.as_chunks::<8>().0[first..first + count];
+        rows.iter().map(|row| (row[1] == 1 || row[1] == 2).then_some(row[4])).collect()
+    }
+
     /// What a group by itself is lent: headers by which the table starts at 0 and other tables have
     /// no rows, and the table's rows, none if the section is no table. The call judges every
     /// table's range against these rows. A range that the object doesn't have stays, to be refused.

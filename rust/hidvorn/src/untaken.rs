@@ -20,9 +20,9 @@ impl Link {
     /// Of an object that wasn't merged, an archive's member that no walk took, each definition that
     /// would have taken over the row of its name: a name that the link has undefined; a strong
     /// definition or a common of one that it holds weakly; a strong definition that is no common of
-    /// one that it holds as a common. Meant for the end of a whole link, of each member that
-    /// [`PendingArchive::shadowed`](crate::PendingArchive::shadowed) names: a link is then without
-    /// what the member would have brought. In the order of the object's symbols.
+    /// one that it holds as a common. Meant for the end of a whole link, of each member of the
+    /// archives' indexes that no walk took: a link is then without what the member would have
+    /// brought. In the order of the object's symbols.
     ///
     /// The symbols are those of the table that a merge would load, each by its own entry: groups
     /// and excluded sections aren't asked. A name that the link doesn't have, or whose symbol was
