@@ -1,0 +1,9 @@
+pub mod Bearing
+pub mod CallsBear
+pub mod Listed
+pub mod Kept
+pub mod Lookup
+pub mod Histories
+pub mod Growth
+pub mod Terms
+pub mod CallsAre

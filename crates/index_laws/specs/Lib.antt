@@ -1,0 +1,4 @@
+pub mod Bearing
+pub mod Listed
+pub mod IndexedCalls
+pub mod IndexedTurns

@@ -1,0 +1,10 @@
+pub mod Ways
+pub mod Order
+pub mod Found
+pub mod Inserted
+pub mod Sought
+pub mod Together
+pub mod OneByOne
+pub mod Moves
+pub mod Same
+pub mod Finding

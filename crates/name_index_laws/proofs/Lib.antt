@@ -1,0 +1,4 @@
+pub mod Order
+pub mod PlacesRead
+pub mod Terms
+pub mod Examples

@@ -1,0 +1,2 @@
+// Theorems on names, in proofs/Terms.antt: no functions.
+#![tactic(auto)]
