@@ -2,9 +2,9 @@
 //! beside the Rust on every list, so that a difference between the two is seen before anything is
 //! proved from the reading. Capacities, and so refusal 2, aren't in it.
 //!
-//! It also has the gABI profile of document 02's requests 2026-02 and 2026-07, the commons of 2026-06
-//! groups of several sections and walks over several archives, which the Rust doesn't: there it is
-//! what this port is compared with.
+//! It also has the gABI profile (docs/RULES.md, chapter P), commons (S9, S14), groups of several sections
+//! (G2) and walks over several archives (A2), which the Rust doesn't: there it is what this port is
+//! compared with.
 mod archive;
 mod collection;
 mod merge;
