@@ -8,7 +8,7 @@ ghost use Rattle.archive_index.specs.Rows.{stored_name, rows_in, field_at, no_he
 mod opening;
 mod several;
 
-pub use opening::open;
+pub use opening::{Spot, open};
 pub use several::{Archives, Member};
 
 // The bytes of a number of the index.

@@ -130,6 +130,9 @@ pub const SHT_PREINIT_ARRAY: u64 = 16;
 
 pub const SHT_GROUP: u64 = 17;
 
+// How many types there are below those of a system.
+pub const SHT_COUNT: u64 = 18;
+
 pub const SHT_GNU_HASH: u64 = 0x6fff_fff6;
 
 pub const SHF_ALLOC: u64 = 2;

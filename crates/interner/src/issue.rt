@@ -85,7 +85,8 @@ impl NamesMut<'_> {
         ensures same { same_loans self.old self.new }
         ensures kept { store_in self.new ≡ keep_of (store_in self.old) id x.now }
     {
-        if id.0 < self.link.names {
+        // The room first, since the hash reads all of x.
+        if id.0 < self.link.names || !self.read().has_room(x.len()) {
             return;
         }
         let head = crate::head_cell(self.link, self.cells.len(), x);

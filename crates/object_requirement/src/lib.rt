@@ -103,12 +103,14 @@ impl ObjectRequirement<'_, '_> {
         ensures { let o = object.entry in
             result ≡ bears_required gabi o.headers.now o.image.now names o.entries.now (required_by self.entry) i }
     {
+        if !may_admit(gabi, object, i) {
+            return false;
+        }
         let offset = cells::row_get(object.entries, i, elf_object::ENTRY_NAME) as usize;
-        may_admit(gabi, object, i)
-            && match name_anywhere(object, names, offset) {
-                Some(name) => self.asks(name),
-                None => false,
-            }
+        match name_anywhere(object, names, offset) {
+            Some(name) => self.asks(name),
+            None => false,
+        }
     }
 
     fn is_in_table(self, gabi: bool, object: Object<'_>, names: usize) -> bool
@@ -119,18 +121,23 @@ impl ObjectRequirement<'_, '_> {
     }
 
     // Section n, if it is a symbol table.
+    // Inlined: else the requirement and the object go through memory for each section, table or not.
+    #[inline(always)]
     #[tactic(auto, unfolding(crate::specs::Matches::in_section))]
     fn is_in_section(self, gabi: bool, object: Object<'_>, n: usize) -> bool
         ensures { let o = object.entry in
             result ≡ in_section gabi o.headers.now o.entries.now o.image.now (required_by self.entry) n }
     {
-        let names = cells::row_get(object.headers, n, elf_object::HEADER_LINK) as usize;
-        let loaded = Object {
-            entries: object.entries_of(n),
-            table: n,
-            ..object
-        };
-        is_table(object, n) && self.is_in_table(gabi, loaded, names)
+        is_table(object, n)
+            && {
+                let names = cells::row_get(object.headers, n, elf_object::HEADER_LINK) as usize;
+                let loaded = Object {
+                    entries: object.entries_of(n),
+                    table: n,
+                    ..object
+                };
+                self.is_in_table(gabi, loaded, names)
+            }
     }
 
     fn is_in_object(self, gabi: bool, object: Object<'_>) -> bool

@@ -158,7 +158,7 @@ impl State {
             symbols: &mut self.memory.symbols[..symbols],
             sections: &mut self.memory.sections[..sections],
         };
-        let conversion = replay_object::conversion(&self.told.object_cells);
+        let conversion = replay_object::conversion(&self.told.cells);
         let answer = symbols::add(&mut table, conversion, upcoming(line, name, file));
         self.table.link = table.link;
         answer.map(Reply::Id)

@@ -124,15 +124,21 @@ impl<'a> Dump<'a> {
         match cells::row_get(self.view.sections, i, STATE) {
             RESERVED => out.put(b" reserved"),
             DROPPED => {
-                out.put(b" dropped ");
-                self.put_name_of(out, self.view.sections, i, NAME);
+                out.put(b" dropped");
+                self.put_section_name(out, i);
             }
             _ => {
-                out.put(b" built ");
-                self.put_name_of(out, self.view.sections, i, NAME);
+                out.put(b" built");
+                self.put_section_name(out, i);
                 self.put_built(out, i);
             }
         }
+    }
+
+    // Pieces of their own, since a piece is put whole or not at all where the text ends.
+    fn put_section_name(&self, out: &mut Writer<'_>, i: usize) {
+        out.put(b" ");
+        self.put_name_of(out, self.view.sections, i, NAME);
     }
 
     // Kind, retain, read and relocations' symbols.
@@ -151,6 +157,8 @@ impl<'a> Dump<'a> {
 
     // ---- groups
 
+    // By bytes. Where few bytes of names are lent several may be the same bytes: such a name is put once, and behind the last name `-` and the names
+    // again, as long as there are groups.
     fn put_groups(&self, alloc: Global, out: &mut Writer<'_>) -> Result<(), AllocError> {
         let mut signatures: Vec<&'a [u8]> = Vec::new(alloc);
         for id in 0..self.view.table.link.names {
@@ -162,11 +170,14 @@ impl<'a> Dump<'a> {
                 ))?;
             }
         }
+        let groups = signatures.len();
+        replay_text::put_numbered(out, b"\ngroups ", groups as u64);
         signatures.sort()?;
-        replay_text::put_numbered(out, b"\ngroups ", signatures.len() as u64);
-        for signature in &signatures {
+        signatures.dedup();
+        for k in 0..groups {
+            let signature = signatures.get(k % (signatures.len() + 1));
             out.put(b"\ngroup ");
-            replay_text::put_shown(out, signature);
+            replay_text::put_shown(out, signature.copied().unwrap_or(b""));
         }
         Ok(())
     }

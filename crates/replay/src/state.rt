@@ -2,7 +2,7 @@
 use crate::dump::Dump;
 use crate::line::{Input, Operation, Step};
 use crate::memory::Memory;
-use crate::told::Told;
+use crate::told::{self, Told};
 use archive_index::{Archives, Rows};
 use archive_walk::{Offer, Table, Walk};
 use link::{Link, Refusal};
@@ -79,16 +79,16 @@ impl State {
                 told.lend,
                 told.object,
                 &mut stores,
-                &told.object_cells,
-                &told.object_bytes,
+                &told.cells,
+                &told.bytes,
             ),
             Input::Library => replay_load::load(
                 self.table.link,
                 told.lend,
                 told.library,
                 &mut stores,
-                &told.library_cells,
-                &told.library_bytes,
+                told.library_cells(),
+                told.library_bytes(),
             ),
         };
         self.table = changed.table;
@@ -98,18 +98,19 @@ impl State {
     // ---- a walk
 
     fn start(&mut self, out: &mut Writer<'_>) {
-        let index = cells::part_of(&self.told.index, 0, self.told.archive.length);
-        let ends = [index.len() as u64];
+        let ends = [self.told.index().len() as u64];
         self.start_over(out, &ends);
     }
 
     // The index told last, which ends there.
     fn start_over(&mut self, out: &mut Writer<'_>, ends: &[u64]) {
+        let length = self.told.archive.length;
         let archives = Archives {
-            bytes: cells::part_of(&self.told.index, 0, self.told.archive.length),
+            bytes: cells::part_of(&self.told.bytes, told::INDEX_BYTES, length),
             ends,
         };
-        let started = Walk::start(0, archives, &mut self.told.walk_cells);
+        let cells = told::part(&mut self.told.cells, told::WALK_CELLS, told::CELLS);
+        let started = Walk::start(0, archives, cells);
         self.told.walk = started.unwrap_or(Walk::none());
         match started {
             Ok(_) => out.put(b"started"),
@@ -120,7 +121,7 @@ impl State {
     fn next(&mut self, out: &mut Writer<'_>) {
         let told = &mut self.told;
         let lend = told.lend;
-        let index = cells::part_of(&told.index, 0, told.archive.length);
+        let index = cells::part_of(&told.bytes, told::INDEX_BYTES, told.archive.length);
         let names = self.memory.names.lent(lend);
         let symbols = replay_words::rows(lend.symbols, self.memory.symbols.len());
         let ends = [index.len() as u64];
@@ -130,7 +131,7 @@ impl State {
         };
         let mut rows = Rows {
             archives,
-            cells: &mut told.walk_cells,
+            cells: told::part(&mut told.cells, told::WALK_CELLS, told::CELLS),
         };
         let table = Table {
             link: self.table.link,
@@ -141,7 +142,7 @@ impl State {
         let offer = told.walk.next(&mut rows, table);
         let entries = Entries {
             index,
-            rows: &told.walk_cells,
+            rows: rows.cells,
             count: told.walk.entries,
         };
         replay_archive::put_offer(out, entries, offer);
@@ -158,13 +159,13 @@ impl State {
         let object = told.object;
         let admission = object_requirement::matches(
             self.table.link,
-            object.headers_of(&told.object_cells),
-            object.entries_of(&told.object_cells),
-            object.contents_of(&told.object_cells),
-            cells::part_of(&told.object_bytes, 0, object.bytes),
+            object.headers_of(&told.cells),
+            object.entries_of(&told.cells),
+            object.contents_of(&told.cells),
+            cells::part_of(&told.bytes, 0, object.bytes),
             told.walk,
-            cells::part_of(&told.index, 0, told.archive.length),
-            &told.walk_cells,
+            told.index(),
+            told.walk_cells(),
             told.archive.offered.unwrap_or(0),
         );
         match admission {

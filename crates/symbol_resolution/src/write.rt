@@ -99,4 +99,14 @@ impl Table<'_> {
             Resolution::Amend { id } => amend(self.link.gabi, self.symbols, row, id),
         }
     }
+
+    // The same of what was decided: where the add is refused, nothing.
+    pub fn apply_decision(&mut self, row: Row, decision: Result<Resolution, u64>)
+        ensures same { same_loans self.old self.new }
+        ensures done { table_in self.new ≡ applied (table_in self.old) row (decision_of decision) }
+    {
+        if let Ok(resolution) = decision {
+            self.apply(row, resolution);
+        }
+    }
 }

@@ -30,6 +30,10 @@ stays Removed n = absurd (n refl)
 stays (Known id) n = refl
 
 module _ (s l : List ℕ) (t : Table) where
+  -- what is noted of the entries before one is noted of fewer
+  pub noted-enough : (x c : ℕ) (notes : List ℕ) → c ≤ x → Noted s l t x notes → Noted s l t c notes
+  noted-enough x c notes h n = record { noted = λ k g e. n.noted k (omega arith) e }
+
   -- an entry before k keeps its note, and entry k has one if it ties
   module _ (k : ℕ) (x : List ℕ) (h : Holder) (notes m : List ℕ) where
     pub noted_more : length m ≡ 4096 → x ≡ stored_name s l k → h ≡ name_holder t x → m ≡ note_tie t.link.gabi t.symbols h notes k → Noted s l t k notes

@@ -3,7 +3,7 @@
 use Rattle.std.specs.Prelude.{◌≡◌, ℕ, zero, suc, ◌+◌, ◌*◌, ◌-◌, ◌<◌, ◌≤◌, min, max, eqb, leb, List, Some, None, Ok, Err}
 use native.Mathlib.Omega.{arith}
 use Rattle.std.proofs.Common.{refl, ap, sym, ◌∙◌, Fits}
-use borrow.Author.Tests.{eqb-true, le-leb, lt-leb, leb-true, leb-false}
+use borrow.Author.Tests.{eqb-true, le-leb, lt-leb, leb-false}
 use Rattle.std.proofs.Math.Nat.{sub-zero}
 use Rattle.std.specs.Int.{w64}
 use Rattle.cells.specs.Proof.Split.{by-test}
@@ -16,6 +16,7 @@ use Rattle.elf_file.specs.Check.{excluded}
 use Rattle.elf_file.specs.declared.rows.Room.{Room}
 use Rattle.elf_file.specs.declared.counts.Counts.{Counts}
 use Rattle.link.specs.Judge.{refused}
+use Rattle.elf_file.specs.Proof.LoopWays.{fits-entries, fits-cells}
 use Rattle.elf_file.specs.Rows.{contents_in, entry_count, content_count, room_as, room_of}
 use Rattle.elf_file.specs.Counts.{relocations_in, listed_in, relocation_count, listed_count, rows_to, rows_to_members, rows_to_listed, counts_as, counts_in, counts_of, cells_for, within}
 
@@ -109,11 +110,7 @@ module _ (file table : List ℕ) (cells n : ℕ) where
 
   module _ (r : Room) (q : Some r ≡ room_of cells table n) where
     pub room-held : n * 8 + entry_count table 0 n * 8 + content_count table 0 n ≤ cells
-    unfolding room_of
-    room-held =
-        by-test (leb (n * 8 + entry_count table 0 n * 8 + content_count table 0 n) cells)
-        (λ t. leb-true _ _ t)
-        (λ t. let e : Some r ≡ None = rw t at q in cc)
+    room-held = omega (arith, fits-entries cells table n r q, fits-cells cells table n r q)
 
     pub contents-held : Fits w64 cells → content_count table 0 n ≤ 0xffffffffffffffff
     contents-held m = omega (arith, room-held, m)

@@ -236,3 +236,21 @@ module _ (cells : ℕ) (table : List ℕ) (n : ℕ) where
       let b : r.contents ≡ content_count table 0 n = omega (arith, kc, contents-end table n i h) in
       let f : n * 8 + entry_count table 0 n * 8 + content_count table 0 n ≤ cells = omega (arith, k, a, b) in
       sym (simp (le-leb _ _ f, ← a, ← b))
+
+  -- a room that was found has the sum of the entries, and its rows and cells fit
+  module _ (m : Room) where
+    room-cases : Some m ≡ room_of cells table n → (m.entries ≡ entry_count table 0 n) × (n * 8 + entry_count table 0 n * 8 + content_count table 0 n ≤ cells)
+    unfolding room_of
+    room-cases q =
+        by-test (leb (n * 8 + entry_count table 0 n * 8 + content_count table 0 n) cells)
+        (λ t.
+        let e : Some m ≡ Some (room_as (entry_count table 0 n) (content_count table 0 n)) = rw t at q in
+        let d : m ≡ room_as (entry_count table 0 n) (content_count table 0 n) = cc in
+        (ap (λ (r : Room). r.entries) d, leb-true _ _ t))
+        (λ t. let e : Some m ≡ None = rw t at q in cc)
+
+    pub fits-entries : Some m ≡ room_of cells table n → m.entries ≡ entry_count table 0 n
+    fits-entries q = (room-cases q).0
+
+    pub fits-cells : Some m ≡ room_of cells table n → n * 8 + m.entries * 8 + content_count table 0 n ≤ cells
+    fits-cells q = omega (arith, (room-cases q).0, (room-cases q).1)

@@ -8,6 +8,7 @@ use Rattle.std.proofs.lemmas.Iterator.{index_from_first}
 use borrow.Author.Tests.{eq-eqb, ne_eqb}
 use Rattle.cells.specs.Proof.Split.{by-test}
 use Rattle.byte_slices.specs.Bytes.{same}
+use Rattle.replay_tally.specs.declared.Tally.{Tally}
 use Rattle.replay_tally.specs.Answer.{line_length, first_line, meets}
 
 -- ---- a line
@@ -77,3 +78,14 @@ pub meets-empty : (e g : List ℕ) → length e ≡ 0 → eqb (length g) 0 ≡ m
 unfolding meets
 meets-empty [] g h = none-same g
 meets-empty (b ∷ e) g h = absurd (omega arith)
+
+-- ---- a tally
+
+abbrev tally : ℕ → ℕ → ℕ → ℕ → ℕ → ℕ → ℕ → Tally
+tally a b c d e f g = record { line = a; links = b; operations = c; answers = d; differences = e; from = f; to = g }
+
+-- a tally is its numbers
+pub tally-is : (r x : Tally)
+    → r.line ≡ x.line → r.links ≡ x.links → r.operations ≡ x.operations → r.answers ≡ x.answers → r.differences ≡ x.differences → r.from ≡ x.from → r.to ≡ x.to → r ≡ x
+tally-is r x a b c d e f g =
+    let t : tally r.line r.links r.operations r.answers r.differences r.from r.to ≡ x = rw (a, b, c, d, e, f, g) refl in t
